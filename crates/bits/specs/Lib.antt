@@ -1,0 +1,3 @@
+-- Binary digits of numbers, and the laws that the crates above cite.
+pub mod Logic
+pub mod Digit
