@@ -1,0 +1,3 @@
+-- What a cursor reads at its place, and laws about it.
+pub mod Opening
+pub mod Item

@@ -1,0 +1,2 @@
+// The design sheet.
+pub fn nothing() {}

@@ -1,0 +1,5 @@
+-- Formulas of document 01: trees, their print, their reader, their values, and laws about these.
+pub mod Tree
+pub mod Printer
+pub mod Reader
+pub mod Value

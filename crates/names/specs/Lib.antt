@@ -1,0 +1,5 @@
+-- What document 01 says of names and lists of names, and laws about it.
+pub mod Name
+pub mod Names
+pub mod Pack
+pub mod Word
