@@ -10,7 +10,7 @@ use native.Mathlib.Nat.{add-zero, zero-add, add-suc, suc-add}
 use native.Mathlib.Numerals.{add-one}
 use lib.ListN.{length, getD, set, length-append, List·getD-append}
 use lib.Seq.{sets, getD-at}
-use Rattle.rows.specs.Every.{last-or-below}
+use Rattle.rows.specs.EveryLaws.{last-or-below}
 use Rattle.rows.specs.Words.{rowOn, Rowwise}
 use Rattle.rows.specs.Digits.{digit, digitsUpto}
 

@@ -1,35 +1,13 @@
--- A test that holds of every number below n, as one truth value that can be computed: what a constant table's rule is
--- proved by. Assumes nothing.
-use mathlib.Core.Path.{_≡_, refl, subst, sym}
-use mathlib.Core.Logic.{_⊎_, inl, inr, ⊎-elim}
-use mathlib.Core.Bool.{Bool, true, false, not}
-use Prim.Native.Nat.{ℕ, zero, suc, _<_}
-use native.Mathlib.Decide.{decLt}
-use native.Mathlib.Omega.{arith}
-use Rattle.bits.specs.Logic.{andb, xorb, true-false, and-left, and-right}
+-- A test of every number below n as one truth value that can be computed: what a constant table's rule is proved by.
+-- Assumes nothing.
+use mathlib.Core.Bool.{Bool, true, not}
+use Prim.Native.Nat.{ℕ, zero, suc}
+use Rattle.bits.specs.Logic.{andb, xorb}
 
 unfoldable pub every : (ℕ → Bool) → ℕ → Bool
 every t zero = true
 every t (suc n) = andb (t n) (every t n)
 
-pub last-or-below : (k n : ℕ) → k < suc n → (k < n) ⊎ (k ≡ n)
-last-or-below k n h = elim (decLt k n) as (λ _. (k < n) ⊎ (k ≡ n)) [ yes l ↦ inl l | no g ↦ inr (omega arith) ]
-
-pub every-at : (t : ℕ → Bool) (n : ℕ) → every t n ≡ true → (k : ℕ) → k < n → t k ≡ true
-unfolding every
-every-at t zero e k h = absurd (omega arith)
-every-at t (suc n) e k h =
-    ⊎-elim
-    (λ l. every-at t n (and-right (t n) (every t n) e) k l)
-    (λ q. subst (λ (m : ℕ). t m ≡ true) (sym q) (and-left (t n) (every t n) e))
-    (last-or-below k n h)
-
 -- whether two truth values are the same
 abbrev pub same : Bool → Bool → Bool
 same a b = not (xorb a b)
-
-pub same-equal : (a b : Bool) → same a b ≡ true → a ≡ b
-same-equal true true e = refl
-same-equal true false e = absurd (true-false (sym e))
-same-equal false true e = absurd (true-false (sym e))
-same-equal false false e = refl

@@ -3,34 +3,16 @@
 use mathlib.Core.Path.{_≡_, refl, sym, ap, ap₂, _∙_}
 use mathlib.Core.Bool.{Bool, true, false}
 use mathlib.Core.List.{List, [], _∷_}
-use Prim.Native.Nat.{ℕ, zero, suc, _+_, _-_, _*_, _/_, _%_, _^_, _≤_, _<_}
+use Prim.Native.Nat.{ℕ, zero, suc, _+_, _-_, _*_, _%_, _^_, _≤_, _<_}
 use native.Mathlib.Omega.{arith}
 use native.Mathlib.Nat.{pow-suc, mod-eq-of-lt}
 use native.Mathlib.Numerals.{one-add}
 use lib.Dec.{eqb}
-use lib.Pow.{field, mod-mod-pow, mod-pow-add, high, low, shr-shr}
+use lib.Pow.{mod-pow-add, high, low}
 use lib.ListN.{length, getD}
 use Rattle.bits.specs.Digit.{on, digit, Binary, is0, is1, digit-binary}
+use Rattle.rows.specs.PartLaws.{on-low}
 use Rattle.rows.specs.Row.{bit, rowOf, inputOn, valuesOf}
-
--- ---- the digits of a part of a number
-odd-part : (x j : ℕ) → 0 < j → x % 2 ^ j % 2 ≡ x % 2
-odd-part x zero h = absurd (omega arith)
-odd-part x (suc j) h =
-    ap (λ (n : ℕ). x % 2 ^ n % 2) (omega arith) ∙ mod-mod-pow x j 1
-
--- the digits of the lower part are the number's own
-pub on-low : (n x k : ℕ) → k < n → on (x % 2 ^ n) k ≡ on x k
-unfolding on digit
-on-low n x k h =
-    let e : n ≡ n - k + k = omega arith in
-    ap (λ (y : ℕ). eqb (y % 2) 1) (ap (λ (m : ℕ). x % 2 ^ m / 2 ^ k) e ∙ field x (n - k) k)
-    ∙ ap (λ (y : ℕ). eqb y 1) (odd-part (x / 2 ^ k) (n - k) (omega arith))
-
--- the digits of the upper part are the number's own, further up
-pub on-high : (n x k : ℕ) → on (x / 2 ^ n) k ≡ on x (n + k)
-unfolding on digit
-on-high n x k = ap (λ (y : ℕ). eqb (y % 2) 1) (shr-shr x n k)
 
 -- ---- from a list to its row
 pub row-lt : (l : List Bool) → rowOf l < 2 ^ length l

@@ -7,10 +7,10 @@ use Prim.Native.Nat.{ℕ, _+_, _*_, _/_, _%_, _^_, _≤_, _<_}
 use native.Mathlib.Decide.{decLt}
 use native.Mathlib.Omega.{arith}
 use lib.Arith.{digits-div, digits-mod}
-use lib.ListN.{length, getD}
+use lib.ListN.{length, getD, replicate, getD-replicate}
 use lib.Seq.{ext-getD}
 use Rattle.bits.specs.Digit.{on, on-above, equal-digits}
-use Rattle.rows.specs.Words.{rowOn, Rowwise, WordOf}
+use Rattle.rows.specs.Words.{rowOn, Rowwise, WordOf, Sized}
 
 pub row-word : (ws : List ℕ) (w k : ℕ) → k < 64 → rowOn ws (w * 64 + k) ≡ on (getD ws w 0) k
 unfolding rowOn
@@ -20,14 +20,24 @@ pub rowwise : (f : ℕ → Bool) (ws : List ℕ) → ((w : ℕ) → w < 16 → W
 unfolding rowOn
 rowwise f ws h =
     record {
-      each = λ r b. h (r / 64) (omega arith) .each (r % 64) (omega arith) ∙ ap f (let e : r / 64 * 64 + r % 64 ≡ r = omega arith in e)
+      each = λ r b. h (r / 64) (omega arith) .each (r % 64) (omega arith) ∙ ap f (let e : r / 64 * 64 + r % 64 ≡ r = omega arith in e);
     }
+
+-- the same table said in another way
+pub rowwise-same : {f g : ℕ → Bool} {ws : List ℕ} → Rowwise f ws → ((r : ℕ) → r < 1024 → f r ≡ g r) → Rowwise g ws
+rowwise-same t h = record { each = λ r l. t .each r l ∙ h r l }
+
+-- sixteen times a word whose digits are all alike
+pub repeated : (x : ℕ) (b : Bool) → ((k : ℕ) → k < 64 → on x k ≡ b) → Rowwise (λ r. b) (replicate 16 x)
+repeated x b h =
+    rowwise (λ r. b) (replicate 16 x)
+    (λ w l. record { each = λ k g. ap (λ (y : ℕ). on y k) (getD-replicate 16 w x 0 l) ∙ h k g })
 
 -- op on words does to each digit what p does to truth values; so it does to each row of a word
 pub word-of-two : (op : ℕ → ℕ → ℕ) (p : Bool → Bool → Bool) → ((x y k : ℕ) → on (op x y) k ≡ p (on x k) (on y k)) → (a b : List ℕ) (w : ℕ) → WordOf (λ r. p (rowOn a r) (rowOn b r)) w (op (getD a w 0) (getD b w 0))
 word-of-two op p law a b w =
     record {
-      each = λ k h. law (getD a w 0) (getD b w 0) k ∙ ap₂ p (sym (row-word a w k h)) (sym (row-word b w k h))
+      each = λ k h. law (getD a w 0) (getD b w 0) k ∙ ap₂ p (sym (row-word a w k h)) (sym (row-word b w k h));
     }
 
 -- ---- a table is decided by its rows
@@ -36,14 +46,9 @@ word-equal x y bx by h =
     equal-digits x y
     (λ k.
     elim (decLt k 64) as (λ _. on x k ≡ on y k) [
-      yes l ↦ h k l
-    | no g ↦ on-above 64 x k bx (omega arith) ∙ sym (on-above 64 y k by (omega arith))
+      | yes l ↦ h k l
+      | no g ↦ on-above 64 x k bx (omega arith) ∙ sym (on-above 64 y k by (omega arith))
     ])
-
--- sixteen words of 64 digits
-pub record Sized (ws : List ℕ) : Type 0 where
-  pub size : length ws ≡ 16
-  pub fits : (w : ℕ) → w < 16 → getD ws w 0 < 2 ^ 64
 
 pub equal-rows : {a b : List ℕ} → Sized a → Sized b → ((r : ℕ) → r < 1024 → rowOn a r ≡ rowOn b r) → a ≡ b
 equal-rows {a} {b} sa sb h =

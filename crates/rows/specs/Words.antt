@@ -3,8 +3,8 @@
 use mathlib.Core.Path.{_≡_}
 use mathlib.Core.Bool.{Bool}
 use mathlib.Core.List.{List}
-use Prim.Native.Nat.{ℕ, _+_, _*_, _/_, _%_, _<_}
-use lib.ListN.{getD}
+use Prim.Native.Nat.{ℕ, _+_, _*_, _/_, _%_, _^_, _<_}
+use lib.ListN.{length, getD}
 use Rattle.bits.specs.Digit.{on}
 
 -- the value of the table on row r
@@ -18,3 +18,8 @@ pub record Rowwise (f : ℕ → Bool) (ws : List ℕ) : Type 0 where
 -- x has the values of f on the 64 rows of word w
 pub record WordOf (f : ℕ → Bool) (w x : ℕ) : Type 0 where
   pub each : (k : ℕ) → k < 64 → on x k ≡ f (w * 64 + k)
+
+-- sixteen words of 64 digits
+pub record Sized (ws : List ℕ) : Type 0 where
+  pub size : length ws ≡ 16
+  pub fits : (w : ℕ) → w < 16 → getD ws w 0 < 2 ^ 64

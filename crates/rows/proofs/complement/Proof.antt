@@ -1,0 +1,21 @@
+-- `complement`: exclusive or with the table that holds on every row. Assumes nothing.
+use mathlib.Core.Path.{ap}
+use mathlib.Core.Bool.{Bool}
+use borrow.Author.Needs.{needs}
+use Rattle.bits.specs.Logic.{xorb}
+use Rattle.rows.specs.Words.{rowOn}
+use Rattle.rows.specs.WordLaws.{rowwise-same}
+use Rattle.rows.proofs.complement.Statement.{statement}
+use Rattle.rows.proofs.complement.Tie as tie
+
+constant-requires : tie.Need-constant-requires
+constant-requires c κs = search needs
+
+differ-requires : tie.Need-differ-requires
+differ-requires c κs = search needs
+
+returns : tie.Need-returns
+returns c = rowwise-same (c .differ .ensures) (λ r l. ap (λ (x : Bool). xorb x (rowOn (c .before .before .args .a) r)) (c .before .constant .ensures .each r l))
+
+pub complement-spec : {M : Type 1} → statement M
+complement-spec = tie.close (tie.spec constant-requires differ-requires returns)
