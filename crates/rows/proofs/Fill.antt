@@ -20,7 +20,8 @@ pub record Filled (f : ℕ → Bool) (ws : List ℕ) (i : ℕ) : Type 0 where
 pub filled-none : {f : ℕ → Bool} {ws : List ℕ} → length ws ≡ 16 → Filled f ws 0
 filled-none e = record { size = e; within = omega arith; right = λ w h. absurd (omega arith) }
 
-pub filled-more : {f : ℕ → Bool} {ws : List ℕ} {i v : ℕ} → Filled f ws i → i < 16 → WordOf f i v → Filled f (set ws i v) (i + 1)
+pub filled-more : {f : ℕ → Bool} {ws : List ℕ} {i v : ℕ}
+    → Filled f ws i → i < 16 → WordOf f i v → Filled f (set ws i v) (i + 1)
 filled-more {f} {ws} {i} {v} p h r =
     let s : length ws ≡ 16 = p .size in
     record {

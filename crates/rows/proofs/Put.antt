@@ -1,5 +1,5 @@
 -- A loop that stores one digit after the other from a buffer's start. Assumes nothing.
-use mathlib.Core.Path.{_≡_, refl, sym, ap, ap₂, _∙_}
+use mathlib.Core.Path.{_≡_, refl, ap, ap₂, _∙_}
 use mathlib.Core.Bool.{Bool}
 use mathlib.Core.List.{List}
 use Prim.Native.Nat.{ℕ, _+_, _≤_, _<_}
@@ -19,7 +19,8 @@ pub put-none : (old : List ℕ) (f : ℕ → Bool) (n : ℕ) → Put old f n old
 unfolding digitsUpto
 put-none old f n = record { within = omega arith; size = refl; wrote = refl }
 
-pub put-next : {old : List ℕ} {f : ℕ → Bool} {n : ℕ} {buf : List ℕ} {i d : ℕ} → Put old f n buf i → i < n → d ≡ digit (f i) → Put old f n (set buf i d) (i + 1)
+pub put-next : {old : List ℕ} {f : ℕ → Bool} {n : ℕ} {buf : List ℕ} {i d : ℕ}
+    → Put old f n buf i → i < n → d ≡ digit (f i) → Put old f n (set buf i d) (i + 1)
 put-next {old} {f} {n} {buf} {i} {d} p h e =
     record {
       within = omega arith;
@@ -27,6 +28,7 @@ put-next {old} {f} {n} {buf} {i} {d} p h e =
       wrote = ap₂ (λ (l : List ℕ) (x : ℕ). set l i x) (p .wrote) e ∙ put-more old f i;
     }
 
-pub put-all : {old : List ℕ} {f : ℕ → Bool} {n : ℕ} {buf : List ℕ} {i : ℕ} → Put old f n buf i → n ≤ i → buf ≡ sets old 0 (digitsUpto f n)
+pub put-all : {old : List ℕ} {f : ℕ → Bool} {n : ℕ} {buf : List ℕ} {i : ℕ}
+    → Put old f n buf i → n ≤ i → buf ≡ sets old 0 (digitsUpto f n)
 put-all {old} {f} {n} {buf} {i} p h =
     p .wrote ∙ ap (λ (k : ℕ). sets old 0 (digitsUpto f k)) (let w : i ≤ n = p .within in omega arith)

@@ -5,9 +5,10 @@ use mathlib.Core.Bool.{Bool, true, false}
 use mathlib.Core.List.{List, [], _∷_}
 use Prim.Native.Nat.{ℕ, zero, suc, _+_, _-_, _*_, _%_, _^_, _≤_, _<_}
 use native.Mathlib.Omega.{arith}
-use native.Mathlib.Nat.{pow-suc, mod-eq-of-lt}
+use native.Mathlib.Nat.{pow-succ', mod-eq-of-lt}
 use native.Mathlib.Numerals.{one-add}
 use lib.Dec.{eqb}
+use lib.Arith.{digits-lt}
 use lib.Pow.{mod-pow-add, high, low}
 use lib.ListN.{length, getD}
 use Rattle.bits.specs.Digit.{on, digit, Binary, is0, is1, digit-binary}
@@ -15,17 +16,14 @@ use Rattle.rows.specs.PartLaws.{on-low}
 use Rattle.rows.specs.Row.{bit, rowOf, inputOn, valuesOf}
 
 -- ---- from a list to its row
+bit-lt : (b : Bool) → bit b < 2
+bit-lt true = omega arith
+bit-lt false = omega arith
+
 pub row-lt : (l : List Bool) → rowOf l < 2 ^ length l
 unfolding rowOf
 row-lt [] = omega arith
-row-lt (true ∷ l) =
-    let p : 2 ^ suc (length l) ≡ 2 ^ length l * 2 = pow-suc 2 (length l) in
-    let q : rowOf l < 2 ^ length l = row-lt l in
-    omega arith
-row-lt (false ∷ l) =
-    let p : 2 ^ suc (length l) ≡ 2 ^ length l * 2 = pow-suc 2 (length l) in
-    let q : rowOf l < 2 ^ length l = row-lt l in
-    omega arith
+row-lt (b ∷ l) = rw pow-succ' (digits-lt (bit-lt b) (row-lt l))
 
 bit-on : (b : Bool) → eqb (bit b % 2) 1 ≡ b
 bit-on true = refl

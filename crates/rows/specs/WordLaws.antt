@@ -1,9 +1,9 @@
 -- Tables in sixteen words, as laws: what holds word by word holds row by row, an operation that goes digit by digit goes
 -- row by row, and a table is decided by its rows. Assumes nothing.
-use mathlib.Core.Path.{_≡_, refl, sym, ap, ap₂, _∙_}
+use mathlib.Core.Path.{_≡_, sym, ap, ap₂, _∙_}
 use mathlib.Core.Bool.{Bool}
 use mathlib.Core.List.{List}
-use Prim.Native.Nat.{ℕ, _+_, _*_, _/_, _%_, _^_, _≤_, _<_}
+use Prim.Native.Nat.{ℕ, _+_, _*_, _/_, _%_, _^_, _<_}
 use native.Mathlib.Decide.{decLt}
 use native.Mathlib.Omega.{arith}
 use lib.Arith.{digits-div, digits-mod}
@@ -20,7 +20,9 @@ pub rowwise : (f : ℕ → Bool) (ws : List ℕ) → ((w : ℕ) → w < 16 → W
 unfolding rowOn
 rowwise f ws h =
     record {
-      each = λ r b. h (r / 64) (omega arith) .each (r % 64) (omega arith) ∙ ap f (let e : r / 64 * 64 + r % 64 ≡ r = omega arith in e);
+      each = λ r b.
+          let e : r / 64 * 64 + r % 64 ≡ r = omega arith in
+          h (r / 64) (omega arith) .each (r % 64) (omega arith) ∙ ap f e;
     }
 
 -- the same table said in another way
@@ -34,7 +36,8 @@ repeated x b h =
     (λ w l. record { each = λ k g. ap (λ (y : ℕ). on y k) (getD-replicate 16 w x 0 l) ∙ h k g })
 
 -- op on words does to each digit what p does to truth values; so it does to each row of a word
-pub word-of-two : (op : ℕ → ℕ → ℕ) (p : Bool → Bool → Bool) → ((x y k : ℕ) → on (op x y) k ≡ p (on x k) (on y k)) → (a b : List ℕ) (w : ℕ) → WordOf (λ r. p (rowOn a r) (rowOn b r)) w (op (getD a w 0) (getD b w 0))
+pub word-of-two : (op : ℕ → ℕ → ℕ) (p : Bool → Bool → Bool) → ((x y k : ℕ) → on (op x y) k ≡ p (on x k) (on y k))
+    → (a b : List ℕ) (w : ℕ) → WordOf (λ r. p (rowOn a r) (rowOn b r)) w (op (getD a w 0) (getD b w 0))
 word-of-two op p law a b w =
     record {
       each = λ k h. law (getD a w 0) (getD b w 0) k ∙ ap₂ p (sym (row-word a w k h)) (sym (row-word b w k h));
@@ -50,7 +53,8 @@ word-equal x y bx by h =
       | no g ↦ on-above 64 x k bx (omega arith) ∙ sym (on-above 64 y k by (omega arith))
     ])
 
-pub equal-rows : {a b : List ℕ} → Sized a → Sized b → ((r : ℕ) → r < 1024 → rowOn a r ≡ rowOn b r) → a ≡ b
+pub equal-rows : {a b : List ℕ} → Sized a → Sized b
+    → ((r : ℕ) → r < 1024 → rowOn a r ≡ rowOn b r) → a ≡ b
 equal-rows {a} {b} sa sb h =
     ext-getD 0 a b (sa .size ∙ sym (sb .size))
     (λ w l.

@@ -15,7 +15,9 @@ differ-requires : tie.Need-differ-requires
 differ-requires c κs = search needs
 
 returns : tie.Need-returns
-returns c = rowwise-same (c .differ .ensures) (λ r l. ap (λ (x : Bool). xorb x (rowOn (c .before .before .args .a) r)) (c .before .constant .ensures .each r l))
+returns c =
+    rowwise-same (c .differ .ensures)
+    (λ r l. ap (λ (x : Bool). xorb x (rowOn (c .before .before .args .a) r)) (c .before .constant .ensures .each r l))
 
 pub complement-spec : {M : Type 1} → statement M
 complement-spec = tie.close (tie.spec constant-requires differ-requires returns)
