@@ -1,6 +1,6 @@
 -- Tables in sixteen words, as laws: what holds word by word holds row by row, an operation that goes digit by digit goes
 -- row by row, and a table is decided by its rows. Assumes nothing.
-use mathlib.Core.Path.{_≡_, sym, ap, ap₂, _∙_}
+use mathlib.Core.Path.{_≡_, refl, sym, ap, ap₂, _∙_}
 use mathlib.Core.Bool.{Bool}
 use mathlib.Core.List.{List}
 use Prim.Native.Nat.{ℕ, _+_, _*_, _/_, _%_, _^_, _<_}
@@ -28,6 +28,18 @@ rowwise f ws h =
 -- the same table said in another way
 pub rowwise-same : {f g : ℕ → Bool} {ws : List ℕ} → Rowwise f ws → ((r : ℕ) → r < 1024 → f r ≡ g r) → Rowwise g ws
 rowwise-same t h = record { each = λ r l. t .each r l ∙ h r l }
+
+pub rowwise-self : {ws : List ℕ} → Rowwise (rowOn ws) ws
+rowwise-self = record { each = λ r l. refl }
+
+-- a table made row by row of tables whose rows are known
+pub rowwise-one : (p : Bool → Bool) {f : ℕ → Bool} {a ws : List ℕ}
+    → Rowwise (λ r. p (rowOn a r)) ws → Rowwise f a → Rowwise (λ r. p (f r)) ws
+rowwise-one p t s = rowwise-same t (λ r l. ap p (s .each r l))
+
+pub rowwise-two : (p : Bool → Bool → Bool) {f g : ℕ → Bool} {a b ws : List ℕ}
+    → Rowwise (λ r. p (rowOn a r) (rowOn b r)) ws → Rowwise f a → Rowwise g b → Rowwise (λ r. p (f r) (g r)) ws
+rowwise-two p t s u = rowwise-same t (λ r l. ap₂ p (s .each r l) (u .each r l))
 
 -- sixteen times a word whose digits are all alike
 pub repeated : (x : ℕ) (b : Bool) → ((k : ℕ) → k < 64 → on x k ≡ b) → Rowwise (λ r. b) (replicate 16 x)

@@ -62,6 +62,7 @@ pub fn input(p: usize) -> [u64; 16]
     t
 }
 
+// Where both hold.
 pub fn both(a: [u64; 16], b: [u64; 16]) -> [u64; 16]
     ensures { λ t. ⌜ Rowwise (λ (r : ℕ). andb (rowOn a r) (rowOn b r)) t ⌝ }
 {
@@ -74,6 +75,7 @@ pub fn both(a: [u64; 16], b: [u64; 16]) -> [u64; 16]
     t
 }
 
+// Where at least one of the two holds.
 pub fn either(a: [u64; 16], b: [u64; 16]) -> [u64; 16]
     ensures { λ t. ⌜ Rowwise (λ (r : ℕ). orb (rowOn a r) (rowOn b r)) t ⌝ }
 {
@@ -99,6 +101,7 @@ pub fn differ(a: [u64; 16], b: [u64; 16]) -> [u64; 16]
     t
 }
 
+// Where it does not hold.
 pub fn complement(a: [u64; 16]) -> [u64; 16]
     ensures { λ t. ⌜ Rowwise (λ (r : ℕ). not (rowOn a r)) t ⌝ }
 {

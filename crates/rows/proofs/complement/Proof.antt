@@ -1,10 +1,7 @@
 -- `complement`: exclusive or with the table that holds on every row. Assumes nothing.
-use mathlib.Core.Path.{ap}
-use mathlib.Core.Bool.{Bool}
 use borrow.Author.Needs.{needs}
 use Rattle.bits.specs.Logic.{xorb}
-use Rattle.rows.specs.Words.{rowOn}
-use Rattle.rows.specs.WordLaws.{rowwise-same}
+use Rattle.rows.specs.WordLaws.{rowwise-self, rowwise-two}
 use Rattle.rows.proofs.complement.Statement.{statement}
 use Rattle.rows.proofs.complement.Tie as tie
 
@@ -15,9 +12,7 @@ differ-requires : tie.Need-differ-requires
 differ-requires c κs = search needs
 
 returns : tie.Need-returns
-returns c =
-    rowwise-same (c .differ .ensures)
-    (λ r l. ap (λ (x : Bool). xorb x (rowOn (c .before .before .args .a) r)) (c .before .constant .ensures .each r l))
+returns c = rowwise-two xorb (c .differ .ensures) (c .before .constant .ensures) rowwise-self
 
 pub complement-spec : {M : Type 1} → statement M
 complement-spec = tie.close (tie.spec constant-requires differ-requires returns)
