@@ -3,4 +3,8 @@ pub mod Limits
 pub mod Bytes
 pub mod Line
 pub mod LineEnd
+pub mod Unbroken
 pub mod Number
+pub mod BytesLaws
+pub mod LineLaws
+pub mod LineEndLaws
