@@ -8,3 +8,4 @@ pub mod Number
 pub mod BytesLaws
 pub mod LineLaws
 pub mod LineEndLaws
+pub mod EatLaws
