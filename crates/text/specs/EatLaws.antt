@@ -24,7 +24,9 @@ pub found-rest : {A : Type 0} {a b : A} {s t : List ℕ} → found a s ≡ found
 found-rest e = cc
 
 -- ---- a test before an item
-pub pick-found : {A : Type 0} {a : A} {s : List ℕ} (t : Bool) (r : Read A) → pick t r bad ≡ found a s → (t ≡ true) × (r ≡ found a s)
+pub pick-found : {A : Type 0} {a : A} {s : List ℕ} (t : Bool) (r : Read A)
+    → pick t r bad ≡ found a s
+    → (t ≡ true) × (r ≡ found a s)
 pick-found true r e = (refl, e)
 pick-found false r e = absurd (bad-found e)
 
@@ -49,7 +51,9 @@ pub eat-length : (w s t : List ℕ) → eat w s ≡ found tt t → length t ≤ 
 eat-length w s t e = omega (arith, eat-lengths w s t e)
 
 -- ---- an item after an item
-pub after-found : {A B : Type 0} (r : Read A) (f : A → List ℕ → Read B) (b : B) (u : List ℕ) → after r f ≡ found b u → (a : A) × (t : List ℕ) × (r ≡ found a t) × (f a t ≡ found b u)
+pub after-found : {A B : Type 0} (r : Read A) (f : A → List ℕ → Read B) (b : B) (u : List ℕ)
+    → after r f ≡ found b u
+    → (a : A) × (t : List ℕ) × (r ≡ found a t) × (f a t ≡ found b u)
 after-found (found a t) f b u e = (a, t, refl, e)
 after-found bad f b u e = absurd (bad-found e)
 

@@ -9,3 +9,6 @@ pub mod BytesLaws
 pub mod LineLaws
 pub mod LineEndLaws
 pub mod EatLaws
+pub mod Numerals
+pub mod NumeralLaws
+pub mod NumberLaws
