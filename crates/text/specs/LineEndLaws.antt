@@ -1,10 +1,11 @@
--- What shows that a place is a line's end: no 0x0A stands before it, and one stands there where the text goes on.
--- Assumes nothing.
+-- What shows that a place is a line's end: no 0x0A stands before it, and one stands there where the text goes on. In a
+-- text that ends in 0x0A the end of a line is a place of the text. Assumes nothing.
 use mathlib.Core.Path.{_≡_, sym, ap, ap₂, _∙_}
 use mathlib.Core.Bool.{true}
 use mathlib.Core.List.{List, _∷_, _++_}
 use Prim.Native.Nat.{ℕ, _+_, _-_, _≤_, _<_}
 use native.Mathlib.Omega.{arith}
+use native.Mathlib.Decide.{decLt}
 use native.Mathlib.Numerals.{add-one}
 use lib.ListN.{length, getD, take, drop, length-drop, take-append-drop}
 use lib.Seq.{drop-cons, drop-drop, getD-drop, getD-take, length-take-le}
@@ -39,3 +40,13 @@ module _ (s : List ℕ) (at e : ℕ) (start : at ≤ e) (passed : (k : ℕ) → 
         ended = λ h. (stop h, ap lines (line-split h (stop h)) ∙ lines-broken _ _ (line-unbroken h));
         open-ended = λ k a b. passed k b a;
       }
+
+-- in a text that ends in 0x0A, every line does
+pub line-end-inside : (s : List ℕ) (at e : ℕ) → at < length s → getD s (length s - 1) 0 ≡ newline → LineEnd s at e → e < length s
+line-end-inside s at e h q l =
+    elim (decLt e (length s)) as (λ _. e < length s) [
+      | yes i ↦ i
+      | no g ↦
+          let n = l .inside in
+          absurd (l .open-ended (length s - 1) (omega arith) (omega arith) q)
+    ]
