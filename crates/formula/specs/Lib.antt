@@ -3,3 +3,9 @@ pub mod Tree
 pub mod Printer
 pub mod Reader
 pub mod Value
+pub mod Gates
+pub mod ReaderLaws
+pub mod Lookup
+pub mod Part
+pub mod Walk
+pub mod Opened

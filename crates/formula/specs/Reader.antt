@@ -10,10 +10,13 @@ use Rattle.text.specs.Bytes.{Read, found, bad, after, eat, space, closeBracket}
 use Rattle.cursor.specs.Opening.{Gate, Opening, name-opens, digit-opens, not-opens, gate-opens, readOpening}
 use Rattle.formula.specs.Tree.{Formula, input, constant, negation, gate, Operands, none, more}
 
--- whether a space comes next
+-- whether a byte comes next
+abbrev pub nextIs : ℕ → List ℕ → Bool
+nextIs c [] = false
+nextIs c (b ∷ s) = eqb b c
+
 abbrev pub spaceNext : List ℕ → Bool
-spaceNext [] = false
-spaceNext (b ∷ s) = eqb b space
+spaceNext s = nextIs space s
 
 abbrev pub rest : List ℕ → List ℕ
 rest [] = []
