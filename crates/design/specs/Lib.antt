@@ -1,5 +1,3 @@
--- The design sheet of document 01: its lines, its examination, Table, and laws about these.
-pub mod Sheet
-pub mod Examine
+-- Table of document 01, and laws about it.
 pub mod Tabulate
 pub mod Trial

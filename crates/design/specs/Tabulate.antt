@@ -8,22 +8,12 @@ use lib.ListN.{length, getD}
 use lib.Seq.{sets}
 use Rattle.bits.specs.Logic.{pick}
 use Rattle.rows.specs.Digits.{digitsUpto}
-use Rattle.formula.specs.Tree.{Formula, constant}
-use Rattle.formula.specs.Value.{value, onRow}
-use Rattle.design.specs.Sheet.{Output}
-use Rattle.design.specs.Examine.{Design, Examined, refused, valid, examine}
+use Rattle.sheet.specs.Known.{outputOn}
+use Rattle.sheet.specs.Examine.{Design, Examined, refused, valid, examine}
 
 -- how many rows a design has
 abbrev pub rowCount : Design → ℕ
 rowCount d = 2 ^ length (d .inputs)
-
--- output o's formula
-abbrev pub formulaOf : Design → ℕ → Formula
-formulaOf d o = getD (d .outputs) o (record { name = []; formula = constant false }) .formula
-
--- output o's value on row r
-unfoldable pub outputOn : Design → ℕ → ℕ → Bool
-outputOn d o r = value (onRow (d .inputs) r) (formulaOf d o)
 
 -- the digits of output o in row order
 unfoldable pub tableDigits : Design → ℕ → List ℕ

@@ -11,9 +11,9 @@ use Rattle.formula.specs.Tree.{depth, knows}
 use Rattle.formula.specs.Reader.{readWithin, readFormula}
 use Rattle.formula.specs.Value.{combine, value, onRow}
 use Rattle.names.specs.Names.{namesWithin, readNames}
-use Rattle.design.specs.Sheet.{readIn, readBound, readLimit, readOut}
-use Rattle.design.specs.Examine.{Examined, refused, valid, examine, askIn, askBound, askLimit, askOut, askEnd, askLine, askLines, plain, plainLines, sized}
-use Rattle.design.specs.Tabulate.{outputOn}
+use Rattle.sheet.specs.Lines.{readIn, readBound, readLimit, readOut}
+use Rattle.sheet.specs.Examine.{Examined, refused, valid, examine, askIn, askBound, askLimit, askOut, askEnd, askLine, askLines, plain, plainLines, sized}
+use Rattle.sheet.specs.Known.{outputOn}
 
 k1 : examine [] ≡ refused 1 0
 unfolding examine sized

@@ -12,7 +12,7 @@ use Rattle.text.specs.Bytes.{same, newline}
 use Rattle.text.specs.Line.{lines}
 use Rattle.names.specs.Name.{Name, among, distinct, allAmong}
 use Rattle.formula.specs.Tree.{Formula, depth, knows}
-use Rattle.design.specs.Sheet.{Output, designLine, endLine, readIn, readBound, readLimit, readOut}
+use Rattle.sheet.specs.Lines.{Output, designLine, endLine, readIn, readBound, readLimit, readOut}
 
 -- what a valid sheet says
 pub record Design : Type 0 where
@@ -64,15 +64,22 @@ askLimit d (some n) =
 abbrev pub outputNames : List Output → List Name
 outputNames os = map (λ (o : Output). o .name) os
 
+-- "An output may equal no input or earlier output"
+abbrev pub newName : Design → Name → Bool
+newName d n = not (among n (d .inputs)) && not (among n (outputNames (d .outputs)))
+
+abbrev pub withOutput : Design → Output → Design
+withOutput d o = record { inputs = d .inputs; bound = d .bound; limit = d .limit; outputs = d .outputs ++ (o ∷ []) }
+
 unfoldable pub askOut : Design → Option Output → Step
 askOut d none = no-to 2
 askOut d (some o) =
     ask
     ((3, ltb (length (d .outputs)) maxOutputs && leb (depth (o .formula)) maxDepth)
-    ∷ (4, not (among (o .name) (d .inputs)) && not (among (o .name) (outputNames (d .outputs))))
+    ∷ (4, newName d (o .name))
     ∷ (5, knows (d .inputs) (o .formula))
     ∷ [])
-    (next at-out (record { inputs = d .inputs; bound = d .bound; limit = d .limit; outputs = d .outputs ++ (o ∷ []) }))
+    (next at-out (withOutput d o))
 
 -- `(end)` before any output is spelled right, and refused by 3
 unfoldable pub askEnd : Design → Step

@@ -1,0 +1,4 @@
+-- The lines of a design sheet, and the examination by questions 1 to 5, with laws about these.
+pub mod Lines
+pub mod Examine
+pub mod Known
