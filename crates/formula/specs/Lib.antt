@@ -3,3 +3,7 @@ pub mod Tree
 pub mod Printer
 pub mod Reader
 pub mod Value
+pub mod PrintLaws
+pub mod Front
+pub mod Within
+pub mod ReaderLaws
