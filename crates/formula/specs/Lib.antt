@@ -4,8 +4,11 @@ pub mod Printer
 pub mod Reader
 pub mod Value
 pub mod Gates
+pub mod Part
+pub mod PrintLaws
+pub mod Front
+pub mod Within
 pub mod ReaderLaws
 pub mod Lookup
-pub mod Part
 pub mod Walk
 pub mod Opened

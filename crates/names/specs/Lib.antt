@@ -1,6 +1,8 @@
 -- What document 01 says of names and lists of names, and laws about it.
 pub mod Name
 pub mod Names
+pub mod OperatorLaws
+pub mod ReadLaws
 pub mod Pack
 pub mod Word
 pub mod SameLaws
