@@ -2,3 +2,6 @@
 pub mod Opening
 pub mod Item
 pub mod EatLaws
+pub mod RangeLaws
+pub mod Numerals
+pub mod NumberLaws
