@@ -3,4 +3,14 @@ pub mod Limits
 pub mod Bytes
 pub mod Line
 pub mod LineEnd
+pub mod Unbroken
+pub mod Breaks
 pub mod Number
+pub mod Numerals
+pub mod BytesLaws
+pub mod EatLaws
+pub mod LineLaws
+pub mod LineEndLaws
+pub mod LineCountLaws
+pub mod NumeralLaws
+pub mod NumberLaws
