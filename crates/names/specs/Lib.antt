@@ -3,3 +3,6 @@ pub mod Name
 pub mod Names
 pub mod Pack
 pub mod Word
+pub mod SameLaws
+pub mod PackLaws
+pub mod WordLaws
