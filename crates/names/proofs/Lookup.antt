@@ -11,16 +11,20 @@ use Rattle.names.specs.Pack.{nameOf}
 use Rattle.names.specs.Word.{PositionIs}
 use Rattle.names.specs.declared.Position.the-variants.{At, Nowhere}
 
+-- the name at k is another than v's
+abbrev Other : List ℕ → ℕ → ℕ → Type 0
+Other vs v k = sameName (nameOf (getD vs k 0)) (nameOf v) ≡ false
+
 pub record Missed (vs : List ℕ) (v i : ℕ) : Type 0 where
   pub inside : i ≤ length vs
   pub other : (k : ℕ) → k < i → sameName (nameOf (getD vs k 0)) (nameOf v) ≡ false
 
 pub missed-none : (vs : List ℕ) (v : ℕ) → Missed vs v 0
-missed-none vs v = record { inside = omega arith; other = below-none (λ (k : ℕ). sameName (nameOf (getD vs k 0)) (nameOf v) ≡ false) }
+missed-none vs v = record { inside = omega arith; other = below-none (Other vs v) }
 
 pub missed-more : {vs : List ℕ} {v i : ℕ} → Missed vs v i → i < length vs → sameName (nameOf (getD vs i 0)) (nameOf v) ≡ false → Missed vs v (i + 1)
 missed-more {vs} {v} {i} m l e =
-    record { inside = omega arith; other = below-more (λ (k : ℕ). sameName (nameOf (getD vs k 0)) (nameOf v) ≡ false) i (m .other) e }
+    record { inside = omega arith; other = below-more (Other vs v) i (m .other) e }
 
 pub found-at : {vs : List ℕ} {v i : ℕ} → Missed vs v i → i < length vs → sameName (nameOf (getD vs i 0)) (nameOf v) ≡ true → PositionIs vs v (At i)
 unfolding PositionIs

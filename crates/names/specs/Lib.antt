@@ -4,5 +4,8 @@ pub mod Names
 pub mod Pack
 pub mod Word
 pub mod SameLaws
+pub mod IsNameLaws
 pub mod PackLaws
 pub mod WordLaws
+pub mod NameLaws
+pub mod LookupLaws

@@ -2,7 +2,7 @@
 -- bytes, none of them 0, is the name that its number holds. So numbers are equal where names are. Assumes nothing.
 use mathlib.Core.Path.{_≡_, refl, sym, ap, ap₂, subst, _∙_}
 use mathlib.Core.Logic.{_⊎_, inl, inr, ⊎-elim}
-use mathlib.Core.Bool.{Bool, true, false, not, _&&_, _||_}
+use mathlib.Core.Bool.{Bool, true, false, _&&_, _||_}
 use mathlib.Core.List.{List, [], _∷_}
 use Prim.Native.Nat.{ℕ, zero, suc, _+_, _*_, _/_, _%_, _^_, _≤_, _<_}
 use native.Mathlib.Omega.{arith}
@@ -14,9 +14,9 @@ use borrow.Author.Tests.{eq-eqb, ne-eqb, leb-true}
 use Rattle.bits.specs.Logic.{pick, and-left, and-right}
 use Rattle.text.specs.Bytes.{same}
 use Rattle.text.specs.Number.{numeral}
-use Rattle.text.specs.Limits.{maxName}
-use Rattle.names.specs.Name.{Name, letter, nameByte, allNameBytes, startsWithLetter, isOperator, operator, isName, sameName}
+use Rattle.names.specs.Name.{Name, letter, nameByte, allNameBytes, isName, sameName}
 use Rattle.names.specs.Pack.{pack, unpackWithin, nameOf}
+use Rattle.names.specs.IsNameLaws.{name-bytes, name-short}
 use Rattle.names.specs.SameLaws.{same-equal, same-different}
 
 -- ---- a number, unpacked and packed
@@ -27,7 +27,8 @@ pack-unpacked : (k v : ℕ) → v < 256 ^ k → pack (unpackWithin k v) ≡ v
 unfolding pack unpackWithin
 pack-unpacked zero v h = omega arith
 pack-unpacked (suc k) v h =
-    let rest : pack (unpackWithin k (v / 256)) ≡ v / 256 = pack-unpacked k (v / 256) (below-step (256 ^ k) v (subst (λ (m : ℕ). v < m) (pow-suc 256 k) h)) in
+    let less : v / 256 < 256 ^ k = below-step (256 ^ k) v (subst (λ (m : ℕ). v < m) (pow-suc 256 k) h) in
+    let rest : pack (unpackWithin k (v / 256)) ≡ v / 256 = pack-unpacked k (v / 256) less in
     let split : v % 256 + 256 * (v / 256) ≡ v = omega arith in
     elim (ℕ-discrete v 0) as (λ _. pack (pick (eqb v 0) [] (v % 256 ∷ unpackWithin k (v / 256))) ≡ v) [
       | yes e ↦ ap (λ (t : Bool). pack (pick t [] (v % 256 ∷ unpackWithin k (v / 256)))) (eq-eqb v 0 e) ∙ sym e
@@ -44,10 +45,6 @@ pack-name-of v h = pack-unpacked 8 v h
 abbrev pub NoZero : List ℕ → Type 0
 NoZero [] = Unit {0}
 NoZero (b ∷ s) = (0 < b) × (b < 256) × NoZero s
-
-either-true : (a b : Bool) → a || b ≡ true → (a ≡ true) ⊎ (b ≡ true)
-either-true true b e = inl refl
-either-true false b e = inr e
 
 low-byte : (b m : ℕ) → b < 256 → (b + 256 * m) % 256 ≡ b
 low-byte b m h = omega arith
@@ -78,16 +75,20 @@ unfolding nameOf
 name-of-pack n h z = unpack-packed 8 n h z
 
 -- ---- the bytes of a name are none of them 0
+either-true : (a b : Bool) → a || b ≡ true → (a ≡ true) ⊎ (b ≡ true)
+either-true true b e = inl refl
+either-true false b e = inr e
+
+between : (lo hi b : ℕ) → leb lo b && leb b hi ≡ true → (lo ≤ b) × (b ≤ hi)
+between lo hi b e =
+    (leb-true lo b (and-left (leb lo b) (leb b hi) e), leb-true b hi (and-right (leb lo b) (leb b hi) e))
+
 name-byte-bounds : (b : ℕ) → nameByte b ≡ true → (0 < b) × (b < 256)
 unfolding nameByte letter numeral
 name-byte-bounds b e =
     ⊎-elim
-    (λ l. let h : 0x61 ≤ b = leb-true 0x61 b (and-left (leb 0x61 b) (leb b 0x7A) l) in
-    let g : b ≤ 0x7A = leb-true b 0x7A (and-right (leb 0x61 b) (leb b 0x7A) l) in
-    (omega arith, omega arith))
-    (λ l. let h : 0x30 ≤ b = leb-true 0x30 b (and-left (leb 0x30 b) (leb b 0x39) l) in
-    let g : b ≤ 0x39 = leb-true b 0x39 (and-right (leb 0x30 b) (leb b 0x39) l) in
-    (omega arith, omega arith))
+    (λ l. omega (arith, between 0x61 0x7A b l))
+    (λ d. omega (arith, between 0x30 0x39 b d))
     (either-true (leb 0x61 b && leb b 0x7A) (leb 0x30 b && leb b 0x39) e)
 
 name-bytes-no-zero : (n : List ℕ) → allNameBytes n ≡ true → NoZero n
@@ -100,15 +101,7 @@ pub name-bytes-back : (n : Name) → allNameBytes n ≡ true → length n ≤ 8 
 name-bytes-back n e h = name-of-pack n h (name-bytes-no-zero n e)
 
 pub name-back : (n : Name) → isName n ≡ true → nameOf (pack n) ≡ n
-unfolding isName
-name-back n e =
-    let start = startsWithLetter n in
-    let all = allNameBytes n in
-    let short = leb (length n) maxName in
-    let free = not (isOperator (operator n)) in
-    let front = and-left (start && all && short) free e in
-    let three = and-left (start && all) short front in
-    name-bytes-back n (and-right start all three) (leb-true (length n) maxName (and-right (start && all) short front))
+name-back n e = name-bytes-back n (name-bytes n e) (name-short n e)
 
 -- ---- names are the same where their numbers are
 pub name-of-one : (a b : ℕ) → a < 2 ^ 64 → b < 2 ^ 64 → nameOf a ≡ nameOf b → a ≡ b

@@ -1,4 +1,4 @@
--- The test of two texts decides whether they are equal. Assumes nothing.
+-- The test of two texts, or of two names, decides whether they are equal. Assumes nothing.
 use mathlib.Core.Path.{_≡_, refl, sym, ap₂, subst}
 use mathlib.Core.Bool.{Bool, true, false}
 use mathlib.Core.List.{List, [], _∷_}
@@ -7,6 +7,7 @@ use lib.Dec.{eqb}
 use borrow.Author.Tests.{eqb-true, eq-eqb}
 use Rattle.bits.specs.Logic.{true-false, and-left, and-right, and-both}
 use Rattle.text.specs.Bytes.{same}
+use Rattle.names.specs.Name.{Name, sameName}
 
 pub same-true : (a b : List ℕ) → same a b ≡ true → a ≡ b
 unfolding same
@@ -30,3 +31,16 @@ not-true-false false h = refl
 
 pub same-different : (a b : List ℕ) → (a ≡ b → ⊥) → same a b ≡ false
 same-different a b h = not-true-false (same a b) (λ e. h (same-true a b e))
+
+-- ---- names
+pub same-name-true : (m n : Name) → sameName m n ≡ true → m ≡ n
+unfolding sameName
+same-name-true m n e = same-true m n e
+
+pub same-name-self : (n : Name) → sameName n n ≡ true
+unfolding sameName
+same-name-self n = same-self n
+
+pub same-name-different : (m n : Name) → (m ≡ n → ⊥) → sameName m n ≡ false
+unfolding sameName
+same-name-different m n h = same-different m n h
