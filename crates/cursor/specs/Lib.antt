@@ -3,5 +3,9 @@ pub mod Opening
 pub mod Item
 pub mod EatLaws
 pub mod RangeLaws
-pub mod Numerals
+pub mod PartLaws
+pub mod NumeralsEnd
 pub mod NumberLaws
+pub mod First
+pub mod FirstLaws
+pub mod NamedLaws

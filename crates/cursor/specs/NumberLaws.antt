@@ -9,7 +9,7 @@ use native.Mathlib.Numerals.{add-one}
 use native.Mathlib.Omega.{arith}
 use lib.Dec.{eqb, leb}
 use lib.ListN.{length, getD, take, drop, length-drop}
-use lib.Seq.{drop-cons, drop-drop, getD-take, getD-drop, length-take-le}
+use lib.Seq.{drop-cons, drop-drop, getD-take, getD-drop}
 use borrow.Author.Tests.{le-leb, lt-leb, leb-true}
 use borrow.Author.Count.{below-more}
 use Rattle.bits.specs.Logic.{and-right}
@@ -18,7 +18,8 @@ use Rattle.text.specs.Limits.{maxDigits}
 use Rattle.text.specs.Number.{numeral, numerals, afterNumerals, valueFrom, noLeadingZero, isNumber, readNumber}
 use Rattle.cursor.specs.declared.Cursor.{Cursor}
 use Rattle.cursor.specs.Item.{At}
-use Rattle.cursor.specs.Numerals.{Numerals, NumeralsEnd}
+use Rattle.cursor.specs.PartLaws.{part-length, part-cons}
+use Rattle.cursor.specs.NumeralsEnd.{Numerals, NumeralsEnd}
 
 -- ---- the digits at the front of a text
 longest : (t : List ℕ) (k : ℕ) → k ≤ length t → ((j : ℕ) → j < k → numeral (getD t j 0) ≡ true) → (k < length t → numeral (getD t k 0) ≡ false) → (take k t ≡ numerals t) × (drop k t ≡ afterNumerals t)
@@ -67,11 +68,6 @@ valued-none s a e h =
     let z : a - a ≡ 0 = omega arith in
     record { after-start = omega arith; before-end = h; small = rw z (omega arith); value = refl }
 
-part-cons : (s : List ℕ) (i e : ℕ) → i < e → e ≤ length s → take (e - i) (drop i s) ≡ getD s i 0 ∷ take (e - suc i) (drop (suc i) s)
-part-cons s i e h g =
-    let k : e - i ≡ suc (e - suc i) = omega arith in
-    rw (k, drop-cons s i 0 (omega arith)) refl
-
 -- three digits are below a thousand
 pub valued-small : (s : List ℕ) (a e i n : ℕ) → Valued s a e i n → i ≤ a + 3 → n < 1000
 valued-small s a e i n v h =
@@ -113,15 +109,12 @@ by-first (d ∷ e ∷ ds) h g = rw (le-leb (length (d ∷ e ∷ ds)) 3 g) (and-t
     and-true false = refl
 
 module _ (s : List ℕ) (a e : ℕ) (h : a ≤ e) (g : e ≤ length s) where
-  pub part-length : length (take (e - a) (drop a s)) ≡ e - a
-  part-length = length-take-le (e - a) (drop a s) (simp length-drop (omega arith))
-
   pub number-short : isNumber (take (e - a) (drop a s)) ≡ true → e ≤ a + 3
   unfolding isNumber
   number-short t =
       let ds = take (e - a) (drop a s) in
       let l : length ds ≤ 3 = leb-true _ _ (and-right (noLeadingZero ds) (leb (length ds) maxDigits) t) in
-      omega (arith, part-length)
+      omega (arith, part-length s a e h g)
 
   pub no-digits : e - a ≡ 0 → false ≡ isNumber (take (e - a) (drop a s))
   unfolding isNumber
@@ -133,7 +126,7 @@ module _ (s : List ℕ) (a e : ℕ) (h : a ≤ e) (g : e ≤ length s) where
 
   pub many-digits : 3 < e - a → false ≡ isNumber (take (e - a) (drop a s))
   unfolding isNumber
-  many-digits l = never (noLeadingZero (take (e - a) (drop a s))) _ (rw part-length (lt-leb (e - a) 3 l))
+  many-digits l = never (noLeadingZero (take (e - a) (drop a s))) _ (rw (part-length s a e h g) (lt-leb (e - a) 3 l))
 
   pub some-digits : 1 < e - a → e - a ≤ 3 → not (eqb (getD s a 0) 0x30) ≡ isNumber (take (e - a) (drop a s))
   unfolding isNumber
@@ -141,7 +134,7 @@ module _ (s : List ℕ) (a e : ℕ) (h : a ≤ e) (g : e ≤ length s) where
       let ds = take (e - a) (drop a s) in
       let z : a + 0 ≡ a = omega arith in
       let f : getD ds 0 0 ≡ getD s a 0 = getD-take (e - a) (drop a s) 0 0 (omega arith) ∙ getD-drop a s 0 0 ∙ ap (λ (i : ℕ). getD s i 0) z in
-      rw f at (by-first ds (omega (arith, part-length)) (omega (arith, part-length)))
+      rw f at (by-first ds (omega (arith, part-length s a e h g)) (omega (arith, part-length s a e h g)))
 
 -- ---- the number
 pub number-there : (s : List ℕ) (at e n : ℕ) (c : Cursor) → NumeralsEnd s at e → isNumber (take (e - at) (drop at s)) ≡ true → n ≡ valueFrom 0 (take (e - at) (drop at s)) → c .at ≡ e → At s n c (readNumber (drop at s))

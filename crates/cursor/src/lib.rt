@@ -9,7 +9,8 @@ ghost use Rattle.text.specs.Number.{numeral, valueFrom, isNumber, readNumber};
 ghost use Rattle.names.specs.Name.{readName};
 ghost use Rattle.names.specs.Names.{readNames};
 ghost use Rattle.cursor.specs.Opening.{readOpening};
-ghost use Rattle.cursor.specs.Numerals.{Numerals, NumeralsEnd};
+ghost use Rattle.cursor.specs.NumeralsEnd.{Numerals, NumeralsEnd};
+ghost use Rattle.cursor.specs.First.{firstOf, firstAt};
 ghost use Rattle.cursor.specs.Item.{MovedIs, NumberIs, NameIs, OpeningIs, NamesAre};
 
 pub struct Cursor {
@@ -120,6 +121,54 @@ fn value(s: &[u8], a: usize, e: usize) -> usize
     n
 }
 
+// What a byte opens.
+pub enum First {
+    Letter,
+    Digit,
+    Bracket,
+    Other,
+}
+
+fn first_of(b: u8) -> First
+    ensures { λ r. ⌜ r ≡ firstOf b ⌝ }
+{
+    match b {
+        b'a'..=b'z' => First::Letter,
+        b'0'..=b'9' => First::Digit,
+        b'(' => First::Bracket,
+        _ => First::Other,
+    }
+}
+
+fn first_at(s: &[u8], at: usize) -> First
+    requires { ⌜ at ≤ length (now s) ⌝ }
+    ensures { λ r. ⌜ r ≡ firstAt (drop at (now (s .entry))) ⌝ }
+{
+    if at < s.len() {
+        first_of(s[at])
+    } else {
+        First::Other
+    }
+}
+
+// The name that a word with a letter first is: at most 8 bytes, and no operator.
+fn named(s: &[u8], at: usize) -> NameRead
+    requires { ⌜ (at ≤ length (now s)) × (firstAt (drop at (now s)) ≡ First.Letter) ⌝ }
+    ensures { λ r. ⌜ NameIs (now (s .entry)) r (readName (drop at (now (s .entry)))) ⌝ }
+{
+    let e = names::word_end(s, at);
+    if 8 < e - at {
+        return NameRead::Bad;
+    }
+    let v = names::packed(s, at, e);
+    let o = names::as_operator(v);
+    if let names::Operator::Nothing = o {
+        NameRead::Name(v, Cursor { at: e })
+    } else {
+        NameRead::Bad
+    }
+}
+
 impl Cursor {
     // The bytes of w.
     pub fn text(self, s: &[u8], w: &[u8]) -> Moved
@@ -151,6 +200,19 @@ impl Cursor {
             NumberRead::Number(value(s, at, e), Cursor { at: e })
         } else {
             NumberRead::Bad
+        }
+    }
+
+    pub fn name(self, s: &[u8]) -> NameRead
+        requires { ⌜ self .at ≤ length (now s) ⌝ }
+        ensures { λ r. ⌜ NameIs (now (s .entry)) r (readName (drop (self .at) (now (s .entry)))) ⌝ }
+    {
+        let at = self.at;
+        let f = first_at(s, at);
+        if let First::Letter = f {
+            named(s, at)
+        } else {
+            NameRead::Bad
         }
     }
 }

@@ -6,7 +6,7 @@ use lib.ListN.{length}
 use borrow.Author.Tests.{not-true, not-false}
 use borrow.Author.Needs.{needs}
 use Rattle.cursor.specs.NumberLaws.{numerals-none, numerals-more}
-use Rattle.cursor.specs.Numerals.{Numerals}
+use Rattle.cursor.specs.NumeralsEnd.{Numerals}
 use Rattle.cursor.proofs.numerals_end.Statement.{statement}
 use Rattle.cursor.proofs.numerals_end.Tie as tie
 
