@@ -2,3 +2,11 @@
 pub mod Opening
 pub mod OpeningLaws
 pub mod Item
+pub mod EatLaws
+pub mod RangeLaws
+pub mod PartLaws
+pub mod NumeralsEnd
+pub mod NumberLaws
+pub mod First
+pub mod FirstLaws
+pub mod NamedLaws

@@ -1,13 +1,16 @@
 // A place in a text: each method reads the item at the place, and returns the moved cursor with the item's answer.
 // Rests on text and names.
 ghost use mathlib.Core.Path.{_≡_};
-ghost use Prim.Native.Nat.{ℕ, _≤_};
-ghost use lib.ListN.{length, drop};
+ghost use mathlib.Core.Bool.{true};
+ghost use Prim.Native.Nat.{ℕ, _+_, _-_, _≤_, _<_};
+ghost use lib.ListN.{length, take, drop};
 ghost use Rattle.text.specs.Bytes.{eat};
-ghost use Rattle.text.specs.Number.{readNumber};
+ghost use Rattle.text.specs.Number.{numeral, valueFrom, isNumber, readNumber};
 ghost use Rattle.names.specs.Name.{readName};
 ghost use Rattle.names.specs.Names.{readNames};
 ghost use Rattle.cursor.specs.Opening.{readOpening};
+ghost use Rattle.cursor.specs.NumeralsEnd.{Numerals, NumeralsEnd};
+ghost use Rattle.cursor.specs.First.{firstOf, firstAt};
 ghost use Rattle.cursor.specs.Item.{MovedIs, NumberIs, NameIs, OpeningIs, NamesAre};
 
 pub struct Cursor {
@@ -54,6 +57,118 @@ pub struct NameList {
     pub names: [u64; 10],
 }
 
+// Whether a byte is a digit.
+fn is_numeral(b: u8) -> bool
+    ensures { λ r. ⌜ r ≡ numeral b ⌝ }
+{
+    match b {
+        b'0'..=b'9' => true,
+        _ => false,
+    }
+}
+
+// The place after the digits at a place.
+fn numerals_end(s: &[u8], at: usize) -> usize
+    requires { ⌜ at ≤ length (now s) ⌝ }
+    ensures { λ r. ⌜ NumeralsEnd (now (s .entry)) at r ⌝ }
+{
+    let mut e = at;
+    while e < s.len() {
+        if !is_numeral(s[e]) {
+            return e;
+        }
+        e += 1;
+    }
+    e
+}
+
+// Whether the digits from a up to e are a number: one to three, and a 0 only alone.
+fn is_number(s: &[u8], a: usize, e: usize) -> bool
+    requires { ⌜ (a ≤ e) × (e ≤ length (now s)) ⌝ }
+    ensures { λ r. ⌜ r ≡ isNumber (take (e - a) (drop a (now (s .entry)))) ⌝ }
+{
+    let n = e - a;
+    if n == 0 {
+        return false;
+    }
+    if n == 1 {
+        return true;
+    }
+    if 3 < n {
+        return false;
+    }
+    s[a] != b'0'
+}
+
+fn digit_value(b: u8) -> usize
+    requires { ⌜ numeral b ≡ true ⌝ }
+    ensures { λ r. ⌜ (r ≡ b - 0x30) × (r < 10) ⌝ }
+{
+    (b - b'0') as usize
+}
+
+// The value of the digits from a up to e.
+fn value(s: &[u8], a: usize, e: usize) -> usize
+    requires { ⌜ (Numerals (now s) a e) × (e ≤ a + 3) ⌝ }
+    ensures { λ r. ⌜ r ≡ valueFrom 0 (take (e - a) (drop a (now (s .entry)))) ⌝ }
+{
+    let mut n: usize = 0;
+    let mut i = a;
+    while i < e {
+        n = n * 10 + digit_value(s[i]);
+        i += 1;
+    }
+    n
+}
+
+// What a byte opens.
+pub enum First {
+    Letter,
+    Digit,
+    Bracket,
+    Other,
+}
+
+fn first_of(b: u8) -> First
+    ensures { λ r. ⌜ r ≡ firstOf b ⌝ }
+{
+    match b {
+        b'a'..=b'z' => First::Letter,
+        b'0'..=b'9' => First::Digit,
+        b'(' => First::Bracket,
+        _ => First::Other,
+    }
+}
+
+fn first_at(s: &[u8], at: usize) -> First
+    requires { ⌜ at ≤ length (now s) ⌝ }
+    ensures { λ r. ⌜ r ≡ firstAt (drop at (now (s .entry))) ⌝ }
+{
+    if at < s.len() {
+        first_of(s[at])
+    } else {
+        First::Other
+    }
+}
+
+// The name that a word with a letter first is: at most 8 bytes, and no operator.
+fn named(s: &[u8], at: usize) -> NameRead
+    requires { ⌜ (at ≤ length (now s)) × (firstAt (drop at (now s)) ≡ First.Letter) ⌝ }
+    ensures { λ r. ⌜ NameIs (now (s .entry)) r (readName (drop at (now (s .entry)))) ⌝ }
+{
+    let e = names::word_end(s, at);
+    if 8 < e - at {
+        return NameRead::Bad;
+    }
+    let v = names::packed(s, at, e);
+    let o = names::as_operator(v);
+    if let names::Operator::Nothing = o {
+        NameRead::Name(v, Cursor { at: e })
+    } else {
+        NameRead::Bad
+    }
+}
+
 impl Cursor {
     // The bytes of w.
     pub fn text(self, s: &[u8], w: &[u8]) -> Moved
@@ -72,5 +187,32 @@ impl Cursor {
             i += 1;
         }
         Moved::To(Cursor { at: at + i })
+    }
+
+    // The number of one to three digits.
+    pub fn number(self, s: &[u8]) -> NumberRead
+        requires { ⌜ self .at ≤ length (now s) ⌝ }
+        ensures { λ r. ⌜ NumberIs (now (s .entry)) r (readNumber (drop (self .at) (now (s .entry)))) ⌝ }
+    {
+        let at = self.at;
+        let e = numerals_end(s, at);
+        if is_number(s, at, e) {
+            NumberRead::Number(value(s, at, e), Cursor { at: e })
+        } else {
+            NumberRead::Bad
+        }
+    }
+
+    pub fn name(self, s: &[u8]) -> NameRead
+        requires { ⌜ self .at ≤ length (now s) ⌝ }
+        ensures { λ r. ⌜ NameIs (now (s .entry)) r (readName (drop (self .at) (now (s .entry)))) ⌝ }
+    {
+        let at = self.at;
+        let f = first_at(s, at);
+        if let First::Letter = f {
+            named(s, at)
+        } else {
+            NameRead::Bad
+        }
     }
 }
