@@ -16,7 +16,8 @@ use Rattle.cursor.specs.declared.Gate.{Gate}
 use Rattle.cursor.specs.declared.Opening.{Opening}
 use Rattle.formula.specs.Tree.{Formula, input, constant, depth, knows}
 use Rattle.formula.specs.Reader.{readFormula, readOperands}
-use Rattle.formula.specs.ReaderLaws.{opening-shorter, formula-opened, formula-unopened}
+use Rattle.cursor.specs.OpeningLaws.{opening-shorter}
+use Rattle.formula.specs.ReaderLaws.{formula-opened, formula-unopened}
 use Rattle.formula.specs.Value.{value, onRow}
 use Rattle.formula.specs.Part.{PartIs, Atom, Closed, Negated, gateOn}
 use Rattle.formula.specs.Walk.{atom-is, negation-is, leftOf, left-after}
