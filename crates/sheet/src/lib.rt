@@ -152,7 +152,7 @@ fn distinct(ns: &[u64]) -> bool
 }
 
 // The places of the names ns among the inputs.
-fn places(ns: &[u64], inputs: &[u64]) -> Places
+fn placed(ns: &[u64], inputs: &[u64]) -> Places
     requires { ⌜ length (now ns) ≤ 5 ⌝ }
     ensures { λ r. ⌜ PlacesAre (map nameOf (now (ns .entry))) (map nameOf (now (inputs .entry))) r ⌝ }
 {
@@ -213,7 +213,7 @@ fn ask_bound(k: Sheet, l: &[u8]) -> Asked
     }
     let m = k.inputs;
     let inputs = k.names;
-    let p = places(&ns[..n], &inputs[..m]);
+    let p = placed(&ns[..n], &inputs[..m]);
     let list = p.list;
     if !p.ok {
         return refuse(5, k);
