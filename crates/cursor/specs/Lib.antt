@@ -9,3 +9,4 @@ pub mod NumberLaws
 pub mod First
 pub mod FirstLaws
 pub mod NamedLaws
+pub mod OpenedLaws
