@@ -2,7 +2,7 @@
 -- bytes, none of them 0, is the name that its number holds. So numbers are equal where names are. Assumes nothing.
 use mathlib.Core.Path.{_≡_, refl, sym, ap, ap₂, subst, _∙_}
 use mathlib.Core.Logic.{_⊎_, inl, inr, ⊎-elim}
-use mathlib.Core.Bool.{Bool, true, false, _&&_, _||_}
+use mathlib.Core.Bool.{Bool, true, false, _||_}
 use mathlib.Core.List.{List, [], _∷_}
 use Prim.Native.Nat.{ℕ, zero, suc, _+_, _*_, _/_, _%_, _^_, _≤_, _<_}
 use native.Mathlib.Omega.{arith}
@@ -13,11 +13,13 @@ use lib.ListN.{length}
 use borrow.Author.Tests.{eq-eqb, ne-eqb, leb-true}
 use Rattle.bits.specs.Logic.{pick, and-left, and-right}
 use Rattle.text.specs.Bytes.{same}
+use Rattle.text.specs.BytesLaws.{differ-same}
 use Rattle.text.specs.Number.{numeral}
+use Rattle.text.specs.NumeralLaws.{numeral-low, numeral-high}
 use Rattle.names.specs.Name.{Name, letter, nameByte, allNameBytes, isName, sameName}
 use Rattle.names.specs.Pack.{pack, unpackWithin, nameOf}
 use Rattle.names.specs.IsNameLaws.{name-bytes, name-short}
-use Rattle.names.specs.SameLaws.{same-equal, same-different}
+use Rattle.names.specs.SameLaws.{same-name-equal, same-name-different}
 
 -- ---- a number, unpacked and packed
 below-step : (p v : ℕ) → v < p * 256 → v / 256 < p
@@ -79,17 +81,18 @@ either-true : (a b : Bool) → a || b ≡ true → (a ≡ true) ⊎ (b ≡ true)
 either-true true b e = inl refl
 either-true false b e = inr e
 
-between : (lo hi b : ℕ) → leb lo b && leb b hi ≡ true → (lo ≤ b) × (b ≤ hi)
-between lo hi b e =
-    (leb-true lo b (and-left (leb lo b) (leb b hi) e), leb-true b hi (and-right (leb lo b) (leb b hi) e))
+letter-bounds : (b : ℕ) → letter b ≡ true → (0x61 ≤ b) × (b ≤ 0x7A)
+unfolding letter
+letter-bounds b e =
+    (leb-true 0x61 b (and-left (leb 0x61 b) (leb b 0x7A) e), leb-true b 0x7A (and-right (leb 0x61 b) (leb b 0x7A) e))
 
 name-byte-bounds : (b : ℕ) → nameByte b ≡ true → (0 < b) × (b < 256)
-unfolding nameByte letter numeral
+unfolding nameByte
 name-byte-bounds b e =
     ⊎-elim
-    (λ l. omega (arith, between 0x61 0x7A b l))
-    (λ d. omega (arith, between 0x30 0x39 b d))
-    (either-true (leb 0x61 b && leb b 0x7A) (leb 0x30 b && leb b 0x39) e)
+    (λ l. omega (arith, letter-bounds b l))
+    (λ d. omega (arith, numeral-low b d, numeral-high b d))
+    (either-true (letter b) (numeral b) e)
 
 name-bytes-no-zero : (n : List ℕ) → allNameBytes n ≡ true → NoZero n
 name-bytes-no-zero [] e = tt
@@ -108,13 +111,12 @@ pub name-of-one : (a b : ℕ) → a < 2 ^ 64 → b < 2 ^ 64 → nameOf a ≡ nam
 name-of-one a b h g e = sym (pack-name-of a h) ∙ ap pack e ∙ pack-name-of b g
 
 pub same-name-numbers : (a b : ℕ) → a < 2 ^ 64 → b < 2 ^ 64 → sameName (nameOf a) (nameOf b) ≡ eqb a b
-unfolding sameName
 same-name-numbers a b h g =
-    elim (ℕ-discrete a b) as (λ _. same (nameOf a) (nameOf b) ≡ eqb a b) [
-      | yes e ↦ same-equal (nameOf a) (nameOf b) (ap nameOf e) ∙ sym (eq-eqb a b e)
-      | no d ↦ same-different (nameOf a) (nameOf b) (λ e. d (name-of-one a b h g e)) ∙ sym (ne-eqb a b d)
+    elim (ℕ-discrete a b) as (λ _. sameName (nameOf a) (nameOf b) ≡ eqb a b) [
+      | yes e ↦ same-name-equal (nameOf a) (nameOf b) (ap nameOf e) ∙ sym (eq-eqb a b e)
+      | no d ↦ same-name-different (nameOf a) (nameOf b) (λ e. d (name-of-one a b h g e)) ∙ sym (ne-eqb a b d)
     ]
 
 -- a number other than that of a text holds another text
 pub other-text : (v : ℕ) (t : List ℕ) → v < 2 ^ 64 → (v ≡ pack t → ⊥) → same (nameOf v) t ≡ false
-other-text v t h d = same-different (nameOf v) t (λ e. d (sym (pack-name-of v h) ∙ ap pack e))
+other-text v t h d = differ-same (nameOf v) t (λ e. d (sym (pack-name-of v h) ∙ ap pack e))
