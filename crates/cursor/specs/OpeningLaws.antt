@@ -14,37 +14,11 @@ use Rattle.text.specs.Number.{numeral}
 use Rattle.text.specs.EatLaws.{bad-found, found-item, found-rest, after-found}
 use Rattle.text.specs.After.{byte-found}
 use Rattle.names.specs.Name.{Name, letter, nameByte, word, afterWord, readName, isName, Operator, not-op, and-op, or-op, xor-op, none-op, operator, isOperator}
-use Rattle.names.specs.ReadLaws.{Stops, name-read-of-print, name-print-of-read, name-letter, name-long, word-split}
+use Rattle.names.specs.Front.{Stops}
+use Rattle.names.specs.ReadLaws.{name-read-of-print, name-print-of-read, name-letter, name-long, word-split}
 use Rattle.names.specs.OperatorLaws.{operatorWord, operator-word}
 use Rattle.cursor.specs.Opening.{and-gate, or-gate, xor-gate, Opening, name-opens, digit-opens, not-opens, gate-opens, spaced, readOpening}
-
-abbrev pub openingPrint : Opening → List ℕ
-openingPrint (name-opens n) = n
-openingPrint (digit-opens false) = bytes "0"
-openingPrint (digit-opens true) = bytes "1"
-openingPrint not-opens = bytes "(not "
-openingPrint (gate-opens and-gate) = bytes "(and "
-openingPrint (gate-opens or-gate) = bytes "(or "
-openingPrint (gate-opens xor-gate) = bytes "(xor "
-
-abbrev pub openingSpelled : Opening → Bool
-openingSpelled (name-opens n) = isName n
-openingSpelled (digit-opens b) = true
-openingSpelled not-opens = true
-openingSpelled (gate-opens g) = true
-
--- what may follow: after a name the text stops
-abbrev pub OpeningEnds : Opening → List ℕ → Type 0
-OpeningEnds (name-opens n) t = Stops t
-OpeningEnds (digit-opens b) t = Unit {0}
-OpeningEnds not-opens t = Unit {0}
-OpeningEnds (gate-opens g) t = Unit {0}
-
--- the opening i at the front of s, with t after it
-pub record OpeningFront (s : List ℕ) (i : Opening) (t : List ℕ) : Type 0 where
-  pub is-spelled : openingSpelled i ≡ true
-  pub is-split : s ≡ openingPrint i ++ t
-  pub ends : OpeningEnds i t
+use Rattle.cursor.specs.Front.{openingPrint, openingSpelled, OpeningEnds, OpeningFront}
 
 -- ---- from the print
 name-opening : (n : Name) (t : List ℕ) → isName n ≡ true → Stops t → readOpening (n ++ t) ≡ found (name-opens n) t

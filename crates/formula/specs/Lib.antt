@@ -7,3 +7,4 @@ pub mod PrintLaws
 pub mod Front
 pub mod Within
 pub mod ReaderLaws
+pub mod Inverse

@@ -8,15 +8,20 @@ use native.Mathlib.Omega.{arith}
 use lib.Dec.{leb}
 use lib.ListN.{length, length-append}
 use Rattle.bits.specs.Logic.{pick, and-left, and-right, true-false}
-use Rattle.text.specs.Bytes.{found}
+use Rattle.text.specs.Bytes.{found, space, closeBracket}
+use Rattle.text.specs.Number.{numeral}
 use Rattle.text.specs.Limits.{maxName}
 use Rattle.text.specs.EatLaws.{pick-found, found-item, found-rest}
-use Rattle.names.specs.Name.{Name, nameByte, word, afterWord, operator, isOperator, allNameBytes, startsWithLetter, isName, readName}
+use Rattle.names.specs.Name.{Name, letter, nameByte, word, afterWord, operator, isOperator, allNameBytes, startsWithLetter, isName, readName}
+use Rattle.names.specs.Front.{Stops, NameFront}
 
--- where a name can end: the text ends, or a byte follows that stands in no name
-abbrev pub Stops : List ℕ → Type 0
-Stops [] = Unit {0}
-Stops (b ∷ s) = nameByte b ≡ false
+pub space-stops : (s : List ℕ) → Stops (space ∷ s)
+unfolding nameByte letter numeral
+space-stops s = refl
+
+pub bracket-stops : (s : List ℕ) → Stops (closeBracket ∷ s)
+unfolding nameByte letter numeral
+bracket-stops s = refl
 
 -- ---- the word at the front and what follows it are the text
 split-by : (c : Bool) (b : ℕ) (s w a : List ℕ) → s ≡ w ++ a → b ∷ s ≡ pick c (b ∷ w) [] ++ pick c a (b ∷ s)
@@ -77,12 +82,6 @@ pub name-read-of-print : (n : Name) (t : List ℕ) → isName n ≡ true → Sto
 unfolding readName
 name-read-of-print n t e h =
     rw (word-front n t (name-bytes n e) h, after-word-front n t (name-bytes n e) h, e) refl
-
--- the name n at the front of s, with t after it
-pub record NameFront (s : List ℕ) (n : Name) (t : List ℕ) : Type 0 where
-  pub is-name : isName n ≡ true
-  pub is-split : s ≡ n ++ t
-  pub stops : Stops t
 
 pub name-print-of-read : (s : List ℕ) (n : Name) (t : List ℕ) → readName s ≡ found n t → NameFront s n t
 unfolding readName
