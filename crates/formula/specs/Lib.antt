@@ -5,6 +5,10 @@ pub mod Reader
 pub mod Value
 pub mod PrintLaws
 pub mod Front
+pub mod Onto
+pub mod GateLaws
+pub mod ValueLaws
+pub mod InputLaws
 pub mod Within
-pub mod ReaderLaws
 pub mod Inverse
+pub mod ReaderLaws

@@ -14,7 +14,8 @@ use Rattle.text.specs.After.{after-same}
 use Rattle.names.specs.Name.{Name, isName, readName}
 use Rattle.names.specs.Names.{printNames, namesWithin, readNames}
 use Rattle.names.specs.Front.{Stops, NameFront, allNames, NamesFront}
-use Rattle.names.specs.ReadLaws.{space-stops, bracket-stops, name-read-of-print, name-print-of-read, name-shorter}
+use Rattle.names.specs.NameLaws.{read-name-shorter}
+use Rattle.names.specs.ReadLaws.{space-stops, bracket-stops, name-read-of-print, name-print-of-read}
 
 -- a name, and the names after it
 abbrev oneMore : Read Name → (List ℕ → Read (List Name)) → Read (List Name)
@@ -74,7 +75,7 @@ names-agree (suc j) (suc k) (b ∷ s) h l =
     ap (λ (x : Read (List Name)). pick (eqb b closeBracket) (found [] s) (pick (eqb b space) x bad))
     (after-same (readName s) (λ n t. after (namesWithin j t) (λ ns u. found (n ∷ ns) u)) (λ n t. after (namesWithin k t) (λ ns u. found (n ∷ ns) u))
     (λ n t e.
-    let d : length t < length s = name-shorter s n t e in
+    let d : length t < length s = read-name-shorter s e in
     ap (λ (r : Read (List Name)). after r (λ ns u. found (n ∷ ns) u)) (names-agree j k t (omega arith) (omega arith))))
 
 -- ---- the steps
@@ -87,7 +88,7 @@ unfolding readNames namesWithin
 names-more t =
     after-same (readName t) (λ n u. after (namesWithin (suc (length t)) u) (λ ns v. found (n ∷ ns) v)) (λ n u. after (readNames u) (λ ns v. found (n ∷ ns) v))
     (λ n u e.
-    let d : length u < length t = name-shorter t n u e in
+    let d : length u < length t = read-name-shorter t e in
     ap (λ (r : Read (List Name)). after r (λ ns v. found (n ∷ ns) v)) (names-agree (suc (length t)) (suc (length u)) u (omega arith) (omega arith)))
 
 pub names-other : (b : ℕ) (t : List ℕ) → (b ≡ closeBracket → ⊥) → (b ≡ space → ⊥) → readNames (b ∷ t) ≡ bad
