@@ -1,5 +1,6 @@
 -- What a cursor reads at its place, and laws about it.
 pub mod Opening
+pub mod Front
 pub mod OpeningLaws
 pub mod Item
 pub mod EatLaws
@@ -10,3 +11,4 @@ pub mod NumberLaws
 pub mod First
 pub mod FirstLaws
 pub mod NamedLaws
+pub mod OpenedLaws

@@ -6,12 +6,14 @@ ghost use Prim.Native.Nat.{ℕ, _+_, _-_, _≤_, _<_};
 ghost use lib.ListN.{length, take, drop};
 ghost use Rattle.text.specs.Bytes.{eat};
 ghost use Rattle.text.specs.Number.{numeral, valueFrom, isNumber, readNumber};
-ghost use Rattle.names.specs.Name.{readName};
+ghost use Rattle.names.specs.Name.{word, operator, readName};
+ghost use Rattle.names.specs.Word.{WordEnd, operatorOf};
 ghost use Rattle.names.specs.Names.{readNames};
 ghost use Rattle.cursor.specs.Opening.{readOpening};
 ghost use Rattle.cursor.specs.NumeralsEnd.{Numerals, NumeralsEnd};
 ghost use Rattle.cursor.specs.First.{firstOf, firstAt};
 ghost use Rattle.cursor.specs.Item.{MovedIs, NumberIs, NameIs, OpeningIs, NamesAre};
+use names::Operator;
 
 pub struct Cursor {
     pub at: usize,
@@ -162,10 +164,68 @@ fn named(s: &[u8], at: usize) -> NameRead
     }
     let v = names::packed(s, at, e);
     let o = names::as_operator(v);
-    if let names::Operator::Nothing = o {
+    if let Operator::Nothing = o {
         NameRead::Name(v, Cursor { at: e })
     } else {
         NameRead::Bad
+    }
+}
+
+// A name that opens a formula.
+fn opens_name(s: &[u8], at: usize) -> Opening
+    requires { ⌜ (at ≤ length (now s)) × (firstAt (drop at (now s)) ≡ First.Letter) ⌝ }
+    ensures { λ r. ⌜ OpeningIs (now (s .entry)) r (readOpening (drop at (now (s .entry)))) ⌝ }
+{
+    let r = named(s, at);
+    match r {
+        NameRead::Name(v, next) => Opening::Name(v, next),
+        NameRead::Bad => Opening::Bad,
+    }
+}
+
+// A digit that opens a formula: 0 or 1.
+fn opens_digit(s: &[u8], at: usize) -> Opening
+    requires { ⌜ (at < length (now s)) × (firstAt (drop at (now s)) ≡ First.Digit) ⌝ }
+    ensures { λ r. ⌜ OpeningIs (now (s .entry)) r (readOpening (drop at (now (s .entry)))) ⌝ }
+{
+    let b = s[at];
+    let next = Cursor { at: at + 1 };
+    match b {
+        b'0' => Opening::Digit(false, next),
+        b'1' => Opening::Digit(true, next),
+        _ => Opening::Bad,
+    }
+}
+
+// The operator that the word from a up to e is.
+fn operator_word(s: &[u8], a: usize, e: usize) -> Operator
+    requires { ⌜ WordEnd (now s) a e ⌝ }
+    ensures { λ r. ⌜ operatorOf r ≡ operator (word (drop a (now (s .entry)))) ⌝ }
+{
+    if 8 < e - a {
+        return Operator::Nothing;
+    }
+    names::as_operator(names::packed(s, a, e))
+}
+
+// A bracket that opens a formula: an operator word and a space stand after it.
+fn opens_bracket(s: &[u8], at: usize) -> Opening
+    requires { ⌜ (at < length (now s)) × (firstAt (drop at (now s)) ≡ First.Bracket) ⌝ }
+    ensures { λ r. ⌜ OpeningIs (now (s .entry)) r (readOpening (drop at (now (s .entry)))) ⌝ }
+{
+    let a = at + 1;
+    let e = names::word_end(s, a);
+    let o = operator_word(s, a, e);
+    let m = Cursor { at: e }.text(s, b" ");
+    match m {
+        Moved::To(next) => match o {
+            Operator::Not => Opening::Not(next),
+            Operator::And => Opening::Gate(Gate::And, next),
+            Operator::Or => Opening::Gate(Gate::Or, next),
+            Operator::Xor => Opening::Gate(Gate::Xor, next),
+            Operator::Nothing => Opening::Bad,
+        },
+        Moved::Bad => Opening::Bad,
     }
 }
 
@@ -213,6 +273,21 @@ impl Cursor {
             named(s, at)
         } else {
             NameRead::Bad
+        }
+    }
+
+    // What opens a formula, by its first byte.
+    pub fn opening(self, s: &[u8]) -> Opening
+        requires { ⌜ self .at ≤ length (now s) ⌝ }
+        ensures { λ r. ⌜ OpeningIs (now (s .entry)) r (readOpening (drop (self .at) (now (s .entry)))) ⌝ }
+    {
+        let at = self.at;
+        let f = first_at(s, at);
+        match f {
+            First::Letter => opens_name(s, at),
+            First::Digit => opens_digit(s, at),
+            First::Bracket => opens_bracket(s, at),
+            First::Other => Opening::Bad,
         }
     }
 }

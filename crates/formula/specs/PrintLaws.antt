@@ -5,7 +5,7 @@ use mathlib.Core.List.{List, [], _∷_, _++_, append-assoc}
 use Prim.Native.Nat.{ℕ}
 use Rattle.text.specs.Bytes.{bytes, space, closeBracket}
 use Rattle.cursor.specs.Opening.{Gate, and-gate, or-gate, xor-gate, digit-opens, not-opens, gate-opens}
-use Rattle.cursor.specs.OpeningLaws.{openingPrint}
+use Rattle.cursor.specs.Front.{openingPrint}
 use Rattle.formula.specs.Tree.{Formula, constant, negation, gate, Operands, more}
 use Rattle.formula.specs.Printer.{gateWord, print, prints}
 

@@ -9,7 +9,7 @@ use lib.ListN.{length, length-append}
 use Rattle.bits.specs.Logic.{pick, true-false}
 use Rattle.text.specs.Bytes.{Read, found, bad, after}
 use Rattle.text.specs.After.{after-same}
-use Rattle.names.specs.ReadLaws.{name-long}
+use Rattle.names.specs.NameLaws.{name-not-empty}
 use Rattle.cursor.specs.Opening.{Opening, name-opens, digit-opens, not-opens, gate-opens, readOpening}
 use Rattle.cursor.specs.OpeningLaws.{opening-shorter}
 use Rattle.formula.specs.Tree.{Formula, input, constant, negation, gate, Operands, none, more}
@@ -20,7 +20,7 @@ use Rattle.formula.specs.Within.{formula-within, operands-within}
 -- ---- the text after an item is shorter
 print-long : (f : Formula) → spelled f ≡ true → 0 < length (print f)
 unfolding print spelled
-print-long (input n) e = name-long n e
+print-long (input n) e = name-not-empty n e
 print-long (constant b) e = omega arith
 print-long (negation f) e = omega arith
 print-long (gate g e f fs) h = omega arith

@@ -9,7 +9,8 @@ use Rattle.text.specs.Bytes.{Read, found, after, space, closeBracket}
 use Rattle.text.specs.EatLaws.{bad-found, found-item, found-rest, after-found}
 use Rattle.text.specs.After.{byte-found}
 use Rattle.cursor.specs.Opening.{Gate, Opening, name-opens, digit-opens, not-opens, gate-opens, readOpening}
-use Rattle.cursor.specs.OpeningLaws.{openingPrint, OpeningFront, opening-print-of-read}
+use Rattle.cursor.specs.Front.{openingPrint, OpeningFront}
+use Rattle.cursor.specs.OpeningLaws.{opening-print-of-read}
 use Rattle.formula.specs.Tree.{Formula, input, constant, negation, gate, Operands, none, more}
 use Rattle.formula.specs.Printer.{print, prints, spelled, spelledAll}
 use Rattle.formula.specs.Reader.{spaceNext, rest, closeNot, closeGate, finish, readWithin, operandsWithin}
