@@ -12,3 +12,6 @@ pub mod First
 pub mod FirstLaws
 pub mod NamedLaws
 pub mod OpenedLaws
+pub mod NextName
+pub mod NextNameLaws
+pub mod GatheredLaws

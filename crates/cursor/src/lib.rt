@@ -3,7 +3,7 @@
 ghost use mathlib.Core.Path.{_≡_};
 ghost use mathlib.Core.Bool.{true};
 ghost use Prim.Native.Nat.{ℕ, _+_, _-_, _≤_, _<_};
-ghost use lib.ListN.{length, take, drop};
+ghost use lib.ListN.{length, take, drop, set};
 ghost use Rattle.text.specs.Bytes.{eat};
 ghost use Rattle.text.specs.Number.{numeral, valueFrom, isNumber, readNumber};
 ghost use Rattle.names.specs.Name.{word, operator, readName};
@@ -12,6 +12,7 @@ ghost use Rattle.names.specs.Names.{readNames};
 ghost use Rattle.cursor.specs.Opening.{readOpening};
 ghost use Rattle.cursor.specs.NumeralsEnd.{Numerals, NumeralsEnd};
 ghost use Rattle.cursor.specs.First.{firstOf, firstAt};
+ghost use Rattle.cursor.specs.NextName.{NextIs};
 ghost use Rattle.cursor.specs.Item.{MovedIs, NumberIs, NameIs, OpeningIs, NamesAre};
 use names::Operator;
 
@@ -124,7 +125,7 @@ fn value(s: &[u8], a: usize, e: usize) -> usize
 }
 
 // What a byte opens.
-pub enum First {
+enum First {
     Letter,
     Digit,
     Bracket,
@@ -229,6 +230,45 @@ fn opens_bracket(s: &[u8], at: usize) -> Opening
     }
 }
 
+// What stands next in a list of names.
+enum NextName {
+    Name(u64, Cursor),
+    End(Cursor),
+    Bad,
+}
+
+fn next_name(s: &[u8], at: usize) -> NextName
+    requires { ⌜ at ≤ length (now s) ⌝ }
+    ensures { λ r. ⌜ NextIs (now (s .entry)) at r ⌝ }
+{
+    if s.len() <= at {
+        return NextName::Bad;
+    }
+    let b = s[at];
+    let next = Cursor { at: at + 1 };
+    match b {
+        b')' => NextName::End(next),
+        b' ' => {
+            let r = next.name(s);
+            match r {
+                NameRead::Name(v, after) => NextName::Name(v, after),
+                NameRead::Bad => NextName::Bad,
+            }
+        }
+        _ => NextName::Bad,
+    }
+}
+
+// Keeps v in the place that count says, where it is one of the ten.
+fn keep(names: &mut [u64; 10], count: usize, v: u64)
+    requires { ⌜ length (now names) ≡ 10 ⌝ }
+    ensures { λ _. ⌜ now (names .exit) ≡ set (now (names .entry)) count v ⌝ }
+{
+    if count < 10 {
+        names[count] = v;
+    }
+}
+
 impl Cursor {
     // The bytes of w.
     pub fn text(self, s: &[u8], w: &[u8]) -> Moved
@@ -288,6 +328,42 @@ impl Cursor {
             First::Digit => opens_digit(s, at),
             First::Bracket => opens_bracket(s, at),
             First::Other => Opening::Bad,
+        }
+    }
+
+    // The names, each after a space, up to the closing bracket.
+    pub fn names(self, s: &[u8]) -> NameList
+        requires { ⌜ self .at ≤ length (now s) ⌝ }
+        ensures { λ r. ⌜ NamesAre (now (s .entry)) r (readNames (drop (self .at) (now (s .entry)))) ⌝ }
+    {
+        let mut at = self.at;
+        let mut count: usize = 0;
+        let mut names = [0u64; 10];
+        loop {
+            let n = next_name(s, at);
+            match n {
+                NextName::Name(v, next) => {
+                    keep(&mut names, count, v);
+                    count += 1;
+                    at = next.at;
+                }
+                NextName::End(next) => {
+                    return NameList {
+                        ok: true,
+                        next,
+                        count,
+                        names,
+                    };
+                }
+                NextName::Bad => {
+                    return NameList {
+                        ok: false,
+                        next: self,
+                        count,
+                        names,
+                    };
+                }
+            }
         }
     }
 }
