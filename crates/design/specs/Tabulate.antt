@@ -1,10 +1,10 @@
 -- Table: questions 1 to 6, then 9; "writes its 2^n digits in row order from the buffer's start, leaves later bytes
 -- unchanged and returns 2^n". Assumes nothing.
 use mathlib.Core.Bool.{Bool, true, false}
-use mathlib.Core.List.{List, [], _∷_}
+use mathlib.Core.List.{List}
 use Prim.Native.Nat.{ℕ, _^_}
 use lib.Dec.{leb, ltb}
-use lib.ListN.{length, getD}
+use lib.ListN.{length}
 use lib.Seq.{sets}
 use Rattle.bits.specs.Logic.{pick}
 use Rattle.rows.specs.Digits.{digitsUpto}
@@ -19,28 +19,29 @@ rowCount d = 2 ^ length (d .inputs)
 unfoldable pub tableDigits : Design → ℕ → List ℕ
 tableDigits d o = digitsUpto (outputOn d o) (rowCount d)
 
--- Table's answer: a refusal, or the number of digits written
+-- Table's answer: a refusal by number and line, or how many digits were written
 pub data TableAnswer : Type 0 where
   refused-by : ℕ → ℕ → TableAnswer
   written : ℕ → TableAnswer
 
+-- the answer, and the buffer afterwards
+pub record Tabulated : Type 0 where
+  pub answer : TableAnswer
+  pub buffer : List ℕ
+
+-- on a refusal the buffer is untouched
+abbrev pub untouched : ℕ → ℕ → List ℕ → Tabulated
+untouched q l b = record { answer = refused-by q l; buffer = b }
+
 -- questions 6 and 9
-abbrev pub tableOfDesign : Examined → ℕ → ℕ → TableAnswer
-tableOfDesign (refused q l) o size = refused-by q l
-tableOfDesign (valid d) o size =
+unfoldable pub tableOf : Examined → ℕ → List ℕ → Tabulated
+tableOf (refused q l) o b = untouched q l b
+tableOf (valid d) o b =
+    let digits = sets b 0 (tableDigits d o) in
     pick (ltb o (length (d .outputs)))
-    (pick (leb (rowCount d) size) (written (rowCount d)) (refused-by 9 0))
-    (refused-by 6 0)
+    (pick (leb (rowCount d) (length b)) (record { answer = written (rowCount d); buffer = digits }) (untouched 9 0 b))
+    (untouched 6 0 b)
 
--- what Table answers for a sheet, an output number and a buffer of so many bytes
-unfoldable pub tableAnswer : List ℕ → ℕ → ℕ → TableAnswer
-tableAnswer s o size = tableOfDesign (examine s) o size
-
--- the buffer afterwards: a refusal leaves it as it was
-abbrev pub digitsInto : TableAnswer → Examined → ℕ → List ℕ → List ℕ
-digitsInto (refused-by q l) e o buffer = buffer
-digitsInto (written n) (refused q l) o buffer = buffer
-digitsInto (written n) (valid d) o buffer = sets buffer 0 (tableDigits d o)
-
-unfoldable pub tableBuffer : List ℕ → ℕ → List ℕ → List ℕ
-tableBuffer s o buffer = digitsInto (tableAnswer s o (length buffer)) (examine s) o buffer
+-- Table on a sheet, an output number and a buffer
+unfoldable pub tabulate : List ℕ → ℕ → List ℕ → Tabulated
+tabulate s o b = tableOf (examine s) o b
