@@ -63,6 +63,20 @@ pub record Holds (d : Design) (k : Sheet) : Type 0 where
   pub outputs-named : map nameOf (take (k .outputs) (k .outs)) ≡ outputNames (d .outputs)
   pub tabled : (o : ℕ) → o < k .outputs → Rowwise (outputOn d o) (tableAt (k .tables) o)
 
+-- nothing is said of a design that its inputs' names would change
+pub record Fresh (d : Design) : Type 0 where
+  pub no-bound : d .bound ≡ []
+  pub no-outputs : d .outputs ≡ []
+
+-- what a design says before the line at a place: up to the `in` line it is fresh
+abbrev pub Fits : spec.Place → Design → Type 0
+Fits spec.at-design d = Fresh d
+Fits spec.at-in d = Fresh d
+Fits spec.at-bound d = Unit {0}
+Fits spec.at-limit d = Unit {0}
+Fits spec.at-out d = Unit {0}
+Fits spec.over d = Unit {0}
+
 abbrev pub placeOf : Place → spec.Place
 placeOf Place.Design = spec.at-design
 placeOf Place.In = spec.at-in
@@ -84,6 +98,11 @@ pub record Onward (p : spec.Place) (d : Design) (a : Asked) : Type 0 where
 abbrev pub StepIs : Step → Asked → Type 0
 StepIs (no-to q) a = Refused q a
 StepIs (next p d) a = Onward p d a
+
+-- what a line comes to is a design that fits the next place
+abbrev pub StepFits : Step → Type 0
+StepFits (no-to q) = Unit {0}
+StepFits (next p d) = Fits p d
 
 -- a line of names that is nothing besides
 pub record Listed (ns : List Name) (l : NameList) : Type 0 where

@@ -13,7 +13,7 @@ ghost use Rattle.rows.specs.Words.{Rowwise};
 ghost use Rattle.formula.specs.Value.{value, onRow};
 ghost use Rattle.sheet.specs.Lines.{Output, readIn, readBound, readLimit, readOut};
 ghost use Rattle.sheet.specs.Examine.{Design, askIn, askBound, askLimit, askOut, askEnd, askLine, withOutput, newName};
-ghost use Rattle.sheet.specs.Known.{Holds, StepIs, Refused, LineIs, LimitIs, OutIs, placeOf, PlacesAre, outputAfter, closesAt};
+ghost use Rattle.sheet.specs.Known.{Holds, Fresh, Fits, StepIs, Refused, LineIs, LimitIs, OutIs, placeOf, PlacesAre, outputAfter, closesAt};
 use cursor::Cursor;
 use cursor::Moved;
 use cursor::NameList;
@@ -175,7 +175,7 @@ fn placed(ns: &[u64], inputs: &[u64]) -> Places
 
 // The `in` line.
 fn ask_in(k: Sheet, l: &[u8]) -> Asked
-    ensures { λ r. ⌜ ((d : Design) → Holds d k → StepIs (askIn d (readIn (now (l .entry)))) r) ⌝ }
+    ensures { λ r. ⌜ ((d : Design) → Holds d k → Fresh d → StepIs (askIn d (readIn (now (l .entry)))) r) ⌝ }
 {
     let w = names_line(l, b"(in");
     let n = w.count;
@@ -197,6 +197,7 @@ fn ask_in(k: Sheet, l: &[u8]) -> Asked
 
 // The `bound` line.
 fn ask_bound(k: Sheet, l: &[u8]) -> Asked
+    requires { ⌜ k .inputs ≤ 10 ⌝ }
     ensures { λ r. ⌜ ((d : Design) → Holds d k → StepIs (askBound d (readBound (now (l .entry)))) r) ⌝ }
 {
     let w = names_line(l, b"(bound");
@@ -398,7 +399,7 @@ fn ask_end(k: Sheet) -> Asked
 // One line, by the place that it stands at.
 pub fn ask_line(p: Place, k: Sheet, l: &[u8]) -> Asked
     requires { ⌜ (k .inputs ≤ 10) × (k .outputs ≤ 4) ⌝ }
-    ensures { λ r. ⌜ ((d : Design) → Holds d k → StepIs (askLine (placeOf p) d (now (l .entry))) r) ⌝ }
+    ensures { λ r. ⌜ ((d : Design) → Holds d k → Fits (placeOf p) d → StepIs (askLine (placeOf p) d (now (l .entry))) r) ⌝ }
 {
     match p {
         Place::Design => {
