@@ -1,28 +1,31 @@
 -- The loop over the operands of a gate: what is known after each operand, and what the gate comes to at its closing
 -- bracket. Assumes nothing.
 use mathlib.Core.Path.{_≡_, refl, sym, ap, ap₂, _∙_, subst}
-use mathlib.Core.Bool.{Bool, true, false, not, _&&_, _||_}
+use mathlib.Core.Bool.{Bool, true, false, not, _&&_}
 use mathlib.Core.List.{List, [], _∷_, _++_}
-use Prim.Native.Nat.{ℕ, zero, suc, _+_, _-_, _≤_, _<_, _%_, min, max}
+use Prim.Native.Nat.{ℕ, zero, suc, _+_, _-_, _≤_, _<_, min, max}
 use native.Mathlib.Omega.{arith}
 use native.Mathlib.Numerals.{add-one}
 use lib.Dec.{eqb}
 use lib.ListN.{length, drop, getD, length-drop, drop-of-length-le}
 use lib.Seq.{drop-cons}
 use borrow.Author.Tests.{eq-eqb, ne-eqb, eqb-true}
-use Rattle.bits.specs.Logic.{andb, orb, xorb, pick, true-false, and-left, and-right, and-both}
+use Rattle.bits.specs.Logic.{andb, pick, true-false, and-left, and-right, and-both}
 use Rattle.text.specs.Limits.{maxDepth}
 use Rattle.text.specs.Bytes.{Read, found, bad, after, eat, closeBracket, space}
 use Rattle.names.specs.Name.{Name}
-use Rattle.rows.specs.Words.{Rowwise, rowOn}
+use Rattle.rows.specs.Words.{Rowwise}
 use Rattle.rows.specs.WordLaws.{rowwise-same, rowwise-one, rowwise-two}
-use Rattle.cursor.specs.Opening.{Gate, and-gate, or-gate, xor-gate}
-use Rattle.formula.specs.Tree.{Formula, input, constant, negation, gate, Operands, none, more, depth, depths, knows, knowsAll}
+use Rattle.cursor.specs.Opening.{Gate}
+use Rattle.formula.specs.Tree.{Formula, negation, gate, Operands, none, more, depth, depths, knows, knowsAll}
 use Rattle.formula.specs.Reader.{readFormula, readOperands, closeGate, closeNot, nextIs, rest}
 use Rattle.formula.specs.ReaderLaws.{formula-shorter, operands-more, operands-none}
-use Rattle.formula.specs.Value.{value, values, onRow, combine, every, some, count, odd}
+use Rattle.formula.specs.Value.{value, values, onRow, combine}
 use Rattle.formula.specs.Gates.{two}
-use Rattle.formula.specs.Part.{Good, PartIs, Closed, Negated, Joined, Atom, capped, deepened, gateOn}
+use Rattle.formula.specs.Onto.{onto}
+use Rattle.formula.specs.GateLaws.{combine-snoc, combine-one}
+use Rattle.formula.specs.ValueLaws.{onto-snoc, values-snoc, depths-snoc, knows-snoc}
+use Rattle.formula.specs.Part.{Good, PartIs, Closed, Negated, Joined, capped, deepened, gateOn}
 use Rattle.formula.specs.declared.Part.{Part}
 
 -- ---- a byte that comes next
@@ -62,102 +65,13 @@ eat-not (b ∷ s) e =
     rw (ne-eqb closeBracket b (λ q. true-false (sym (eq-eqb b closeBracket (sym q)) ∙ e))) refl
 
 -- ---- operands put before others
-abbrev pub onto : List Formula → Operands → Operands
-onto [] os = os
-onto (f ∷ fs) os = more f (onto fs os)
-
 abbrev pub before : List Formula → Read Operands → Read Operands
 before fs (found os t) = found (onto fs os) t
 before fs bad = bad
 
-onto-snoc : (fs : List Formula) (f : Formula) (os : Operands) → onto (fs ++ (f ∷ [])) os ≡ onto fs (more f os)
-onto-snoc [] f os = refl
-onto-snoc (x ∷ fs) f os = ap (more x) (onto-snoc fs f os)
-
 before-snoc : (fs : List Formula) (f : Formula) (r : Read Operands) → before fs (after r (λ os t. found (more f os) t)) ≡ before (fs ++ (f ∷ [])) r
 before-snoc fs f (found os t) = ap (λ (x : Operands). found x t) (sym (onto-snoc fs f os))
 before-snoc fs f bad = refl
-
--- ---- one operand more: depth, names, values
-depths-snoc : (fs : List Formula) (f : Formula) → depths (onto (fs ++ (f ∷ [])) none) ≡ max (depths (onto fs none)) (depth f)
-unfolding depth
-depths-snoc [] f = omega arith
-depths-snoc (x ∷ fs) f = rw (depths-snoc fs f) (omega arith)
-
-and-swap : (a b c : Bool) → (a && andb b c) ≡ andb (a && b) c
-and-swap true b c = refl
-and-swap false b c = refl
-
-knows-snoc : (ns : List Name) (fs : List Formula) (f : Formula) → knowsAll ns (onto (fs ++ (f ∷ [])) none) ≡ andb (knowsAll ns (onto fs none)) (knows ns f)
-unfolding knows
-knows-snoc ns [] f = and-true (knows ns f)
-  where
-    and-true : (b : Bool) → (b && true) ≡ b
-    and-true true = refl
-    and-true false = refl
-knows-snoc ns (x ∷ fs) f = ap (λ (b : Bool). knows ns x && b) (knows-snoc ns fs f) ∙ and-swap (knows ns x) (knowsAll ns (onto fs none)) (knows ns f)
-
-values-snoc : (v : Name → Bool) (fs : List Formula) (f : Formula) → values v (onto (fs ++ (f ∷ [])) none) ≡ values v (onto fs none) ++ (value v f ∷ [])
-unfolding value
-values-snoc v [] f = refl
-values-snoc v (x ∷ fs) f = ap (λ (l : List Bool). value v x ∷ l) (values-snoc v fs f)
-
-every-snoc : (vs : List Bool) (x : Bool) → every (vs ++ (x ∷ [])) ≡ andb (every vs) x
-every-snoc [] true = refl
-every-snoc [] false = refl
-every-snoc (true ∷ vs) x = every-snoc vs x
-every-snoc (false ∷ vs) x = refl
-
-some-snoc : (vs : List Bool) (x : Bool) → some (vs ++ (x ∷ [])) ≡ orb (some vs) x
-some-snoc [] true = refl
-some-snoc [] false = refl
-some-snoc (true ∷ vs) x = refl
-some-snoc (false ∷ vs) x = some-snoc vs x
-
-odd-suc : (n : ℕ) → odd (suc n) ≡ not (odd n)
-odd-suc n = go (n % 2) (suc n % 2) (omega arith) (omega arith)
-  where
-    go : (a b : ℕ) → a < 2 → a + b ≡ 1 → eqb b 1 ≡ not (eqb a 1)
-    go zero b h e = rw (eq-eqb b 1 (omega arith)) refl
-    go (suc zero) b h e = rw (ne-eqb b 1 (λ q. let z : b ≡ 1 = q in omega arith)) refl
-    go (suc (suc a)) b h e = absurd (omega arith)
-
-xor-true : (b : Bool) → xorb b true ≡ not b
-xor-true true = refl
-xor-true false = refl
-
-xor-false : (b : Bool) → xorb b false ≡ b
-xor-false true = refl
-xor-false false = refl
-
-count-snoc : (vs : List Bool) (x : Bool) → odd (count (vs ++ (x ∷ []))) ≡ xorb (odd (count vs)) x
-count-snoc [] true = refl
-count-snoc [] false = refl
-count-snoc (true ∷ vs) x =
-    odd-suc (count (vs ++ (x ∷ []))) ∙ ap not (count-snoc vs x) ∙ not-xor (odd (count vs)) x
-    ∙ ap (λ (b : Bool). xorb b x) (sym (odd-suc (count vs)))
-  where
-    not-xor : (a b : Bool) → not (xorb a b) ≡ xorb (not a) b
-    not-xor true true = refl
-    not-xor true false = refl
-    not-xor false true = refl
-    not-xor false false = refl
-count-snoc (false ∷ vs) x = count-snoc vs x
-
-pub combine-snoc : (g : Gate) (vs : List Bool) (x : Bool) → combine g (vs ++ (x ∷ [])) ≡ two g (combine g vs) x
-unfolding combine
-combine-snoc and-gate vs x = every-snoc vs x
-combine-snoc or-gate vs x = some-snoc vs x
-combine-snoc xor-gate vs x = count-snoc vs x
-
-combine-one : (g : Gate) (x : Bool) → combine g (x ∷ []) ≡ x
-unfolding combine
-combine-one and-gate true = refl
-combine-one and-gate false = refl
-combine-one or-gate true = refl
-combine-one or-gate false = refl
-combine-one xor-gate true = refl
-combine-one xor-gate false = refl
 
 -- ---- the loop
 abbrev pub nonEmpty : List Formula → Bool
