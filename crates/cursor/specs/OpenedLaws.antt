@@ -89,7 +89,8 @@ long-no-operator w h =
     rw (longer-differs w (bytes "not") (omega arith), longer-differs w (bytes "and") (omega arith), longer-differs w (bytes "or") (omega arith), longer-differs w (bytes "xor") (omega arith))
     refl
 
-abbrev operatorOpens : Operator → Cursor → Opening
+-- what the code answers where a space follows the operator
+abbrev pub operatorOpens : Operator → Cursor → Opening
 operatorOpens Not c = Opening.Not c
 operatorOpens And c = Opening.Gate Gate.And c
 operatorOpens Or c = Opening.Gate Gate.Or c

@@ -8,16 +8,16 @@ returns : tie.Need-returns
 returns c = first-bracket _ (c .match .keys1)
 
 returns-2 : tie.Need-returns-2
-returns-2 c = first-digit _ (c .before .if1 .left) (omega arith)
+returns-2 c = first-digit _ (omega arith) (omega arith)
 
 returns-3 : tie.Need-returns-3
-returns-3 c = first-letter _ (c .before .if3 .left) (omega arith)
+returns-3 c = first-letter _ (omega arith) (omega arith)
 
 returns-4 : tie.Need-returns-4
-returns-4 c = first-other _ (letter-below _ (omega arith)) (numeral-below _ (c .if1 .taken)) (c .before .match .rest .1)
+returns-4 c = first-other _ (letter-below _ (omega arith)) (numeral-below _ (omega arith)) (c .before .match .rest .1)
 
 returns-5 : tie.Need-returns-5
-returns-5 c = first-other _ (letter-below _ (c .if3 .taken)) (numeral-above _ (omega arith)) (c .before .before .before .match .rest .1)
+returns-5 c = first-other _ (letter-below _ (omega arith)) (numeral-above _ (omega arith)) (c .before .before .before .match .rest .1)
 
 returns-6 : tie.Need-returns-6
 returns-6 c = first-other _ (letter-above _ (omega arith)) (numeral-above _ (omega arith)) (c .before .before .before .before .match .rest .1)
