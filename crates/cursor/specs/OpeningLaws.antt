@@ -40,7 +40,9 @@ opening-read-of-print (gate-opens xor-gate) t e h = refl
 
 -- ---- to the print
 -- a bracket, the word w of an operator, and its space
-opens : (o i : Opening) (w v a t : List ℕ) → openingSpelled o ≡ true → OpeningEnds o t → w ≡ v → openBracket ∷ (v ++ (space ∷ t)) ≡ openingPrint o ++ t → after (eat (space ∷ []) a) (λ _ u. found o u) ≡ found i t → OpeningFront (openBracket ∷ (w ++ a)) i t
+opens : (o i : Opening) (w v a t : List ℕ) → openingSpelled o ≡ true → OpeningEnds o t → w ≡ v
+    → openBracket ∷ (v ++ (space ∷ t)) ≡ openingPrint o ++ t → after (eat (space ∷ []) a) (λ _ u. found o u) ≡ found i t
+    → OpeningFront (openBracket ∷ (w ++ a)) i t
 opens o i w v a t sp en q pr e =
     let f = byte-found space o i a t e in
     rw (f .0) at (here (f .1))
@@ -48,7 +50,8 @@ opens o i w v a t sp en q pr e =
     here : a ≡ space ∷ t → OpeningFront (openBracket ∷ (w ++ a)) o t
     here g = record { is-spelled = sp; is-split = ap₂ (λ (x u : List ℕ). openBracket ∷ (x ++ u)) q g ∙ pr; ends = en }
 
-operator-opens : (o : Operator) (i : Opening) (w a t : List ℕ) → (isOperator o ≡ true → w ≡ operatorWord o) → spaced o a ≡ found i t → OpeningFront (openBracket ∷ (w ++ a)) i t
+operator-opens : (o : Operator) (i : Opening) (w a t : List ℕ) → (isOperator o ≡ true → w ≡ operatorWord o)
+    → spaced o a ≡ found i t → OpeningFront (openBracket ∷ (w ++ a)) i t
 operator-opens not-op i w a t h e = opens not-opens i w (bytes "not") a t refl tt (h refl) refl e
 operator-opens and-op i w a t h e = opens (gate-opens and-gate) i w (bytes "and") a t refl tt (h refl) refl e
 operator-opens or-op i w a t h e = opens (gate-opens or-gate) i w (bytes "or") a t refl tt (h refl) refl e
@@ -65,13 +68,15 @@ name-opens-front s i t e =
         let f = name-print-of-read s n u g in
         record { is-spelled = f .is-name; is-split = f .is-split; ends = f .stops }
 
-digit-opens-front : (v : Bool) (d b : ℕ) (s : List ℕ) (i : Opening) (t : List ℕ) → eqb b d ≡ true → openingPrint (digit-opens v) ≡ d ∷ [] → found (digit-opens v) s ≡ found i t → OpeningFront (b ∷ s) i t
+digit-opens-front : (v : Bool) (d b : ℕ) (s : List ℕ) (i : Opening) (t : List ℕ) → eqb b d ≡ true
+    → openingPrint (digit-opens v) ≡ d ∷ [] → found (digit-opens v) s ≡ found i t → OpeningFront (b ∷ s) i t
 digit-opens-front v d b s i t q pr e = rw (found-item e) at here
   where
     here : OpeningFront (b ∷ s) (digit-opens v) t
     here = record { is-spelled = refl; is-split = rw (eqb-true b d q, found-rest e, pr) refl; ends = tt }
 
-bracket-opens-front : (b : ℕ) (s : List ℕ) (i : Opening) (t : List ℕ) → eqb b openBracket ≡ true → spaced (operator (word s)) (afterWord s) ≡ found i t → OpeningFront (b ∷ s) i t
+bracket-opens-front : (b : ℕ) (s : List ℕ) (i : Opening) (t : List ℕ) → eqb b openBracket ≡ true
+    → spaced (operator (word s)) (afterWord s) ≡ found i t → OpeningFront (b ∷ s) i t
 bracket-opens-front b s i t q e =
     rw (eqb-true b openBracket q, ← word-after s)
     (operator-opens (operator (word s)) i (word s) (afterWord s) t (operator-word (word s) (operator (word s)) refl) e)

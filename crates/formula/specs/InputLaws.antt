@@ -11,7 +11,8 @@ use Rattle.names.specs.LookupLaws.{look-first, look-none}
 use Rattle.formula.specs.Value.{onRow}
 
 module _ (ms : List Name) (r : ℕ) (n : Name) where
-  pub row-of-first : (i : ℕ) → i < length ms → sameName (getD ms i []) n ≡ true → ((k : ℕ) → k < i → sameName (getD ms k []) n ≡ false) → onRow ms r n ≡ on r (length ms - 1 - i)
+  pub row-of-first : (i : ℕ) → i < length ms → sameName (getD ms i []) n ≡ true
+      → ((k : ℕ) → k < i → sameName (getD ms k []) n ≡ false) → onRow ms r n ≡ on r (length ms - 1 - i)
   unfolding onRow
   row-of-first i l e h = look-first n (λ xs. onRow xs r n) (λ p. on r p) (λ m xs. refl) ms i l e h
 

@@ -1,5 +1,6 @@
 -- Reading is the inverse of printing, for formulas of any depth: a formula is read exactly where it stands at the front, and
--- a whole text is read as a formula exactly where it is that formula's print. Assumes nothing.
+-- a whole text is read as a formula exactly where it is that formula's print. From the print: by the formula, since what
+-- follows an operand, a space or a bracket, stands in no name. Assumes nothing.
 use mathlib.Core.Path.{_≡_, refl, sym, ap, _∙_}
 use mathlib.Core.Bool.{true, false, _&&_}
 use mathlib.Core.List.{List, [], _∷_, _++_, append-nil}
@@ -51,7 +52,8 @@ stops-all-end none t h = tt
 stops-all-end (more f fs) t h = (operand-ends f fs t h, stops-all-end fs t h)
 
 -- ---- what stands at the front is read
-negation-read : (f : Formula) (t : List ℕ) → readFormula (print f ++ (closeBracket ∷ t)) ≡ found f (closeBracket ∷ t) → readFormula (print (negation f) ++ t) ≡ found (negation f) t
+negation-read : (f : Formula) (t : List ℕ) → readFormula (print f ++ (closeBracket ∷ t)) ≡ found f (closeBracket ∷ t)
+    → readFormula (print (negation f) ++ t) ≡ found (negation f) t
 unfolding eat
 negation-read f t e =
     let u = print f ++ (closeBracket ∷ t) in
@@ -59,14 +61,17 @@ negation-read f t e =
     ∙ formula-opened (openingPrint not-opens ++ u) not-opens u (opening-read-of-print not-opens u refl tt)
     ∙ ap (λ (r : Read Formula). after r (λ a v. closeNot a v)) e
 
-more-read : (f : Formula) (fs : Operands) (t : List ℕ) → readFormula (print f ++ (prints fs ++ t)) ≡ found f (prints fs ++ t) → readOperands (prints fs ++ t) ≡ found fs t → readOperands (prints (more f fs) ++ t) ≡ found (more f fs) t
+more-read : (f : Formula) (fs : Operands) (t : List ℕ) → readFormula (print f ++ (prints fs ++ t)) ≡ found f (prints fs ++ t)
+    → readOperands (prints fs ++ t) ≡ found fs t → readOperands (prints (more f fs) ++ t) ≡ found (more f fs) t
 more-read f fs t e d =
     let u = print f ++ (prints fs ++ t) in
     ap readOperands (prints-more f fs t) ∙ operands-more (space ∷ u) refl
     ∙ ap (λ (r : Read Formula). after r (λ a v. after (readOperands v) (λ bs w. found (more a bs) w))) e
     ∙ ap (λ (r : Read Operands). after r (λ bs w. found (more f bs) w)) d
 
-gate-read : (g : Gate) (e f : Formula) (fs : Operands) (t : List ℕ) (v : List ℕ) → v ≡ prints (more f fs) ++ (closeBracket ∷ t) → readFormula (print e ++ v) ≡ found e v → readOperands v ≡ found (more f fs) (closeBracket ∷ t) → readFormula (print (gate g e f fs) ++ t) ≡ found (gate g e f fs) t
+gate-read : (g : Gate) (e f : Formula) (fs : Operands) (t : List ℕ) (v : List ℕ) → v ≡ prints (more f fs) ++ (closeBracket ∷ t)
+    → readFormula (print e ++ v) ≡ found e v → readOperands v ≡ found (more f fs) (closeBracket ∷ t)
+    → readFormula (print (gate g e f fs) ++ t) ≡ found (gate g e f fs) t
 unfolding eat
 gate-read g e f fs t v q i j =
     let u = print e ++ v in
@@ -94,7 +99,8 @@ mutual
       (formula-front-read f (prints fs ++ u) (and-left (spelled f) (spelledAll fs) d) (operand-ends f fs u (bracket-stops t)))
       (operands-front-read fs u (and-right (spelled f) (spelledAll fs) d) (stops-all-end fs u (bracket-stops t)) refl))
 
-  pub operands-front-read : (fs : Operands) (t : List ℕ) → spelledAll fs ≡ true → AllEnd fs t → spaceNext t ≡ false → readOperands (prints fs ++ t) ≡ found fs t
+  pub operands-front-read : (fs : Operands) (t : List ℕ) → spelledAll fs ≡ true → AllEnd fs t → spaceNext t ≡ false
+      → readOperands (prints fs ++ t) ≡ found fs t
   operands-front-read none t e h n = operands-none t n
   operands-front-read (more f fs) t e h n =
       more-read f fs t
@@ -105,7 +111,8 @@ mutual
 pub formula-stops-read : (f : Formula) (t : List ℕ) → spelled f ≡ true → Stops t → readFormula (print f ++ t) ≡ found f t
 formula-stops-read f t e h = formula-front-read f t e (stops-ends f t h)
 
-pub operands-stops-read : (fs : Operands) (t : List ℕ) → spelledAll fs ≡ true → Stops t → spaceNext t ≡ false → readOperands (prints fs ++ t) ≡ found fs t
+pub operands-stops-read : (fs : Operands) (t : List ℕ) → spelledAll fs ≡ true → Stops t → spaceNext t ≡ false
+    → readOperands (prints fs ++ t) ≡ found fs t
 operands-stops-read fs t e h n = operands-front-read fs t e (stops-all-end fs t h) n
 
 -- ---- whole texts

@@ -23,7 +23,8 @@ gate-word and-gate s t = refl
 gate-word or-gate s t = refl
 gate-word xor-gate s t = refl
 
-pub print-gate : (g : Gate) (e f : Formula) (fs : Operands) (t : List ℕ) → print (gate g e f fs) ++ t ≡ openingPrint (gate-opens g) ++ (print e ++ (prints (more f fs) ++ (closeBracket ∷ t)))
+pub print-gate : (g : Gate) (e f : Formula) (fs : Operands) (t : List ℕ)
+    → print (gate g e f fs) ++ t ≡ openingPrint (gate-opens g) ++ (print e ++ (prints (more f fs) ++ (closeBracket ∷ t)))
 unfolding print
 print-gate g e f fs t = gate-word g _ t ∙ ap (λ (u : List ℕ). openingPrint (gate-opens g) ++ u) (simp append-assoc)
 

@@ -36,12 +36,14 @@ largest-snoc : (ds : List ℕ) (d : ℕ) → largest (ds ++ (d ∷ [])) ≡ max 
 largest-snoc [] d = omega arith
 largest-snoc (e ∷ ds) d = rw (largest-snoc ds d) (omega arith)
 
-pub values-snoc : (v : Name → Bool) (fs : List Formula) (f : Formula) → values v (onto (fs ++ (f ∷ [])) none) ≡ values v (onto fs none) ++ (value v f ∷ [])
+pub values-snoc : (v : Name → Bool) (fs : List Formula) (f : Formula)
+    → values v (onto (fs ++ (f ∷ [])) none) ≡ values v (onto fs none) ++ (value v f ∷ [])
 values-snoc v fs f = simp values-onto (map-append (value v) fs (f ∷ []))
 
 pub depths-snoc : (fs : List Formula) (f : Formula) → depths (onto (fs ++ (f ∷ [])) none) ≡ max (depths (onto fs none)) (depth f)
 depths-snoc fs f = simp depths-onto (ap largest (map-append depth fs (f ∷ [])) ∙ largest-snoc (map depth fs) (depth f))
 
-pub knows-snoc : (ns : List Name) (fs : List Formula) (f : Formula) → knowsAll ns (onto (fs ++ (f ∷ [])) none) ≡ andb (knowsAll ns (onto fs none)) (knows ns f)
+pub knows-snoc : (ns : List Name) (fs : List Formula) (f : Formula)
+    → knowsAll ns (onto (fs ++ (f ∷ [])) none) ≡ andb (knowsAll ns (onto fs none)) (knows ns f)
 knows-snoc ns fs f =
     simp knows-onto (ap every (map-append (knows ns) fs (f ∷ [])) ∙ every-snoc (map (knows ns) fs) (knows ns f))

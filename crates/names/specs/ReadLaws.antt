@@ -21,7 +21,7 @@ unfolding nameByte letter numeral
 bracket-stops s = refl
 
 -- ---- a name at the front is the word there
-pub word-front : (n t : List ℕ) → allNameBytes n ≡ true → Stops t → word (n ++ t) ≡ n
+word-front : (n t : List ℕ) → allNameBytes n ≡ true → Stops t → word (n ++ t) ≡ n
 unfolding word
 word-front [] [] e h = refl
 word-front [] (b ∷ t) e h = rw h refl
@@ -29,7 +29,7 @@ word-front (b ∷ n) t e h =
     rw (and-left (nameByte b) (allNameBytes n) e)
     (ap (λ (l : List ℕ). b ∷ l) (word-front n t (and-right (nameByte b) (allNameBytes n) e) h))
 
-pub after-word-front : (n t : List ℕ) → allNameBytes n ≡ true → Stops t → afterWord (n ++ t) ≡ t
+after-word-front : (n t : List ℕ) → allNameBytes n ≡ true → Stops t → afterWord (n ++ t) ≡ t
 unfolding afterWord
 after-word-front [] [] e h = refl
 after-word-front [] (b ∷ t) e h = rw h refl
@@ -45,7 +45,7 @@ stops-by : (c : Bool) (b : ℕ) (s a : List ℕ) → nameByte b ≡ c → Stops 
 stops-by true b s a e h = h
 stops-by false b s a e h = e
 
-pub after-word-stops : (s : List ℕ) → Stops (afterWord s)
+after-word-stops : (s : List ℕ) → Stops (afterWord s)
 unfolding afterWord
 after-word-stops [] = tt
 after-word-stops (b ∷ s) = stops-by (nameByte b) b s (afterWord s) refl (after-word-stops s)
