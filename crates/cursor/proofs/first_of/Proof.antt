@@ -1,6 +1,7 @@
 -- `first_of`: each arm is a range of bytes or what stands between two. Assumes nothing.
 use native.Mathlib.Omega.{arith}
-use Rattle.cursor.specs.FirstLaws.{letter-below, letter-above, numeral-below, numeral-above, first-letter, first-digit, first-bracket, first-other}
+use Rattle.cursor.specs.ByteLaws.{letter-below, letter-above, numeral-below, numeral-above}
+use Rattle.cursor.specs.FirstLaws.{first-letter, first-digit, first-bracket, first-other}
 use Rattle.cursor.proofs.first_of.Statement.{statement}
 use Rattle.cursor.proofs.first_of.Tie as tie
 
@@ -20,7 +21,9 @@ returns-5 : tie.Need-returns-5
 returns-5 c = first-other _ (letter-below _ (omega arith)) (numeral-above _ (omega arith)) (c .before .before .before .match .rest .1)
 
 returns-6 : tie.Need-returns-6
-returns-6 c = first-other _ (letter-above _ (omega arith)) (numeral-above _ (omega arith)) (c .before .before .before .before .match .rest .1)
+returns-6 c =
+    first-other _ (letter-above _ (omega arith)) (numeral-above _ (omega arith))
+    (c .before .before .before .before .match .rest .1)
 
 pub first-of-spec : {M : Type 1} → statement M
 first-of-spec = tie.close (tie.spec returns returns-2 returns-3 returns-4 returns-5 returns-6)

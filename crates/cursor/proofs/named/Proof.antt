@@ -37,7 +37,8 @@ returns-2 c =
 returns-3 : tie.Need-returns-3
 returns-3 c =
     let o = c .before .as-operator in
-    operator-bad _ _ _ (c .before .before .before .before .word-end .ensures) _ (omega arith) (c .before .before .packed .ensures) (o .result) (o .ensures)
+    operator-bad _ _ _ (c .before .before .before .before .word-end .ensures) _ (omega arith)
+    (c .before .before .packed .ensures) (o .result) (o .ensures)
     (λ q. miss (0 ∷ 1 ∷ 2 ∷ 3 ∷ []) 4 tt (rw q at (c .match .keys2)))
 
 pub named-spec : {M : Type 1} → statement M

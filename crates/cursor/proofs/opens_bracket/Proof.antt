@@ -48,13 +48,18 @@ enum-told-6 : tie.Need-enum-told-6
 enum-told-6 c = search needs
 
 -- a space follows: what the operator opens
-opened : (c : tie.After-known-told) (o : Operator) → c .before .before .before .before .before .operator-word .result ≡ o → OpeningIs (c .before .before .before .before .before .before .before .before .args .s .now) (operatorOpens o (c .before .m .given .0 .0)) (readOpening (drop (c .before .before .before .before .before .before .before .before .args .at) (c .before .before .before .before .before .before .before .before .args .s .now)))
+abbrev start : tie.After-known-told → tie.Start
+start c = c .before .before .before .before .before .before .before .before
+
+opened : (c : tie.After-known-told) (o : Operator)
+    → c .before .before .before .before .before .operator-word .result ≡ o
+    → OpeningIs (start c .args .s .now) (operatorOpens o (c .before .m .given .0 .0)) (readOpening (drop (start c .args .at) (start c .args .s .now)))
 opened c o e =
-    let start = c .before .before .before .before .before .before .before .before in
     let w = c .before .before .before .before .before .before .word-end in
     let d = c .before .before .before .before .before .operator-word in
     let m = c .before .m .given in
-    operator-opened _ _ _ (start .pre .0) (start .pre .1) (w .ensures) o (sym (ap operatorOf e) ∙ d .ensures) (m .0 .0) (rw (m .1) at (c .before .before .before .text .ensures))
+    operator-opened _ _ _ (start c .pre .0) (start c .pre .1) (w .ensures) o (sym (ap operatorOf e) ∙ d .ensures) (m .0 .0)
+    (rw (m .1) at (c .before .before .before .text .ensures))
 
 returns : tie.Need-returns
 returns c = opened (c .before .before) Not (c .enum-told .given .1)
@@ -72,7 +77,11 @@ returns-5 : tie.Need-returns-5
 returns-5 c = opened (c .before .before) Nothing (c .enum-told5 .given .1)
 
 returns-6 : tie.Need-returns-6
-returns-6 c = unspaced-bad _ _ _ (c .before .before .before .before .before .before .before .pre .0) (c .before .before .before .before .before .before .before .pre .1) (c .before .before .before .before .before .word-end .ensures) (c .before .before .before .before .operator-word .result) (c .before .before .before .before .operator-word .ensures) (rw (c .enum-told6 .given .1) at (c .before .before .text .ensures))
+returns-6 c =
+    let d = c .before .before .before .before in
+    let p = d .before .before .before .pre in
+    unspaced-bad _ _ _ (p .0) (p .1) (d .before .word-end .ensures) (d .operator-word .result) (d .operator-word .ensures)
+    (rw (c .enum-told6 .given .1) at (c .before .before .text .ensures))
 
 pub opens-bracket-spec : {M : Type 1} → statement M
 opens-bracket-spec =

@@ -19,7 +19,9 @@ as-operator-requires : tie.Need-as-operator-requires
 as-operator-requires c κs = search needs
 
 returns-2 : tie.Need-returns-2
-returns-2 c = operator-held _ _ _ (c .before .before .before .before .pre) _ (omega arith) (c .before .packed .ensures) (c .as-operator .result) (c .as-operator .ensures)
+returns-2 c =
+    operator-held _ _ _ (c .before .before .before .before .pre) _ (omega arith) (c .before .packed .ensures)
+    (c .as-operator .result) (c .as-operator .ensures)
 
 pub operator-word-spec : {M : Type 1} → statement M
 operator-word-spec =
