@@ -6,6 +6,7 @@ pub mod StepLaws
 pub mod LineLaws
 pub mod DistinctLaws
 pub mod PlaceLaws
+pub mod OnwardLaws
 pub mod ListLaws
 pub mod InLaws
 pub mod BoundLaws
