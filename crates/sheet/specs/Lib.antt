@@ -2,3 +2,12 @@
 pub mod Lines
 pub mod Examine
 pub mod Known
+pub mod StepLaws
+pub mod LineLaws
+pub mod DistinctLaws
+pub mod PlaceLaws
+pub mod OnwardLaws
+pub mod ListLaws
+pub mod InLaws
+pub mod BoundLaws
+pub mod FitLaws
