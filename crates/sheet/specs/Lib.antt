@@ -2,3 +2,6 @@
 pub mod Lines
 pub mod Examine
 pub mod Known
+pub mod CloseLaws
+pub mod OnwardLaws
+pub mod LimitLaws
