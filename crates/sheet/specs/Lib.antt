@@ -5,3 +5,6 @@ pub mod Known
 pub mod CloseLaws
 pub mod OnwardLaws
 pub mod LimitLaws
+pub mod OutLineLaws
+pub mod OutputLaws
+pub mod AskOutLaws
