@@ -14,43 +14,19 @@ use Rattle.text.specs.Number.{numeral}
 use Rattle.text.specs.EatLaws.{bad-found, found-item, found-rest, after-found}
 use Rattle.text.specs.After.{byte-found}
 use Rattle.names.specs.Name.{Name, letter, nameByte, word, afterWord, readName, isName, Operator, not-op, and-op, or-op, xor-op, none-op, operator, isOperator}
-use Rattle.names.specs.ReadLaws.{Stops, name-read-of-print, name-print-of-read, name-letter, name-long, word-split}
+use Rattle.names.specs.Front.{Stops}
+use Rattle.names.specs.IsNameLaws.{name-starts}
+use Rattle.names.specs.NameLaws.{word-after, name-not-empty}
+use Rattle.names.specs.ReadLaws.{name-read-of-print, name-print-of-read}
 use Rattle.names.specs.OperatorLaws.{operatorWord, operator-word}
 use Rattle.cursor.specs.Opening.{and-gate, or-gate, xor-gate, Opening, name-opens, digit-opens, not-opens, gate-opens, spaced, readOpening}
-
-abbrev pub openingPrint : Opening → List ℕ
-openingPrint (name-opens n) = n
-openingPrint (digit-opens false) = bytes "0"
-openingPrint (digit-opens true) = bytes "1"
-openingPrint not-opens = bytes "(not "
-openingPrint (gate-opens and-gate) = bytes "(and "
-openingPrint (gate-opens or-gate) = bytes "(or "
-openingPrint (gate-opens xor-gate) = bytes "(xor "
-
-abbrev pub openingSpelled : Opening → Bool
-openingSpelled (name-opens n) = isName n
-openingSpelled (digit-opens b) = true
-openingSpelled not-opens = true
-openingSpelled (gate-opens g) = true
-
--- what may follow: after a name the text stops
-abbrev pub OpeningEnds : Opening → List ℕ → Type 0
-OpeningEnds (name-opens n) t = Stops t
-OpeningEnds (digit-opens b) t = Unit {0}
-OpeningEnds not-opens t = Unit {0}
-OpeningEnds (gate-opens g) t = Unit {0}
-
--- the opening i at the front of s, with t after it
-pub record OpeningFront (s : List ℕ) (i : Opening) (t : List ℕ) : Type 0 where
-  pub is-spelled : openingSpelled i ≡ true
-  pub is-split : s ≡ openingPrint i ++ t
-  pub ends : OpeningEnds i t
+use Rattle.cursor.specs.Front.{openingPrint, openingSpelled, OpeningEnds, OpeningFront}
 
 -- ---- from the print
 name-opening : (n : Name) (t : List ℕ) → isName n ≡ true → Stops t → readOpening (n ++ t) ≡ found (name-opens n) t
 unfolding readOpening
-name-opening [] t e h = absurd (let z = name-long [] e in omega arith)
-name-opening (b ∷ n) t e h = rw (name-letter (b ∷ n) e, name-read-of-print (b ∷ n) t e h) refl
+name-opening [] t e h = absurd (let z = name-not-empty [] e in omega arith)
+name-opening (b ∷ n) t e h = rw (name-starts (b ∷ n) e, name-read-of-print (b ∷ n) t e h) refl
 
 pub opening-read-of-print : (i : Opening) (t : List ℕ) → openingSpelled i ≡ true → OpeningEnds i t → readOpening (openingPrint i ++ t) ≡ found i t
 unfolding readOpening letter nameByte numeral word afterWord operator same eat
@@ -64,7 +40,9 @@ opening-read-of-print (gate-opens xor-gate) t e h = refl
 
 -- ---- to the print
 -- a bracket, the word w of an operator, and its space
-opens : (o i : Opening) (w v a t : List ℕ) → openingSpelled o ≡ true → OpeningEnds o t → w ≡ v → openBracket ∷ (v ++ (space ∷ t)) ≡ openingPrint o ++ t → after (eat (space ∷ []) a) (λ _ u. found o u) ≡ found i t → OpeningFront (openBracket ∷ (w ++ a)) i t
+opens : (o i : Opening) (w v a t : List ℕ) → openingSpelled o ≡ true → OpeningEnds o t → w ≡ v
+    → openBracket ∷ (v ++ (space ∷ t)) ≡ openingPrint o ++ t → after (eat (space ∷ []) a) (λ _ u. found o u) ≡ found i t
+    → OpeningFront (openBracket ∷ (w ++ a)) i t
 opens o i w v a t sp en q pr e =
     let f = byte-found space o i a t e in
     rw (f .0) at (here (f .1))
@@ -72,7 +50,8 @@ opens o i w v a t sp en q pr e =
     here : a ≡ space ∷ t → OpeningFront (openBracket ∷ (w ++ a)) o t
     here g = record { is-spelled = sp; is-split = ap₂ (λ (x u : List ℕ). openBracket ∷ (x ++ u)) q g ∙ pr; ends = en }
 
-operator-opens : (o : Operator) (i : Opening) (w a t : List ℕ) → (isOperator o ≡ true → w ≡ operatorWord o) → spaced o a ≡ found i t → OpeningFront (openBracket ∷ (w ++ a)) i t
+operator-opens : (o : Operator) (i : Opening) (w a t : List ℕ) → (isOperator o ≡ true → w ≡ operatorWord o)
+    → spaced o a ≡ found i t → OpeningFront (openBracket ∷ (w ++ a)) i t
 operator-opens not-op i w a t h e = opens not-opens i w (bytes "not") a t refl tt (h refl) refl e
 operator-opens and-op i w a t h e = opens (gate-opens and-gate) i w (bytes "and") a t refl tt (h refl) refl e
 operator-opens or-op i w a t h e = opens (gate-opens or-gate) i w (bytes "or") a t refl tt (h refl) refl e
@@ -89,15 +68,17 @@ name-opens-front s i t e =
         let f = name-print-of-read s n u g in
         record { is-spelled = f .is-name; is-split = f .is-split; ends = f .stops }
 
-digit-opens-front : (v : Bool) (d b : ℕ) (s : List ℕ) (i : Opening) (t : List ℕ) → eqb b d ≡ true → openingPrint (digit-opens v) ≡ d ∷ [] → found (digit-opens v) s ≡ found i t → OpeningFront (b ∷ s) i t
+digit-opens-front : (v : Bool) (d b : ℕ) (s : List ℕ) (i : Opening) (t : List ℕ) → eqb b d ≡ true
+    → openingPrint (digit-opens v) ≡ d ∷ [] → found (digit-opens v) s ≡ found i t → OpeningFront (b ∷ s) i t
 digit-opens-front v d b s i t q pr e = rw (found-item e) at here
   where
     here : OpeningFront (b ∷ s) (digit-opens v) t
     here = record { is-spelled = refl; is-split = rw (eqb-true b d q, found-rest e, pr) refl; ends = tt }
 
-bracket-opens-front : (b : ℕ) (s : List ℕ) (i : Opening) (t : List ℕ) → eqb b openBracket ≡ true → spaced (operator (word s)) (afterWord s) ≡ found i t → OpeningFront (b ∷ s) i t
+bracket-opens-front : (b : ℕ) (s : List ℕ) (i : Opening) (t : List ℕ) → eqb b openBracket ≡ true
+    → spaced (operator (word s)) (afterWord s) ≡ found i t → OpeningFront (b ∷ s) i t
 bracket-opens-front b s i t q e =
-    rw (eqb-true b openBracket q, word-split s)
+    rw (eqb-true b openBracket q, ← word-after s)
     (operator-opens (operator (word s)) i (word s) (afterWord s) t (operator-word (word s) (operator (word s)) refl) e)
 
 first-byte : (b : ℕ) (s : List ℕ) (i : Opening) (t : List ℕ) (l z o k : Bool) → eqb b 0x30 ≡ z → eqb b 0x31 ≡ o → eqb b openBracket ≡ k
@@ -118,7 +99,7 @@ opening-print-of-read (b ∷ s) i t e = first-byte b s i t (letter b) (eqb b 0x3
 
 -- ---- the text after an opening is shorter
 opening-long : (i : Opening) → openingSpelled i ≡ true → 0 < length (openingPrint i)
-opening-long (name-opens n) e = name-long n e
+opening-long (name-opens n) e = name-not-empty n e
 opening-long (digit-opens false) e = omega arith
 opening-long (digit-opens true) e = omega arith
 opening-long not-opens e = omega arith

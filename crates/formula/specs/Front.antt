@@ -4,7 +4,7 @@ use mathlib.Core.Path.{_≡_}
 use mathlib.Core.Bool.{true, false}
 use mathlib.Core.List.{List, _++_}
 use Prim.Native.Nat.{ℕ}
-use Rattle.names.specs.ReadLaws.{Stops}
+use Rattle.names.specs.Front.{Stops}
 use Rattle.formula.specs.Tree.{Formula, input, constant, negation, gate, Operands, none, more}
 use Rattle.formula.specs.Printer.{print, prints, spelled, spelledAll}
 use Rattle.formula.specs.Reader.{spaceNext}

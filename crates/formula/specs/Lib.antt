@@ -7,7 +7,12 @@ pub mod Gates
 pub mod Part
 pub mod PrintLaws
 pub mod Front
+pub mod Onto
+pub mod GateLaws
+pub mod ValueLaws
+pub mod InputLaws
 pub mod Within
+pub mod Inverse
 pub mod ReaderLaws
 pub mod Lookup
 pub mod Walk

@@ -5,7 +5,7 @@ use mathlib.Core.List.{List, [], _∷_, _++_, append-assoc}
 use Prim.Native.Nat.{ℕ}
 use Rattle.text.specs.Bytes.{bytes, space, closeBracket}
 use Rattle.cursor.specs.Opening.{Gate, and-gate, or-gate, xor-gate, digit-opens, not-opens, gate-opens}
-use Rattle.cursor.specs.OpeningLaws.{openingPrint}
+use Rattle.cursor.specs.Front.{openingPrint}
 use Rattle.formula.specs.Tree.{Formula, constant, negation, gate, Operands, more}
 use Rattle.formula.specs.Printer.{gateWord, print, prints}
 
@@ -23,7 +23,8 @@ gate-word and-gate s t = refl
 gate-word or-gate s t = refl
 gate-word xor-gate s t = refl
 
-pub print-gate : (g : Gate) (e f : Formula) (fs : Operands) (t : List ℕ) → print (gate g e f fs) ++ t ≡ openingPrint (gate-opens g) ++ (print e ++ (prints (more f fs) ++ (closeBracket ∷ t)))
+pub print-gate : (g : Gate) (e f : Formula) (fs : Operands) (t : List ℕ)
+    → print (gate g e f fs) ++ t ≡ openingPrint (gate-opens g) ++ (print e ++ (prints (more f fs) ++ (closeBracket ∷ t)))
 unfolding print
 print-gate g e f fs t = gate-word g _ t ∙ ap (λ (u : List ℕ). openingPrint (gate-opens g) ++ u) (simp append-assoc)
 

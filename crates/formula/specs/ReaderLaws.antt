@@ -1,5 +1,5 @@
--- The reader without its bound: any bound above the text's length finds the same, and each step is what the grammar says.
--- Assumes nothing.
+-- The reader without its bound. What was read stands at the front and is not empty, so each part leaves a shorter text; so
+-- two bounds above the text's length find the same, and each step is what the grammar says. Assumes nothing.
 use mathlib.Core.Path.{_≡_, refl, sym, ap, _∙_}
 use mathlib.Core.Bool.{Bool, true, false}
 use mathlib.Core.List.{List, [], _∷_}
@@ -9,7 +9,7 @@ use lib.ListN.{length, length-append}
 use Rattle.bits.specs.Logic.{pick, true-false}
 use Rattle.text.specs.Bytes.{Read, found, bad, after}
 use Rattle.text.specs.After.{after-same}
-use Rattle.names.specs.ReadLaws.{name-long}
+use Rattle.names.specs.NameLaws.{name-not-empty}
 use Rattle.cursor.specs.Opening.{Opening, name-opens, digit-opens, not-opens, gate-opens, readOpening}
 use Rattle.cursor.specs.OpeningLaws.{opening-shorter}
 use Rattle.formula.specs.Tree.{Formula, input, constant, negation, gate, Operands, none, more}
@@ -20,7 +20,7 @@ use Rattle.formula.specs.Within.{formula-within, operands-within}
 -- ---- the text after an item is shorter
 print-long : (f : Formula) → spelled f ≡ true → 0 < length (print f)
 unfolding print spelled
-print-long (input n) e = name-long n e
+print-long (input n) e = name-not-empty n e
 print-long (constant b) e = omega arith
 print-long (negation f) e = omega arith
 print-long (gate g e f fs) h = omega arith
@@ -42,7 +42,8 @@ operands-shorter s fs t e =
     omega (arith, simp length-append at (ap length (r .is-split)))
 
 -- ---- two bounds above the text's length
-finish-same : (i : Opening) (t : List ℕ) (r r′ : Read Formula) (q q′ : List ℕ → Read Operands) → r ≡ r′ → ((e : Formula) (u : List ℕ) → r′ ≡ found e u → q u ≡ q′ u) → finish i t r q ≡ finish i t r′ q′
+finish-same : (i : Opening) (t : List ℕ) (r r′ : Read Formula) (q q′ : List ℕ → Read Operands) → r ≡ r′
+    → ((e : Formula) (u : List ℕ) → r′ ≡ found e u → q u ≡ q′ u) → finish i t r q ≡ finish i t r′ q′
 finish-same (name-opens n) t r r′ q q′ e h = refl
 finish-same (digit-opens b) t r r′ q q′ e h = refl
 finish-same not-opens t r r′ q q′ e h = ap (λ (x : Read Formula). after x (λ f u. closeNot f u)) e
@@ -55,7 +56,8 @@ finish-same (gate-opens g) t r r′ q q′ e h =
 abbrev oneMore : Read Formula → (List ℕ → Read Operands) → Read Operands
 oneMore r q = after r (λ f t. after (q t) (λ fs u. found (more f fs) u))
 
-more-same : (r r′ : Read Formula) (q q′ : List ℕ → Read Operands) → r ≡ r′ → ((f : Formula) (t : List ℕ) → r′ ≡ found f t → q t ≡ q′ t) → oneMore r q ≡ oneMore r′ q′
+more-same : (r r′ : Read Formula) (q q′ : List ℕ → Read Operands) → r ≡ r′
+    → ((f : Formula) (t : List ℕ) → r′ ≡ found f t → q t ≡ q′ t) → oneMore r q ≡ oneMore r′ q′
 more-same r r′ q q′ e h =
     ap (λ (x : Read Formula). oneMore x q) e
     ∙ after-same r′ (λ f t. after (q t) (λ fs u. found (more f fs) u)) (λ f t. after (q′ t) (λ fs u. found (more f fs) u))
@@ -94,7 +96,8 @@ pub formula-unopened : (s : List ℕ) → readOpening s ≡ bad → readFormula 
 unfolding readFormula readWithin
 formula-unopened s e = rw e refl
 
-pub formula-opened : (s : List ℕ) (i : Opening) (t : List ℕ) → readOpening s ≡ found i t → readFormula s ≡ finish i t (readFormula t) (λ u. readOperands u)
+pub formula-opened : (s : List ℕ) (i : Opening) (t : List ℕ) → readOpening s ≡ found i t
+    → readFormula s ≡ finish i t (readFormula t) (λ u. readOperands u)
 unfolding readFormula readOperands readWithin
 formula-opened s i t e =
     let n = length s in
@@ -110,7 +113,8 @@ pub operands-none : (s : List ℕ) → spaceNext s ≡ false → readOperands s 
 unfolding readOperands readWithin
 operands-none s e = rw e refl
 
-pub operands-more : (s : List ℕ) → spaceNext s ≡ true → readOperands s ≡ after (readFormula (rest s)) (λ f t. after (readOperands t) (λ fs u. found (more f fs) u))
+pub operands-more : (s : List ℕ) → spaceNext s ≡ true
+    → readOperands s ≡ after (readFormula (rest s)) (λ f t. after (readOperands t) (λ fs u. found (more f fs) u))
 unfolding readFormula readOperands readWithin
 operands-more [] e = absurd (true-false (sym e))
 operands-more (b ∷ s) e =

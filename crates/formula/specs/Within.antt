@@ -1,4 +1,6 @@
--- Whatever the bound: a formula that was read stands at the front of the text. Assumes nothing.
+-- Whatever the bound: a formula that was read stands at the front of the text. What opens it stands there; the parts after
+-- the opening were read by a smaller bound, each at the front of what the part before it left; a bracket closes it.
+-- Assumes nothing.
 use mathlib.Core.Path.{_≡_, refl, sym, ap, _∙_}
 use mathlib.Core.Bool.{Bool, true, false, _&&_}
 use mathlib.Core.List.{List, [], _∷_, _++_}
@@ -9,7 +11,8 @@ use Rattle.text.specs.Bytes.{Read, found, after, space, closeBracket}
 use Rattle.text.specs.EatLaws.{bad-found, found-item, found-rest, after-found}
 use Rattle.text.specs.After.{byte-found}
 use Rattle.cursor.specs.Opening.{Gate, Opening, name-opens, digit-opens, not-opens, gate-opens, readOpening}
-use Rattle.cursor.specs.OpeningLaws.{openingPrint, OpeningFront, opening-print-of-read}
+use Rattle.cursor.specs.Front.{openingPrint, OpeningFront}
+use Rattle.cursor.specs.OpeningLaws.{opening-print-of-read}
 use Rattle.formula.specs.Tree.{Formula, input, constant, negation, gate, Operands, none, more}
 use Rattle.formula.specs.Printer.{print, prints, spelled, spelledAll}
 use Rattle.formula.specs.Reader.{spaceNext, rest, closeNot, closeGate, finish, readWithin, operandsWithin}
@@ -25,7 +28,8 @@ unfolding spelled
 constant-front s b t o = record { is-spelled = refl; is-split = o .is-split ∙ sym (print-constant b t); ends = tt }
 
 -- a negation, or a gate, whose parts stand behind one another
-negation-front : (s u : List ℕ) (e f : Formula) (w t : List ℕ) → OpeningFront s not-opens u → FormulaFront u e w → closeNot e w ≡ found f t → FormulaFront s f t
+negation-front : (s u : List ℕ) (e f : Formula) (w t : List ℕ) → OpeningFront s not-opens u → FormulaFront u e w
+    → closeNot e w ≡ found f t → FormulaFront s f t
 unfolding spelled
 negation-front s u e f w t o i c =
     let b = byte-found closeBracket (negation e) f w t c in
@@ -40,7 +44,8 @@ negation-front s u e f w t o i c =
           ends = tt;
         }
 
-gate-front : (g : Gate) (s u : List ℕ) (e f : Formula) (fs : Operands) (v w t : List ℕ) → OpeningFront s (gate-opens g) u → FormulaFront u e v → OperandsFront v fs w → closeGate g e fs w ≡ found f t → FormulaFront s f t
+gate-front : (g : Gate) (s u : List ℕ) (e f : Formula) (fs : Operands) (v w t : List ℕ) → OpeningFront s (gate-opens g) u
+    → FormulaFront u e v → OperandsFront v fs w → closeGate g e fs w ≡ found f t → FormulaFront s f t
 unfolding spelled
 gate-front g s u e f none v w t o i j c = absurd (bad-found c)
 gate-front g s u e f (more d ds) v w t o i j c =
@@ -64,7 +69,8 @@ FindsFormula s r = (f : Formula) (t : List ℕ) → r ≡ found f t → FormulaF
 abbrev FindsOperands : (List ℕ → Read Operands) → Type 0
 FindsOperands q = (s : List ℕ) (fs : Operands) (t : List ℕ) → q s ≡ found fs t → OperandsFront s fs t
 
-finish-front : (i : Opening) (s u : List ℕ) (r : Read Formula) (q : List ℕ → Read Operands) → OpeningFront s i u → FindsFormula u r → FindsOperands q → FindsFormula s (finish i u r q)
+finish-front : (i : Opening) (s u : List ℕ) (r : Read Formula) (q : List ℕ → Read Operands) → OpeningFront s i u
+    → FindsFormula u r → FindsOperands q → FindsFormula s (finish i u r q)
 finish-front (name-opens n) s u r q o h k f t e = rw (found-item e, found-rest e) at (name-front s n u o)
 finish-front (digit-opens b) s u r q o h k f t e = rw (found-item e, found-rest e) at (constant-front s b u o)
 finish-front not-opens s u r q o h k f t e =
@@ -89,14 +95,16 @@ none-front : (s t : List ℕ) → s ≡ t → spaceNext s ≡ false → Operands
 unfolding print spelled
 none-front s t q e = record { are-spelled = refl; is-split = q; all-end = tt; no-space = rw q at e }
 
-others-front : (s : List ℕ) (r : Read Formula) (q : List ℕ → Read Operands) (fs : Operands) (t : List ℕ) → FindsFormula s r → FindsOperands q → after r (λ f u. after (q u) (λ gs v. found (more f gs) v)) ≡ found fs t → OperandsFront (space ∷ s) fs t
+others-front : (s : List ℕ) (r : Read Formula) (q : List ℕ → Read Operands) (fs : Operands) (t : List ℕ) → FindsFormula s r
+    → FindsOperands q → after r (λ f u. after (q u) (λ gs v. found (more f gs) v)) ≡ found fs t → OperandsFront (space ∷ s) fs t
 others-front s r q fs t h k e =
     let b = after-found r (λ f u. after (q u) (λ gs v. found (more f gs) v)) fs t e in
     let c = after-found (q (b .1)) (λ gs v. found (more (b .0) gs) v) fs t (b .3) in
     rw (found-item (c .3), found-rest (c .3))
     at (more-front s (b .1) (c .1) (b .0) (c .0) (h (b .0) (b .1) (b .2)) (k (b .1) (c .0) (c .1) (c .2)))
 
-operands-by : (c : Bool) (s : List ℕ) (r : Read Formula) (q : List ℕ → Read Operands) (fs : Operands) (t : List ℕ) → spaceNext s ≡ c → FindsFormula (rest s) r → FindsOperands q
+operands-by : (c : Bool) (s : List ℕ) (r : Read Formula) (q : List ℕ → Read Operands) (fs : Operands) (t : List ℕ)
+    → spaceNext s ≡ c → FindsFormula (rest s) r → FindsOperands q
     → pick c (after r (λ f u. after (q u) (λ gs v. found (more f gs) v))) (found none s) ≡ found fs t → OperandsFront s fs t
 operands-by true [] r q fs t z h k e = absurd (true-false (sym z))
 operands-by true (b ∷ s) r q fs t z h k e = rw (eqb-true b space z) (others-front s r q fs t h k e)

@@ -16,7 +16,8 @@ operatorWord xor-op = bytes "xor"
 operatorWord none-op = []
 
 -- a choice whose first case is the operator o of a word, or else goes on
-choose : (c : Bool) (w : List ℕ) (p q o : Operator) → (c ≡ true → w ≡ operatorWord p) → (q ≡ o → w ≡ operatorWord o) → pick c p q ≡ o → w ≡ operatorWord o
+choose : (c : Bool) (w : List ℕ) (p q o : Operator) → (c ≡ true → w ≡ operatorWord p) → (q ≡ o → w ≡ operatorWord o)
+    → pick c p q ≡ o → w ≡ operatorWord o
 choose true w p q o h k e = rw e at (h refl)
 choose false w p q o h k e = k e
 

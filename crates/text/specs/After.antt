@@ -5,7 +5,8 @@ use Prim.Native.Nat.{ℕ}
 use Rattle.text.specs.Bytes.{Read, found, bad, after, eat}
 use Rattle.text.specs.EatLaws.{found-item, found-rest, eat-found, after-found}
 
-pub after-same : {A B : Type 0} (r : Read A) (f g : A → List ℕ → Read B) → ((a : A) (t : List ℕ) → r ≡ found a t → f a t ≡ g a t) → after r f ≡ after r g
+pub after-same : {A B : Type 0} (r : Read A) (f g : A → List ℕ → Read B) → ((a : A) (t : List ℕ) → r ≡ found a t → f a t ≡ g a t)
+    → after r f ≡ after r g
 after-same (found a s) f g h = h a s refl
 after-same bad f g h = refl
 
