@@ -8,3 +8,11 @@ pub mod LimitLaws
 pub mod OutLineLaws
 pub mod OutputLaws
 pub mod AskOutLaws
+pub mod StepLaws
+pub mod LineLaws
+pub mod DistinctLaws
+pub mod PlaceLaws
+pub mod ListLaws
+pub mod InLaws
+pub mod BoundLaws
+pub mod FitLaws
