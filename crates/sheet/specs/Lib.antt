@@ -8,6 +8,7 @@ pub mod LimitLaws
 pub mod OutLineLaws
 pub mod OutputLaws
 pub mod AskOutLaws
+pub mod AskLineLaws
 pub mod StepLaws
 pub mod LineLaws
 pub mod DistinctLaws

@@ -7,7 +7,6 @@ use mathlib.Core.Option.{Option, some, none}
 use Prim.Native.Nat.{ℕ, _≤_, _<_}
 use borrow.Author.Tests.{le-leb, lt-leb}
 use Rattle.bits.specs.Logic.{pick}
-use Rattle.rows.specs.WordLaws.{rowwise-same}
 use Rattle.text.specs.Limits.{maxLimit}
 use Rattle.text.specs.Bytes.{bytes, bad, eat}
 use Rattle.text.specs.Number.{readNumber}
@@ -63,12 +62,8 @@ withLimit k n =
       tables = k .tables;
     }
 
--- an output's value does not depend on the limit
-on-same : (d : Design) (n o r : ℕ) → outputOn d o r ≡ outputOn (limited d n) o r
-unfolding outputOn
-on-same d n o r = refl
-
 limit-holds : (d : Design) (k : Sheet) (n : ℕ) → Holds d k → n ≤ maxLimit → Holds (limited d n) (withLimit k n)
+unfolding outputOn
 limit-holds d k n h s =
     record {
       inputs-counted = h .inputs-counted;
@@ -82,7 +77,7 @@ limit-holds d k n h s =
       outputs-counted = h .outputs-counted;
       outputs-few = h .outputs-few;
       outputs-named = h .outputs-named;
-      tabled = λ o b. rowwise-same (h .tabled o b) (λ r l. on-same d n o r);
+      tabled = h .tabled;
     }
 
 -- what is read, by the code's answer
