@@ -6,6 +6,7 @@ pub mod CloseLaws
 pub mod OnwardLaws
 pub mod LimitLaws
 pub mod OutLineLaws
+pub mod NewNameLaws
 pub mod OutputLaws
 pub mod AskOutLaws
 pub mod AskLineLaws

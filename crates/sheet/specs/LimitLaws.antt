@@ -45,12 +45,13 @@ module _ (l : List ℕ) where
     limit-unclosed t = rw (limit-number, t) refl
 
 -- ---- question 3
--- the design d and the sheet k with the limit n
-abbrev limited : Design → ℕ → Design
-limited d n = record { inputs = d .inputs; bound = d .bound; limit = n; outputs = d .outputs }
+-- the design with the limit n
+abbrev pub withLimit : Design → ℕ → Design
+withLimit d n = record { inputs = d .inputs; bound = d .bound; limit = n; outputs = d .outputs }
 
-abbrev withLimit : Sheet → ℕ → Sheet
-withLimit k n =
+-- the sheet with the limit n
+abbrev pub limitInto : Sheet → ℕ → Sheet
+limitInto k n =
     record {
       inputs = k .inputs;
       names = k .names;
@@ -62,7 +63,7 @@ withLimit k n =
       tables = k .tables;
     }
 
-limit-holds : (d : Design) (k : Sheet) (n : ℕ) → Holds d k → n ≤ maxLimit → Holds (limited d n) (withLimit k n)
+limit-holds : (d : Design) (k : Sheet) (n : ℕ) → Holds d k → n ≤ maxLimit → Holds (withLimit d n) (limitInto k n)
 unfolding outputOn
 limit-holds d k n h s =
     record {
@@ -101,6 +102,6 @@ module _ (d : Design) (o : Option ℕ) (r : Asked) where
   limit-too-large n e l f = rw (limit-some o n e, lt-leb n maxLimit l) f
 
   pub limit-passes : (k : Sheet) (n : ℕ) → LimitIs o (LimitLine.Limit n) → n ≤ maxLimit
-      → Passed Place.Out (withLimit k n) r → Holds d k → StepIs (askLimit d o) r
+      → Passed Place.Out (limitInto k n) r → Holds d k → StepIs (askLimit d o) r
   unfolding askLimit
   limit-passes k n e l p h = rw (limit-some o n e, le-leb n maxLimit l) (passed-onward p (limit-holds d k n h l))

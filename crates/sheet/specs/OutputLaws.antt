@@ -1,7 +1,6 @@
--- One output more: whether its name is new by the places that the code finds, and what the sheet holds with the output's
--- name and table stored. Assumes nothing.
-use mathlib.Core.Path.{_≡_, refl, sym, ap, ap₂, _∙_}
-use mathlib.Core.Bool.{Bool, true, false, not, _&&_}
+-- One output more: with its name and its table stored after the others, the sheet holds the design with the output.
+-- Assumes nothing.
+use mathlib.Core.Path.{_≡_, sym, ap, ap₂, _∙_}
 use mathlib.Core.List.{List, [], _∷_, _++_, map, map-append}
 use Prim.Native.Nat.{ℕ, _+_, _<_}
 use native.Mathlib.Numerals.{add-one}
@@ -10,47 +9,20 @@ use native.Mathlib.Omega.{arith}
 use lib.ListN.{length, take, set, length-append, List·getD-append}
 use lib.Seq.{take-suc-set, getD-set-same, getD-set-other, getD-at}
 use Rattle.text.specs.Limits.{maxOutputs}
-use Rattle.names.specs.Name.{Name, among}
+use Rattle.names.specs.Name.{Name}
 use Rattle.names.specs.Pack.{nameOf}
-use Rattle.names.specs.Word.{PositionIs}
-use Rattle.names.specs.LookupLaws.{found-among, nowhere-among}
-use Rattle.names.specs.declared.Position.the-variants.{At, Nowhere}
 use Rattle.rows.specs.Words.{Rowwise}
 use Rattle.rows.specs.WordLaws.{rowwise-same}
 use Rattle.formula.specs.Value.{value, onRow}
 use Rattle.sheet.specs.Lines.{Output}
-use Rattle.sheet.specs.Examine.{Design, outputNames, newName, withOutput}
+use Rattle.sheet.specs.Examine.{Design, outputNames, withOutput}
 use Rattle.sheet.specs.Known.{Holds, outputOn, tableAt}
 use Rattle.sheet.specs.declared.Sheet.{Sheet}
 use Rattle.sheet.specs.declared.Rows.{Rows}
 
--- ---- whether a name is new
-module _ (d : Design) (k : Sheet) (h : Holds d k) (v : ℕ) where
-  new-by : (a b : Bool) → among (nameOf v) (d .inputs) ≡ a → among (nameOf v) (outputNames (d .outputs)) ≡ b
-      → newName d (nameOf v) ≡ not a && not b
-  new-by a b e f = ap₂ (λ (x y : Bool). not x && not y) e f
-
-  input-found : (i : ℕ) → PositionIs (take (k .inputs) (k .names)) v (At i) → among (nameOf v) (d .inputs) ≡ true
-  input-found i p = rw (← h .inputs-named) (found-among (take (k .inputs) (k .names)) v i p)
-
-  input-nowhere : PositionIs (take (k .inputs) (k .names)) v Nowhere → among (nameOf v) (d .inputs) ≡ false
-  input-nowhere p = rw (← h .inputs-named) (nowhere-among (take (k .inputs) (k .names)) v p)
-
-  pub old-input : (i : ℕ) → PositionIs (take (k .inputs) (k .names)) v (At i) → false ≡ newName d (nameOf v)
-  old-input i p = sym (new-by true _ (input-found i p) refl)
-
-  module _ (p : PositionIs (take (k .inputs) (k .names)) v Nowhere) where
-    pub old-output : (i : ℕ) → PositionIs (take (k .outputs) (k .outs)) v (At i) → false ≡ newName d (nameOf v)
-    old-output i q =
-        sym (new-by false true (input-nowhere p) (rw (← h .outputs-named) (found-among (take (k .outputs) (k .outs)) v i q)))
-
-    pub new-output : PositionIs (take (k .outputs) (k .outs)) v Nowhere → true ≡ newName d (nameOf v)
-    new-output q =
-        sym (new-by false false (input-nowhere p) (rw (← h .outputs-named) (nowhere-among (take (k .outputs) (k .outs)) v q)))
-
--- ---- the sheet with the output
-abbrev added : Sheet → ℕ → List ℕ → Sheet
-added k v ws =
+-- the sheet with an output of the name v and the table ws
+abbrev pub outputInto : Sheet → ℕ → List ℕ → Sheet
+outputInto k v ws =
     record {
       inputs = k .inputs;
       names = k .names;
@@ -79,7 +51,7 @@ module _ (d : Design) (o : Output) where
       ap (λ (x : Output). value (onRow (d .inputs) r) (x .formula)) (sym (getD-at (d .outputs) o [] _ i (sym e)))
 
   module _ (k : Sheet) (v : ℕ) (ws : List ℕ) (h : Holds d k) (room : k .outputs < maxOutputs) where
-    named-more : length (k .outs) ≡ 4 → nameOf v ≡ o .name
+    named-more : length (k .outs) ≡ maxOutputs → nameOf v ≡ o .name
         → map nameOf (take (k .outputs + 1) (set (k .outs) (k .outputs) v)) ≡ outputNames (d .outputs ++ (o ∷ []))
     named-more s e =
         let l : k .outputs < length (k .outs) = omega arith in
@@ -92,21 +64,21 @@ module _ (d : Design) (o : Output) where
 
     -- the table at i is that of the output i
     abbrev TableIs : ℕ → Type 0
-    TableIs i = Rowwise (outputOn (withOutput d o) i) (tableAt (added k v ws .tables) i)
+    TableIs i = Rowwise (outputOn (withOutput d o) i) (tableAt (outputInto k v ws .tables) i)
 
-    module _ (s : length (k .tables) ≡ 4) (t : Rowwise (λ (i : ℕ). value (onRow (d .inputs) i) (o .formula)) ws) where
+    module _ (s : length (k .tables) ≡ maxOutputs) (t : Rowwise (λ (i : ℕ). value (onRow (d .inputs) i) (o .formula)) ws) where
       tabled-last : (i : ℕ) → i ≡ k .outputs → TableIs i
       tabled-last i e =
           let l : k .outputs < length (k .tables) = omega arith in
           let n : i ≡ length (d .outputs) = e ∙ h .outputs-counted in
-          let w : ws ≡ tableAt (added k v ws .tables) i
+          let w : ws ≡ tableAt (outputInto k v ws .tables) i
           = rw e (sym (ap words-of (getD-set-same (k .tables) (k .outputs) (record { words = ws }) _ l))) in
           rowwise-same (rw w at t) (λ r _. last-output i r n)
 
       tabled-before : (i : ℕ) → i < k .outputs → TableIs i
       tabled-before i l =
           let n : i < length (d .outputs) = omega (arith, h .outputs-counted) in
-          let w : tableAt (k .tables) i ≡ tableAt (added k v ws .tables) i
+          let w : tableAt (k .tables) i ≡ tableAt (outputInto k v ws .tables) i
           = sym (ap words-of (getD-set-other (k .tables) (k .outputs) i (record { words = ws }) _ (λ e. omega arith))) in
           rowwise-same (rw w at (h .tabled i l)) (λ r _. earlier-output i r n)
 
@@ -117,7 +89,7 @@ module _ (d : Design) (o : Output) where
             | no n ↦ tabled-last i (omega arith)
           ]
 
-      pub output-added : length (k .outs) ≡ 4 → nameOf v ≡ o .name → Holds (withOutput d o) (added k v ws)
+      pub output-added : length (k .outs) ≡ maxOutputs → nameOf v ≡ o .name → Holds (withOutput d o) (outputInto k v ws)
       output-added u e =
           record {
             inputs-counted = h .inputs-counted;

@@ -5,6 +5,7 @@ use native.Mathlib.Omega.{arith}
 use lib.Seq.{length-take-le}
 use borrow.Author.Tests.{not-true, not-false, ltb-true, ltb-false}
 use borrow.Author.Needs.{needs}
+use Rattle.text.specs.Limits.{maxDepth}
 use Rattle.sheet.specs.AskOutLaws.{out-misspelled, out-spelled, out-fifth, out-deep, out-old-name, out-unknown, out-passes}
 use Rattle.sheet.specs.Lines.{readOut}
 use Rattle.sheet.proofs.Arrays.{names-sized}
@@ -42,7 +43,7 @@ returns-2 c =
     λ d h. out-spelled d k h (w .result) (q .result) (readOut (c .before .before .before .before .before .before .before .before .before .before .args .l .now)) (w .ensures) spelled (λ x g.
     ⊎-elim
     (λ v. out-fifth d k h (w .result) (q .result) x g (v .taken) (q .ensures))
-    (λ v. out-deep d k h (w .result) (q .result) x g (v .0 .left) (ltb-true 32 (w .result .depth) (v .2 .taken)) (q .ensures))
+    (λ v. out-deep d k h (w .result) (q .result) x g (v .0 .left) (ltb-true maxDepth (w .result .depth) (v .2 .taken)) (q .ensures))
     (c .before .if2 .came))
 
 is-new-requires : tie.Need-is-new-requires
@@ -57,7 +58,7 @@ returns-3 c =
     let w = c .before .before .before .before .before .before .before .before .before .before .out-line in
     let q = c .refuse3 in
     let spelled = not-false (w .result .ok) (c .before .before .before .before .before .before .before .if1 .left) in
-    let flat = ltb-false 32 (w .result .depth) (c .before .before .before .if3 .left) in
+    let flat = ltb-false maxDepth (w .result .depth) (c .before .before .before .if3 .left) in
     let old = sym (not-true (c .before .before .is-new .result) (c .before .if4 .taken)) in
     λ d h. out-spelled d k h (w .result) (q .result) (readOut (c .before .before .before .before .before .before .before .before .before .before .before .before .before .before .args .l .now)) (w .ensures) spelled (λ x g.
     out-old-name d k h (w .result) (q .result) x g (c .before .before .before .before .before .if2 .left) flat (old ∙ c .before .before .is-new .ensures d h) (q .ensures))
@@ -71,7 +72,7 @@ returns-4 c =
     let w = c .before .before .before .before .before .before .before .before .before .before .before .before .out-line in
     let q = c .refuse4 in
     let spelled = not-false (w .result .ok) (c .before .before .before .before .before .before .before .before .before .if1 .left) in
-    let flat = ltb-false 32 (w .result .depth) (c .before .before .before .before .before .if3 .left) in
+    let flat = ltb-false maxDepth (w .result .depth) (c .before .before .before .before .before .if3 .left) in
     let new = sym (not-false (c .before .before .before .before .is-new .result) (c .before .before .before .if4 .left)) in
     let unknown = not-true (w .result .known) (c .before .if5 .taken) in
     λ d h. out-spelled d k h (w .result) (q .result) (readOut (c .before .before .before .before .before .before .before .before .before .before .before .before .before .before .before .before .args .l .now)) (w .ensures) spelled (λ x g.
@@ -89,7 +90,7 @@ returns-5 c =
     let w = c .before .before .before .before .before .before .before .before .before .before .before .before .before .out-line in
     let q = c .onward in
     let spelled = not-false (w .result .ok) (c .before .before .before .before .before .before .before .before .before .before .if1 .left) in
-    let flat = ltb-false 32 (w .result .depth) (c .before .before .before .before .before .before .if3 .left) in
+    let flat = ltb-false maxDepth (w .result .depth) (c .before .before .before .before .before .before .if3 .left) in
     let new = sym (not-false (c .before .before .before .before .before .is-new .result) (c .before .before .before .before .if4 .left)) in
     let known = not-false (w .result .known) (c .before .before .if5 .left) in
     λ d h. out-spelled d k h (w .result) (q .result) (readOut (c .before .before .before .before .before .before .before .before .before .before .before .before .before .before .before .before .before .args .l .now)) (w .ensures) spelled (λ x g.

@@ -3,7 +3,7 @@ use mathlib.Core.Path.{sym}
 use native.Mathlib.Omega.{arith}
 use lib.Seq.{length-take-le}
 use borrow.Author.Needs.{needs}
-use Rattle.sheet.specs.OutputLaws.{old-input, old-output, new-output}
+use Rattle.sheet.specs.NewNameLaws.{old-input, old-output, new-output}
 use Rattle.sheet.proofs.Arrays.{names-sized, outs-sized}
 use Rattle.sheet.proofs.is_new.Statement.{statement}
 use Rattle.sheet.proofs.is_new.Tie as tie
