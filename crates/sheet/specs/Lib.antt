@@ -6,4 +6,8 @@ pub mod Kinds
 pub mod HeadLaws
 pub mod LineInverse
 pub mod Examine
+pub mod WellFormed
+pub mod NewNameLaws
+pub mod AskLineLaws
+pub mod ExaminationLaws
 pub mod Known
