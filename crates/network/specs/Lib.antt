@@ -1,0 +1,7 @@
+-- The network sheet of document 01, its examination, Check, and laws about these.
+pub mod Network
+pub mod Printer
+pub mod Reader
+pub mod Examine
+pub mod Value
+pub mod Check

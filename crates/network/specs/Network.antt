@@ -1,0 +1,15 @@
+-- "A network has at most N shared tables over all bound inputs. Each output reads at most width of them, then all free
+-- inputs, and looks its value up." What a network sheet says. Assumes nothing.
+use mathlib.Core.Bool.{Bool}
+use mathlib.Core.List.{List}
+use Prim.Native.Nat.{ℕ}
+
+-- an output's composition table: the numbers of the shared tables that it reads, rising, and its digits in row order
+pub record Node : Type 0 where
+  pub reads : List ℕ
+  pub digits : List Bool
+
+-- the digits of each shared table, and a node for each output
+pub record Network : Type 0 where
+  pub luts : List (List Bool)
+  pub nodes : List Node

@@ -1,0 +1,52 @@
+-- "The network sheet": how each kind of line is read, beside a design. Assumes nothing.
+use mathlib.Core.Bool.{Bool, true, false}
+use mathlib.Core.List.{List, [], _∷_, _++_}
+use mathlib.Core.Option.{Option}
+use Prim.Native.Nat.{ℕ, zero, suc, _+_, _^_}
+use lib.Dec.{eqb}
+use lib.ListN.{length}
+use Rattle.bits.specs.Logic.{pick}
+use Rattle.text.specs.Bytes.{Read, found, bad, after, eat, whole, bytes}
+use Rattle.names.specs.Name.{Name}
+use Rattle.sheet.specs.Lines.{closed}
+use Rattle.network.specs.Network.{Node}
+use Rattle.network.specs.Printer.{led, ledAll, lutName, lutHead, nodeHead}
+
+-- so many digits 0 and 1
+unfoldable pub readDigits : ℕ → List ℕ → Read (List Bool)
+readDigits zero s = found [] s
+readDigits (suc k) [] = bad
+readDigits (suc k) (b ∷ s) =
+    let others = readDigits k s in
+    pick (eqb b 0x30) (after others (λ ds t. found (false ∷ ds) t))
+    (pick (eqb b 0x31) (after others (λ ds t. found (true ∷ ds) t)) bad)
+
+-- lut line i
+unfoldable pub readLut : List Name → ℕ → List ℕ → Option (List Bool)
+readLut bs i l = whole (closed (after (eat (lutHead bs i) l) (λ _ s. readDigits (2 ^ length bs) s)))
+
+abbrev pub firstFound : {A : Type 0} → Read A → Read A → Read A
+firstFound (found a s) r = found a s
+firstFound bad r = r
+
+-- the shared tables of a list, by rising number: each of the k numbers from i on is there or not
+unfoldable pub readReads : Bool → ℕ → ℕ → List ℕ → Read (List ℕ)
+readReads first zero i s = found [] s
+readReads first (suc k) i s =
+    let there = after (eat (led first (lutName i)) s) (λ _ t. after (readReads false k (suc i) t) (λ is u. found (i ∷ is) u)) in
+    let not-there = readReads first k (suc i) s in
+    firstFound there not-there
+
+abbrev pub none-of : List ℕ → Bool
+none-of [] = true
+none-of (i ∷ is) = false
+
+-- the node line of the output n beside u shared tables and the free inputs fs
+abbrev pub readNodeRest : List Name → List ℕ → List ℕ → Read Node
+readNodeRest fs is s =
+    after (eat (ledAll (none-of is) fs ++ bytes ") ") s) (λ _ t.
+    after (readDigits (2 ^ (length is + length fs)) t) (λ ds v. found (record { reads = is; digits = ds }) v))
+
+unfoldable pub readNode : Name → List Name → ℕ → List ℕ → Option Node
+readNode n fs u l =
+    whole (closed (after (eat (nodeHead n) l) (λ _ s. after (readReads true u 0 s) (λ is t. readNodeRest fs is t))))

@@ -1,0 +1,26 @@
+-- The value of a network on a row, from its own tables: the shared tables are read at the row's vertex, and each node at
+-- the row of what it reads and the free inputs. Assumes nothing.
+use mathlib.Core.Bool.{Bool, true, false}
+use mathlib.Core.List.{List, [], _∷_, _++_, map}
+use Prim.Native.Nat.{ℕ}
+use lib.ListN.{getD}
+use Rattle.names.specs.Name.{Name}
+use Rattle.rows.specs.Row.{rowOf}
+use Rattle.formula.specs.Value.{onRow}
+use Rattle.sheet.specs.Examine.{Design}
+use Rattle.classes.specs.Columns.{free, vertexOf}
+use Rattle.network.specs.Network.{Network, Node}
+
+-- shared table i on row r
+unfoldable pub lutOn : Design → Network → ℕ → ℕ → Bool
+lutOn d w r i = getD (getD (w .luts) i []) (vertexOf (d .inputs) (d .bound) r) false
+
+-- the row of a node's own inputs: the shared tables that it reads, then the free inputs
+unfoldable pub nodeRow : Design → Network → List ℕ → ℕ → ℕ
+nodeRow d w is r = rowOf (map (lutOn d w r) is ++ map (onRow (d .inputs) r) (free (d .inputs) (d .bound)))
+
+-- output o on row r
+unfoldable pub networkOn : Design → Network → ℕ → ℕ → Bool
+networkOn d w o r =
+    let x = getD (w .nodes) o (record { reads = []; digits = [] }) in
+    getD (x .digits) (nodeRow d w (x .reads) r) false

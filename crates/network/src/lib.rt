@@ -1,0 +1,2 @@
+// The network sheet.
+pub fn nothing() {}
