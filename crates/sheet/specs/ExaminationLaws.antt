@@ -11,7 +11,7 @@ use Rattle.bits.specs.Logic.{pick}
 use Rattle.text.specs.Line.{lines}
 use Rattle.sheet.specs.Examine.{Design, Examined, refused, valid, Place, at-design, at-in, at-bound, at-limit, at-out, over, Step, no-to, next, askLine, askLines, atEnd, follow, sized, nothing, examine}
 use Rattle.sheet.specs.WellFormed.{LineQuestion, StepRight, ExaminedRight, WellFormed, Reached, RightRefusal}
-use Rattle.sheet.specs.AskLineLaws.{line-right}
+use Rattle.sheet.specs.LineRightLaws.{line-right}
 
 -- ---- all lines: a refusal by questions 2 to 5 at a line from n to m
 record Between (n m q l : ℕ) : Type 0 where

@@ -7,7 +7,7 @@ pub mod HeadLaws
 pub mod LineInverse
 pub mod Examine
 pub mod WellFormed
-pub mod NewNameLaws
-pub mod AskLineLaws
+pub mod FurtherOutputLaws
+pub mod LineRightLaws
 pub mod ExaminationLaws
 pub mod Known

@@ -18,7 +18,7 @@ use Rattle.sheet.specs.Lines.{Output, designLine, endLine, readIn, readB
 use Rattle.sheet.specs.LineInverse.{in-inverse, out-inverse}
 use Rattle.sheet.specs.Examine.{Design, Place, at-design, at-in, at-bound, at-limit, at-out, over, Step, no-to, next, ask, within, askIn, askBound, askLimit, askOut, askEnd, askLine, outputNames, newName, withOutput}
 use Rattle.sheet.specs.WellFormed.{LineQuestion, StepRight, RightOutputs, HasInputs, HasBound, HasLimit, Reached}
-use Rattle.sheet.specs.NewNameLaws.{outputs-more}
+use Rattle.sheet.specs.FurtherOutputLaws.{outputs-more}
 
 -- ---- questions in turn
 abbrev Questions : List (ℕ × Bool) → Type 0
