@@ -6,3 +6,4 @@ pub mod Free
 pub mod Sorted
 pub mod Codes
 pub mod Shared
+pub mod Sets

@@ -5,17 +5,17 @@
 -- (see Numbering). Conflict is "the classes differ" throughout: counting the classes of a block asks for that. Assumes nothing.
 use mathlib.Core.Path.{_≡_, refl, sym, ap, _∙_, subst}
 use mathlib.Core.Bool.{Bool, true, false}
-use mathlib.Core.List.{List, [], _∷_}
+use mathlib.Core.List.{List, [], _∷_, _++_}
 use mathlib.Core.Logic.{_⊎_, inl, inr, ⊎-elim}
 use Prim.Native.Nat.{ℕ, zero, suc, _+_, _*_, _^_, _≤_, _<_}
 use native.Mathlib.Decide.{ℕ-discrete}
 use native.Mathlib.Omega.{arith}
 use lib.Bits.{bitAnd}
-use lib.ListN.{length}
+use lib.ListN.{length, length-append}
 use Rattle.bits.specs.Logic.{andb, orb, true-false}
 use Rattle.bits.specs.Digit.{on, on-and}
 use Rattle.cells.specs.Core.{Differ}
-use Rattle.cells.specs.Lists.{All, Pairs, count, all-map, pairs-map}
+use Rattle.cells.specs.Lists.{All, Pairs, count, sum, all-map, all-both, all-append, pairs-append, pairs-map, less-or-equal}
 use Rattle.cells.specs.Pigeon.{Agree, agree-and, and-agree, pigeon}
 use Rattle.cells.specs.Codes.{Coded}
 
@@ -85,3 +85,28 @@ module _ (v j u : ℕ) (cls : ℕ → ℕ → ℕ) (rows shared private : ℕ �
   pub places-bound : (o : ℕ) (xs : List ℕ) → o < j → All (λ (x : ℕ). x < v) xs → Pairs (λ (x y : ℕ). cls o x ≡ cls o y → block shared (sharedCode sh f) o x ≡ block shared (sharedCode sh f) o y → ⊥) xs → length xs ≤ 2 ^ count (on (rows o)) u
   places-bound o xs h a p = pigeon f (rows o) u xs (pairs-map (λ (x : ℕ). x < v) (λ (x y : ℕ). cls o x ≡ cls o y → block shared (sharedCode sh f) o x ≡ block shared (sharedCode sh f) o y → ⊥) (λ (x y : ℕ). Agree u (rows o) (f x) (f y) → ⊥) xs
       (λ x y m n r b. r (agree-class o x y h m n b) (agree-block o x y h b)) a p)
+
+-- ---- the classes of an output, each in as many blocks as it needs, need as many places together
+module _ (v : ℕ) (label key : ℕ → ℕ) where
+  -- class l in at least n blocks
+  abbrev pub Group : ℕ → ℕ → Type 0
+  Group l n = (xs : List ℕ) × All (λ (x : ℕ). (x < v) × (label x ≡ l)) xs × Pairs (λ (x y : ℕ). key x ≡ key y → ⊥) xs × (n ≤ length xs)
+
+  pub gather : (need : ℕ → ℕ) (n : ℕ) → ((l : ℕ) → l < n → Group l (need l)) → (xs : List ℕ) × All (λ (x : ℕ). (x < v) × (label x < n)) xs × Pairs (λ (x y : ℕ). label x ≡ label y → key x ≡ key y → ⊥) xs × (sum need n ≤ length xs)
+  unfolding sum
+  gather need zero h = ([], tt, tt, omega arith)
+  gather need (suc n) h =
+      let r = gather need n (λ l k. h l (omega arith)) in
+      let q = h n (omega arith) in (
+        r .0 ++ q .0,
+        all-append (λ (x : ℕ). (x < v) × (label x < suc n)) (r .0) (q .0)
+            (all-map (λ (x : ℕ). (x < v) × (label x < n)) (λ (x : ℕ). (x < v) × (label x < suc n)) (r .0) (λ x p. (p .0, (let z = p .1 in omega arith))) (r .1))
+            (all-map (λ (x : ℕ). (x < v) × (label x ≡ n)) (λ (x : ℕ). (x < v) × (label x < suc n)) (q .0) (λ x p. (p .0, (let z = p .1 in omega arith))) (q .1)),
+        pairs-append R (r .0) (q .0) (r .2)
+            (pairs-map (λ (x : ℕ). (x < v) × (label x ≡ n)) (λ (x y : ℕ). key x ≡ key y → ⊥) R (q .0) (λ x y a b d e. d) (q .1) (q .2))
+            (all-map (λ (x : ℕ). (x < v) × (label x < n)) (λ (x : ℕ). All (R x) (q .0)) (r .0) (λ x a. all-map (λ (y : ℕ). (y < v) × (label y ≡ n)) (R x) (q .0) (λ y b e k. let z = a .1 in let w = b .1 in omega arith) (q .1)) (r .1)),
+        (let a = r .3 in let b = q .3 in simp length-append (omega arith)),
+      )
+    where
+      R : ℕ → ℕ → Type 0
+      R x y = label x ≡ label y → key x ≡ key y → ⊥

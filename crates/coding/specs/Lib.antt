@@ -1,0 +1,2 @@
+-- Laws of the rules that the search for codes prunes by.
+pub mod Hold

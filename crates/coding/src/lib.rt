@@ -1,0 +1,1 @@
+// Codes for fixed reading sets.
