@@ -19,7 +19,7 @@ use Rattle.bits.specs.Logic.{orb, pick, true-false}
 use Rattle.bits.specs.Digit.{on, on-or, on-zero}
 use Rattle.cells.specs.Lists.{All, Pairs, count, sum, all-map, all-both, pairs-map, less-or-equal, never-both, false-where, true-where, counted, sum-more}
 use Rattle.cells.specs.Shared.{Fits, block, Group, gather}
-use Rattle.numbering.specs.Given.{labelAt, item, Block, Given, Solves, Extends}
+use Rattle.numbering.specs.Given.{labelAt, item, Block, Solves, Extends}
 
 -- ======== definitions
 -- own has for each class the codes of the blocks that it holds among the first y vertices, owns how many blocks

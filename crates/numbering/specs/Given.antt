@@ -21,15 +21,15 @@ item l o = getD l o 0
 abbrev pub Block : ℕ → ℕ → ℕ → Type 0
 Block mask c s = (k : ℕ) → k < 64 → on s k ≡ eqb (bitAnd k mask) (bitAnd c mask)
 
--- labels, bounds on blocks for each class, and the block of each code for each output
-pub record Given (cl base bs ms : List ℕ) (v j : ℕ) : Type 0 where
+-- the labels of up to 8 outputs at up to 32 vertices
+pub record Labels (cl : List ℕ) : Type 0 where
   pub long : length cl ≡ 256
   pub low : (k : ℕ) → k < 256 → getD cl k 0 < 32
-  pub base-long : length base ≡ 256
-  pub bs-long : length bs ≡ 512
-  pub blocks : (o c : ℕ) → o < j → c < 64 → Block (item ms o) c (getD bs (o * 64 + c) 0)
-  pub few : v ≤ 32
-  pub outs : j ≤ 8
+
+-- for each output and code the block of the code
+pub record Blocks (ms bs : List ℕ) (j : ℕ) : Type 0 where
+  pub long : length bs ≡ 512
+  pub each : (o c : ℕ) → o < j → c < 64 → Block (item ms o) c (getD bs (o * 64 + c) 0)
 
 -- shared and private cells of each output: a private cell is no other output's, and cap is 2 to their number
 pub record Plan (ms ps caps : List ℕ) (j : ℕ) : Type 0 where
