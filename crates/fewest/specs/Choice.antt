@@ -11,6 +11,8 @@ use native.Mathlib.Decide.{ℕ-discrete, decLt}
 use native.Mathlib.Omega.{arith}
 use native.Mathlib.Numerals.{add-one}
 use lib.Bits.{bitAnd, bitOr, bitXor, and-le-l, and-le-r}
+use lib.Dec.{eqb}
+use borrow.Author.Tests.{eqb-false}
 use lib.ListN.{length, getD, set, length-set}
 use lib.Seq.{getD-set-same, getD-set-other}
 use lib.Pow.{pow-mono}
@@ -57,8 +59,15 @@ pub record Suits (r want same : ℕ) (ok : Bool) : Type 0 where
   pub wrong : ok ≡ false → count (on r) 6 ≡ want → disorder r same ≡ 0 → ⊥
 
 -- ======== laws
+pub suits-count : (r want same n : ℕ) → n ≡ want → n ≡ count (on r) 6 → Suits r want same (eqb (disorder r same) 0)
+suits-count r want same n e d = record { right = λ q. sym d ∙ e; wrong = λ q c z. eqb-false (disorder r same) 0 q z }
+
+pub suits-not : (r want same n : ℕ) → (n ≡ want → ⊥) → n ≡ count (on r) 6 → Suits r want same false
+suits-not r want same n ne d = record { right = λ q. absurd (true-false (sym q)); wrong = λ q c z. ne (d ∙ c) }
+
 -- counting digits up to 6 or up to u is the same for a number below 2 ^ u
 pub count-short : (r u : ℕ) → u ≤ 6 → r < 2 ^ u → count (on r) 6 ≡ count (on r) u
+unfolding count
 count-short r u h l = go 6 h
   where
     go : (n : ℕ) → u ≤ n → count (on r) n ≡ count (on r) u
@@ -82,6 +91,7 @@ module _ (v m u : ℕ) (cl budgets : List ℕ) (R F : ℕ → ℕ) (few : u ≤ 
       and-false : (a : Bool) → andb a false ≡ false
       and-false true = refl
       and-false false = refl
+
       go : (i : ℕ) (a : Bool) → on (R o / 2) i ≡ a → (b : Bool) → on same i ≡ b → andb (andb a (on (2 ^ 8 - 1 - R o) i)) b ≡ false
       go i false p b q = refl
       go i true p false q = and-false (on (2 ^ 8 - 1 - R o) i)
@@ -97,14 +107,18 @@ rows-more budgets u n r rows h few l e s = record {
   long = length-set rows n r ∙ s .long;
   low = λ o k. ⊎-elim (λ a. subst (λ (z : ℕ). z < 2 ^ u) (sym (old o a)) (s .low o a)) (λ q. subst (λ (o : ℕ). item (set rows n r) o < 2 ^ u) (sym q) (subst (λ (z : ℕ). z < 2 ^ u) (sym new) l)) (less-or-equal o n (omega arith));
   within = λ o k. ⊎-elim (λ a. subst (λ (z : ℕ). count (on z) u ≤ item budgets o) (sym (old o a)) (s .within o a))
-    (λ q. subst (λ (o : ℕ). count (on (item (set rows n r) o)) u ≤ item budgets o) (sym q) (subst (λ (z : ℕ). count (on z) u ≤ item budgets n) (sym new) (let z = count-short r u few l in omega arith)))
-    (less-or-equal o n (omega arith));
+      (λ q. subst (λ (o : ℕ). count (on (item (set rows n r) o)) u ≤ item budgets o) (sym q) (subst (λ (z : ℕ). count (on z) u ≤ item budgets n) (sym new) (let z = count-short r u few l in omega arith)))
+      (less-or-equal o n (omega arith));
 }
   where
     new : item (set rows n r) n ≡ r
     new = getD-set-same rows n r 0 (let z = s .long in omega arith)
+
     old : (o : ℕ) → o < n → item (set rows n r) o ≡ item rows o
     old o k = getD-set-other rows n o r 0 (λ q. let z : o ≡ n = q in omega arith)
+
+pub rows-start : (budgets : List ℕ) (u : ℕ) (rows : List ℕ) → length rows ≡ 8 → Rows budgets u 0 rows
+rows-start budgets u rows e = record { long = e; low = λ o h. absurd (omega arith); within = λ o h. absurd (omega arith) }
 
 pub rows-short : (budgets : List ℕ) (u n : ℕ) (rows : List ℕ) → u ≤ 6 → Rows budgets u n rows → Short rows n
 rows-short budgets u n rows few s o h = power-low u (item rows o) few (s .low o h)
@@ -114,15 +128,19 @@ alike-start rows same = record { alike = λ i p e h. absurd (omega arith) }
 
 -- the next mask keeps the cells that r too reads like the next
 pub alike-more : (rows : List ℕ) (n same r : ℕ) → length rows ≡ 8 → n < 8 → r < 64 → Alike rows n same → Alike (set rows n r) (n + 1) (bitAnd same (2 ^ 8 - 1 - bitXor r (r / 2)))
-alike-more rows n same r long h low s = record { alike = λ i p e k. ⊎-elim
-    (λ a. let old = getD-set-other rows n p r 0 (λ q. let z : p ≡ n = q in omega arith) in ap (λ (z : ℕ). on z i) old ∙ s .alike i p (and-left (on same i) _ (sym (both i) ∙ e)) a ∙ ap (λ (z : ℕ). on z (suc i)) (sym old))
-    (λ q. subst (λ (p : ℕ). on (item (set rows n r) p) i ≡ on (item (set rows n r) p) (suc i)) (sym q) (ap (λ (z : ℕ). on z i) new ∙ eq i (and-right (on same i) _ (sym (both i) ∙ e)) ∙ ap (λ (z : ℕ). on z (suc i)) (sym new)))
-    (less-or-equal p n (omega arith)) }
+alike-more rows n same r long h low s = record {
+  alike = λ i p e k. ⊎-elim
+      (λ a. let old = getD-set-other rows n p r 0 (λ q. let z : p ≡ n = q in omega arith) in ap (λ (z : ℕ). on z i) old ∙ s .alike i p (and-left (on same i) _ (sym (both i) ∙ e)) a ∙ ap (λ (z : ℕ). on z (suc i)) (sym old))
+      (λ q. subst (λ (p : ℕ). on (item (set rows n r) p) i ≡ on (item (set rows n r) p) (suc i)) (sym q) (ap (λ (z : ℕ). on z i) new ∙ eq i (and-right (on same i) _ (sym (both i) ∙ e)) ∙ ap (λ (z : ℕ). on z (suc i)) (sym new)))
+      (less-or-equal p n (omega arith));
+}
   where
     new : item (set rows n r) n ≡ r
     new = getD-set-same rows n r 0 (omega arith)
+
     both : (i : ℕ) → on (bitAnd same (2 ^ 8 - 1 - bitXor r (r / 2))) i ≡ andb (on same i) (on (2 ^ 8 - 1 - bitXor r (r / 2)) i)
     both i = on-and same (2 ^ 8 - 1 - bitXor r (r / 2)) i
+
     xor-low : bitXor r (r / 2) < 2 ^ 8
     xor-low = low-digits (bitXor r (r / 2)) (λ i l. on-xor r (r / 2) i ∙ ap₂ xorb (on-above 6 r i low (omega arith)) (on-above 6 (r / 2) i (omega arith) (omega arith)))
       where
@@ -132,14 +150,17 @@ alike-more rows n same r long h low s = record { alike = λ i p e k. ⊎-elim
             keep : (b : Bool) → andb b true ≡ b
             keep true = refl
             keep false = refl
+
             case : (i : ℕ) → Dec (i < 8) → andb (on x i) (on 255 i) ≡ on x i
             case i (yes l) = ap (λ (b : Bool). andb (on x i) b) (on-ones 8 i l) ∙ keep (on x i)
             case i (no l) = ap (λ (b : Bool). andb b (on 255 i)) (z i (omega arith)) ∙ sym (z i (omega arith))
+
     same-of : (a b : Bool) → not (xorb a b) ≡ true → a ≡ b
     same-of true true e = refl
     same-of false false e = refl
     same-of true false e = absurd (true-false (sym e))
     same-of false true e = absurd (true-false (sym e))
+
     eq : (i : ℕ) → on (2 ^ 8 - 1 - bitXor r (r / 2)) i ≡ true → on r i ≡ on r (suc i)
     eq i e = go (decLt i 8)
       where
@@ -194,6 +215,10 @@ pub chosen-found : (cl budgets : List ℕ) (v m u n n' : ℕ) (rows rows₀ rows
 chosen-found cl budgets v m u n n' rows rows₀ rows' codes true e c = c
 chosen-found cl budgets v m u n n' rows rows₀ rows' codes false e c = absurd (true-false (sym e))
 
+pub decided-lost : (cl : List ℕ) (v j : ℕ) (rows codes : List ℕ) (ok : Bool) → ok ≡ false → Decided cl v j rows ok codes → Decided cl v j rows false rows
+decided-lost cl v j rows codes false e d = d
+decided-lost cl v j rows codes true e d = absurd (true-false e)
+
 -- ---- complementing: every table 0 at vertex 0
 pub record Zeroed (codes : List ℕ) (n : ℕ) (r : List ℕ) : Type 0 where
   pub long : length r ≡ 32
@@ -221,11 +246,13 @@ xor-self a = on-none (bitXor a a) (λ i. on-xor a a i ∙ self (on a i))
     self false = refl
 
 pub zeroed-coded : (cl : List ℕ) (v m u : ℕ) (rows codes r : List ℕ) → v ≤ 32 → ((o : ℕ) → o < m → item rows o < 2 ^ u) → Zeroed codes 32 r → Coded v m (Differ (labelAt cl)) (item rows) (item codes) → Coded v m (Differ (labelAt cl)) (item rows) (item r)
-zeroed-coded cl v m u rows codes r few low z c = record { tells = λ o x y h a b d e. c .tells o x y h a b d (agree-and u (item rows o) (item codes x) (item codes y) (low o h) (λ i l t.
-    xor-same (on (item codes x) i) (on (item codes y) i) (on (item codes 0) i)
+zeroed-coded cl v m u rows codes r few low z c = record {
+  tells = λ o x y h a b d e. c .tells o x y h a b d (agree-and u (item rows o) (item codes x) (item codes y) (low o h) (λ i l t.
+      xor-same (on (item codes x) i) (on (item codes y) i) (on (item codes 0) i)
       (sym (ap (λ (n : ℕ). on n i) (z .done x (omega arith)) ∙ on-xor (item codes x) (item codes 0) i)
       ∙ and-agree u (item rows o) (item r x) (item r y) e i l t
-      ∙ ap (λ (n : ℕ). on n i) (z .done y (omega arith)) ∙ on-xor (item codes y) (item codes 0) i))) }
+      ∙ ap (λ (n : ℕ). on n i) (z .done y (omega arith)) ∙ on-xor (item codes y) (item codes 0) i)));
+}
 
 -- ---- the count
 -- every core that serves has at least u cells
@@ -237,18 +264,24 @@ atleast-start cl budgets v m = record { enough = λ k s. omega arith }
 
 pub atleast-more : (cl budgets : List ℕ) (v m u : ℕ) (rows rows' codes : List ℕ) (ok : Bool) → ok ≡ false → Chosen cl budgets v m u 0 rows ok rows' codes → AtLeast cl budgets v m u → AtLeast cl budgets v m (u + 1)
 atleast-more cl budgets v m u rows rows' codes true e c a = absurd (true-false e)
-atleast-more cl budgets v m u rows rows' codes false e c a = record { enough = λ k s. elim (decLt u (length k)) as (λ _. u + 1 ≤ length k) [
-    yes h ↦ omega arith
-  | no h ↦ absurd (let n = normal-of u v m (Differ (labelAt cl)) (item budgets) k (omega arith) s in c .none (n .0) (n .1) (n .2) (λ p l. absurd (omega arith))) ] }
+atleast-more cl budgets v m u rows rows' codes false e c a = record {
+  enough = λ k s. elim (decLt u (length k)) as (λ _. u + 1 ≤ length k) [
+    | yes h ↦ omega arith
+    | no h ↦ absurd (let n = normal-of u v m (Differ (labelAt cl)) (item budgets) k (omega arith) s in c .none (n .0) (n .1) (n .2) (λ p l. absurd (omega arith)))
+  ];
+}
 
 -- Theorem B, found
 pub answer-found : (cl budgets : List ℕ) (v m u limit : ℕ) (rows rows' codes r : List ℕ) (ok : Bool) → v ≤ 32 → u ≤ limit → ok ≡ true → Chosen cl budgets v m u 0 rows ok rows' codes → Zeroed codes 32 r → AtLeast cl budgets v m u → Answer v m (Differ (labelAt cl)) (item budgets) limit true (coreOf u (item rows') (item r))
 answer-found cl budgets v m u limit rows rows' codes r false few h e c z a = absurd (true-false (sym e))
-answer-found cl budgets v m u limit rows rows' codes r true few h e c z a = (rw (cells-length u 0 (item rows') (item r)) h, record {
-  serves = core-serves u v m (Differ (labelAt cl)) (item budgets) (item rows') (item r) (zeroed-coded cl v m u rows' codes r few (c .rows-fit .low) z (c .coded)) (c .rows-fit .low) (c .rows-fit .within);
-  zero = cells-zero u 0 (item rows') (item r) (z .done 0 (omega arith) ∙ xor-self (item codes 0));
-  fewest = λ k s. rw (cells-length u 0 (item rows') (item r)) (a .enough k s);
-})
+answer-found cl budgets v m u limit rows rows' codes r true few h e c z a = (
+  rw (cells-length u 0 (item rows') (item r)) h,
+  record {
+    serves = core-serves u v m (Differ (labelAt cl)) (item budgets) (item rows') (item r) (zeroed-coded cl v m u rows' codes r few (c .rows-fit .low) z (c .coded)) (c .rows-fit .low) (c .rows-fit .within);
+    zero = cells-zero u 0 (item rows') (item r) (z .done 0 (omega arith) ∙ xor-self (item codes 0));
+    fewest = λ k s. rw (cells-length u 0 (item rows') (item r)) (a .enough k s);
+  },
+)
 
 -- Theorem B, not found
 pub answer-none : (cl budgets : List ℕ) (v m u limit : ℕ) (l : List Cell) → limit < u → AtLeast cl budgets v m u → Answer v m (Differ (labelAt cl)) (item budgets) limit false l

@@ -68,6 +68,7 @@ seen-more rows o once many s = record {
   where
     now-too : (q i : ℕ) → q < o → on (item rows q) i ≡ true → on (item rows o) i ≡ true → orb (on many i) (on (bitAnd once (item rows o)) i) ≡ true
     now-too q i l e f = or-r (on many i) _ (on-and once (item rows o) i ∙ ap₂ andb (s .any q i l e) f)
+
     pair : (p q i : ℕ) → (p < o) ⊎ (p ≡ o) → (q < o) ⊎ (q ≡ o) → (p ≡ q → ⊥) → on (item rows p) i ≡ true → on (item rows q) i ≡ true → orb (on many i) (on (bitAnd once (item rows o)) i) ≡ true
     pair p q i (inl a) (inl b) ne e f = or-l _ _ (s .two p q i a b ne e f)
     pair p q i (inl a) (inr b) ne e f = now-too p i a e (subst (λ (z : ℕ). on (item rows z) i ≡ true) b f)
@@ -102,7 +103,7 @@ planned-more rows sh n ms ps caps spots m p a b h em ep ea eb s = record {
   shared = store (λ (k x : ℕ). x ≡ bitAnd (item rows k) sh) ms n m (s .ms-long) h (s .shared) em;
   private = store (λ (k x : ℕ). x ≡ bitAnd (item rows k) (2 ^ 8 - 1 - sh)) ps n p (s .ps-long) h (s .private) ep;
   caps-are = λ k i. store (λ (k x : ℕ). x ≡ 2 ^ count (on (bitAnd (item rows k) (2 ^ 8 - 1 - sh))) 6) caps n a (s .caps-long) h (λ k i. s .caps-are k i ∙ ap (λ (z : ℕ). 2 ^ count (on z) 6) (s .private k i)) (ea ∙ ap (λ (z : ℕ). 2 ^ count (on z) 6) ep) k i
-    ∙ sym (ap (λ (z : ℕ). 2 ^ count (on z) 6) (store (λ (k x : ℕ). x ≡ bitAnd (item rows k) (2 ^ 8 - 1 - sh)) ps n p (s .ps-long) h (s .private) ep k i));
+      ∙ sym (ap (λ (z : ℕ). 2 ^ count (on z) 6) (store (λ (k x : ℕ). x ≡ bitAnd (item rows k) (2 ^ 8 - 1 - sh)) ps n p (s .ps-long) h (s .private) ep k i));
   spots-are = store (λ (k x : ℕ). x ≡ 2 ^ count (on (item rows k)) 6) spots n b (s .spots-long) h (s .spots-are) eb;
 }
 
@@ -156,15 +157,18 @@ module _ (rows : List ℕ) (sh j : ℕ) (ms ps caps spots : List ℕ) (short : S
       parts true true = refl
       parts true false = refl
       parts false b = refl
+
       whole : (o i : ℕ) → o < j → Dec (i < 6) → on (item rows o) i ≡ orb (on (item ms o) i) (on (item ps o) i)
       whole o i h (yes l) = parts (on (item rows o) i) (on sh i) ∙ sym (ap₂ orb (shared-on o i h) (private-on o i h l))
       whole o i h (no l) = on-above 6 (item rows o) i (short o h) (omega arith) ∙ sym (ap₂ orb (on-above 6 (item ms o) i (shared-low o h) (omega arith)) (on-above 6 (item ps o) i (private-low o h) (omega arith)))
 
   -- codes that part by shared and private cells part by what is read
   pub coded-of : (cl : List ℕ) (v : ℕ) (r : List ℕ) → Parted cl ms ps v j r → Coded v j (Differ (labelAt cl)) (item rows) (item r)
-  coded-of cl v r t = record { tells = λ o x y h a b d e. d (t .parted o x y h a b
-      (agree-and 6 (item ms o) (item r x) (item r y) (shared-low o h) (λ i l m. and-agree 6 (item rows o) (item r x) (item r y) e i l (and-left (on (item rows o) i) (on sh i) (sym (shared-on o i h) ∙ m))))
-      (agree-and 6 (item ps o) (item r x) (item r y) (private-low o h) (λ i l m. and-agree 6 (item rows o) (item r x) (item r y) e i l (private-read o i h m .0)))) }
+  coded-of cl v r t = record {
+    tells = λ o x y h a b d e. d (t .parted o x y h a b
+        (agree-and 6 (item ms o) (item r x) (item r y) (shared-low o h) (λ i l m. and-agree 6 (item rows o) (item r x) (item r y) e i l (and-left (on (item rows o) i) (on sh i) (sym (shared-on o i h) ∙ m))))
+        (agree-and 6 (item ps o) (item r x) (item r y) (private-low o h) (λ i l m. and-agree 6 (item rows o) (item r x) (item r y) e i l (private-read o i h m .0))));
+  }
 
   -- a core gives codes over the shared cells; what base promises is asked
   pub solves-of : (cl base : List ℕ) (v : ℕ) (f : ℕ → ℕ) → Coded v j (Differ (labelAt cl)) (item rows) f → ((o l : ℕ) → o < j → (xs : List ℕ) × All (λ (x : ℕ). (x < v) × (labelAt cl o x ≡ l)) xs × Pairs (λ (x y : ℕ). bitAnd (sharedCode sh f x) (item ms o) ≡ bitAnd (sharedCode sh f y) (item ms o) → ⊥) xs × (labelAt base o l ≤ length xs)) → Solves cl base ms caps spots v j (sharedCode sh f)
@@ -213,11 +217,14 @@ start-extends sh codes dom v f low few z s = record {
         cross true true = refl
         cross true false = refl
         cross false b = refl
+
         both : (i : ℕ) → Dec (i < 8) → andb (on (bitAnd (f x) sh) i) (on (2 ^ 8 - 1 - sh) i) ≡ false
         both i (yes l) = ap₂ andb (on-and (f x) sh i) (on-complement 8 sh i (omega arith) l) ∙ cross (on (f x) i) (on sh i)
         both i (no l) = ap (λ (b : Bool). andb b (on (2 ^ 8 - 1 - sh) i)) (on-above 6 (bitAnd (f x) sh) i (let w = and-le-r (f x) sh in omega arith) (omega arith))
+
     zero-and : bitAnd 0 sh ≡ 0
     zero-and = let w = and-le-l 0 sh in omega arith
+
     go : (x : ℕ) → x < v → Dec (x ≡ 0) → on (item dom x) (bitAnd (f x) sh) ≡ true
     go x h (yes e) = ap₂ on (ap (item dom) e ∙ s .first) (ap (λ (y : ℕ). bitAnd (f y) sh) e ∙ ap (λ (y : ℕ). bitAnd y sh) z ∙ zero-and) ∙ on-single 0
     go x h (no e) = s .others x (omega arith) e (bitAnd (f x) sh) (let w = and-le-r (f x) sh in omega arith) ∙ eq-eqb _ _ (outside x)
@@ -231,7 +238,7 @@ pub blocks-of : (ms bs : List ℕ) (j : ℕ) → j ≤ 8 → Table ms 512 bs →
 blocks-of ms bs j h t = record {
   long = t .long;
   each = λ o c l k. subst (λ (z : ℕ). Block (item ms z) c (getD bs (o * 64 + c) 0)) (let e : (o * 64 + c) / 64 ≡ o = omega arith in e)
-    (subst (λ (z : ℕ). Block (item ms ((o * 64 + c) / 64)) z (getD bs (o * 64 + c) 0)) (let e : (o * 64 + c) % 64 ≡ c = omega arith in e) (t .filled (o * 64 + c) (omega arith)));
+      (subst (λ (z : ℕ). Block (item ms ((o * 64 + c) / 64)) z (getD bs (o * 64 + c) 0)) (let e : (o * 64 + c) % 64 ≡ c = omega arith in e) (t .filled (o * 64 + c) (omega arith)));
 }
 
 -- what base promises of every core

@@ -45,11 +45,14 @@ loop-less c = search needs
 loop-again : tie.Need-loop-again Inv-loop μ-loop
 loop-again c =
     let h = c .before .before .loop-test .taken in
-    let z = c .before .before .before .loop .inv .1 in
-    (omega arith, ⊎-elim (λ w. let e = w .1 in omega arith) (λ w. let e = w .1 in omega arith) (c .if1 .came), ⊎-elim
-    (λ w. w .1 ∙ count-more (on (c .before .before .before .before .args .x)) (c .before .before .before .loop .i) (c .before .before .before .loop .n) (sym (c .before .in-set .ensures) ∙ w .0 .taken) (c .before .before .before .loop .inv .2))
-    (λ w. w .1 ∙ count-same (on (c .before .before .before .before .args .x)) (c .before .before .before .loop .i) (c .before .before .before .loop .n) (sym (c .before .in-set .ensures) ∙ w .0 .left) (c .before .before .before .loop .inv .2))
-    (c .if1 .came))
+    let z = c .before .before .before .loop .inv .1 in (
+      omega arith,
+      ⊎-elim (λ w. let e = w .1 in omega arith) (λ w. let e = w .1 in omega arith) (c .if1 .came),
+      ⊎-elim
+          (λ w. w .1 ∙ count-more (on (c .before .before .before .before .args .x)) (c .before .before .before .loop .i) (c .before .before .before .loop .n) (sym (c .before .in-set .ensures) ∙ w .0 .taken) (c .before .before .before .loop .inv .2))
+          (λ w. w .1 ∙ count-same (on (c .before .before .before .before .args .x)) (c .before .before .before .loop .i) (c .before .before .before .loop .n) (sym (c .before .in-set .ensures) ∙ w .0 .left) (c .before .before .before .loop .inv .2))
+          (c .if1 .came),
+    )
 
 -- src/lib.rt:31:1
 returns : tie.Need-returns Inv-loop μ-loop
