@@ -14,9 +14,10 @@ use Rattle.names.specs.Pack.{nameOf}
 use Rattle.cursor.specs.declared.NameList.{NameList}
 use Rattle.sheet.specs.Lines.{readBound}
 use Rattle.sheet.specs.Examine.{Design, Step, no-to, next, at-limit, ask, askBound}
-use Rattle.sheet.specs.Known.{position, outputOn, Holds, Refused, Onward, StepIs, LineIs, placeOf, PlacesAre}
+use Rattle.sheet.specs.Known.{position, outputOn, Holds, Refused, StepIs, LineIs, PlacesAre}
 use Rattle.sheet.specs.LineLaws.{namesAfter}
 use Rattle.sheet.specs.ListLaws.{AsksList}
+use Rattle.sheet.specs.OnwardLaws.{Passed, passed-onward}
 use Rattle.sheet.specs.declared.Place.{Place}
 use Rattle.sheet.specs.declared.Places.{Places}
 use Rattle.sheet.specs.declared.Sheet.{Sheet}
@@ -84,13 +85,5 @@ module _ {d : Design} {k : Sheet} (h : Holds d k) (n : ℕ) (vs : List ℕ) (p :
         tabled = h .tabled;
       }
 
-  pub bound-onward : (r : Asked) → n ≤ maxBound → p .ok ≡ true
-      → (r .ok ≡ true) × (r .place ≡ Place.Limit) × (r .sheet ≡ boundInto k n (p .list)) → StepIs (afterFour d ns) r
-  bound-onward r few e f =
-      let on : Onward at-limit (withBound d ns) r
-      = record {
-        all-ok = f .0;
-        placed = ap placeOf (f .1);
-        holds = rw (f .2) (holds-bound few e);
-      } in
-      subst (λ (s : Step). StepIs s r) (sym (five true e)) on
+  pub bound-onward : (r : Asked) → n ≤ maxBound → p .ok ≡ true → Passed Place.Limit (boundInto k n (p .list)) r → StepIs (afterFour d ns) r
+  bound-onward r few e f = subst (λ (s : Step). StepIs s r) (sym (five true e)) (passed-onward f (holds-bound few e))

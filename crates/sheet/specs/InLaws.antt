@@ -1,6 +1,5 @@
 -- The `in` line: what it says once questions 2 to 4 are answered, and that the code's sheet holds it. Assumes nothing.
 use mathlib.Core.Path.{_≡_, refl, sym, ap, _∙_}
-use mathlib.Core.Bool.{true}
 use mathlib.Core.List.{List, [], map}
 use Prim.Native.Nat.{ℕ, _≤_}
 use native.Mathlib.Omega.{arith}
@@ -12,9 +11,10 @@ use Rattle.names.specs.Pack.{nameOf}
 use Rattle.cursor.specs.declared.NameList.{NameList}
 use Rattle.sheet.specs.Lines.{readIn}
 use Rattle.sheet.specs.Examine.{Design, Step, next, at-bound, askIn}
-use Rattle.sheet.specs.Known.{position, Holds, Fresh, Onward, LineIs, placeOf}
+use Rattle.sheet.specs.Known.{position, Holds, Fresh, Onward, LineIs}
 use Rattle.sheet.specs.LineLaws.{namesAfter}
 use Rattle.sheet.specs.ListLaws.{AsksList}
+use Rattle.sheet.specs.OnwardLaws.{Passed, passed-onward}
 use Rattle.sheet.specs.declared.Place.{Place}
 use Rattle.sheet.specs.declared.Sheet.{Sheet}
 use Rattle.sheet.specs.declared.Asked.{Asked}
@@ -65,11 +65,6 @@ module _ {d : Design} {k : Sheet} (h : Holds d k) (f : Fresh d) (n : ℕ) (vs : 
         tabled = λ o l. absurd (omega arith);
       }
 
-  pub in-onward : (r : Asked) → (r .ok ≡ true) × (r .place ≡ Place.Bound) × (r .sheet ≡ inputsInto k n vs)
+  pub in-onward : {r : Asked} → Passed Place.Bound (inputsInto k n vs) r
       → (ns : List Name) → n ≡ length ns → map nameOf (take n vs) ≡ ns → Onward at-bound (withInputs d ns) r
-  in-onward r a ns counted named =
-      record {
-        all-ok = a .0;
-        placed = ap placeOf (a .1);
-        holds = rw (a .2) (holds-inputs ns counted named);
-      }
+  in-onward a ns counted named = passed-onward a (holds-inputs ns counted named)

@@ -2,14 +2,7 @@
 pub mod Lines
 pub mod Examine
 pub mod Known
-pub mod CloseLaws
 pub mod OnwardLaws
-pub mod LimitLaws
-pub mod OutLineLaws
-pub mod NewNameLaws
-pub mod OutputLaws
-pub mod AskOutLaws
-pub mod AskLineLaws
 pub mod StepLaws
 pub mod LineLaws
 pub mod DistinctLaws
@@ -18,3 +11,10 @@ pub mod ListLaws
 pub mod InLaws
 pub mod BoundLaws
 pub mod FitLaws
+pub mod CloseLaws
+pub mod LimitLaws
+pub mod OutLineLaws
+pub mod NewNameLaws
+pub mod OutputLaws
+pub mod AskOutLaws
+pub mod AskLineLaws
