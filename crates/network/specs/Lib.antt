@@ -5,3 +5,8 @@ pub mod Reader
 pub mod Examine
 pub mod Value
 pub mod Check
+pub mod Reads
+pub mod Wellformed
+pub mod DigitsLaws
+pub mod ReadsLaws
+pub mod LineLaws
