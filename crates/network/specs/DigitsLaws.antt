@@ -42,13 +42,16 @@ digits-by : (x y : Bool) (k b : ℕ) (s : List ℕ) (ds : List Bool) (t : List �
     → eqb b 0x30 ≡ x
     → eqb b 0x31 ≡ y
     → ((es : List Bool) (u : List ℕ) → readDigits k s ≡ found es u → DigitsFront k s es u)
-    → pick x (after (readDigits k s) (λ es u. found (false ∷ es) u)) (pick y (after (readDigits k s) (λ es u. found (true ∷ es) u)) bad) ≡ found ds t
+    → pick x (after (readDigits k s) (λ es u. found (false ∷ es) u))
+    (pick y (after (readDigits k s) (λ es u. found (true ∷ es) u)) bad) ≡ found ds t
     → DigitsFront (suc k) (b ∷ s) ds t
 digits-by true y k b s ds t p q h e = one-more k b s false ds t (eqb-true b 0x30 p) h e
 digits-by false true k b s ds t p q h e = one-more k b s true ds t (eqb-true b 0x31 q) h e
 digits-by false false k b s ds t p q h e = absurd (bad-found e)
 
-pub digits-print-of-read : (k : ℕ) (s : List ℕ) (ds : List Bool) (t : List ℕ) → readDigits k s ≡ found ds t → DigitsFront k s ds t
+pub digits-print-of-read : (k : ℕ) (s : List ℕ) (ds : List Bool) (t : List ℕ)
+    → readDigits k s ≡ found ds t
+    → DigitsFront k s ds t
 unfolding readDigits printDigits
 digits-print-of-read zero s ds t e = rw (← found-item e, ← found-rest e) (record { counted = refl; is-split = refl })
 digits-print-of-read (suc k) [] ds t e = absurd (bad-found e)

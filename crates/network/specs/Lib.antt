@@ -7,6 +7,16 @@ pub mod Value
 pub mod Check
 pub mod Reads
 pub mod Wellformed
+pub mod Unbroken
+pub mod Parts
 pub mod DigitsLaws
 pub mod ReadsLaws
+pub mod NodeListLaws
 pub mod LineLaws
+pub mod UnbrokenLaws
+pub mod EndedLaws
+pub mod PartLaws
+pub mod StepLaws
+pub mod SheetReadLaws
+pub mod SheetPrintLaws
+pub mod SheetLaws

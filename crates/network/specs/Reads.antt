@@ -4,8 +4,10 @@ use mathlib.Core.Path.{_≡_}
 use mathlib.Core.Bool.{Bool, false}
 use mathlib.Core.List.{List, [], _∷_, _++_, map}
 use Prim.Native.Nat.{ℕ, suc, _≤_, _<_}
-use Rattle.text.specs.Bytes.{bad, eat}
+use Rattle.text.specs.Bytes.{bad, eat, bytes}
+use Rattle.names.specs.Name.{Name}
 use Rattle.network.specs.Printer.{led, ledAll, lutName}
+use Rattle.network.specs.Reader.{none-of}
 
 -- each number is at least i, below u, and above the one before it
 pub data Rising : ℕ → ℕ → List ℕ → Type 0 where
@@ -21,6 +23,10 @@ following i (j ∷ js) = following (suc j) js
 abbrev pub still : {A : Type 0} → Bool → List A → Bool
 still first [] = first
 still first (a ∷ others) = false
+
+-- the free inputs and the end of a node's list, after the shared tables is
+abbrev pub restOf : List Name → List ℕ → List ℕ
+restOf fs is = ledAll (none-of is) fs ++ bytes ") "
 
 -- the shared tables at the front of s, by rising numbers from i on and below u, with t after them; t goes on with none of
 -- the numbers that may follow

@@ -22,7 +22,8 @@ use Rattle.network.specs.Reads.{Rising, rising-none, rising-more, follow
 -- from a lower number on, and below a higher one
 pub rising-wider : {j u : ℕ} {is : List ℕ} (i v : ℕ) → i ≤ j → u ≤ v → Rising j u is → Rising i v is
 rising-wider i v h k rising-none = rising-none
-rising-wider i v h k (rising-more {j = a} l m r) = rising-more {i = i} {u = v} {j = a} (omega arith) (omega arith) (rising-wider (suc a) v (omega arith) k r)
+rising-wider i v h k (rising-more {j = a} l m r) =
+    rising-more {i = i} {u = v} {j = a} (omega arith) (omega arith) (rising-wider (suc a) v (omega arith) k r)
 
 pub rising-low : {i u j : ℕ} {js : List ℕ} → Rising i u (j ∷ js) → i ≤ j
 rising-low (rising-more l m r) = l
@@ -45,22 +46,34 @@ eat-append [] w t = refl
 eat-append (b ∷ v) w [] = refl
 eat-append (b ∷ v) w (c ∷ t) = go (eqb b c) (eat-append v w t)
   where
-    go : (x : Bool) → eat (v ++ w) t ≡ after (eat v t) (λ _ u. eat w u) → pick x (eat (v ++ w) t) bad ≡ after (pick x (eat v t) bad) (λ _ u. eat w u)
+    go : (x : Bool)
+        → eat (v ++ w) t ≡ after (eat v t) (λ _ u. eat w u)
+        → pick x (eat (v ++ w) t) bad ≡ after (pick x (eat v t) bad) (λ _ u. eat w u)
     go true e = e
     go false e = refl
 
 -- a text that begins with no underscore begins with no shared table
-pub no-underscore : (first : Bool) (j : ℕ) (t : List ℕ) → eat (led first (bytes "_")) t ≡ bad → eat (led first (lutName j)) t ≡ bad
+pub no-underscore : (first : Bool) (j : ℕ) (t : List ℕ)
+    → eat (led first (bytes "_")) t ≡ bad
+    → eat (led first (lutName j)) t ≡ bad
 unfolding lutName
-no-underscore true j t e = eat-append (bytes "_") (printNumber j) t ∙ ap (λ (r : Read (Unit {0})). after r (λ _ u. eat (printNumber j) u)) e
+no-underscore true j t e =
+    eat-append (bytes "_") (printNumber j) t ∙ ap (λ (r : Read (Unit {0})). after r (λ _ u. eat (printNumber j) u)) e
 no-underscore false j t e =
     eat-append (space ∷ bytes "_") (printNumber j) t ∙ ap (λ (r : Read (Unit {0})). after r (λ _ u. eat (printNumber j) u)) e
 
 -- no name of a shared table begins another's
-luts-apart : (first : Bool) (i j : ℕ) (t : List ℕ) → i < 10 → j < 10 → (i ≡ j → ⊥) → eat (led first (lutName i)) (led first (lutName j) ++ t) ≡ bad
+digits-apart : (i j : ℕ) → i < 10 → j < 10 → (i ≡ j → ⊥) → eqb (0x30 + i % 10) (0x30 + j % 10) ≡ false
+digits-apart i j h k d = ne-eqb (0x30 + i % 10) (0x30 + j % 10) (λ e. d (omega arith))
+
+luts-apart : (first : Bool) (i j : ℕ) (t : List ℕ)
+    → i < 10
+    → j < 10
+    → (i ≡ j → ⊥)
+    → eat (led first (lutName i)) (led first (lutName j) ++ t) ≡ bad
 unfolding lutName printNumber eat
-luts-apart true i j t h k d = rw (lt-ltb i 10 h, lt-ltb j 10 k, ne-eqb (0x30 + i % 10) (0x30 + j % 10) (λ e. d (omega arith))) refl
-luts-apart false i j t h k d = rw (lt-ltb i 10 h, lt-ltb j 10 k, ne-eqb (0x30 + i % 10) (0x30 + j % 10) (λ e. d (omega arith))) refl
+luts-apart true i j t h k d = rw (lt-ltb i 10 h, lt-ltb j 10 k, digits-apart i j h k d) refl
+luts-apart false i j t h k d = rw (lt-ltb i 10 h, lt-ltb j 10 k, digits-apart i j h k d) refl
 
 -- ---- the reader, step by step
 -- shared table i and those after it
@@ -71,7 +84,9 @@ reads-none : (first : Bool) (i : ℕ) (s : List ℕ) → readReads first zero i 
 unfolding readReads
 reads-none first i s = refl
 
-reads-skip : (first : Bool) (k i : ℕ) (s : List ℕ) → eat (led first (lutName i)) s ≡ bad → readReads first (suc k) i s ≡ readReads first k (suc i) s
+reads-skip : (first : Bool) (k i : ℕ) (s : List ℕ)
+    → eat (led first (lutName i)) s ≡ bad
+    → readReads first (suc k) i s ≡ readReads first k (suc i) s
 unfolding readReads
 reads-skip first k i s e = rw e refl
 
@@ -163,11 +178,15 @@ fronts-by first k i u s is t (found a v) l q f g e =
     rw (found-item p, found-rest p) at (front-take first i u s v js x l q (f v js x h))
 fronts-by first k i u s is t bad l q f g e = front-skip first i u s is t q (g (sym (reads-skip first k i s q) ∙ e))
 
-pub reads-print-of-read : (first : Bool) (k i u : ℕ) (s is t : List ℕ) → i + k ≡ u → readReads first k i s ≡ found is t → ReadsFront first i u s is t
+pub reads-print-of-read : (first : Bool) (k i u : ℕ) (s is t : List ℕ)
+    → i + k ≡ u
+    → readReads first k i s ≡ found is t
+    → ReadsFront first i u s is t
 unfolding ledAll
 reads-print-of-read first zero i u s is t q e =
     let p : found [] s ≡ found is t = sym (reads-none first i s) ∙ e in
-    let r : ReadsFront first i u s [] t = record { rises = rising-none; is-split = found-rest p; no-more = λ j l m. absurd (omega arith) } in
+    let r : ReadsFront first i u s [] t =
+    record { rises = rising-none; is-split = found-rest p; no-more = λ j l m. absurd (omega arith) } in
     rw (found-item p) at r
 reads-print-of-read first (suc k) i u s is t q e =
     fronts-by first k i u s is t (eat (led first (lutName i)) s) (omega arith) refl
@@ -176,16 +195,22 @@ reads-print-of-read first (suc k) i u s is t q e =
     e
 
 -- ---- what stands at the front is read
-front-none : (first : Bool) (k i u : ℕ) (s t : List ℕ) → i + k ≡ u → ReadsFront first i u s [] t → readReads first k i s ≡ found [] t
+front-none : (first : Bool) (k i u : ℕ) (s t : List ℕ)
+    → i + k ≡ u
+    → ReadsFront first i u s [] t
+    → readReads first k i s ≡ found [] t
 unfolding ledAll
 front-none first zero i u s t q f = reads-none first i s ∙ ap (λ (x : List ℕ). found [] x) (f .is-split)
 front-none first (suc k) i u s t q f =
-    reads-skip first k i s (ap (λ (x : List ℕ). eat (led first (lutName i)) x) (f .is-split) ∙ f .no-more i (omega arith) (omega arith))
+    reads-skip first k i s
+    (ap (λ (x : List ℕ). eat (led first (lutName i)) x) (f .is-split) ∙ f .no-more i (omega arith) (omega arith))
     ∙ front-none first k (suc i) u s t (omega arith)
     (record { rises = rising-none; is-split = f .is-split; no-more = λ j l m. f .no-more j (omega arith) m })
 
 -- the shared tables after the first
-front-later : (first : Bool) (i u a : ℕ) (s is t : List ℕ) → ReadsFront first i u s (a ∷ is) t → ReadsFront false (suc a) u (ledAll false (map lutName is) ++ t) is t
+front-later : (first : Bool) (i u a : ℕ) (s is t : List ℕ)
+    → ReadsFront first i u s (a ∷ is) t
+    → ReadsFront false (suc a) u (ledAll false (map lutName is) ++ t) is t
 front-later first i u a s is t f = record { rises = rising-later (f .rises); is-split = refl; no-more = go is (f .no-more) }
   where
     go : (js : List ℕ)
@@ -194,11 +219,17 @@ front-later first i u a s is t f = record { rises = rising-later (f .rises); is-
     go [] h = h
     go (b ∷ js) h = h
 
-first-split : (first : Bool) (i u a : ℕ) (s is t : List ℕ) → ReadsFront first i u s (a ∷ is) t → s ≡ led first (lutName a) ++ (ledAll false (map lutName is) ++ t)
+first-split : (first : Bool) (i u a : ℕ) (s is t : List ℕ)
+    → ReadsFront first i u s (a ∷ is) t
+    → s ≡ led first (lutName a) ++ (ledAll false (map lutName is) ++ t)
 unfolding ledAll
 first-split first i u a s is t f = f .is-split ∙ append-assoc (led first (lutName a)) (ledAll false (map lutName is)) t
 
-pub reads-read-of-print : (first : Bool) (k i u : ℕ) (s is t : List ℕ) → i + k ≡ u → u ≤ 10 → ReadsFront first i u s is t → readReads first k i s ≡ found is t
+pub reads-read-of-print : (first : Bool) (k i u : ℕ) (s is t : List ℕ)
+    → i + k ≡ u
+    → u ≤ 10
+    → ReadsFront first i u s is t
+    → readReads first k i s ≡ found is t
 reads-read-of-print first k i u s [] t q h f = front-none first k i u s t q f
 reads-read-of-print first zero i u s (a ∷ is) t q h f = absurd (omega (arith, rising-low (f .rises), rising-high (f .rises)))
 reads-read-of-print first (suc k) i u s (a ∷ is) t q h f =
@@ -208,7 +239,8 @@ reads-read-of-print first (suc k) i u s (a ∷ is) t q h f =
     elim (ℕ-discrete a i) as (λ _. readReads first (suc k) i s ≡ found (a ∷ is) t) [
       | yes p ↦
           reads-take first k i s v is t
-          (ap (λ (x : List ℕ). eat (led first (lutName i)) x) (first-split first i u a s is t f ∙ ap (λ (j : ℕ). led first (lutName j) ++ v) p)
+          (ap (λ (x : List ℕ). eat (led first (lutName i)) x)
+          (first-split first i u a s is t f ∙ ap (λ (j : ℕ). led first (lutName j) ++ v) p)
           ∙ eat-own (led first (lutName i)) v)
           (reads-read-of-print false k (suc i) u v is t (omega arith) h
           (rw p at (front-later first i u a s is t f)))
@@ -218,5 +250,9 @@ reads-read-of-print first (suc k) i u s (a ∷ is) t q h f =
           (ap (λ (x : List ℕ). eat (led first (lutName i)) x) (first-split first i u a s is t f)
           ∙ luts-apart first i a v (omega arith) (omega arith) (λ e. d (sym e)))
           ∙ reads-read-of-print first k (suc i) u s (a ∷ is) t (omega arith) h
-          (record { rises = rising-more {i = suc i} {u = u} {j = a} (omega arith) m (rising-later (f .rises)); is-split = f .is-split; no-more = f .no-more })
+          (record {
+            rises = rising-more {i = suc i} {u = u} {j = a} (omega arith) m (rising-later (f .rises));
+            is-split = f .is-split;
+            no-more = f .no-more;
+          })
     ]

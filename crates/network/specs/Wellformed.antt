@@ -13,7 +13,8 @@ use Rattle.classes.specs.Columns.{free}
 use Rattle.network.specs.Network.{Network, Node}
 use Rattle.network.specs.Reads.{Rising}
 
--- a node beside u shared tables and the free inputs fs: it reads shared tables by rising number, and has a digit for each row
+-- a node beside u shared tables and the free inputs fs: it reads shared tables by rising number, and has a digit for each
+-- row of what it reads and the free inputs
 pub record NodeFits (fs : List Name) (u : ℕ) (x : Node) : Type 0 where
   pub rises : Rising 0 u (x .reads)
   pub counted : length (x .digits) ≡ 2 ^ (length (x .reads) + length fs)
@@ -27,7 +28,9 @@ pub record Wellformed (d : Design) (w : Network) : Type 0 where
   pub few-luts : length (w .luts) ≤ maxCells
   pub lut-digits : (i : ℕ) → i < length (w .luts) → length (getD (w .luts) i []) ≡ 2 ^ length (d .bound)
   pub node-each : length (w .nodes) ≡ length (d .outputs)
-  pub node-fits : (o : ℕ) → o < length (w .nodes) → NodeFits (free (d .inputs) (d .bound)) (length (w .luts)) (nodeAt (w .nodes) o)
+  pub node-fits : (o : ℕ)
+      → o < length (w .nodes)
+      → NodeFits (free (d .inputs) (d .bound)) (length (w .luts)) (nodeAt (w .nodes) o)
 
 -- a design with outputs, all of whose names are names
 pub record Named (d : Design) : Type 0 where
