@@ -9,6 +9,7 @@ pub mod Reads
 pub mod Wellformed
 pub mod Unbroken
 pub mod Parts
+pub mod Answers
 pub mod DigitsLaws
 pub mod ReadsLaws
 pub mod NodeListLaws
@@ -20,3 +21,8 @@ pub mod StepLaws
 pub mod SheetReadLaws
 pub mod SheetPrintLaws
 pub mod SheetLaws
+pub mod FirstOfLaws
+pub mod OffendingLaws
+pub mod LinePlaceLaws
+pub mod CompareLaws
+pub mod CheckLaws

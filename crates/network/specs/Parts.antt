@@ -1,9 +1,9 @@
 -- The parts of a network sheet, from each place on: what is left of its lines. Assumes nothing.
 use mathlib.Core.Bool.{Bool}
 use mathlib.Core.List.{List, [], _∷_, _++_}
-use Prim.Native.Nat.{ℕ}
+use Prim.Native.Nat.{ℕ, _-_}
 use lib.Dec.{ltb}
-use lib.ListN.{length, drop}
+use lib.ListN.{length, getD, drop}
 use Rattle.bits.specs.Logic.{pick}
 use Rattle.names.specs.Name.{Name}
 use Rattle.sheet.specs.Lines.{endLine}
@@ -22,6 +22,10 @@ namesOf d = outputNames (d .outputs)
 -- the place of the node of output o; after the last node, that of the count
 abbrev pub nodePlace : Design → ℕ → Place
 nodePlace d o = pick (ltb o (length (d .outputs))) (at-node o) at-count
+
+-- line l, from 1
+abbrev pub lineAt : List (List ℕ) → ℕ → List ℕ
+lineAt ls l = getD ls (l - 1) []
 
 -- the lines from the count on, beside u shared tables
 abbrev pub lastLines : ℕ → List (List ℕ)
