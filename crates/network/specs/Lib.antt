@@ -26,3 +26,5 @@ pub mod OffendingLaws
 pub mod LinePlaceLaws
 pub mod CompareLaws
 pub mod CheckLaws
+pub mod PrintedLaws
+pub mod Worked

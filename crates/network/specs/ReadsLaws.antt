@@ -8,7 +8,7 @@ use Prim.Native.Nat.{ℕ, zero, suc, _+_, _%_, _≤_, _<_}
 use native.Mathlib.Omega.{arith}
 use native.Mathlib.Decide.{ℕ-discrete}
 use lib.Dec.{eqb}
-use lib.ListN.{length}
+use lib.ListN.{length, getD}
 use borrow.Author.Tests.{ne-eqb, lt-ltb}
 use Rattle.bits.specs.Logic.{pick}
 use Rattle.text.specs.Bytes.{Read, found, bad, after, eat, bytes, space}
@@ -38,6 +38,17 @@ rising-later (rising-more l m r) = r
 pub rising-few : {i u : ℕ} {is : List ℕ} → i ≤ u → Rising i u is → i + length is ≤ u
 rising-few h rising-none = omega arith
 rising-few h (rising-more l m r) = omega (arith, rising-few m r)
+
+-- each of them
+pub rising-at-low : {i u : ℕ} {is : List ℕ} → Rising i u is → (k : ℕ) → k < length is → i ≤ getD is k 0
+rising-at-low rising-none k h = absurd (omega arith)
+rising-at-low (rising-more l m r) zero h = l
+rising-at-low (rising-more l m r) (suc k) h = omega (arith, rising-at-low r k (omega arith))
+
+pub rising-at-high : {i u : ℕ} {is : List ℕ} → Rising i u is → (k : ℕ) → k < length is → getD is k 0 < u
+rising-at-high rising-none k h = absurd (omega arith)
+rising-at-high (rising-more l m r) zero h = m
+rising-at-high (rising-more l m r) (suc k) h = rising-at-high r k (omega arith)
 
 -- ---- names of shared tables
 eat-append : (v w t : List ℕ) → eat (v ++ w) t ≡ after (eat v t) (λ _ u. eat w u)
