@@ -13,7 +13,7 @@ use Rattle.sheet.specs.Known.{outputOn}
 use Rattle.network.specs.Network.{Network}
 use Rattle.network.specs.Value.{networkOn}
 use Rattle.network.specs.Check.{Checked, same, differs, firstOf, differsOn, differingRow, atRow, compareFrom}
-use Rattle.network.specs.Answers.{Computes, LowestDifference}
+use Rattle.network.specs.Answers.{compared, Computes, LowestDifference}
 use Rattle.network.specs.FirstOfLaws.{none-fails, fails-none, FirstAt, some-first, first-some}
 
 -- ---- two values
@@ -158,13 +158,10 @@ module _ (d : Design) (w : Network) where
       }
 
   -- ---- the comparison
-  abbrev pub compared : Checked
-  compared = compareFrom d w (length (d .outputs)) 0
-
-  found-by : (x : Option ℕ) → firstOf somewhere (length (d .outputs)) 0 ≡ x → compared ≡ verdict x
+  found-by : (x : Option ℕ) → firstOf somewhere (length (d .outputs)) 0 ≡ x → compared d w ≡ verdict x
   found-by x e = compare-first (length (d .outputs)) 0 ∙ ap verdict e
 
-  pub compared-same : compared ≡ same → Computes d w
+  pub compared-same : compared d w ≡ same → Computes d w
   compared-same e = go (firstOf somewhere (length (d .outputs)) 0) refl
     where
       go : (x : Option ℕ) → firstOf somewhere (length (d .outputs)) 0 ≡ x → Computes d w
@@ -177,13 +174,13 @@ module _ (d : Design) (w : Network) where
           let (r, f, v) = verdict-at o (some-first somewhere (length (d .outputs)) 0 o q) in
           absurd (same-differs (sym e ∙ found-by (some o) q ∙ v))
 
-  pub same-compared : Computes d w → compared ≡ same
+  pub same-compared : Computes d w → compared d w ≡ same
   same-compared f =
       found-by none
       (fails-none somewhere (length (d .outputs)) 0
       (λ o l h. ap isThere (none-row o (λ r i. f .agrees o r (omega arith) i))))
 
-  pub compared-differs : (o r : ℕ) → compared ≡ differs o r → LowestDifference d w o r
+  pub compared-differs : (o r : ℕ) → compared d w ≡ differs o r → LowestDifference d w o r
   compared-differs o r e = go (firstOf somewhere (length (d .outputs)) 0) refl
     where
       go : (x : Option ℕ) → firstOf somewhere (length (d .outputs)) 0 ≡ x → LowestDifference d w o r
@@ -193,7 +190,7 @@ module _ (d : Design) (w : Network) where
           let (t, g, v) = verdict-at p f in
           lowest-as o r p t (sym v ∙ sym (found-by (some p) q) ∙ e) (lowest p t f g)
 
-  pub differs-compared : (o r : ℕ) → LowestDifference d w o r → compared ≡ differs o r
+  pub differs-compared : (o r : ℕ) → LowestDifference d w o r → compared d w ≡ differs o r
   differs-compared o r f =
       let e = some-row o r (first-lowest o r f) in
       found-by (some o)

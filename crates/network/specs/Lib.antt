@@ -11,6 +11,7 @@ pub mod Unbroken
 pub mod Parts
 pub mod Answers
 pub mod DigitsLaws
+pub mod RisingLaws
 pub mod ReadsLaws
 pub mod NodeListLaws
 pub mod LineLaws

@@ -3,7 +3,7 @@ use mathlib.Core.Path.{_≡_, refl, ap}
 use mathlib.Core.Bool.{Bool, true, false}
 use mathlib.Core.List.{List, [], _∷_, _++_}
 use mathlib.Core.Option.{none}
-use Prim.Native.Nat.{ℕ, zero, suc, _≤_, _<_}
+use Prim.Native.Nat.{ℕ, suc, _≤_, _<_}
 use native.Mathlib.Omega.{arith}
 use lib.ListN.{length, getD, drop, length-map}
 use lib.Seq.{drop-cons}
@@ -34,12 +34,6 @@ free-named (n ∷ ns) bs h =
         → allNames (pick x (free ns bs) (n ∷ free ns bs)) ≡ true
     go true i r = r
     go false i r = and-both (isName n) (allNames (free ns bs)) i r
-
-pub name-at : (ns : List Name) (o : ℕ) → allNames ns ≡ true → o < length ns → isName (getD ns o []) ≡ true
-unfolding allNames
-name-at [] o h l = absurd (omega arith)
-name-at (n ∷ ns) zero h l = and-left (isName n) (allNames ns) h
-name-at (n ∷ ns) (suc o) h l = name-at ns o (and-right (isName n) (allNames ns) h) (omega arith)
 
 module _ (d : Design) where
   pub names-count : length (namesOf d) ≡ length (d .outputs)

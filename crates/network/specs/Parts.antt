@@ -1,6 +1,7 @@
 -- The parts of a network sheet, from each place on: what is left of its lines. Assumes nothing.
 use mathlib.Core.Bool.{Bool}
 use mathlib.Core.List.{List, [], _∷_, _++_}
+use mathlib.Core.Option.{Option}
 use Prim.Native.Nat.{ℕ, _-_}
 use lib.Dec.{ltb}
 use lib.ListN.{length, getD, drop}
@@ -11,6 +12,7 @@ use Rattle.sheet.specs.Examine.{Design, outputNames}
 use Rattle.classes.specs.Columns.{free}
 use Rattle.network.specs.Network.{Network, Node}
 use Rattle.network.specs.Printer.{printCount, lutLines, nodeLines}
+use Rattle.network.specs.Reader.{readNode}
 use Rattle.network.specs.Examine.{Place, at-node, at-count}
 
 abbrev pub freeOf : Design → List Name
@@ -18,6 +20,10 @@ freeOf d = free (d .inputs) (d .bound)
 
 abbrev pub namesOf : Design → List Name
 namesOf d = outputNames (d .outputs)
+
+-- how the node of output o is read, where v is said before
+abbrev pub nodeRead : Design → Network → ℕ → List ℕ → Option Node
+nodeRead d v o l = readNode (getD (namesOf d) o []) (freeOf d) (length (v .luts)) l
 
 -- the place of the node of output o; after the last node, that of the count
 abbrev pub nodePlace : Design → ℕ → Place

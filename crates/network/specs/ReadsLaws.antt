@@ -8,7 +8,6 @@ use Prim.Native.Nat.{ℕ, zero, suc, _+_, _%_, _≤_, _<_}
 use native.Mathlib.Omega.{arith}
 use native.Mathlib.Decide.{ℕ-discrete}
 use lib.Dec.{eqb}
-use lib.ListN.{length, getD}
 use borrow.Author.Tests.{ne-eqb, lt-ltb}
 use Rattle.bits.specs.Logic.{pick}
 use Rattle.text.specs.Bytes.{Read, found, bad, after, eat, bytes, space}
@@ -16,39 +15,8 @@ use Rattle.text.specs.EatLaws.{found-item, found-rest, eat-own, eat-found}
 use Rattle.text.specs.Number.{printNumber}
 use Rattle.network.specs.Printer.{led, ledAll, lutName}
 use Rattle.network.specs.Reader.{readReads}
-use Rattle.network.specs.Reads.{Rising, rising-none, rising-more, following, still, ReadsFront}
-
--- ---- rising numbers
--- from a lower number on, and below a higher one
-pub rising-wider : {j u : ℕ} {is : List ℕ} (i v : ℕ) → i ≤ j → u ≤ v → Rising j u is → Rising i v is
-rising-wider i v h k rising-none = rising-none
-rising-wider i v h k (rising-more {j = a} l m r) =
-    rising-more {i = i} {u = v} {j = a} (omega arith) (omega arith) (rising-wider (suc a) v (omega arith) k r)
-
-pub rising-low : {i u j : ℕ} {js : List ℕ} → Rising i u (j ∷ js) → i ≤ j
-rising-low (rising-more l m r) = l
-
-pub rising-high : {i u j : ℕ} {js : List ℕ} → Rising i u (j ∷ js) → j < u
-rising-high (rising-more l m r) = m
-
-pub rising-later : {i u j : ℕ} {js : List ℕ} → Rising i u (j ∷ js) → Rising (suc j) u js
-rising-later (rising-more l m r) = r
-
--- there are at most as many as numbers between
-pub rising-few : {i u : ℕ} {is : List ℕ} → i ≤ u → Rising i u is → i + length is ≤ u
-rising-few h rising-none = omega arith
-rising-few h (rising-more l m r) = omega (arith, rising-few m r)
-
--- each of them
-pub rising-at-low : {i u : ℕ} {is : List ℕ} → Rising i u is → (k : ℕ) → k < length is → i ≤ getD is k 0
-rising-at-low rising-none k h = absurd (omega arith)
-rising-at-low (rising-more l m r) zero h = l
-rising-at-low (rising-more l m r) (suc k) h = omega (arith, rising-at-low r k (omega arith))
-
-pub rising-at-high : {i u : ℕ} {is : List ℕ} → Rising i u is → (k : ℕ) → k < length is → getD is k 0 < u
-rising-at-high rising-none k h = absurd (omega arith)
-rising-at-high (rising-more l m r) zero h = m
-rising-at-high (rising-more l m r) (suc k) h = rising-at-high r k (omega arith)
+use Rattle.network.specs.Reads.{rising-none, rising-more, following, still, ReadsFront}
+use Rattle.network.specs.RisingLaws.{rising-wider, rising-low, rising-high, rising-later}
 
 -- ---- names of shared tables
 eat-append : (v w t : List ℕ) → eat (v ++ w) t ≡ after (eat v t) (λ _ u. eat w u)
@@ -87,10 +55,6 @@ luts-apart true i j t h k d = rw (lt-ltb i 10 h, lt-ltb j 10 k, digits-apart i j
 luts-apart false i j t h k d = rw (lt-ltb i 10 h, lt-ltb j 10 k, digits-apart i j h k d) refl
 
 -- ---- the reader, step by step
--- shared table i and those after it
-abbrev taken : ℕ → Read (List ℕ) → Read (List ℕ)
-taken i r = after r (λ is u. found (i ∷ is) u)
-
 reads-none : (first : Bool) (i : ℕ) (s : List ℕ) → readReads first zero i s ≡ found [] s
 unfolding readReads
 reads-none first i s = refl
@@ -109,11 +73,11 @@ unfolding readReads
 reads-take first k i s t is u e f = rw (e, f) refl
 
 -- ---- what was read stands at the front
--- what reading k shared tables at s finds, where P says what is wanted of it
+-- reading finds some shared tables
 abbrev Finds : Bool → ℕ → ℕ → List ℕ → Type 0
 Finds first k i s = (is : List ℕ) × (t : List ℕ) × (readReads first k i s ≡ found is t)
 
--- shared tables always are found, if only none
+-- it always does, if only none of them
 finds-by : (first : Bool) (k i : ℕ) (s : List ℕ) (r : Read (Unit {0}))
     → eat (led first (lutName i)) s ≡ r
     → ((t : List ℕ) → Finds false k (suc i) t)

@@ -18,11 +18,11 @@ use Rattle.network.specs.Printer.{networkLine, lutLines, networkLines, e
 use Rattle.network.specs.Reader.{readLut}
 use Rattle.network.specs.Examine.{Place, at-network, at-luts, at-node, Step, misspelled, next, withLut, withNode, askLine, network, bad-line, follow, askLines, nothing, endsLine, readNetwork}
 use Rattle.network.specs.Wellformed.{NodeFits, nodeAt, Wellformed}
-use Rattle.network.specs.Parts.{freeOf, namesOf, nodePlace, lastLines, linesFromNode, linesFromLut, withNodes, withAll}
+use Rattle.network.specs.Parts.{freeOf, namesOf, nodeRead, nodePlace, lastLines, linesFromNode, linesFromLut, withNodes, withAll}
 use Rattle.network.specs.LineLaws.{lut-print-of-read, node-print-of-read}
 use Rattle.network.specs.EndedLaws.{ended-of-lines}
 use Rattle.network.specs.PartLaws.{place-node, place-count, no-nodes, node-line}
-use Rattle.network.specs.StepLaws.{bad-network, line-next, line-bad, fixed-line, last-said, nodeRead, node-next, node-bad, lut-next, lut-many, lut-none, same-lines}
+use Rattle.network.specs.StepLaws.{bad-network, line-next, line-bad, fixed-line, last-said, node-next, node-bad, lut-next, lut-many, lut-none, same-lines}
 
 -- what holds of the first and of each other holds of each
 each : {A : Type 0} (P : A → Type 0) (z a : A) (l : List A)

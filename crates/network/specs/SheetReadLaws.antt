@@ -20,12 +20,12 @@ use Rattle.network.specs.Printer.{networkLine, printLut, printNode, lutL
 use Rattle.network.specs.Examine.{at-network, at-luts, at-node, misspelled, next, withLut, withNode, askLine, network, askLines, nothing, endsLine, readNetwork}
 use Rattle.network.specs.Wellformed.{NodeFits, nodeAt, Wellformed, Named}
 use Rattle.network.specs.Unbroken.{allUnbroken}
-use Rattle.network.specs.Parts.{freeOf, namesOf, nodePlace, lastLines, linesFromNode, linesFromLut, withNodes, withAll}
+use Rattle.network.specs.Parts.{freeOf, namesOf, nodeRead, nodePlace, lastLines, linesFromNode, linesFromLut, withNodes, withAll}
 use Rattle.network.specs.LineLaws.{lut-read-of-print, node-read-of-print}
 use Rattle.network.specs.UnbrokenLaws.{all-append, lut-unbroken, node-unbroken, count-unbroken, fixed-unbroken}
 use Rattle.network.specs.EndedLaws.{lines-of-ended, ended-ends, ended-some}
 use Rattle.network.specs.PartLaws.{free-named, place-node, place-count, no-nodes, node-line, node-no-lut}
-use Rattle.network.specs.StepLaws.{line-next, last-read, nodeRead, node-next, lut-next, lut-none, same-lines}
+use Rattle.network.specs.StepLaws.{line-next, last-read, node-next, lut-next, lut-none, same-lines}
 
 module _ (d : Design) (h : Named d) where
   frees-named : allNames (freeOf d) ≡ true
@@ -148,7 +148,7 @@ read-by-lines : (d : Design) (t : List ℕ)
 unfolding readNetwork
 read-by-lines d t h k e = rw (le-leb 1 (length t) h, le-leb (length t) maxNetwork k, e) refl
 
-pub print-some : (d : Design) (w : Network) → 0 < length (printNetwork d w)
+print-some : (d : Design) (w : Network) → 0 < length (printNetwork d w)
 unfolding printNetwork networkLines
 print-some d w = ended-some networkLine _
 

@@ -3,11 +3,11 @@
 use mathlib.Core.Path.{_≡_, refl, sym, ap₂, _∙_}
 use mathlib.Core.Bool.{Bool, true, false}
 use mathlib.Core.List.{List, [], _∷_}
-use mathlib.Core.Option.{Option, some, none}
+use mathlib.Core.Option.{some, none}
 use Prim.Native.Nat.{ℕ, suc, _≤_, _<_}
 use native.Mathlib.Omega.{arith}
 use lib.Dec.{ltb}
-use lib.ListN.{length, getD}
+use lib.ListN.{length}
 use borrow.Author.Tests.{lt-ltb, le-ltb}
 use Rattle.bits.specs.Logic.{pick}
 use Rattle.text.specs.Bytes.{same}
@@ -17,9 +17,9 @@ use Rattle.sheet.specs.Lines.{endLine}
 use Rattle.sheet.specs.Examine.{Design}
 use Rattle.network.specs.Network.{Network, Node}
 use Rattle.network.specs.Printer.{printCount}
-use Rattle.network.specs.Reader.{readLut, readNode}
+use Rattle.network.specs.Reader.{readLut}
 use Rattle.network.specs.Examine.{Place, at-luts, at-node, at-count, at-end, over, misspelled, next, withLut, withNode, afterNode, askNode, lutStep, askLut, askLine, bad-line, network, askLines}
-use Rattle.network.specs.Parts.{freeOf, namesOf, lastLines}
+use Rattle.network.specs.Parts.{nodeRead, lastLines}
 
 pub bad-network : {n : ℕ} {w : Network} → bad-line n ≡ network w → ⊥
 bad-network e =
@@ -91,17 +91,13 @@ module _ (d : Design) where
       (ap₂ (λ (x : List ℕ) (xs : List (List ℕ)). x ∷ xs) i j, q)
 
   -- ---- the node of output o
-  -- how it is read beside v
-  abbrev pub nodeRead : Network → ℕ → List ℕ → Option Node
-  nodeRead v o l = readNode (getD (namesOf d) o []) (freeOf d) (length (v .luts)) l
-
   pub node-next : (v : Network) (o : ℕ) (l : List ℕ) (x : Node)
-      → nodeRead v o l ≡ some x
+      → nodeRead d v o l ≡ some x
       → askLine d (at-node o) v l ≡ next (afterNode d o) (withNode v x)
   unfolding askLine askNode
   node-next v o l x e = rw e refl
 
-  pub node-bad : (v : Network) (o : ℕ) (l : List ℕ) → nodeRead v o l ≡ none → askLine d (at-node o) v l ≡ misspelled
+  pub node-bad : (v : Network) (o : ℕ) (l : List ℕ) → nodeRead d v o l ≡ none → askLine d (at-node o) v l ≡ misspelled
   unfolding askLine askNode
   node-bad v o l e = rw e refl
 

@@ -34,7 +34,7 @@ bytes-unbroken (b ∷ n) h =
     (name-byte-unbroken b (and-left (nameByte b) (allNameBytes n) h))
     (bytes-unbroken n (and-right (nameByte b) (allNameBytes n) h))
 
-pub name-unbroken : (n : Name) → isName n ≡ true → unbroken n ≡ true
+name-unbroken : (n : Name) → isName n ≡ true → unbroken n ≡ true
 name-unbroken n h = bytes-unbroken n (name-bytes n h)
 
 names-unbroken : (ns : List Name) → allNames ns ≡ true → allUnbroken ns ≡ true
