@@ -1,12 +1,18 @@
 -- `ask_bound`: the first question with the answer "no", or the design with the bound inputs. Assumes nothing.
-use mathlib.Core.Path.{sym}
+use mathlib.Core.Path.{_≡_, sym}
+use mathlib.Core.List.{List}
 use Prim.Native.Nat.{_≤_}
 use native.Mathlib.Omega.{arith}
 use lib.Seq.{length-take-le}
 use lib.ListN.{length}
 use borrow.Author.Tests.{not-true, not-false}
 use borrow.Author.Needs.{needs}
-use Rattle.sheet.specs.BoundLaws.{bound-asks, bound-reads, bound-unknown, bound-onward}
+use Rattle.names.specs.Name.{Name}
+use Rattle.sheet.specs.Lines.{readBound}
+use Rattle.sheet.specs.Examine.{Design, askBound}
+use Rattle.sheet.specs.Known.{keptNames, StepIs}
+use Rattle.sheet.specs.declared.Asked.{Asked}
+use Rattle.sheet.specs.BoundLaws.{afterFour, bound-asks, bound-reads, bound-unknown, bound-onward}
 use Rattle.sheet.specs.ListLaws.{counted-few, list-refused, list-good}
 use Rattle.sheet.proofs.Arrays.{names-sized}
 use Rattle.sheet.proofs.Lists.{list-sized}
@@ -25,6 +31,15 @@ kept : (c : tie.Else1) → c .before .before .names-line .result .count ≤ leng
 kept c =
     let w = c .before .before .names-line in
     omega (arith, list-sized (w .result) (w .ok), few c)
+
+-- the line comes to what question 5 comes to
+by-five : (c : tie.Else1) (r : Asked) (d : Design)
+    → ((ns : List Name) → c .before .before .names-line .result .count ≡ length ns → keptNames (c .before .before .names-line .result) ≡ ns → StepIs (afterFour d ns) r)
+    → StepIs (askBound d (readBound (c .before .before .before .before .before .args .l .now))) r
+by-five c r d rest =
+    let w = c .before .before .names-line in
+    let q = c .before .first-no in
+    list-good (bound-asks d) (w .result) r (q .result) (q .ensures) _ (bound-reads _ (w .result) (w .ensures)) (c .if1 .left) rest
 
 slice-aggregate-names-line : tie.Need-slice-aggregate-names-line
 slice-aggregate-names-line c = search needs
@@ -71,13 +86,11 @@ returns-2 : tie.Need-returns-2
 returns-2 c =
     λ d h.
     let e = c .before .before .before .before .before .before .before .before .before in
-    let w = e .before .before .names-line in
-    let q = e .before .first-no in
+    let w = e .before .before .names-line .result in
     let p = c .before .before .before .before .placed in
-    list-good (bound-asks d) (w .result) (c .refuse2 .result) (q .result) (q .ensures) _ (bound-reads _ (w .result) (w .ensures)) (e .if1 .left)
-    (λ ns counted named.
-    bound-unknown h (w .result .count) (w .result .names) (p .result) (p .ensures) ns counted named
-    (c .refuse2 .result) (not-true _ (c .before .if2 .taken)) (c .refuse2 .ensures))
+    by-five e (c .refuse2 .result) d (λ ns counted named.
+    bound-unknown h (w .count) (w .names) (p .result) (p .ensures) ns counted named (c .refuse2 .result)
+    (not-true _ (c .before .if2 .taken)) (c .refuse2 .ensures))
 
 onward-requires : tie.Need-onward-requires
 onward-requires c κs = search needs
@@ -86,13 +99,11 @@ returns-3 : tie.Need-returns-3
 returns-3 c =
     λ d h.
     let e = c .before .before .before .before .before .before .before .before .before in
-    let w = e .before .before .names-line in
-    let q = e .before .first-no in
+    let w = e .before .before .names-line .result in
     let p = c .before .before .before .before .placed in
-    list-good (bound-asks d) (w .result) (c .onward .result) (q .result) (q .ensures) _ (bound-reads _ (w .result) (w .ensures)) (e .if1 .left)
-    (λ ns counted named.
-    bound-onward h (w .result .count) (w .result .names) (p .result) (p .ensures) ns counted named
-    (c .onward .result) (few e) (not-false _ (c .before .if2 .left)) (c .onward .ensures))
+    by-five e (c .onward .result) d (λ ns counted named.
+    bound-onward h (w .count) (w .names) (p .result) (p .ensures) ns counted named (c .onward .result)
+    (few e) (not-false _ (c .before .if2 .left)) (c .onward .ensures))
 
 pub ask-bound-spec : {M : Type 1} → statement M
 ask-bound-spec =
