@@ -1,6 +1,6 @@
 -- The `bound` line: what it says once questions 2 to 4 are answered, question 5, and that the code's sheet holds it.
 -- Assumes nothing.
-use mathlib.Core.Path.{_≡_, refl, sym, ap, ap₂, subst, _∙_}
+use mathlib.Core.Path.{_≡_, refl, sym, ap, subst, _∙_}
 use mathlib.Core.Bool.{Bool, true, false}
 use mathlib.Core.List.{List, [], _∷_, map}
 use Prim.Native.Nat.{ℕ, _≤_}
@@ -14,7 +14,7 @@ use Rattle.names.specs.Pack.{nameOf}
 use Rattle.cursor.specs.declared.NameList.{NameList}
 use Rattle.sheet.specs.Lines.{readBound}
 use Rattle.sheet.specs.Examine.{Design, Step, no-to, next, at-limit, ask, askBound}
-use Rattle.sheet.specs.Known.{position, outputOn, Holds, Refused, StepIs, LineIs, PlacesAre}
+use Rattle.sheet.specs.Known.{outputOn, Holds, Refused, StepIs, LineIs, PlacesAre}
 use Rattle.sheet.specs.LineLaws.{namesAfter}
 use Rattle.sheet.specs.ListLaws.{AsksList}
 use Rattle.sheet.specs.OnwardLaws.{Passed, passed-onward}
@@ -85,5 +85,6 @@ module _ {d : Design} {k : Sheet} (h : Holds d k) (n : ℕ) (vs : List ℕ) (p :
         tabled = h .tabled;
       }
 
-  pub bound-onward : (r : Asked) → n ≤ maxBound → p .ok ≡ true → Passed Place.Limit (boundInto k n (p .list)) r → StepIs (afterFour d ns) r
+  pub bound-onward : (r : Asked) → n ≤ maxBound → p .ok ≡ true
+      → Passed Place.Limit (boundInto k n (p .list)) r → StepIs (afterFour d ns) r
   bound-onward r few e f = subst (λ (s : Step). StepIs s r) (sym (five true e)) (passed-onward f (holds-bound few e))

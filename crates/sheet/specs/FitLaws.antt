@@ -12,7 +12,7 @@ use Rattle.text.specs.Bytes.{same}
 use Rattle.names.specs.Name.{Name, distinct, allAmong}
 use Rattle.formula.specs.Tree.{depth, knows}
 use Rattle.sheet.specs.Lines.{Output, designLine, endLine, readIn, readBound, readLimit, readOut}
-use Rattle.sheet.specs.Examine.{Design, Place, at-design, at-in, at-bound, at-limit, at-out, over, Step, no-to, next, ask, within, newName, withOutput, askIn, askBound, askLimit, askOut, askEnd, askLine}
+use Rattle.sheet.specs.Examine.{Design, Place, at-design, at-in, at-bound, at-limit, at-out, over, Step, no-to, next, ask, within, newName, withOutput, askLimit, askOut, askEnd, askLine}
 use Rattle.sheet.specs.Known.{Fits, StepFits}
 use Rattle.sheet.specs.ListLaws.{AsksList}
 use Rattle.sheet.specs.InLaws.{in-asks}

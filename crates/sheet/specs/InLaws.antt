@@ -1,6 +1,6 @@
 -- The `in` line: what it says once questions 2 to 4 are answered, and that the code's sheet holds it. Assumes nothing.
 use mathlib.Core.Path.{_≡_, refl, sym, ap, _∙_}
-use mathlib.Core.List.{List, [], map}
+use mathlib.Core.List.{List, map}
 use Prim.Native.Nat.{ℕ, _≤_}
 use native.Mathlib.Omega.{arith}
 use lib.ListN.{length, take}
@@ -10,7 +10,7 @@ use Rattle.names.specs.Name.{Name}
 use Rattle.names.specs.Pack.{nameOf}
 use Rattle.cursor.specs.declared.NameList.{NameList}
 use Rattle.sheet.specs.Lines.{readIn}
-use Rattle.sheet.specs.Examine.{Design, Step, next, at-bound, askIn}
+use Rattle.sheet.specs.Examine.{Design, next, at-bound, askIn}
 use Rattle.sheet.specs.Known.{position, Holds, Fresh, Onward, LineIs}
 use Rattle.sheet.specs.LineLaws.{namesAfter}
 use Rattle.sheet.specs.ListLaws.{AsksList}

@@ -9,7 +9,7 @@ use lib.Dec.{eqb}
 use lib.ListN.{length, getD, take}
 use Rattle.bits.specs.Logic.{pick}
 use Rattle.text.specs.Limits.{maxInputs, maxBound, maxLimit, maxOutputs}
-use Rattle.names.specs.Name.{Name, sameName, allAmong}
+use Rattle.names.specs.Name.{Name, sameName, distinct, allAmong}
 use Rattle.names.specs.Pack.{nameOf}
 use Rattle.rows.specs.Words.{Rowwise}
 use Rattle.formula.specs.Tree.{Formula, constant, depth, knows}
@@ -19,7 +19,7 @@ use Rattle.formula.specs.Value.{value, onRow}
 use Rattle.cursor.specs.Item.{Kept}
 use Rattle.cursor.specs.declared.NameList.{NameList}
 use Rattle.sheet.specs.Lines.{Output, closed}
-use Rattle.sheet.specs.Examine.{Design, Examined, refused, valid, Step, no-to, next, outputNames, newName, withOutput}
+use Rattle.sheet.specs.Examine.{Design, Examined, refused, valid, Step, no-to, next, within, outputNames, newName, withOutput}
 use Rattle.sheet.specs.Examine as spec
 use Rattle.sheet.specs.declared.Place.{Place}
 use Rattle.sheet.specs.declared.Sheet.{Sheet}
@@ -112,6 +112,14 @@ pub record Listed (ns : List Name) (l : NameList) : Type 0 where
 abbrev pub LineIs : Option (List Name) → NameList → Type 0
 LineIs none l = l .ok ≡ false
 LineIs (some ns) l = Listed ns l
+
+-- the names that are kept of a line, and the first of questions 2 to 4 that these are answered "no" to, or 0, where high
+-- is the greatest count
+abbrev pub keptNames : NameList → List Name
+keptNames l = map nameOf (take (l .count) (l .names))
+
+unfoldable pub firstNo : ℕ → NameList → ℕ
+firstNo high l = pick (l .ok) (pick (within 1 high (l .count)) (pick (distinct (keptNames l)) 0 4) 3) 2
 
 abbrev pub LimitIs : Option ℕ → LimitLine → Type 0
 LimitIs none l = l ≡ LimitLine.Bad

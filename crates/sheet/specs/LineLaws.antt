@@ -1,9 +1,9 @@
 -- A line of names: the code's list is that of the line where the list ends with the line. Assumes nothing.
-use mathlib.Core.Path.{_≡_, sym, ap, subst, _∙_}
+use mathlib.Core.Path.{_≡_, ap, subst}
 use mathlib.Core.Bool.{false}
 use mathlib.Core.List.{List, [], _∷_}
 use mathlib.Core.Option.{Option}
-use Prim.Native.Nat.{ℕ, _-_}
+use Prim.Native.Nat.{ℕ}
 use native.Mathlib.Omega.{arith}
 use lib.ListN.{length, drop, length-drop}
 use Rattle.text.specs.Bytes.{Read, found, bad, after, eat, whole}
@@ -26,7 +26,8 @@ module _ (s : List ℕ) (l : NameList) where
   list-whole (found ns (b ∷ t)) a e = absurd (omega (arith, e, length-drop (l .next .at) s, ap length (a .rest)))
   list-whole bad a e = a
 
-  list-part : (x : Read (List Name)) → NamesAre s l x → (l .next .at ≡ length s → ⊥) → (r : NameList) → r .ok ≡ false → LineIs (whole x) r
+  list-part : (x : Read (List Name)) → NamesAre s l x → (l .next .at ≡ length s → ⊥) → (r : NameList) → r .ok ≡ false
+      → LineIs (whole x) r
   list-part (found ns []) a d r e = absurd (d (omega (arith, a .inside, length-drop (l .next .at) s, ap length (a .rest))))
   list-part (found ns (b ∷ t)) a d r e = e
   list-part bad a d r e = e

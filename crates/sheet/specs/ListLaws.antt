@@ -1,25 +1,21 @@
--- A line of names, asked questions 2 to 4: what the step comes to, by what the code tests. Both the `in` line and the
--- `bound` line are such lines; they differ in the greatest count and in what follows. Assumes nothing.
-use mathlib.Core.Path.{_≡_, sym, ap, subst, _∙_}
+-- A line of names, asked questions 2 to 4: what the step comes to, by the first question with the answer "no". Both the
+-- `in` line and the `bound` line are such lines; they differ in the greatest count and in what follows. Assumes nothing.
+use mathlib.Core.Path.{_≡_, refl, sym, ap, subst, _∙_}
 use mathlib.Core.Bool.{Bool, true, false}
-use mathlib.Core.List.{List, [], _∷_, map}
+use mathlib.Core.List.{List, [], _∷_}
 use mathlib.Core.Option.{Option, some, none}
 use Prim.Native.Nat.{ℕ, _≤_}
 use native.Mathlib.Omega.{arith}
 use lib.Dec.{leb}
-use lib.ListN.{length, take}
+use lib.ListN.{length}
 use borrow.Author.Tests.{leb-true}
-use Rattle.bits.specs.Logic.{pick, true-false, and-left, and-right}
+use Rattle.bits.specs.Logic.{pick, and-right}
 use Rattle.text.specs.Limits.{maxInputs}
 use Rattle.names.specs.Name.{Name, distinct}
-use Rattle.names.specs.Pack.{nameOf}
 use Rattle.cursor.specs.declared.NameList.{NameList}
 use Rattle.sheet.specs.Examine.{Step, no-to, ask, within}
-use Rattle.sheet.specs.Known.{Refused, StepIs, LineIs}
+use Rattle.sheet.specs.Known.{Listed, keptNames, firstNo, Refused, StepIs, LineIs}
 use Rattle.sheet.specs.declared.Asked.{Asked}
-
-pub within-low : (low high n : ℕ) → within low high n ≡ true → low ≤ n
-within-low low high n e = leb-true low n (and-left (leb low n) (leb n high) e)
 
 pub within-high : (low high n : ℕ) → within low high n ≡ true → n ≤ high
 within-high low high n e = leb-true n high (and-right (leb low n) (leb n high) e)
@@ -30,45 +26,92 @@ pub record AsksList (high : ℕ) (rest : List Name → Step) (f : Option (List N
   pub misspelled : f none ≡ no-to 2
   pub listed : (ns : List Name) → f (some ns) ≡ ask ((3, within 1 high (length ns)) ∷ (4, distinct ns) ∷ []) (rest ns)
 
--- the names that the code keeps of a line
-abbrev pub keptNames : NameList → List Name
-keptNames w = map nameOf (take (w .count) (w .names))
+-- ---- the first question with the answer "no"
+module _ (high : ℕ) (w : NameList) where
+  pub no-to-two : w .ok ≡ false → 2 ≡ firstNo high w
+  unfolding firstNo
+  no-to-two e = rw e
+
+  module _ (ok : w .ok ≡ true) where
+    pub no-to-three : within 1 high (w .count) ≡ false → 3 ≡ firstNo high w
+    unfolding firstNo
+    no-to-three e = rw (ok, e)
+
+    pub no-to-four : within 1 high (w .count) ≡ true → distinct (keptNames w) ≡ false → 4 ≡ firstNo high w
+    unfolding firstNo
+    no-to-four e f = rw (ok, e, f)
+
+    pub no-to-none : within 1 high (w .count) ≡ true → distinct (keptNames w) ≡ true → 0 ≡ firstNo high w
+    unfolding firstNo
+    no-to-none e f = rw (ok, e, f)
+
+in-range : (o a b : Bool) (n : ℕ) → n ≡ pick o (pick a (pick b 0 4) 3) 2 → n ≡ 0 → a ≡ true
+in-range true true b n e z = refl
+in-range true false b n e z = absurd (omega (arith, e, z))
+in-range false a b n e z = absurd (omega (arith, e, z))
+
+module _ (high : ℕ) (w : NameList) (n : ℕ) (first : n ≡ firstNo high w) where
+  none-misspelled : w .ok ≡ false → n ≡ 2
+  none-misspelled e = first ∙ sym (no-to-two high w e)
+
+  three-four : w .ok ≡ true → n ≡ pick (within 1 high (w .count)) (pick (distinct (keptNames w)) 0 4) 3
+  unfolding firstNo
+  three-four e = first ∙ ap (λ (t : Bool). pick t (pick (within 1 high (w .count)) (pick (distinct (keptNames w)) 0 4) 3) 2) e
+
+  counted : n ≡ 0 → within 1 high (w .count) ≡ true
+  unfolding firstNo
+  counted z = in-range (w .ok) (within 1 high (w .count)) (distinct (keptNames w)) n first z
+
+  pub counted-few : n ≡ 0 → w .count ≤ high
+  counted-few z = within-high 1 high (w .count) (counted z)
+
+-- ---- the step, by that question
+pick-when : (t : Bool) (a b s : Step) → (t ≡ true → a ≡ b) → pick t a s ≡ pick t b s
+pick-when true a b s h = h refl
+pick-when false a b s h = refl
+
+answered-no : (a b : Bool) (s : Step) (n : ℕ) → n ≡ pick a (pick b 0 4) 3 → (n ≡ 0 → ⊥)
+    → pick a (pick b s (no-to 4)) (no-to 3) ≡ no-to n
+answered-no true true s n e d = absurd (d e)
+answered-no true false s n e d = ap no-to (sym e)
+answered-no false b s n e d = ap no-to (sym e)
+
+answered-yes : (a b : Bool) (s : Step) (n : ℕ) → n ≡ pick a (pick b 0 4) 3 → n ≡ 0 → pick a (pick b s (no-to 4)) (no-to 3) ≡ s
+answered-yes true true s n e z = refl
+answered-yes true false s n e z = absurd (omega (arith, e, z))
+answered-yes false b s n e z = absurd (omega (arith, e, z))
 
 module _ {high : ℕ} {rest : List Name → Step} {f : Option (List Name) → Step} (q : AsksList high rest f) (w : NameList) (r : Asked) where
   comes-to : (x : Option (List Name)) (s : Step) → f x ≡ s → StepIs s r → StepIs (f x) r
   comes-to x s e a = subst (λ (t : Step). StepIs t r) (sym e) a
 
-  pub list-misspelled : (x : Option (List Name)) → LineIs x w → w .ok ≡ false → Refused 2 r → StepIs (f x) r
-  list-misspelled none h e a = comes-to none (no-to 2) (q .misspelled) a
-  list-misspelled (some ns) h e a = absurd (true-false (sym (h .good) ∙ e))
+  kept-all : (ns : List Name) → Listed ns w → within 1 high (w .count) ≡ true → keptNames w ≡ ns
+  kept-all ns h b = h .kept .held (omega (arith, q .few, h .kept .counted, within-high 1 high (w .count) b))
 
-  pub list-uncounted : (x : Option (List Name)) → LineIs x w → w .ok ≡ true → within 1 high (w .count) ≡ false → Refused 3 r → StepIs (f x) r
-  list-uncounted none h e b a = absurd (true-false (sym e ∙ h))
-  list-uncounted (some ns) h e b a =
-      let counted : within 1 high (length ns) ≡ false = ap (within 1 high) (sym (h .kept .counted)) ∙ b in
-      comes-to (some ns) (no-to 3)
-      (q .listed ns ∙ ap (λ (t : Bool). pick t (pick (distinct ns) (rest ns) (no-to 4)) (no-to 3)) counted) a
+  -- the questions are those of the names that are kept
+  of-kept : (ns : List Name) → Listed ns w
+      → f (some ns) ≡ pick (within 1 high (w .count)) (pick (distinct (keptNames w)) (rest ns) (no-to 4)) (no-to 3)
+  of-kept ns h =
+      let four : List Name → Step = λ ms. pick (distinct ms) (rest ns) (no-to 4) in
+      q .listed ns
+      ∙ ap (λ (m : ℕ). pick (within 1 high m) (four ns) (no-to 3)) (sym (h .kept .counted))
+      ∙ pick-when (within 1 high (w .count)) (four ns) (four (keptNames w)) (no-to 3) (λ b. ap four (sym (kept-all ns h b)))
 
-  -- ---- by whether the names are distinct
-  module _ (b : within 1 high (w .count) ≡ true) where
-    kept-all : (ns : List Name) → LineIs (some ns) w → keptNames w ≡ ns
-    kept-all ns h = h .kept .held (omega (arith, q .few, h .kept .counted, within-high 1 high (w .count) b))
+  module _ (n : ℕ) (first : n ≡ firstNo high w) where
+    pub list-refused : (x : Option (List Name)) → LineIs x w → (n ≡ 0 → ⊥) → Refused n r → StepIs (f x) r
+    list-refused none h d a = comes-to none (no-to n) (q .misspelled ∙ ap no-to (sym (none-misspelled high w n first h))) a
+    list-refused (some ns) h d a =
+        comes-to (some ns) (no-to n)
+        (of-kept ns h
+        ∙ answered-no (within 1 high (w .count)) (distinct (keptNames w)) (rest ns) n (three-four high w n first (h .good)) d)
+        a
 
-    list-counted : (ns : List Name) → LineIs (some ns) w → f (some ns) ≡ pick (distinct (keptNames w)) (rest ns) (no-to 4)
-    list-counted ns h =
-        let counted : within 1 high (length ns) ≡ true = ap (within 1 high) (sym (h .kept .counted)) ∙ b in
-        q .listed ns
-        ∙ ap (λ (t : Bool). pick t (pick (distinct ns) (rest ns) (no-to 4)) (no-to 3)) counted
-        ∙ ap (λ (ms : List Name). pick (distinct ms) (rest ns) (no-to 4)) (sym (kept-all ns h))
-
-    pub list-twice : (x : Option (List Name)) → LineIs x w → w .ok ≡ true → distinct (keptNames w) ≡ false → Refused 4 r → StepIs (f x) r
-    list-twice none h e n a = absurd (true-false (sym e ∙ h))
-    list-twice (some ns) h e n a =
-        comes-to (some ns) (no-to 4) (list-counted ns h ∙ ap (λ (t : Bool). pick t (rest ns) (no-to 4)) n) a
-
-    pub list-good : (x : Option (List Name)) → LineIs x w → w .ok ≡ true → distinct (keptNames w) ≡ true
-        → ((ns : List Name) → w .count ≡ length ns → keptNames w ≡ ns → StepIs (rest ns) r) → StepIs (f x) r
-    list-good none h e n a = absurd (true-false (sym e ∙ h))
-    list-good (some ns) h e n a =
-        comes-to (some ns) (rest ns) (list-counted ns h ∙ ap (λ (t : Bool). pick t (rest ns) (no-to 4)) n)
-        (a ns (h .kept .counted) (kept-all ns h))
+    pub list-good : (x : Option (List Name)) → LineIs x w → n ≡ 0
+        → ((ns : List Name) → w .count ≡ length ns → keptNames w ≡ ns → StepIs (rest ns) r)
+        → StepIs (f x) r
+    list-good none h z a = absurd (omega (arith, z, none-misspelled high w n first h))
+    list-good (some ns) h z a =
+        comes-to (some ns) (rest ns)
+        (of-kept ns h
+        ∙ answered-yes (within 1 high (w .count)) (distinct (keptNames w)) (rest ns) n (three-four high w n first (h .good)) z)
+        (a ns (h .kept .counted) (kept-all ns h (counted high w n first z)))

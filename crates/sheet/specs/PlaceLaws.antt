@@ -7,7 +7,7 @@ use native.Mathlib.Omega.{arith}
 use native.Mathlib.Numerals.{add-one}
 use lib.ListN.{length, getD, take, drop, set, length-set, length-map, drop-of-length-le}
 use lib.Seq.{take-suc-set, take-all}
-use Rattle.bits.specs.Logic.{pick, true-false}
+use Rattle.bits.specs.Logic.{true-false}
 use Rattle.names.specs.Name.{Name, sameName, among, allAmong}
 use Rattle.names.specs.Pack.{nameOf}
 use Rattle.names.specs.Word.{PositionIs}
@@ -16,7 +16,6 @@ use Rattle.names.specs.declared.Position.{Position}
 use Rattle.names.specs.declared.Position.the-variants.{At, Nowhere}
 use Rattle.sheet.specs.Known.{position, PlacesAre}
 use Rattle.sheet.specs.StepLaws.{names-from, names-before}
-use Rattle.sheet.specs.declared.Places.{Places}
 
 -- ---- a name's place is the first that holds it
 position-first : (vs : List ℕ) (v i : ℕ) → i < length vs → sameName (nameOf (getD vs i 0)) (nameOf v) ≡ true
@@ -42,9 +41,13 @@ pub placed-none : (ns inputs list : List ℕ) → length list ≡ 5 → Placed n
 placed-none ns inputs list h = record { inside = omega arith; room = h; decides = refl; listed = refl }
 
 module _ {ns inputs list : List ℕ} {i : ℕ} (p : Placed ns inputs list i) (l : i < length ns) where
-  one-more : allAmong (map nameOf ns) (map nameOf inputs)
-      ≡ allAmong (nameOf (getD ns i 0) ∷ map nameOf (drop (i + 1) ns)) (map nameOf inputs)
-  one-more = p .decides ∙ ap (λ (vs : List Name). allAmong vs (map nameOf inputs)) (names-from ns i l)
+  decided : (t : Bool) → among (nameOf (getD ns i 0)) (map nameOf inputs) ≡ t
+      → allAmong (map nameOf ns) (map nameOf inputs) ≡ t && allAmong (map nameOf (drop (i + 1) ns)) (map nameOf inputs)
+  unfolding allAmong
+  decided t e =
+      p .decides
+      ∙ ap (λ (ms : List Name). allAmong ms (map nameOf inputs)) (names-from ns i l)
+      ∙ ap (λ (b : Bool). b && allAmong (map nameOf (drop (i + 1) ns)) (map nameOf inputs)) e
 
   listed-more : (k : ℕ) → i < length list → position (map nameOf inputs) (nameOf (getD ns i 0)) ≡ k
       → take (i + 1) (set list i k) ≡ map (position (map nameOf inputs)) (map nameOf (take (i + 1) ns))
@@ -57,27 +60,23 @@ module _ {ns inputs list : List ℕ} {i : ℕ} (p : Placed ns inputs list i) (l 
       ∙ ap (map place) (sym (names-before ns i l))
 
   module _ {r : Position} (h : PositionIs inputs (getD ns i 0) r) where
+    found : (q : Position) → r ≡ q → PositionIs inputs (getD ns i 0) q
+    found q e = subst (λ (s : Position). PositionIs inputs (getD ns i 0) s) e h
+
     pub place-missing : r ≡ Nowhere → PlacesAre (map nameOf ns) (map nameOf inputs) (record { ok = false; list = list })
-    unfolding allAmong
     place-missing e =
-        let no-place = nowhere-among inputs (getD ns i 0) (subst (λ (q : Position). PositionIs inputs (getD ns i 0) q) e h) in
         record {
-          all = sym (one-more ∙ ap (λ (t : Bool). t && allAmong (map nameOf (drop (i + 1) ns)) (map nameOf inputs)) no-place);
+          all = sym (decided false (nowhere-among inputs (getD ns i 0) (found Nowhere e)));
           listed = λ y. absurd (true-false (sym y));
         }
 
     pub placed-more : {k : ℕ} → r ≡ At k → length ns ≤ 5 → Placed ns inputs (set list i k) (i + 1)
-    unfolding allAmong
     placed-more {k} e few =
-        let at : PositionIs inputs (getD ns i 0) (At k) = subst (λ (q : Position). PositionIs inputs (getD ns i 0) q) e h in
-        let stands = found-among inputs (getD ns i 0) k at in
-        let place = position-found inputs (getD ns i 0) k at in
-        let space : i < length list = omega (arith, p .room) in
         record {
           inside = omega arith;
           room = length-set list i k ∙ p .room;
-          decides = one-more ∙ ap (λ (t : Bool). t && allAmong (map nameOf (drop (i + 1) ns)) (map nameOf inputs)) stands;
-          listed = listed-more k space place;
+          decides = decided true (found-among inputs (getD ns i 0) k (found (At k) e));
+          listed = listed-more k (omega (arith, p .room)) (position-found inputs (getD ns i 0) k (found (At k) e));
         }
 
 pub placed-all : {ns inputs list : List ℕ} {i : ℕ} → Placed ns inputs list i → length ns ≤ i

@@ -13,7 +13,7 @@ ghost use Rattle.rows.specs.Words.{Rowwise};
 ghost use Rattle.formula.specs.Value.{value, onRow};
 ghost use Rattle.sheet.specs.Lines.{Output, readIn, readBound, readLimit, readOut};
 ghost use Rattle.sheet.specs.Examine.{Design, within, askIn, askBound, askLimit, askOut, askEnd, askLine, withOutput, newName};
-ghost use Rattle.sheet.specs.Known.{Holds, Fresh, Fits, StepIs, Refused, LineIs, LimitIs, OutIs, placeOf, PlacesAre, outputAfter, closesAt};
+ghost use Rattle.sheet.specs.Known.{Holds, Fresh, Fits, firstNo, StepIs, Refused, LineIs, LimitIs, OutIs, placeOf, PlacesAre, outputAfter, closesAt};
 use cursor::Cursor;
 use cursor::Moved;
 use cursor::NameList;
@@ -180,22 +180,36 @@ fn in_range(n: usize, high: usize) -> bool
     1 <= n && n <= high
 }
 
+// The first of questions 2 to 4 that a line of names is answered "no" to, or 0; high is the greatest count.
+fn first_no(w: NameList, high: usize) -> usize
+    requires { ⌜ high ≤ 10 ⌝ }
+    ensures { λ r. ⌜ r ≡ firstNo high w ⌝ }
+{
+    let n = w.count;
+    let ns = w.names;
+    if !w.ok {
+        return 2;
+    }
+    if !in_range(n, high) {
+        return 3;
+    }
+    if !distinct(&ns[..n]) {
+        return 4;
+    }
+    0
+}
+
 // The `in` line.
 fn ask_in(k: Sheet, l: &[u8]) -> Asked
     ensures { λ r. ⌜ ((d : Design) → Holds d k → Fresh d → StepIs (askIn d (readIn (now (l .entry)))) r) ⌝ }
 {
     let w = names_line(l, b"(in");
+    let q = first_no(w, limits::MAX_INPUTS);
+    if q != 0 {
+        return refuse(q, k);
+    }
     let n = w.count;
     let ns = w.names;
-    if !w.ok {
-        return refuse(2, k);
-    }
-    if !in_range(n, limits::MAX_INPUTS) {
-        return refuse(3, k);
-    }
-    if !distinct(&ns[..n]) {
-        return refuse(4, k);
-    }
     let mut next = k;
     next.inputs = n;
     next.names = ns;
@@ -208,17 +222,12 @@ fn ask_bound(k: Sheet, l: &[u8]) -> Asked
     ensures { λ r. ⌜ ((d : Design) → Holds d k → StepIs (askBound d (readBound (now (l .entry)))) r) ⌝ }
 {
     let w = names_line(l, b"(bound");
+    let q = first_no(w, limits::MAX_BOUND);
+    if q != 0 {
+        return refuse(q, k);
+    }
     let n = w.count;
     let ns = w.names;
-    if !w.ok {
-        return refuse(2, k);
-    }
-    if !in_range(n, limits::MAX_BOUND) {
-        return refuse(3, k);
-    }
-    if !distinct(&ns[..n]) {
-        return refuse(4, k);
-    }
     let m = k.inputs;
     let inputs = k.names;
     let p = placed(&ns[..n], &inputs[..m]);

@@ -11,7 +11,10 @@ enum-known-m : tie.Need-enum-known-m
 enum-known-m c = search needs
 
 names-requires : tie.Need-names-requires
-names-requires c κs = word-found (c .before .before .before .before .before .before .args .head .now) (c .before .before .before .before .before .before .args .l .now) (c .before .before .before .text .ensures) (c .before .m .given .1) .inside
+names-requires c κs =
+    let t = c .before .before .before in
+    let a = t .before .before .before .args in
+    word-found (a .head .now) (a .l .now) (t .text .ensures) (c .before .m .given .1) .inside
 
 no-names-requires : tie.Need-no-names-requires
 no-names-requires c κs = search needs
@@ -23,13 +26,25 @@ no-names-requires-2 : tie.Need-no-names-requires-2
 no-names-requires-2 c κs = search needs
 
 returns : tie.Need-returns
-returns c = whole-line (c .before .before .before .before .before .before .before .before .before .args .head .now) (c .before .before .before .before .before .before .before .before .before .args .l .now) (c .before .before .before .before .before .before .text .ensures) (c .before .before .before .before .m .given .1) (c .before .before .names .result) (c .before .before .names .ensures) (c .if1 .taken)
+returns c =
+    let t = c .before .before .before .before .before .before in
+    let a = t .before .before .before .args in
+    let r = c .before .before .names in
+    whole-line (a .head .now) (a .l .now) (t .text .ensures) (c .before .before .before .before .m .given .1) (r .result) (r .ensures) (c .if1 .taken)
 
 returns-2 : tie.Need-returns-2
-returns-2 c = longer-line (c .before .before .before .before .before .before .before .before .before .before .args .head .now) (c .before .before .before .before .before .before .before .before .before .before .args .l .now) (c .before .before .before .before .before .before .before .text .ensures) (c .before .before .before .before .before .m .given .1) (c .before .before .before .names .result) (c .before .before .before .names .ensures) (c .before .if1 .left) (c .no-names .result) (c .no-names .ensures)
+returns-2 c =
+    let t = c .before .before .before .before .before .before .before in
+    let a = t .before .before .before .args in
+    let r = c .before .before .before .names in
+    longer-line (a .head .now) (a .l .now) (t .text .ensures) (c .before .before .before .before .before .m .given .1) (r .result) (r .ensures)
+    (c .before .if1 .left) (c .no-names .result) (c .no-names .ensures)
 
 returns-3 : tie.Need-returns-3
-returns-3 c = no-word (c .before .before .before .before .before .before .args .head .now) (c .before .before .before .before .before .before .args .l .now) (c .before .before .before .text .ensures) (c .before .enum-told .given .1) (c .no-names2 .result) (c .no-names2 .ensures)
+returns-3 c =
+    let t = c .before .before .before in
+    let a = t .before .before .before .args in
+    no-word (a .head .now) (a .l .now) (t .text .ensures) (c .before .enum-told .given .1) (c .no-names2 .result) (c .no-names2 .ensures)
 
 pub names-line-spec : {M : Type 1} → statement M
 names-line-spec =

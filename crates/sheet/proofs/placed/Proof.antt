@@ -39,7 +39,9 @@ enum-told : tie.Need-enum-told Inv-loop μ-loop
 enum-told c = search needs
 
 returns : tie.Need-returns Inv-loop μ-loop
-returns c = place-missing (c .before .before .before .before .before .loop .inv) (c .before .before .before .before .loop-test .taken) (c .before .before .find .ensures) (c .enum-told .given .1)
+returns c =
+    let t = c .before .before .before .before in
+    place-missing (t .before .loop .inv) (t .loop-test .taken) (c .before .before .find .ensures) (c .enum-told .given .1)
 
 add-i : tie.Need-add-i Inv-loop μ-loop
 add-i c = search needs
@@ -48,7 +50,9 @@ loop-less : tie.Need-loop-less Inv-loop μ-loop
 loop-less c = search needs
 
 loop-again : tie.Need-loop-again Inv-loop μ-loop
-loop-again c = placed-more (c .before .before .before .before .before .before .loop .inv) (c .before .before .before .before .before .loop-test .taken) (c .before .before .before .find .ensures) (c .before .p .given .1) (c .before .before .before .before .before .before .before .before .before .pre)
+loop-again c =
+    let t = c .before .before .before .before .before in
+    placed-more (t .before .loop .inv) (t .loop-test .taken) (c .before .before .before .find .ensures) (c .before .p .given .1) (t .before .before .before .before .pre)
 
 returns-2 : tie.Need-returns-2 Inv-loop μ-loop
 returns-2 c = placed-all (c .before .loop .inv) (c .loop-test .left)
