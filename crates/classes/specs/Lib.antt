@@ -3,3 +3,9 @@ pub mod Columns
 pub mod Classes
 pub mod Width
 pub mod Answer
+pub mod Cases
+pub mod WidthLaws
+pub mod ClassLaws
+pub mod ColumnLaws
+pub mod VertexLaws
+pub mod Proper
