@@ -9,3 +9,5 @@ pub mod ClassLaws
 pub mod ColumnLaws
 pub mod VertexLaws
 pub mod Proper
+pub mod FreeLaws
+pub mod JoinLaws
