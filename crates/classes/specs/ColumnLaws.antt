@@ -16,6 +16,7 @@ use Rattle.names.specs.Name.{Name}
 use Rattle.sheet.specs.Examine.{Design}
 use Rattle.classes.specs.Cases.{either, not-both, same-test}
 use Rattle.classes.specs.Columns.{freeCount, valueAt, valuesUpto, column, apart, conflict, alike, alikeUpto, alikeInAll}
+use Rattle.classes.specs.Seen.{sameColumn}
 use Rattle.classes.specs.ClassLaws.{Equivalence}
 
 -- ---- two values
@@ -135,9 +136,6 @@ module _ (f g : ℕ → Bool) where
       (either (apart (valuesUpto f n) (valuesUpto g n)))
 
 -- ---- equal columns are an equivalence, whatever column f x each number x has
-unfoldable pub sameColumn : (ℕ → ℕ → Bool) → ℕ → ℕ → ℕ → Bool
-sameColumn f n x y = not (apart (valuesUpto (f x) n) (valuesUpto (f y) n))
-
 module _ (f : ℕ → ℕ → Bool) (n : ℕ) where
   pub same-agree : (x y : ℕ) → sameColumn f n x y ≡ true → (i : ℕ) → i < n → f x i ≡ f y i
   unfolding sameColumn

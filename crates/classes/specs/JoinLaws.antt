@@ -89,11 +89,11 @@ module _ (ns bs : List Name) where
   free-row-lt r = row-map-lt (onRow ns r) (free ns bs)
 
 -- ---- a row and its parts
-on-bound : (bs fs : List Name) (x y : ℕ) (n : Name) → among n bs ≡ true → onParts bs fs x y n ≡ onRow bs x n
+pub on-bound : (bs fs : List Name) (x y : ℕ) (n : Name) → among n bs ≡ true → onParts bs fs x y n ≡ onRow bs x n
 unfolding onParts
 on-bound bs fs x y n e = rw e
 
-on-free : (bs fs : List Name) (x y : ℕ) (n : Name) → among n bs ≡ false → onParts bs fs x y n ≡ onRow fs y n
+pub on-free : (bs fs : List Name) (x y : ℕ) (n : Name) → among n bs ≡ false → onParts bs fs x y n ≡ onRow fs y n
 unfolding onParts
 on-free bs fs x y n e = rw e
 
@@ -145,15 +145,15 @@ row-zero [] n = refl
 row-zero (m ∷ ms) n =
     ap₂ (λ (a b : Bool). pick (sameName m n) a b) (on-zero (length ms)) (row-zero ms n) ∙ pick-same (sameName m n)
 
-module _ (u v w : Name → Bool) (h : (n : Name) → bit (w n) ≡ bit (u n) + bit (v n)) where
-  rows-add : (ms : List Name) → rowOf (map w ms) ≡ rowOf (map u ms) + rowOf (map v ms)
+module _ {A : Type 0} (u v w : A → Bool) (h : (a : A) → bit (w a) ≡ bit (u a) + bit (v a)) where
+  pub rows-add : (l : List A) → rowOf (map w l) ≡ rowOf (map u l) + rowOf (map v l)
   unfolding rowOf
   rows-add [] = omega arith
-  rows-add (m ∷ ms) =
-      let k : ℕ = 2 ^ length ms in
-      let e : bit (w m) * k ≡ bit (u m) * k + bit (v m) * k = ap (λ (b : ℕ). b * k) (h m) ∙ add-mul (bit (u m)) (bit (v m)) k in
-      let later : rowOf (map w ms) ≡ rowOf (map u ms) + rowOf (map v ms) = rows-add ms in
-      rw (length-map ms u, length-map ms v, length-map ms w) (omega arith)
+  rows-add (a ∷ l) =
+      let k : ℕ = 2 ^ length l in
+      let e : bit (w a) * k ≡ bit (u a) * k + bit (v a) * k = ap (λ (b : ℕ). b * k) (h a) ∙ add-mul (bit (u a)) (bit (v a)) k in
+      let later : rowOf (map w l) ≡ rowOf (map u l) + rowOf (map v l) = rows-add l in
+      rw (length-map l u, length-map l v, length-map l w) (omega arith)
 
 module _ (ns bs : List Name) (x y : ℕ) where
   parts-add : (n : Name)

@@ -1,7 +1,7 @@
 // Columns, classes and widths of a design: vertices are the rows of the bound inputs, and two of them are in one class
 // when their columns are equal. Rests on sheet for what a design says.
-ghost use Prim.Native.Nat.{_<_};
 
+// The rows of a design by their parts: vertex x and free row y stand on row vertex[x] + free[y].
 pub struct Shape {
     pub vertices: usize,
     pub frees: usize,
@@ -28,23 +28,10 @@ pub struct Globals {
     pub classes: [GlobalClass; 32],
 }
 
-pub fn same(a: LocalClass, b: LocalClass) -> bool {
-    a.0 == b.0
-}
-
-pub fn at(l: Locals, x: Vertex) -> LocalClass
-    requires { ⌜ x .0 < 32 ⌝ }
-{
-    let i = x.0;
-    let c = l.classes[i];
-    c
-}
-
-pub fn put(l: Locals, x: Vertex, c: LocalClass) -> Locals
-    requires { ⌜ x .0 < 32 ⌝ }
-{
-    let i = x.0;
-    let mut r = l;
-    r.classes[i] = c;
-    r
+// What is known of the columns of a design: local classes and width of each output, and the global classes.
+pub struct Classes {
+    pub shape: Shape,
+    pub locals: [Locals; 4],
+    pub widths: [usize; 4],
+    pub globals: Globals,
 }
