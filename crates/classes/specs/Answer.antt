@@ -37,6 +37,8 @@ pub record ShapeIs (d : Design) (sh : Shape) : Type 0 where
 
 -- the shape that a sheet with such counts gets, whatever it holds
 pub record Shaped (k : Sheet) (sh : Shape) : Type 0 where
+  pub vertex-size : length (sh .vertex) ≡ 32
+  pub free-size : length (sh .free) ≡ 512
   pub few-vertices : sh .vertices ≤ 32
   pub few-free : sh .frees ≤ 512
   pub inside : (x y : ℕ) → x < sh .vertices → y < sh .frees → getD (sh .vertex) x 0 + getD (sh .free) y 0 < 1024

@@ -4,11 +4,13 @@
 use mathlib.Core.Path.{_≡_, refl, sym, ap, ap₂, subst, _∙_}
 use mathlib.Core.Logic.{⊎-elim}
 use mathlib.Core.Bool.{Bool, true, false}
+use mathlib.Core.List.{List}
 use Prim.Native.Nat.{ℕ, zero, suc, _+_, _-_, _≤_, _<_}
 use native.Mathlib.Decide.{decLt}
 use native.Mathlib.Omega.{arith}
 use native.Mathlib.Nat.{add-zero, add-suc}
 use lib.Dec.{eqb}
+use lib.ListN.{getD}
 use borrow.Author.Tests.{eq-eqb, ne-eqb, eqb-true, eqb-false}
 use Rattle.bits.specs.Logic.{pick}
 use Rattle.classes.specs.Cases.{either, not-both, same-test}
@@ -144,6 +146,17 @@ pub record Equivalence (same : ℕ → ℕ → Bool) : Type 0 where
   pub self : (x : ℕ) → same x x ≡ true
   pub back : (x y : ℕ) → same x y ≡ true → same y x ≡ true
   pub chain : (x y z : ℕ) → same x y ≡ true → same y z ≡ true → same x z ≡ true
+
+-- numbers with equal keys are related
+pub same-key : (keys : List ℕ) → Equivalence (λ x y. eqb (getD keys x 0) (getD keys y 0))
+same-key keys =
+    record {
+      self = λ x. eq-eqb (getD keys x 0) (getD keys x 0) refl;
+      back = λ x y e. eq-eqb (getD keys y 0) (getD keys x 0) (sym (eqb-true (getD keys x 0) (getD keys y 0) e));
+      chain = λ x y z e f.
+          eq-eqb (getD keys x 0) (getD keys z 0)
+          (eqb-true (getD keys x 0) (getD keys y 0) e ∙ eqb-true (getD keys y 0) (getD keys z 0) f);
+    }
 
 -- some number below v has the class c, and is its first member
 pub record Taken (same : ℕ → ℕ → Bool) (v c : ℕ) : Type 0 where

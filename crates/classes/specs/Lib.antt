@@ -12,5 +12,8 @@ pub mod DigitLaws
 pub mod FreeLaws
 pub mod JoinLaws
 pub mod PlaceLaws
+pub mod PowerLaws
+pub mod SeenLaws
+pub mod ShapeLaws
 pub mod VertexLaws
 pub mod WidthLaws

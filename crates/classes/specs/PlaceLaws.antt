@@ -39,7 +39,7 @@ at-position (m ∷ ns) n e =
     (λ s. let later : getD ns (position ns n) [] ≡ n = at-position ns n (rw s at e) in rw s later)
     (either (sameName m n))
 
-map-at : (f : Name → ℕ) (l : List Name) (j : ℕ) → j < length l → getD (map f l) j 0 ≡ f (getD l j [])
+pub map-at : (f : Name → ℕ) (l : List Name) (j : ℕ) → j < length l → getD (map f l) j 0 ≡ f (getD l j [])
 map-at f [] j h = absurd (omega arith)
 map-at f (n ∷ l) zero h = refl
 map-at f (n ∷ l) (suc j) h = map-at f l j (omega arith)

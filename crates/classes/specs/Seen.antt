@@ -40,6 +40,7 @@ pub record Small (l : List ℕ) : Type 0 where
 
 -- the digits of n inputs, where the bound ones have these places
 pub record DigitsAre (places : List ℕ) (n : ℕ) (l : List ℕ) : Type 0 where
+  pub size : length l ≡ 10
   pub small : Small l
   pub right : (ns bs : List Name) → Parted ns bs → length ns ≡ n → places ≡ map (position ns) bs
       → (i : ℕ) → i < n → getD l i 0 ≡ digitOf bs (free ns bs) (getD ns i [])
@@ -74,6 +75,7 @@ pub record Keyable (keys : List ℕ) (class : ℕ → ℕ) (v : ℕ) : Type 0 wh
   pub low-class : (x : ℕ) → x < v → class x < 32
 
 pub record KeysBy (keys : List ℕ) (class : ℕ → ℕ) (v : ℕ) (list : List ℕ) : Type 0 where
+  pub size : length list ≡ 32
   pub each : (x : ℕ) → x < v → getD list x 0 ≡ getD keys x 0 * 32 + class x
 
 -- ---- classes
