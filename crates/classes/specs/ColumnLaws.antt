@@ -1,0 +1,208 @@
+-- Columns as laws: two lists of values are apart exactly when they differ at some place, so two vertices conflict exactly
+-- when the output has different values at some free row; and equal columns are an equivalence, for any columns.
+-- Assumes nothing.
+use mathlib.Core.Path.{_≡_, refl, sym, ap, ap₂, _∙_}
+use mathlib.Core.Logic.{⊎-elim}
+use mathlib.Core.Bool.{Bool, true, false, not, _&&_, _||_}
+use mathlib.Core.List.{List, [], _∷_, _++_}
+use Prim.Native.Nat.{ℕ, zero, suc, _+_, _≤_, _<_}
+use native.Mathlib.Omega.{arith}
+use native.Mathlib.Numerals.{add-one}
+use lib.ListN.{length, length-append}
+use borrow.Author.Tests.{not-true, not-false}
+use Rattle.bits.specs.Logic.{xorb, true-false, and-left, and-right, and-both}
+use Rattle.rows.specs.EveryLaws.{last-or-below}
+use Rattle.names.specs.Name.{Name}
+use Rattle.sheet.specs.Examine.{Design}
+use Rattle.classes.specs.Cases.{either, not-both, same-test}
+use Rattle.classes.specs.Columns.{freeCount, valueAt, valuesUpto, column, apart, conflict, alike, alikeUpto, alikeInAll}
+use Rattle.classes.specs.Seen.{sameColumn}
+use Rattle.classes.specs.ClassLaws.{Equivalence}
+
+-- ---- two values
+xor-self : (a : Bool) → xorb a a ≡ false
+xor-self true = refl
+xor-self false = refl
+
+xor-equal : (a b : Bool) → xorb a b ≡ false → a ≡ b
+xor-equal true true e = refl
+xor-equal true false e = absurd (true-false e)
+xor-equal false true e = absurd (true-false e)
+xor-equal false false e = refl
+
+or-left : (a b : Bool) → a || b ≡ false → a ≡ false
+or-left true b e = e
+or-left false b e = refl
+
+or-right : (a b : Bool) → a || b ≡ false → b ≡ false
+or-right true b e = absurd (true-false e)
+or-right false b e = e
+
+or-assoc : (a b c : Bool) → a || (b || c) ≡ (a || b) || c
+or-assoc true b c = refl
+or-assoc false b c = refl
+
+or-false : (a : Bool) → a || false ≡ a
+or-false true = refl
+or-false false = refl
+
+-- ---- two lists
+pub apart-self : (us : List Bool) → apart us us ≡ false
+unfolding apart
+apart-self [] = refl
+apart-self (u ∷ us) = rw (xor-self u) (apart-self us)
+
+pub apart-equal : (us vs : List Bool) → length us ≡ length vs → apart us vs ≡ false → us ≡ vs
+unfolding apart
+apart-equal [] [] n e = refl
+apart-equal [] (v ∷ vs) n e = absurd (omega arith)
+apart-equal (u ∷ us) [] n e = absurd (omega arith)
+apart-equal (u ∷ us) (v ∷ vs) n e =
+    ap₂ (λ (b : Bool) (l : List Bool). b ∷ l)
+    (xor-equal u v (or-left (xorb u v) (apart us vs) e))
+    (apart-equal us vs (omega arith) (or-right (xorb u v) (apart us vs) e))
+
+apart-last : (us vs : List Bool) (u v : Bool) → length us ≡ length vs
+    → apart (us ++ (u ∷ [])) (vs ++ (v ∷ [])) ≡ (apart us vs || xorb u v)
+unfolding apart
+apart-last [] [] u v n = or-false (xorb u v)
+apart-last [] (b ∷ vs) u v n = absurd (omega arith)
+apart-last (a ∷ us) [] u v n = absurd (omega arith)
+apart-last (a ∷ us) (b ∷ vs) u v n =
+    ap (λ (t : Bool). xorb a b || t) (apart-last us vs u v (omega arith)) ∙ or-assoc (xorb a b) (apart us vs) (xorb u v)
+
+-- ---- two lists of values up to n
+pub length-values-upto : (f : ℕ → Bool) (n : ℕ) → length (valuesUpto f n) ≡ n
+unfolding valuesUpto
+length-values-upto f zero = refl
+length-values-upto f (suc n) =
+    length-append (valuesUpto f n) (f n ∷ []) ∙ ap (λ (m : ℕ). m + 1) (length-values-upto f n) ∙ add-one n
+
+-- a place at which two columns differ
+pub record Differ (f g : ℕ → Bool) (n : ℕ) : Type 0 where
+  pub place : ℕ
+  pub below : place < n
+  pub different : f place ≡ g place → ⊥
+
+module _ (f g : ℕ → Bool) where
+  apart-more : (n : ℕ) → apart (valuesUpto f (suc n)) (valuesUpto g (suc n)) ≡ (apart (valuesUpto f n) (valuesUpto g n) || xorb (f n) (g n))
+  unfolding valuesUpto
+  apart-more n =
+      apart-last (valuesUpto f n) (valuesUpto g n) (f n) (g n) (length-values-upto f n ∙ sym (length-values-upto g n))
+
+  values-agree : (n : ℕ) → ((i : ℕ) → i < n → f i ≡ g i) → valuesUpto f n ≡ valuesUpto g n
+  unfolding valuesUpto
+  values-agree zero h = refl
+  values-agree (suc n) h =
+      ap₂ (λ (l : List Bool) (b : Bool). l ++ (b ∷ [])) (values-agree n (λ i l. h i (omega arith))) (h n (omega arith))
+
+  -- columns that agree everywhere are not apart
+  pub agree-apart : (n : ℕ) → ((i : ℕ) → i < n → f i ≡ g i) → apart (valuesUpto f n) (valuesUpto g n) ≡ false
+  agree-apart n h = rw (values-agree n h) (apart-self (valuesUpto g n))
+
+  pub apart-agree : (n : ℕ) → apart (valuesUpto f n) (valuesUpto g n) ≡ false → (i : ℕ) → i < n → f i ≡ g i
+  apart-agree zero e i l = absurd (omega arith)
+  apart-agree (suc n) e i l =
+      let q : apart (valuesUpto f n) (valuesUpto g n) || xorb (f n) (g n) ≡ false = sym (apart-more n) ∙ e in
+      ⊎-elim
+      (λ below. apart-agree n (or-left (apart (valuesUpto f n) (valuesUpto g n)) (xorb (f n) (g n)) q) i below)
+      (λ last. rw last (xor-equal (f n) (g n) (or-right (apart (valuesUpto f n) (valuesUpto g n)) (xorb (f n) (g n)) q)))
+      (last-or-below i n l)
+
+  -- columns that differ somewhere are
+  pub differ-apart : (n i : ℕ) → i < n → (f i ≡ g i → ⊥) → apart (valuesUpto f n) (valuesUpto g n) ≡ true
+  differ-apart n i l h =
+      ⊎-elim
+      (λ e. e)
+      (λ e. absurd (h (apart-agree n e i l)))
+      (either (apart (valuesUpto f n) (valuesUpto g n)))
+
+  pub apart-differ : (n : ℕ) → apart (valuesUpto f n) (valuesUpto g n) ≡ true → Differ f g n
+  unfolding valuesUpto apart
+  apart-differ zero e = absurd (true-false (sym e))
+  apart-differ (suc n) e =
+      ⊎-elim
+      (λ before.
+      let p : Differ f g n = apart-differ n before in
+      let l : p .place < n = p .below in
+      record { place = p .place; below = omega arith; different = p .different })
+      (λ before.
+      let x : xorb (f n) (g n) ≡ true = rw before at (sym (apart-more n) ∙ e) in
+      record {
+        place = n;
+        below = omega arith;
+        different = λ q. not-both (xorb (f n) (g n)) x (rw q (xor-self (g n)));
+      })
+      (either (apart (valuesUpto f n) (valuesUpto g n)))
+
+-- ---- equal columns are an equivalence, whatever column f x each number x has
+module _ (f : ℕ → ℕ → Bool) (n : ℕ) where
+  pub same-agree : (x y : ℕ) → sameColumn f n x y ≡ true → (i : ℕ) → i < n → f x i ≡ f y i
+  unfolding sameColumn
+  same-agree x y e = apart-agree (f x) (f y) n (not-true (apart (valuesUpto (f x) n) (valuesUpto (f y) n)) e)
+
+  pub agree-same : (x y : ℕ) → ((i : ℕ) → i < n → f x i ≡ f y i) → sameColumn f n x y ≡ true
+  unfolding sameColumn
+  agree-same x y h = ap not (agree-apart (f x) (f y) n h)
+
+  pub same-column : Equivalence (sameColumn f n)
+  same-column =
+      record {
+        self = λ x. agree-same x x (λ i l. refl);
+        back = λ x y e. agree-same y x (λ i l. sym (same-agree x y e i l));
+        chain = λ x y z e g. agree-same x z (λ i l. same-agree x y e i l ∙ same-agree y z g i l);
+      }
+
+-- columns that are the same give the same relation
+pub same-columns : (f g : ℕ → ℕ → Bool) (n x y : ℕ) → ((i : ℕ) → i < n → f x i ≡ g x i) → ((i : ℕ) → i < n → f y i ≡ g y i)
+    → sameColumn f n x y ≡ sameColumn g n x y
+unfolding sameColumn
+same-columns f g n x y p q =
+    ap₂ (λ (u v : List Bool). not (apart u v)) (values-agree (f x) (g x) n p) (values-agree (f y) (g y) n q)
+
+-- related in two ways at once
+pub both-equivalence : (r s : ℕ → ℕ → Bool) → Equivalence r → Equivalence s → Equivalence (λ x y. r x y && s x y)
+both-equivalence r s p q =
+    record {
+      self = λ x. and-both (r x x) (s x x) (p .self x) (q .self x);
+      back = λ x y e.
+          and-both (r y x) (s y x)
+          (p .back x y (and-left (r x y) (s x y) e))
+          (q .back x y (and-right (r x y) (s x y) e));
+      chain = λ x y z e g.
+          and-both (r x z) (s x z)
+          (p .chain x y z (and-left (r x y) (s x y) e) (and-left (r y z) (s y z) g))
+          (q .chain x y z (and-right (r x y) (s x y) e) (and-right (r y z) (s y z) g));
+    }
+
+-- ---- vertices of a design
+module _ (d : Design) (bs : List Name) where
+  pub conflict-differ : (o x y : ℕ) → conflict d bs o x y ≡ true → Differ (valueAt d bs o x) (valueAt d bs o y) (freeCount (d .inputs) bs)
+  unfolding conflict column
+  conflict-differ o x y e = apart-differ (valueAt d bs o x) (valueAt d bs o y) (freeCount (d .inputs) bs) e
+
+  pub differ-conflict : (o x y i : ℕ) → i < freeCount (d .inputs) bs → (valueAt d bs o x i ≡ valueAt d bs o y i → ⊥) → conflict d bs o x y ≡ true
+  unfolding conflict column
+  differ-conflict o x y i l h = differ-apart (valueAt d bs o x) (valueAt d bs o y) (freeCount (d .inputs) bs) i l h
+
+  pub no-conflict-agree : (o x y : ℕ) → conflict d bs o x y ≡ false → (i : ℕ) → i < freeCount (d .inputs) bs → valueAt d bs o x i ≡ valueAt d bs o y i
+  unfolding conflict column
+  no-conflict-agree o x y e i l = apart-agree (valueAt d bs o x) (valueAt d bs o y) (freeCount (d .inputs) bs) e i l
+
+  pub agree-no-conflict : (o x y : ℕ) → ((i : ℕ) → i < freeCount (d .inputs) bs → valueAt d bs o x i ≡ valueAt d bs o y i) → conflict d bs o x y ≡ false
+  unfolding conflict column
+  agree-no-conflict o x y h = agree-apart (valueAt d bs o x) (valueAt d bs o y) (freeCount (d .inputs) bs) h
+
+  pub alike-columns : (o x y : ℕ) → alike d bs o x y ≡ sameColumn (valueAt d bs o) (freeCount (d .inputs) bs) x y
+  unfolding conflict column sameColumn
+  alike-columns o x y = refl
+
+  -- vertices alike in one output are an equivalence, and so are vertices alike in the first m
+  pub alike-equivalence : (o : ℕ) → Equivalence (alike d bs o)
+  unfolding conflict column sameColumn
+  alike-equivalence o = same-column (valueAt d bs o) (freeCount (d .inputs) bs)
+
+  pub upto-equivalence : (m : ℕ) → Equivalence (alikeUpto d bs m)
+  unfolding alikeUpto
+  upto-equivalence zero = record { self = λ x. refl; back = λ x y e. refl; chain = λ x y z e g. refl }
+  upto-equivalence (suc m) = both-equivalence (alikeUpto d bs m) (alike d bs m) (upto-equivalence m) (alike-equivalence m)
