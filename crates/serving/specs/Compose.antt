@@ -104,12 +104,12 @@ lut-built d codes (suc k) j (suc i) x h a =
     shift : (j i : ℕ) → suc j + i ≡ j + suc i
     shift j i = omega arith
 
-luts-length : (d : Design) (codes : ℕ → ℕ) (k j : ℕ) → length (lutsBuilt d codes k j) ≡ k
+pub luts-length : (d : Design) (codes : ℕ → ℕ) (k j : ℕ) → length (lutsBuilt d codes k j) ≡ k
 unfolding lutsBuilt
 luts-length d codes zero j = refl
 luts-length d codes (suc k) j = ap suc (luts-length d codes k (suc j))
 
-node-built : (d : Design) (u : ℕ) (rows codes : ℕ → ℕ) (k j o : ℕ) → o < k → getD (nodesBuilt d u rows codes k j) o (record { reads = []; digits = [] }) ≡ nodeBuilt d codes (j + o) (numbers u 0 (rows (j + o)))
+pub node-built : (d : Design) (u : ℕ) (rows codes : ℕ → ℕ) (k j o : ℕ) → o < k → getD (nodesBuilt d u rows codes k j) o (record { reads = []; digits = [] }) ≡ nodeBuilt d codes (j + o) (numbers u 0 (rows (j + o)))
 unfolding nodesBuilt
 node-built d u rows codes zero j o h = absurd (omega arith)
 node-built d u rows codes (suc k) j zero h = ap (λ (n : ℕ). nodeBuilt d codes n (numbers u 0 (rows n))) (sym (add-zero j))

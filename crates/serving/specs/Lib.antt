@@ -4,3 +4,4 @@ pub mod Parts
 pub mod Tells
 pub mod Build
 pub mod Compose
+pub mod TheoremA

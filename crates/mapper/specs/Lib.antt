@@ -1,0 +1,5 @@
+-- Map of document 01, and the demands as theorems.
+pub mod Map
+pub mod DesignLaws
+pub mod SizeLaws
+pub mod Demands

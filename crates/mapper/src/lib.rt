@@ -1,0 +1,2 @@
+// Map.
+pub fn nothing() {}
