@@ -27,11 +27,11 @@ proper-of d w =
       parted = record { inputs-distinct = w .inputs-right .once; bound-distinct = w .bound-right .once; bound-inputs = w .bound-right .known };
     }
 
-and-left : (a b : Bool) → (a && b) ≡ true → a ≡ true
+pub and-left : (a b : Bool) → (a && b) ≡ true → a ≡ true
 and-left true b e = refl
 and-left false b e = e
 
-and-right : (a b : Bool) → (a && b) ≡ true → b ≡ true
+pub and-right : (a b : Bool) → (a && b) ≡ true → b ≡ true
 and-right true b e = e
 and-right false b e = absurd (true-false (sym e))
 

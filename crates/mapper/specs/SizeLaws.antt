@@ -3,7 +3,7 @@
 use mathlib.Core.Path.{_≡_, refl, sym, ap, ap₂, _∙_, subst}
 use mathlib.Core.Bool.{Bool, true, false, _&&_}
 use mathlib.Core.List.{List, [], _∷_, _++_, map}
-use Prim.Native.Nat.{ℕ, zero, suc, _+_, _*_, _^_, _≤_, _<_}
+use Prim.Native.Nat.{ℕ, zero, suc, _+_, _*_, _/_, _%_, _^_, _≤_, _<_}
 use native.Mathlib.Omega.{arith}
 use lib.Dec.{ltb}
 use lib.ListN.{length, getD, length-append, length-map}
@@ -61,5 +61,140 @@ number-length : (n : ℕ) → length (printNumber n) ≤ 3
 unfolding printNumber
 number-length n = go (ltb n 10) (ltb n 100)
   where
-    go : (a b : Bool) {x y z : List ℕ} → length (pick a (0 ∷ []) (pick b (0 ∷ 0 ∷ []) (0 ∷ 0 ∷ 0 ∷ []))) ≤ 3
-    go a b = ?
+    go : (a b : Bool) → length (pick a ((0x30 + n % 10) ∷ []) (pick b ((0x30 + n / 10 % 10) ∷ (0x30 + n % 10) ∷ []) ((0x30 + n / 100 % 10) ∷ (0x30 + n / 10 % 10) ∷ (0x30 + n % 10) ∷ []))) ≤ 3
+    go true b = omega arith
+    go false true = omega arith
+    go false false = omega arith
+
+lut-name-length : (i : ℕ) → length (lutName i) ≤ 4
+unfolding lutName
+lut-name-length i =
+    let a = number-length i in
+    let b = length-append (bytes "_") (printNumber i) in
+    omega arith
+
+lut-names-short : (is : List ℕ) → Short (map lutName is)
+lut-names-short [] = short-none
+lut-names-short (i ∷ is) = let h = lut-name-length i in short-more {item = lutName i} (omega arith) (lut-names-short is)
+
+-- ---- one line
+digits-length : (ds : List Bool) → length (printDigits ds) ≡ length ds
+unfolding printDigits
+digits-length ds = length-map ds digit
+
+lut-line : (bs : List Name) (i : ℕ) (ds : List Bool) → allNames bs ≡ true → length bs ≤ 5 → length ds ≤ 32 → length (printLut bs i ds) ≤ 91
+unfolding printLut lutHead
+lut-line bs i ds e l h =
+    let a = lut-name-length i in
+    let b = led-fits true (names-short bs e) in
+    let c = digits-length ds in
+    let c1 = length-append (ledAll true bs) (bytes ") ") in
+    let c2 = length-append (bytes " (") (ledAll true bs ++ bytes ") ") in
+    let c3 = length-append (lutName i) (bytes " (" ++ (ledAll true bs ++ bytes ") ")) in
+    let c4 = length-append (bytes "(lut ") (lutName i ++ (bytes " (" ++ (ledAll true bs ++ bytes ") "))) in
+    let c5 = length-append (printDigits ds) (closeBracket ∷ []) in
+    let c6 = length-append (bytes "(lut " ++ (lutName i ++ (bytes " (" ++ (ledAll true bs ++ bytes ") ")))) (printDigits ds ++ (closeBracket ∷ [])) in
+    omega arith
+
+node-line : (n : Name) (fs : List Name) (x : Node) → isName n ≡ true → allNames fs ≡ true → length (x .reads) + length fs ≤ 10 → length (x .digits) ≤ 1024 → length (printNode n fs x) ≤ 1199
+unfolding printNode nodeHead
+node-line n fs x e f l h =
+    let items = map lutName (x .reads) ++ fs in
+    let a = name-short n e in
+    let b = led-fits true (short-append (lut-names-short (x .reads)) (names-short fs f)) in
+    let b1 : length items ≡ length (map lutName (x .reads)) + length fs = length-append (map lutName (x .reads)) fs in
+    let b2 : length (map lutName (x .reads)) ≡ length (x .reads) = length-map (x .reads) lutName in
+    let c = digits-length (x .digits) in
+    let c1 = length-append (printDigits (x .digits)) (closeBracket ∷ []) in
+    let c2 = length-append (bytes ") ") (printDigits (x .digits) ++ (closeBracket ∷ [])) in
+    let c3 = length-append (ledAll true items) (bytes ") " ++ (printDigits (x .digits) ++ (closeBracket ∷ []))) in
+    let c4 = length-append n (bytes " (") in
+    let c5 = length-append (bytes "(node ") (n ++ bytes " (") in
+    let c6 = length-append (bytes "(node " ++ (n ++ bytes " (")) (ledAll true items ++ (bytes ") " ++ (printDigits (x .digits) ++ (closeBracket ∷ [])))) in
+    omega arith
+
+count-line : (u : ℕ) → length (printCount u) ≤ 11
+unfolding printCount
+count-line u =
+    let a = number-length u in
+    let b = length-append (printNumber u) (closeBracket ∷ []) in
+    let c = length-append (bytes "(count ") (printNumber u ++ (closeBracket ∷ [])) in
+    omega arith
+
+-- ---- lines together
+ended-append : (ls ms : List (List ℕ)) → length (endedLines (ls ++ ms)) ≡ length (endedLines ls) + length (endedLines ms)
+unfolding endedLines
+ended-append [] ms = omega arith
+ended-append (l ∷ ls) ms =
+    let a = ended-append ls ms in
+    let b = length-append l (newline ∷ endedLines (ls ++ ms)) in
+    let c = length-append l (newline ∷ endedLines ls) in
+    omega arith
+
+lut-lines : (bs : List Name) (i : ℕ) (ts : List (List Bool)) → allNames bs ≡ true → length bs ≤ 5 → ((j : ℕ) → j < length ts → length (getD ts j []) ≤ 32) → length (endedLines (lutLines bs i ts)) ≤ 92 * length ts
+unfolding endedLines lutLines
+lut-lines bs i [] e l h = omega arith
+lut-lines bs i (t ∷ ts) e l h =
+    let a = lut-line bs i t e l (h 0 (omega arith)) in
+    let b = lut-lines bs (suc i) ts e l (λ j k. h (suc j) (omega arith)) in
+    let c = length-append (printLut bs i t) (newline ∷ endedLines (lutLines bs (suc i) ts)) in
+    omega arith
+
+node-lines : (fs ns : List Name) (xs : List Node) → allNames fs ≡ true → allNames ns ≡ true → ((o : ℕ) → o < length xs → length (nodeAt xs o .reads) + length fs ≤ 10) → ((o : ℕ) → o < length xs → length (nodeAt xs o .digits) ≤ 1024) → length (endedLines (nodeLines fs ns xs)) ≤ 1200 * length ns
+unfolding endedLines nodeLines allNames
+node-lines fs [] xs f e l h = omega arith
+node-lines fs (n ∷ ns) [] f e l h = omega arith
+node-lines fs (n ∷ ns) (x ∷ xs) f e l h =
+    let a = node-line n fs x (and-left (isName n) (allNames ns) e) f (l 0 (omega arith)) (h 0 (omega arith)) in
+    let b = node-lines fs ns xs f (and-right (isName n) (allNames ns) e) (λ o k. l (suc o) (omega arith)) (λ o k. h (suc o) (omega arith)) in
+    let c = length-append (printNode n fs x) (newline ∷ endedLines (nodeLines fs ns xs)) in
+    omega arith
+
+last-lines : (u : ℕ) → length (endedLines (printCount u ∷ endLine ∷ [])) ≤ 18
+unfolding endedLines
+last-lines u =
+    let a = count-line u in
+    let b = length-append (printCount u) (newline ∷ (endLine ++ (newline ∷ []))) in
+    omega arith
+
+-- ---- the whole sheet
+module _ (d : Design) (w : Network) (v : WellFormed d) (f : Wellformed d w) (l : WithinLimits d w) where
+  reads-few : (o : ℕ) → o < length (w .nodes) → length (nodeAt (w .nodes) o .reads) + length (free (d .inputs) (d .bound)) ≤ 10
+  unfolding budget
+  reads-few o h =
+      let a : length (nodeAt (w .nodes) o .reads) ≤ width d (d .bound) o = l .reads-within o h in
+      let b = width-most d (d .bound) o in
+      let c = bound-and-free (d .inputs) (d .bound) (proper-of d v .parted) in
+      let e : length (d .inputs) ≤ 10 = v .inputs-right .few in
+      omega arith
+
+  digits-few : (o : ℕ) → o < length (w .nodes) → length (nodeAt (w .nodes) o .digits) ≤ 1024
+  digits-few o h =
+      let a : 2 ^ (length (nodeAt (w .nodes) o .reads) + length (free (d .inputs) (d .bound))) ≤ 1024 = pow-mono (reads-few o h) in
+      let b = f .node-fits o h .counted in
+      omega arith
+
+  luts-few : (i : ℕ) → i < length (w .luts) → length (getD (w .luts) i []) ≤ 32
+  luts-few i h =
+      let a : 2 ^ length (d .bound) ≤ 32 = pow-mono (v .bound-right .few) in
+      let b = f .lut-digits i h in
+      omega arith
+
+  pub print-fits : length (printNetwork d w) ≤ maxNetwork
+  unfolding printNetwork networkLines endedLines
+  print-fits =
+      let m = named-of d v in
+      let fs = free (d .inputs) (d .bound) in
+      let ls = lutLines (d .bound) 0 (w .luts) in
+      let ns = nodeLines fs (outputNames (d .outputs)) (w .nodes) in
+      let rest = printCount (length (w .luts)) ∷ endLine ∷ [] in
+      let a = lut-lines (d .bound) 0 (w .luts) (m .bound-named) (v .bound-right .few) luts-few in
+      let b = node-lines fs (outputNames (d .outputs)) (w .nodes) (free-named (d .inputs) (d .bound) (m .inputs-named)) (m .outputs-named) reads-few digits-few in
+      let c = last-lines (length (w .luts)) in
+      let e = ended-append ls (ns ++ rest) in
+      let g = ended-append ns rest in
+      let h : length (outputNames (d .outputs)) ≡ length (d .outputs) = length-map (d .outputs) (λ (o : Output). o .name) in
+      let k : length (d .outputs) ≤ 4 = v .outputs-right .few in
+      let q : length (w .luts) ≤ 6 = f .few-luts in
+      let r = length-append networkLine (newline ∷ endedLines (ls ++ (ns ++ rest))) in
+      omega arith
