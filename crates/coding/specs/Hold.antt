@@ -188,7 +188,7 @@ module _ (cl base ms caps spots : List ℕ) (v j o : ℕ) (codes dom own owns : 
 
   pub need-group : (l : ℕ) → l < 32 → Group v (labelAt cl o) key l (need owns base o l)
   need-group l b = elim (decLt (getD owns l 0) (labelAt base o l)) as (λ _. Group v (labelAt cl o) key l (need owns base o l)) [
-    | yes k ↦ (let r = f .fits .needs o l h in (r .0, r .1, r .2, (let z = r .3 in omega arith)))
+    | yes k ↦ (let r = f .fits .needs o l h b in (r .0, r .1, r .2, (let z = r .3 in omega arith)))
     | no k ↦ (let r = held-group l b in (r .0, r .1, r .2, (let z = r .3 in omega arith)))
   ]
 

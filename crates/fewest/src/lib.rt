@@ -21,7 +21,7 @@ pub fn smaller(a: u8, b: u8) -> u8
 pub fn suits(r: u8, want: u8, same: u8) -> bool
     ensures { λ ok. ⌜ Suits r want same ok ⌝ }
 {
-    let n = readers::digits(r);
+    let n = bounds::digits(r);
     if n == want {
         (r / 2) & !r & same == 0
     } else {
@@ -72,7 +72,7 @@ pub fn choose(
         };
     }
     let want = smaller(budgets[n], u);
-    let end = readers::power(u);
+    let end = bounds::power(u);
     let mut r: u8 = 0;
     while r < end {
         if suits(r, want, same) {
