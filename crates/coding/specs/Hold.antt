@@ -1,8 +1,9 @@
 -- Which blocks each class of an output holds among the vertices with codes, and the two rules that follow for the others.
 -- Full block: where a block holds as many classes as it can, a vertex of another class keeps out of it. No place left: where
 -- the blocks held, or needed where that is more, are as many as there are places, a class that holds what it needs keeps
--- to the blocks it holds. Assumes nothing.
-use mathlib.Core.Path.{_≡_, refl, sym, ap, _∙_, subst}
+-- to the blocks it holds. A class holds a block more than its vertices with codes show where some vertex of it has no code left
+-- in the blocks that it holds. Assumes nothing.
+use mathlib.Core.Path.{_≡_, refl, sym, ap, ap₂, _∙_, subst}
 use mathlib.Core.Bool.{Bool, true, false}
 use mathlib.Core.List.{List, [], _∷_}
 use mathlib.Core.Logic.{_⊎_, inl, inr, ⊎-elim}
@@ -15,8 +16,8 @@ use lib.Dec.{eqb}
 use lib.ListN.{length, getD, set, length-set}
 use lib.Seq.{getD-set-same, getD-set-other}
 use borrow.Author.Tests.{eq-eqb, ne-eqb, eqb-true, eqb-false}
-use Rattle.bits.specs.Logic.{orb, pick, true-false}
-use Rattle.bits.specs.Digit.{on, on-or, on-zero}
+use Rattle.bits.specs.Logic.{andb, orb, pick, true-false}
+use Rattle.bits.specs.Digit.{on, on-and, on-or, on-zero}
 use Rattle.cells.specs.Lists.{All, Pairs, count, sum, all-map, all-both, pairs-map, less-or-equal, never-both, false-where, true-where, counted, sum-more}
 use Rattle.cells.specs.Shared.{Fits, block, Group, gather}
 use Rattle.numbering.specs.Given.{labelAt, item, Block, Solves, Extends}
@@ -30,6 +31,11 @@ pub record Held (cl codes : List ℕ) (o mask y : ℕ) (own owns : List ℕ) : T
   pub outside : (l c : ℕ) → l < 32 → c < 64 → on (getD own l 0) c ≡ true → (w : ℕ) × (w < y) × (item codes w < 64) × (labelAt cl o w ≡ l) × (bitAnd (item codes w) mask ≡ bitAnd c mask)
   pub lists : (l : ℕ) → l < 32 → (ws : List ℕ) × All (λ (w : ℕ). (w < y) × (item codes w < 64) × (labelAt cl o w ≡ l)) ws × Pairs (λ (a b : ℕ). bitAnd (item codes a) mask ≡ bitAnd (item codes b) mask → ⊥) ws × (length ws ≡ getD owns l 0)
   pub less : (l : ℕ) → l < 32 → getD owns l 0 ≤ y
+
+-- wants has for each class the blocks that it holds, or one more where one of the first y vertices can take none of them
+pub record Wanted (cl : List ℕ) (o y : ℕ) (dom own owns wants : List ℕ) : Type 0 where
+  pub long : length wants ≡ 32
+  pub each : (l : ℕ) → l < 32 → (item wants l ≡ item owns l) ⊎ ((item wants l ≡ item owns l + 1) × ((x : ℕ) × (x < y) × (labelAt cl o x ≡ l) × (bitAnd (item dom x) (item own l) ≡ 0)))
 
 -- how many blocks class l of o holds or needs
 abbrev pub need : List ℕ → List ℕ → ℕ → ℕ → ℕ
@@ -167,8 +173,36 @@ module _ (cl codes : List ℕ) (o mask : ℕ) where
           let e : getD owns' l 0 ≡ getD owns q 0 + 1 = subst (λ (i : ℕ). getD owns' i 0 ≡ getD owns q 0 + 1) (sym p) (getD-set-same owns q (getD owns q 0 + 1) 0 (let z = s .owns-long in omega arith)) in
           let z = s .less q b in omega arith
 
+-- ======== the scan of what is wanted
+module _ (cl : List ℕ) (o : ℕ) (dom own owns : List ℕ) where
+  pub wanted-start : length owns ≡ 32 → Wanted cl o 0 dom own owns owns
+  wanted-start e = record { long = e; each = λ l h. inl refl }
+
+  up-one : (y : ℕ) (wants : List ℕ) (l : ℕ) → (item wants l ≡ item owns l) ⊎ ((item wants l ≡ item owns l + 1) × ((x : ℕ) × (x < y) × (labelAt cl o x ≡ l) × (bitAnd (item dom x) (item own l) ≡ 0))) → (item wants l ≡ item owns l) ⊎ ((item wants l ≡ item owns l + 1) × ((x : ℕ) × (x < y + 1) × (labelAt cl o x ≡ l) × (bitAnd (item dom x) (item own l) ≡ 0)))
+  up-one y wants l = ⊎-elim inl (λ r. inr (r .0, (r .1 .0, (let z = r .1 .1 in omega arith), r .1 .2, r .1 .3)))
+
+  pub wanted-same : (y : ℕ) (wants wants' : List ℕ) → wants' ≡ wants → Wanted cl o y dom own owns wants → Wanted cl o (y + 1) dom own owns wants'
+  wanted-same y wants wants' e s = subst (Wanted cl o (y + 1) dom own owns) (sym e) (record { long = s .long; each = λ l h. up-one y wants l (s .each l h) })
+
+  -- y's class q can take none of its blocks at y
+  pub wanted-more : (y q : ℕ) (wants wants' : List ℕ) → q ≡ labelAt cl o y → q < 32 → bitAnd (item dom y) (item own q) ≡ 0 → wants' ≡ set wants q (item owns q + 1) → Wanted cl o y dom own owns wants → Wanted cl o (y + 1) dom own owns wants'
+  wanted-more y q wants wants' e h z w s = subst (Wanted cl o (y + 1) dom own owns) (sym w) (record {
+    long = length-set wants q _ ∙ s .long;
+    each = λ l b. go l b (ℕ-discrete l q);
+  })
+    where
+      W : List ℕ
+      W = set wants q (item owns q + 1)
+
+      go : (l : ℕ) → l < 32 → Dec (l ≡ q) → (item W l ≡ item owns l) ⊎ ((item W l ≡ item owns l + 1) × ((x : ℕ) × (x < y + 1) × (labelAt cl o x ≡ l) × (bitAnd (item dom x) (item own l) ≡ 0)))
+      go l b (no ne) =
+          let k = getD-set-other wants q l (item owns q + 1) 0 ne in
+          ⊎-elim (λ a. inl (k ∙ a)) (λ r. inr (k ∙ r .0, r .1)) (up-one y wants l (s .each l b))
+      go l b (yes p) = subst (λ (l : ℕ). (item W l ≡ item owns l) ⊎ ((item W l ≡ item owns l + 1) × ((x : ℕ) × (x < y + 1) × (labelAt cl o x ≡ l) × (bitAnd (item dom x) (item own l) ≡ 0)))) (sym p)
+          (inr (getD-set-same wants q (item owns q + 1) 0 (let z = s .long in omega arith), (y, (omega arith), sym e, z)))
+
 -- ======== the rules
-module _ (cl base ms caps spots : List ℕ) (v j o : ℕ) (codes dom own owns : List ℕ) (g : ℕ → ℕ) (h : o < j) (low : (x : ℕ) → x < v → labelAt cl o x < 32) (s : Held cl codes o (item ms o) v own owns) (f : Solves cl base ms caps spots v j g) (e : Extends codes dom v g) where
+module _ (cl base ms caps spots : List ℕ) (v j o : ℕ) (codes dom own owns wants : List ℕ) (g : ℕ → ℕ) (h : o < j) (low : (x : ℕ) → x < v → labelAt cl o x < 32) (s : Held cl codes o (item ms o) v own owns) (want : Wanted cl o v dom own owns wants) (f : Solves cl base ms caps spots v j g) (e : Extends codes dom v g) where
   abbrev mask : ℕ
   mask = item ms o
 
@@ -186,10 +220,35 @@ module _ (cl base ms caps spots : List ℕ) (v j o : ℕ) (codes dom own owns : 
         (let z = r .3 in omega arith),
       )
 
-  pub need-group : (l : ℕ) → l < 32 → Group v (labelAt cl o) key l (need owns base o l)
-  need-group l b = elim (decLt (getD owns l 0) (labelAt base o l)) as (λ _. Group v (labelAt cl o) key l (need owns base o l)) [
+  -- a vertex whose code is in none of the blocks held adds a block
+  more-group : (l y : ℕ) → l < 32 → y < v → labelAt cl o y ≡ l → on (getD own l 0) (g y) ≡ false → Group v (labelAt cl o) key l (getD owns l 0 + 1)
+  unfolding held-group
+  more-group l y b i q off =
+      let r = s .lists l b in
+      let p = held-group l b in (
+        y ∷ p .0,
+        ((i, q), p .1),
+        (
+          all-map (λ (w : ℕ). (w < v) × (item codes w < 64) × (labelAt cl o w ≡ l)) (λ (w : ℕ). key y ≡ key w → ⊥) (r .0) (λ w a k.
+              never-both (subst (λ (i : ℕ). on (getD own i 0) (g y) ≡ true) (a .2) (s .inside w (g y) (a .0) (a .1) (f .small y i) (k ∙ ap (λ (z : ℕ). bitAnd z mask) (e .coded w (a .0) (a .1))))) off) (r .1),
+          p .2,
+        ),
+        (let z = p .3 in omega arith),
+      )
+
+  want-group : (l : ℕ) → l < 32 → Group v (labelAt cl o) key l (item wants l)
+  want-group l b = ⊎-elim
+      (λ q. subst (Group v (labelAt cl o) key l) (sym q) (held-group l b))
+      (λ q. let y = q .1 .0 in subst (Group v (labelAt cl o) key l) (sym (q .0)) (more-group l y b (q .1 .1) (q .1 .2) (none y (q .1 .1) (q .1 .3))))
+      (want .each l b)
+    where
+      none : (y : ℕ) → y < v → bitAnd (item dom y) (item own l) ≡ 0 → on (item own l) (g y) ≡ false
+      none y i z = false-where _ (λ t. never-both (on-and (item dom y) (item own l) (g y) ∙ ap₂ andb (e .within y i) t) (ap (λ (n : ℕ). on n (g y)) z ∙ on-zero (g y)))
+
+  pub need-group : (l : ℕ) → l < 32 → Group v (labelAt cl o) key l (need wants base o l)
+  need-group l b = elim (decLt (getD wants l 0) (labelAt base o l)) as (λ _. Group v (labelAt cl o) key l (need wants base o l)) [
     | yes k ↦ (let r = f .fits .needs o l h b in (r .0, r .1, r .2, (let z = r .3 in omega arith)))
-    | no k ↦ (let r = held-group l b in (r .0, r .1, r .2, (let z = r .3 in omega arith)))
+    | no k ↦ (let r = want-group l b in (r .0, r .1, r .2, (let z = r .3 in omega arith)))
   ]
 
   places : (n : ℕ → ℕ) → ((l : ℕ) → l < 32 → Group v (labelAt cl o) key l (n l)) → sum n 32 ≤ item spots o
@@ -199,48 +258,33 @@ module _ (cl base ms caps spots : List ℕ) (v j o : ℕ) (codes dom own owns : 
       let b = r .3 in omega arith
 
   -- there are at least as many places as are held or needed
-  pub enough : needed owns base o ≤ item spots o
-  enough = places (need owns base o) need-group
+  pub enough : needed wants base o ≤ item spots o
+  enough = places (need wants base o) need-group
 
-  -- no place is left: a class that holds what it needs keeps to its blocks
-  pub keeps-to : (y : ℕ) → y < v → needed owns base o ≡ item spots o → labelAt base o (labelAt cl o y) ≤ getD owns (labelAt cl o y) 0 → on (getD own (labelAt cl o y) 0) (g y) ≡ true
-  unfolding held-group
-  keeps-to y b t k = true-where _ (λ no-block. absurd (no-room no-block))
+  -- no place is left: a class that holds what it needs, and wants no more, keeps to its blocks
+  pub keeps-to : (y : ℕ) → y < v → needed wants base o ≡ item spots o → labelAt base o (labelAt cl o y) ≤ getD owns (labelAt cl o y) 0 → getD wants (labelAt cl o y) 0 ≡ getD owns (labelAt cl o y) 0 → on (getD own (labelAt cl o y) 0) (g y) ≡ true
+  keeps-to y b t k same = true-where _ (λ no-block. absurd (no-room no-block))
     where
       q : ℕ
       q = labelAt cl o y
 
       n : ℕ → ℕ
-      n l = pick (eqb l q) (getD owns q 0 + 1) (need owns base o l)
+      n l = pick (eqb l q) (getD owns q 0 + 1) (need wants base o l)
 
       n-here : n q ≡ getD owns q 0 + 1
-      n-here = ap (λ (z : Bool). pick z (getD owns q 0 + 1) (need owns base o q)) (eq-eqb q q refl)
+      n-here = ap (λ (z : Bool). pick z (getD owns q 0 + 1) (need wants base o q)) (eq-eqb q q refl)
 
-      n-other : (l : ℕ) → (l ≡ q → ⊥) → n l ≡ need owns base o l
-      n-other l ne = ap (λ (z : Bool). pick z (getD owns q 0 + 1) (need owns base o l)) (ne-eqb l q ne)
+      n-other : (l : ℕ) → (l ≡ q → ⊥) → n l ≡ need wants base o l
+      n-other l ne = ap (λ (z : Bool). pick z (getD owns q 0 + 1) (need wants base o l)) (ne-eqb l q ne)
 
       no-room : on (getD own q 0) (g y) ≡ false → ⊥
       no-room off =
           let a = places n (λ l c. grow l c (ℕ-discrete l q)) in
-          let w = sum-more (need owns base o) n 32 q (low y b) (let z = n-here in omega arith) (λ l c ne. let z = n-other l ne in omega arith) in
+          let w = sum-more (need wants base o) n 32 q (low y b) (let z = n-here in omega arith) (λ l c ne. let z = n-other l ne in omega arith) in
           omega arith
         where
-          more : Group v (labelAt cl o) key q (getD owns q 0 + 1)
-          more =
-              let r = s .lists q (low y b) in
-              let p = held-group q (low y b) in (
-                y ∷ p .0,
-                ((b, refl), p .1),
-                (
-                  all-map (λ (w : ℕ). (w < v) × (item codes w < 64) × (labelAt cl o w ≡ q)) (λ (w : ℕ). key y ≡ key w → ⊥) (r .0) (λ w a k.
-                      never-both (subst (λ (i : ℕ). on (getD own i 0) (g y) ≡ true) (a .2) (s .inside w (g y) (a .0) (a .1) (f .small y b) (k ∙ ap (λ (z : ℕ). bitAnd z mask) (e .coded w (a .0) (a .1))))) off) (r .1),
-                  p .2,
-                ),
-                (let z = p .3 in omega arith),
-              )
-
           grow : (l : ℕ) → l < 32 → Dec (l ≡ q) → Group v (labelAt cl o) key l (n l)
-          grow l c (yes p) = subst (λ (i : ℕ). Group v (labelAt cl o) key i (n i)) (sym p) (subst (Group v (labelAt cl o) key q) (sym n-here) more)
+          grow l c (yes p) = subst (λ (i : ℕ). Group v (labelAt cl o) key i (n i)) (sym p) (subst (Group v (labelAt cl o) key q) (sym n-here) (more-group q y (low y b) b refl off))
           grow l c (no p) = subst (Group v (labelAt cl o) key l) (sym (n-other l p)) (need-group l c)
 
   -- a full block: a vertex of a class that does not hold it keeps out

@@ -20,7 +20,7 @@ use Rattle.cells.specs.Lists.{count, sum, count-drop, less-or-equal, never-both
 use Rattle.cells.specs.Sets.{With, Without}
 use Rattle.numbering.specs.Given.{labelAt, item, Block, Labels, Solves, Extends, Kept, Hopeless, Told}
 use Rattle.numbering.specs.Number.{count-more, count-same}
-use Rattle.coding.specs.Hold.{held-start, held-skip, held-old, held-new, Held, need, needed, holders, enough, keeps-to, keeps-out}
+use Rattle.coding.specs.Hold.{held-start, held-skip, held-old, held-new, Held, Wanted, need, needed, holders, enough, keeps-to, keeps-out}
 
 -- ======== the block of a code
 -- the codes below k that are in c's block
@@ -69,33 +69,33 @@ table-more ms n bs b h e t = record {
 
 -- ======== sets of codes narrowed by one output
 -- what a code k at y has to meet to stay
-pub record Stays (cl base : List ℕ) (o : ℕ) (own owns : List ℕ) (c b : ℕ) (full tight : Bool) (y k : ℕ) : Type 0 where
-  pub held : tight ≡ true → labelAt base o (labelAt cl o y) ≤ item owns (labelAt cl o y) → on (item own (labelAt cl o y)) k ≡ true
+pub record Stays (cl base : List ℕ) (o : ℕ) (own owns wants : List ℕ) (c b : ℕ) (full tight : Bool) (y k : ℕ) : Type 0 where
+  pub held : tight ≡ true → labelAt base o (labelAt cl o y) ≤ item owns (labelAt cl o y) → item wants (labelAt cl o y) ≡ item owns (labelAt cl o y) → on (item own (labelAt cl o y)) k ≡ true
   pub free : full ≡ true → on (item own (labelAt cl o y)) c ≡ false → on b k ≡ false
 
-pub record Narrowed (cl base : List ℕ) (o : ℕ) (own owns codes dom : List ℕ) (c b : ℕ) (full tight : Bool) (n : ℕ) (r : List ℕ) : Type 0 where
+pub record Narrowed (cl base : List ℕ) (o : ℕ) (own owns wants codes dom : List ℕ) (c b : ℕ) (full tight : Bool) (n : ℕ) (r : List ℕ) : Type 0 where
   pub long : length r ≡ 32
-  pub done : (y k : ℕ) → y < n → k < 64 → on (item dom y) k ≡ true → Stays cl base o own owns c b full tight y k → on (item r y) k ≡ true
+  pub done : (y k : ℕ) → y < n → k < 64 → on (item dom y) k ≡ true → Stays cl base o own owns wants c b full tight y k → on (item r y) k ≡ true
   pub rest : (y : ℕ) → n ≤ y → item r y ≡ item dom y
 
-module _ (cl base : List ℕ) (o : ℕ) (own owns codes dom : List ℕ) (c b : ℕ) (full tight : Bool) where
-  pub narrowed-start : length dom ≡ 32 → Narrowed cl base o own owns codes dom c b full tight 0 dom
+module _ (cl base : List ℕ) (o : ℕ) (own owns wants codes dom : List ℕ) (c b : ℕ) (full tight : Bool) where
+  pub narrowed-start : length dom ≡ 32 → Narrowed cl base o own owns wants codes dom c b full tight 0 dom
   narrowed-start e = record { long = e; done = λ y k h. absurd (omega arith); rest = λ y h. refl }
 
-  pub narrowed-skip : (n : ℕ) (r : List ℕ) → Narrowed cl base o own owns codes dom c b full tight n r → Narrowed cl base o own owns codes dom c b full tight (n + 1) r
+  pub narrowed-skip : (n : ℕ) (r : List ℕ) → Narrowed cl base o own owns wants codes dom c b full tight n r → Narrowed cl base o own owns wants codes dom c b full tight (n + 1) r
   narrowed-skip n r s = record {
     long = s .long;
     done = λ y k h l t st. ⊎-elim (λ a. s .done y k a l t st) (λ q. ap (λ (z : ℕ). on z k) (s .rest y (omega arith)) ∙ t) (less-or-equal y n (omega arith));
     rest = λ y h. s .rest y (omega arith);
   }
 
-  pub narrowed-more : (n d : ℕ) (r : List ℕ) → n < 32 → ((k : ℕ) → k < 64 → on (item r n) k ≡ true → Stays cl base o own owns c b full tight n k → on d k ≡ true) → Narrowed cl base o own owns codes dom c b full tight n r → Narrowed cl base o own owns codes dom c b full tight (n + 1) (set r n d)
+  pub narrowed-more : (n d : ℕ) (r : List ℕ) → n < 32 → ((k : ℕ) → k < 64 → on (item r n) k ≡ true → Stays cl base o own owns wants c b full tight n k → on d k ≡ true) → Narrowed cl base o own owns wants codes dom c b full tight n r → Narrowed cl base o own owns wants codes dom c b full tight (n + 1) (set r n d)
   narrowed-more n d r h f s = record {
     long = length-set r n d ∙ s .long;
     done = λ y k a l t st. ⊎-elim
         (λ b. ap (λ (z : ℕ). on z k) (getD-set-other r n y d 0 (λ q. let z : y ≡ n = q in omega arith)) ∙ s .done y k b l t st)
         (λ q. subst (λ (z : ℕ). on (item (set r n d) z) k ≡ true) (sym q) (ap (λ (z : ℕ). on z k) (getD-set-same r n d 0 (let z = s .long in omega arith))
-        ∙ f k l (ap (λ (z : ℕ). on z k) (s .rest n (omega arith)) ∙ subst (λ (z : ℕ). on (item dom z) k ≡ true) q t) (subst (λ (z : ℕ). Stays cl base o own owns c b full tight z k) q st)))
+        ∙ f k l (ap (λ (z : ℕ). on z k) (s .rest n (omega arith)) ∙ subst (λ (z : ℕ). on (item dom z) k ≡ true) q t) (subst (λ (z : ℕ). Stays cl base o own owns wants c b full tight z k) q st)))
         (less-or-equal y n (omega arith));
     rest = λ y a. getD-set-other r n y d 0 (λ q. let z : y ≡ n = q in omega arith) ∙ s .rest y (omega arith);
   }
@@ -114,14 +114,14 @@ pub on-outside : (d b k : ℕ) → b < 2 ^ 64 → k < 64 → on d k ≡ true →
 on-outside d b k h l e f = on-both d (2 ^ 64 - 1 - b) k e (on-complement 64 b k h l ∙ ap not f)
 
 -- the same as the code says it: q is y's class, need what it needs
-module _ (cl base : List ℕ) (o : ℕ) (own owns codes dom : List ℕ) (c b : ℕ) (full tight : Bool) (n : ℕ) (r r' : List ℕ) where
-  pub narrowed-same : r' ≡ r → Narrowed cl base o own owns codes dom c b full tight n r → Narrowed cl base o own owns codes dom c b full tight (n + 1) r'
-  narrowed-same e s = subst (Narrowed cl base o own owns codes dom c b full tight (n + 1)) (sym e) (narrowed-skip cl base o own owns codes dom c b full tight n r s)
+module _ (cl base : List ℕ) (o : ℕ) (own owns wants codes dom : List ℕ) (c b : ℕ) (full tight : Bool) (n : ℕ) (r r' : List ℕ) where
+  pub narrowed-same : r' ≡ r → Narrowed cl base o own owns wants codes dom c b full tight n r → Narrowed cl base o own owns wants codes dom c b full tight (n + 1) r'
+  narrowed-same e s = subst (Narrowed cl base o own owns wants codes dom c b full tight (n + 1)) (sym e) (narrowed-skip cl base o own owns wants codes dom c b full tight n r s)
 
-  pub narrowed-trim : (q need' d : ℕ) (only out : Bool) → n < 32 → q ≡ labelAt cl o n → need' ≡ labelAt base o q → (only ≡ true → (tight ≡ true) × (need' ≤ item owns q)) → (out ≡ true → (full ≡ true) × (on (item own q) c ≡ false)) → Trimmed (item r n) (item own q) only out b d → r' ≡ set r n d → Narrowed cl base o own owns codes dom c b full tight n r → Narrowed cl base o own owns codes dom c b full tight (n + 1) r'
-  narrowed-trim q need' d only out l e f a t m z s = subst (Narrowed cl base o own owns codes dom c b full tight (n + 1)) (sym z) (narrowed-more cl base o own owns codes dom c b full tight n d r l (λ k h p st.
+  pub narrowed-trim : (q need' d : ℕ) (only out : Bool) → n < 32 → q ≡ labelAt cl o n → need' ≡ labelAt base o q → (only ≡ true → (tight ≡ true) × (need' ≤ item owns q) × (item wants q ≡ item owns q)) → (out ≡ true → (full ≡ true) × (on (item own q) c ≡ false)) → Trimmed (item r n) (item own q) only out b d → r' ≡ set r n d → Narrowed cl base o own owns wants codes dom c b full tight n r → Narrowed cl base o own owns wants codes dom c b full tight (n + 1) r'
+  narrowed-trim q need' d only out l e f a t m z s = subst (Narrowed cl base o own owns wants codes dom c b full tight (n + 1)) (sym z) (narrowed-more cl base o own owns wants codes dom c b full tight n d r l (λ k h p st.
       m .keeps k h p
-      (λ i. let w = a i in subst (λ (x : ℕ). on (item own x) k ≡ true) (sym e) (st .held (w .0) (subst (λ (x : ℕ). labelAt base o x ≤ item owns x) e (subst (λ (x : ℕ). x ≤ item owns q) f (w .1)))))
+      (λ i. let w = a i in subst (λ (x : ℕ). on (item own x) k ≡ true) (sym e) (st .held (w .0) (subst (λ (x : ℕ). labelAt base o x ≤ item owns x) e (subst (λ (x : ℕ). x ≤ item owns q) f (w .1))) (subst (λ (x : ℕ). item wants x ≡ item owns x) e (w .2))))
       (λ i. let w = t i in st .free (w .0) (subst (λ (x : ℕ). on (item own x) c ≡ false) e (w .1)))) s)
 
 -- own kept where asked
@@ -175,21 +175,21 @@ module _ (cl codes : List ℕ) (o mask y : ℕ) (own owns own' owns' : List ℕ)
       (subst (Held cl codes o mask (y + 1) (set own (labelAt cl o y) (bitOr (getD own (labelAt cl o y) 0) bs))) (sym (b ∙ ap (λ (z : ℕ). set owns z (getD owns z 0 + 1)) e)) new)
 
 -- ======== one output settled
-module _ (cl base ms caps spots : List ℕ) (v j o : ℕ) (codes dom own owns : List ℕ) (labels : Labels cl) (few : v ≤ 32) (outs : j ≤ 8) (h : o < j) (s : Held cl codes o (item ms o) v own owns) where
+module _ (cl base ms caps spots : List ℕ) (v j o : ℕ) (codes dom own owns wants : List ℕ) (labels : Labels cl) (few : v ≤ 32) (outs : j ≤ 8) (h : o < j) (s : Held cl codes o (item ms o) v own owns) (want : Wanted cl o v dom own owns wants) where
   low : (x : ℕ) → x < v → labelAt cl o x < 32
   low x l = labels .low (o * 32 + x) (omega arith)
 
   -- more is held or needed than there are places
-  pub settled-none : (r : List ℕ) → item spots o < needed owns base o → Kept cl base ms caps spots v j codes dom r
-  settled-none r l = record { keeps = λ g f e. absurd (let z = enough cl base ms caps spots v j o codes dom own owns g h low s f e in omega arith) }
+  pub settled-none : (r : List ℕ) → item spots o < needed wants base o → Kept cl base ms caps spots v j codes dom r
+  settled-none r l = record { keeps = λ g f e. absurd (let z = enough cl base ms caps spots v j o codes dom own owns wants g h low s want f e in omega arith) }
 
-  pub settled : (c b : ℕ) (full tight : Bool) (r : List ℕ) → c < 64 → Block (item ms o) c b → (full ≡ true → item caps o ≤ holders own c 32) → (tight ≡ true → needed owns base o ≡ item spots o) → Narrowed cl base o own owns codes dom c b full tight v r → Kept cl base ms caps spots v j codes dom r
+  pub settled : (c b : ℕ) (full tight : Bool) (r : List ℕ) → c < 64 → Block (item ms o) c b → (full ≡ true → item caps o ≤ holders own c 32) → (tight ≡ true → needed wants base o ≡ item spots o) → Narrowed cl base o own owns wants codes dom c b full tight v r → Kept cl base ms caps spots v j codes dom r
   settled c b full tight r l is a t n = record {
     keeps = λ g f e. record {
       coded = e .coded;
       within = λ x k. n .done x (g x) k (f .small x k) (e .within x k) (record {
-        held = λ p q. keeps-to cl base ms caps spots v j o codes dom own owns g h low s f e x k (t p) q;
-        free = λ p off. false-where _ (λ w. keeps-out cl base ms caps spots v j o codes dom own owns g h low s f e x c k l (a p) off (eqb-true _ _ (sym (is (g x) (f .small x k)) ∙ w)));
+        held = λ p q r. keeps-to cl base ms caps spots v j o codes dom own owns wants g h low s want f e x k (t p) q r;
+        free = λ p off. false-where _ (λ w. keeps-out cl base ms caps spots v j o codes dom own owns wants g h low s want f e x c k l (a p) off (eqb-true _ _ (sym (is (g x) (f .small x k)) ∙ w)));
       });
     };
   }

@@ -8,7 +8,7 @@ ghost use Prim.Native.Nat.{ℕ, _+_, _*_, _<_, _≤_, max};
 ghost use lib.ListN.{length, getD};
 ghost use Rattle.bits.specs.Digit.{on};
 ghost use Rattle.numbering.specs.Given.{labelAt, item, Block, Labels, Blocks, Plan, Kept, Told};
-ghost use Rattle.coding.specs.Hold.{Held, needed, holders};
+ghost use Rattle.coding.specs.Hold.{Held, Wanted, needed, holders};
 ghost use Rattle.coding.specs.Search.{Table, Narrowed, Trimmed, Seeking};
 
 // The set of codes that a mask does not tell from c.
@@ -75,6 +75,30 @@ pub fn held(
     Hold { own, owns }
 }
 
+// The blocks that each class holds, and one more where one of its vertices can take none of them.
+pub fn wanted(
+    cl: &[u8],
+    v: usize,
+    o: usize,
+    dom: [u64; 32],
+    own: [u64; 32],
+    owns: [u8; 32],
+) -> [u8; 32]
+    requires { ⌜ Labels (now cl) × (v ≤ 32) × (o < 8) × ((l : ℕ) → l < 32 → item owns l ≤ 32) ⌝ }
+    ensures { λ r. ⌜ Wanted (now (cl .entry)) o v dom own owns r ⌝ }
+{
+    let mut r = owns;
+    let mut y = 0;
+    while y < v {
+        let l = numbering::label(cl, o, y) as usize;
+        if dom[y] & own[l] == 0 {
+            r[l] = owns[l] + 1;
+        }
+        y += 1;
+    }
+    r
+}
+
 pub fn larger(a: u8, b: u8) -> u8
     ensures { λ r. ⌜ (r ≡ max a b) × (r ≤ 255) ⌝ }
 {
@@ -111,11 +135,15 @@ pub fn crowd(own: [u64; 32], c: u8) -> usize
     n
 }
 
-// Whether no place is left and a class holds what it needs.
-pub fn content(tight: bool, need: u8, has: u8) -> bool
-    ensures { λ r. ⌜ (r ≡ true → (tight ≡ true) × (need ≤ has)) ⌝ }
+// Whether no place is left and a class holds what it needs and wants no more.
+pub fn content(tight: bool, need: u8, has: u8, wants: u8) -> bool
+    ensures { λ r. ⌜ (r ≡ true → (tight ≡ true) × (need ≤ has) × (wants ≡ has)) ⌝ }
 {
-    if tight { need <= has } else { false }
+    if tight {
+        if wants == has { need <= has } else { false }
+    } else {
+        false
+    }
 }
 
 // Whether the block of c is full and a class does not hold it.
@@ -142,6 +170,7 @@ pub fn narrow(
     o: usize,
     own: [u64; 32],
     owns: [u8; 32],
+    wants: [u8; 32],
     codes: [u8; 32],
     dom: [u64; 32],
     c: u8,
@@ -150,14 +179,14 @@ pub fn narrow(
     tight: bool,
 ) -> [u64; 32]
     requires { ⌜ Labels (now cl) × (length (now base) ≡ 256) × (v ≤ 32) × (o < 8) × (c < 64) ⌝ }
-    ensures { λ r. ⌜ Narrowed (now (cl .entry)) (now (base .entry)) o own owns codes dom c b full tight v r ⌝ }
+    ensures { λ r. ⌜ Narrowed (now (cl .entry)) (now (base .entry)) o own owns wants codes dom c b full tight v r ⌝ }
 {
     let mut r = dom;
     let mut y = 0;
     while y < v {
         if codes[y] >= 64 {
             let l = numbering::label(cl, o, y) as usize;
-            let only = content(tight, numbering::label(base, o, l), owns[l]);
+            let only = content(tight, numbering::label(base, o, l), owns[l], wants[l]);
             let out = barred(full, own[l], c);
             r[y] = trim(r[y], own[l], only, out, b);
         }
@@ -187,7 +216,8 @@ pub fn settle(
     let h = held(cl, bs, ms, v, j, o, codes);
     let own = h.own;
     let owns = h.owns;
-    let t = total(base, o, owns);
+    let wants = wanted(cl, v, o, dom, own, owns);
+    let t = total(base, o, wants);
     let spot = spots[o] as usize;
     if spot < t {
         return [0u64; 32];
@@ -201,6 +231,7 @@ pub fn settle(
         o,
         own,
         owns,
+        wants,
         codes,
         dom,
         c,
