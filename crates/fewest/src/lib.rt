@@ -1,5 +1,5 @@
 // The fewest cells that serve. `fewest` tries 0, 1, 2, .. cells; for each count `choose` gives output after output a set of
-// cells to read, and the crate readers finds codes for them or shows that there are none. What is found is a least core, and
+// cells to read, and the crate joint finds codes for them or shows that there are none. What is found is a least core, and
 // where nothing is found every core that serves has more cells than the limit: the contract of `fewest` is Theorem B.
 ghost use mathlib.Core.Path.{_≡_};
 ghost use mathlib.Core.Bool.{Bool, true, false};
@@ -37,7 +37,7 @@ pub fn alive(cl: &[u8], v: usize, m: usize, n: usize, rows: [u8; 8]) -> bool
     if n + 1 == m {
         return true;
     }
-    let c = readers::codes_for(cl, v, n + 1, rows);
+    let c = joint::codes_for(cl, v, n + 1, rows);
     c.ok
 }
 
@@ -63,7 +63,7 @@ pub fn choose(
     ensures { λ r. ⌜ Chosen (now (cl .entry)) budgets v m u n rows (r .ok) (r .rows) (r .codes) ⌝ }
 {
     if n == m {
-        let c = readers::codes_for(cl, v, m, rows);
+        let c = joint::codes_for(cl, v, m, rows);
         let codes = c.codes;
         return Choice {
             ok: c.ok,

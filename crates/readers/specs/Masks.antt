@@ -21,7 +21,7 @@ use Rattle.cells.specs.Pigeon.{Agree, agree-and, and-agree}
 use Rattle.cells.specs.Codes.{Coded}
 use Rattle.cells.specs.Shared.{Split, Fits, sharedCode, crowd-bound, places-bound}
 use Rattle.numbering.specs.Given.{labelAt, item, Block, Blocks, Plan, Solves, Extends, Parted, Hopeless, Told}
-use Rattle.coding.specs.Search.{zeros, Table}
+use Rattle.holding.specs.Search.{zeros, Table}
 
 -- ======== definitions
 -- each output reads cells below 6

@@ -73,7 +73,7 @@ pub struct State {
 pub fn begin(sh: u8) -> State
     ensures { λ r. ⌜ Start sh (r .codes) (r .dom) ⌝ }
 {
-    let s = coding::block(!sh, 0);
+    let s = holding::block(!sh, 0);
     let mut dom = [s; 32];
     dom[0] = 1;
     State {
@@ -93,7 +93,7 @@ pub fn codes_for(cl: &[u8], v: usize, j: usize, rows: [u8; 8]) -> numbering::Cod
     let ps = p.ps;
     let caps = p.caps;
     let spots = p.spots;
-    let bs = coding::blocks(ms);
+    let bs = holding::blocks(ms);
     let base = bounds::bases(cl, v, j, rows);
     let b = begin(sh);
     let codes = b.codes;

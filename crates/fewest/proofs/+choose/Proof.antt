@@ -19,7 +19,7 @@ use Rattle.bounds.proofs.power.Reads as power-reads
 use Rattle.fewest.proofs.alive.Reads as alive-reads
 use Rattle.fewest.proofs.smaller.Reads as smaller-reads
 use Rattle.fewest.proofs.suits.Reads as suits-reads
-use Rattle.readers.proofs.codes_for.Reads as codes-for-reads
+use Rattle.joint.proofs.codes_for.Reads as codes-for-reads
 use Rattle.fewest.proofs.+choose.{statement}
 use Rattle.fewest.proofs.+choose.Tie.{close}
 

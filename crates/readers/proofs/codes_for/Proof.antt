@@ -12,7 +12,7 @@ use Rattle.readers.proofs.codes_for.Tie as tie
 use Rattle.readers.proofs.codes_for.Reads as reads
 use Rattle.readers.proofs.codes_for.Lts as lts
 use Rattle.bounds.proofs.bases.Reads as bases-reads
-use Rattle.coding.proofs.blocks.Reads as blocks-reads
+use Rattle.holding.proofs.blocks.Reads as blocks-reads
 use Rattle.coding.proofs.find.Reads as find-reads
 use Rattle.readers.proofs.begin.Reads as begin-reads
 use Rattle.readers.proofs.plan.Reads as plan-reads
