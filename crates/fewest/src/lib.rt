@@ -9,7 +9,7 @@ ghost use lib.ListN.{length, getD};
 ghost use Rattle.cells.specs.Core.{Differ, Answer, coreOf};
 ghost use Rattle.numbering.specs.Given.{Labels, labelAt, item};
 ghost use Rattle.readers.specs.Masks.{Short, Decided};
-ghost use Rattle.fewest.specs.Choice.{Rows, Alike, Chosen, Suits, Zeroed};
+ghost use Rattle.fewest.specs.Choice.{Rows, Alike, Chosen, Suits, Zeroed, Answered};
 
 pub fn smaller(a: u8, b: u8) -> u8
     ensures { λ r. ⌜ r ≡ min a b ⌝ }
@@ -119,7 +119,7 @@ pub struct Core {
 // The fewest cells, up to the limit, that serve m outputs with these classes of v vertices and these budgets.
 pub fn fewest(cl: &[u8], budgets: [u8; 8], v: usize, m: usize, limit: u8) -> Core
     requires { ⌜ Labels (now cl) × (v ≤ 32) × (m ≤ 8) × (limit ≤ 6) ⌝ }
-    ensures { λ r. ⌜ Answer v m (Differ (labelAt (now (cl .entry)))) (item budgets) limit (r .found) (coreOf (r .count) (item (r .rows)) (item (r .codes))) ⌝ }
+    ensures { λ r. ⌜ Answered (now (cl .entry)) budgets v m limit (r .found) (r .count) (r .rows) (r .codes) ⌝ }
 {
     let none = [0u8; 8];
     let mut u: u8 = 0;
