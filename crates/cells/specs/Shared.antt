@@ -34,11 +34,11 @@ abbrev pub block : (ℕ → ℕ) → (ℕ → ℕ) → ℕ → ℕ → ℕ
 block mask g o x = bitAnd (g x) (mask o)
 
 -- codes g over the shared cells: no block holds more classes than cap, no more pairs of a class and a block occur than
--- spots, and class l of o occurs in at least base o l blocks
-pub record Fits (v j : ℕ) (cls : ℕ → ℕ → ℕ) (mask cap spots : ℕ → ℕ) (base : ℕ → ℕ → ℕ) (g : ℕ → ℕ) : Type 0 where
-  pub crowd : (o k : ℕ) (xs : List ℕ) → o < j → All (λ (x : ℕ). (x < v) × (block mask g o x ≡ k)) xs → Pairs (λ (x y : ℕ). cls o x ≡ cls o y → ⊥) xs → length xs ≤ cap o
+-- spots, and class l of o, of k classes, occurs in at least base o l blocks
+pub record Fits (v j k : ℕ) (cls : ℕ → ℕ → ℕ) (mask cap spots : ℕ → ℕ) (base : ℕ → ℕ → ℕ) (g : ℕ → ℕ) : Type 0 where
+  pub crowd : (o b : ℕ) (xs : List ℕ) → o < j → All (λ (x : ℕ). (x < v) × (block mask g o x ≡ b)) xs → Pairs (λ (x y : ℕ). cls o x ≡ cls o y → ⊥) xs → length xs ≤ cap o
   pub places : (o : ℕ) (xs : List ℕ) → o < j → All (λ (x : ℕ). x < v) xs → Pairs (λ (x y : ℕ). cls o x ≡ cls o y → block mask g o x ≡ block mask g o y → ⊥) xs → length xs ≤ spots o
-  pub needs : (o l : ℕ) → o < j → (xs : List ℕ) × All (λ (x : ℕ). (x < v) × (cls o x ≡ l)) xs × Pairs (λ (x y : ℕ). block mask g o x ≡ block mask g o y → ⊥) xs × (base o l ≤ length xs)
+  pub needs : (o l : ℕ) → o < j → l < k → (xs : List ℕ) × All (λ (x : ℕ). (x < v) × (cls o x ≡ l)) xs × Pairs (λ (x y : ℕ). block mask g o x ≡ block mask g o y → ⊥) xs × (base o l ≤ length xs)
 
 -- the codes of a core over the shared cells
 abbrev pub sharedCode : ℕ → (ℕ → ℕ) → ℕ → ℕ

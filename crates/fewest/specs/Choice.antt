@@ -26,11 +26,11 @@ use Rattle.numbering.specs.Given.{labelAt, item}
 use Rattle.readers.specs.Masks.{Short, Decided}
 
 -- ======== definitions
--- the first n rows are within u cells and within the budgets
+-- the first n rows are within u cells, and each has as many of them as its budget allows
 pub record Rows (budgets : List ℕ) (u n : ℕ) (rows : List ℕ) : Type 0 where
   pub long : length rows ≡ 8
   pub low : (o : ℕ) → o < n → item rows o < 2 ^ u
-  pub within : (o : ℕ) → o < n → count (on (item rows o)) u ≤ item budgets o
+  pub full : (o : ℕ) → o < n → count (on (item rows o)) u ≡ min (item budgets o) u
 
 -- same has only cells that the first n outputs read like the next cell
 pub record Alike (rows : List ℕ) (n same : ℕ) : Type 0 where
@@ -106,8 +106,8 @@ pub rows-more : (budgets : List ℕ) (u n r : ℕ) (rows : List ℕ) → n < 8 �
 rows-more budgets u n r rows h few l e s = record {
   long = length-set rows n r ∙ s .long;
   low = λ o k. ⊎-elim (λ a. subst (λ (z : ℕ). z < 2 ^ u) (sym (old o a)) (s .low o a)) (λ q. subst (λ (o : ℕ). item (set rows n r) o < 2 ^ u) (sym q) (subst (λ (z : ℕ). z < 2 ^ u) (sym new) l)) (less-or-equal o n (omega arith));
-  within = λ o k. ⊎-elim (λ a. subst (λ (z : ℕ). count (on z) u ≤ item budgets o) (sym (old o a)) (s .within o a))
-      (λ q. subst (λ (o : ℕ). count (on (item (set rows n r) o)) u ≤ item budgets o) (sym q) (subst (λ (z : ℕ). count (on z) u ≤ item budgets n) (sym new) (let z = count-short r u few l in omega arith)))
+  full = λ o k. ⊎-elim (λ a. subst (λ (z : ℕ). count (on z) u ≡ min (item budgets o) u) (sym (old o a)) (s .full o a))
+      (λ q. subst (λ (o : ℕ). count (on (item (set rows n r) o)) u ≡ min (item budgets o) u) (sym q) (subst (λ (z : ℕ). count (on z) u ≡ min (item budgets n) u) (sym new) (sym (count-short r u few l) ∙ e)))
       (less-or-equal o n (omega arith));
 }
   where
@@ -118,7 +118,7 @@ rows-more budgets u n r rows h few l e s = record {
     old o k = getD-set-other rows n o r 0 (λ q. let z : o ≡ n = q in omega arith)
 
 pub rows-start : (budgets : List ℕ) (u : ℕ) (rows : List ℕ) → length rows ≡ 8 → Rows budgets u 0 rows
-rows-start budgets u rows e = record { long = e; low = λ o h. absurd (omega arith); within = λ o h. absurd (omega arith) }
+rows-start budgets u rows e = record { long = e; low = λ o h. absurd (omega arith); full = λ o h. absurd (omega arith) }
 
 pub rows-short : (budgets : List ℕ) (u n : ℕ) (rows : List ℕ) → u ≤ 6 → Rows budgets u n rows → Short rows n
 rows-short budgets u n rows few s o h = power-low u (item rows o) few (s .low o h)
@@ -271,18 +271,35 @@ atleast-more cl budgets v m u rows rows' codes false e c a = record {
   ];
 }
 
+-- What `fewest` answers: Theorem B, and that each output reads as many of the cells as its budget and their number allow.
+pub record Answered (cl budgets : List ℕ) (v m limit : ℕ) (found : Bool) (u : ℕ) (rows codes : List ℕ) : Type 0 where
+  pub answer : Answer v m (Differ (labelAt cl)) (item budgets) limit found (coreOf u (item rows) (item codes))
+  pub few : u ≤ limit
+  pub low : found ≡ true → (o : ℕ) → o < m → item rows o < 2 ^ u
+  pub full : found ≡ true → (o : ℕ) → o < m → count (on (item rows o)) u ≡ min (item budgets o) u
+
 -- Theorem B, found
-pub answer-found : (cl budgets : List ℕ) (v m u limit : ℕ) (rows rows' codes r : List ℕ) (ok : Bool) → v ≤ 32 → u ≤ limit → ok ≡ true → Chosen cl budgets v m u 0 rows ok rows' codes → Zeroed codes 32 r → AtLeast cl budgets v m u → Answer v m (Differ (labelAt cl)) (item budgets) limit true (coreOf u (item rows') (item r))
+pub answer-found : (cl budgets : List ℕ) (v m u limit : ℕ) (rows rows' codes r : List ℕ) (ok : Bool) → v ≤ 32 → u ≤ limit → ok ≡ true → Chosen cl budgets v m u 0 rows ok rows' codes → Zeroed codes 32 r → AtLeast cl budgets v m u → Answered cl budgets v m limit true u rows' r
 answer-found cl budgets v m u limit rows rows' codes r false few h e c z a = absurd (true-false (sym e))
-answer-found cl budgets v m u limit rows rows' codes r true few h e c z a = (
-  rw (cells-length u 0 (item rows') (item r)) h,
-  record {
-    serves = core-serves u v m (Differ (labelAt cl)) (item budgets) (item rows') (item r) (zeroed-coded cl v m u rows' codes r few (c .rows-fit .low) z (c .coded)) (c .rows-fit .low) (c .rows-fit .within);
-    zero = cells-zero u 0 (item rows') (item r) (z .done 0 (omega arith) ∙ xor-self (item codes 0));
-    fewest = λ k s. rw (cells-length u 0 (item rows') (item r)) (a .enough k s);
-  },
-)
+answer-found cl budgets v m u limit rows rows' codes r true few h e c z a = record {
+  few = h;
+  low = λ _. c .rows-fit .low;
+  full = λ _. c .rows-fit .full;
+  answer = (
+    rw (cells-length u 0 (item rows') (item r)) h,
+    record {
+      serves = core-serves u v m (Differ (labelAt cl)) (item budgets) (item rows') (item r) (zeroed-coded cl v m u rows' codes r few (c .rows-fit .low) z (c .coded)) (c .rows-fit .low) (λ o k. (let q = c .rows-fit .full o k in omega arith));
+      zero = cells-zero u 0 (item rows') (item r) (z .done 0 (omega arith) ∙ xor-self (item codes 0));
+      fewest = λ k s. rw (cells-length u 0 (item rows') (item r)) (a .enough k s);
+    },
+  );
+}
 
 -- Theorem B, not found
-pub answer-none : (cl budgets : List ℕ) (v m u limit : ℕ) (l : List Cell) → limit < u → AtLeast cl budgets v m u → Answer v m (Differ (labelAt cl)) (item budgets) limit false l
-answer-none cl budgets v m u limit l h a = λ k s. let z = a .enough k s in omega arith
+pub answer-none : (cl budgets : List ℕ) (v m u limit : ℕ) (rows codes : List ℕ) → limit < u → AtLeast cl budgets v m u → Answered cl budgets v m limit false 0 rows codes
+answer-none cl budgets v m u limit rows codes h a = record {
+  answer = λ k s. (let z = a .enough k s in omega arith);
+  few = omega arith;
+  low = λ e. absurd (true-false (sym e));
+  full = λ e. absurd (true-false (sym e));
+}

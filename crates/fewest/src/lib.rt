@@ -1,5 +1,5 @@
 // The fewest cells that serve. `fewest` tries 0, 1, 2, .. cells; for each count `choose` gives output after output a set of
-// cells to read, and the crate readers finds codes for them or shows that there are none. What is found is a least core, and
+// cells to read, and the crate joint finds codes for them or shows that there are none. What is found is a least core, and
 // where nothing is found every core that serves has more cells than the limit: the contract of `fewest` is Theorem B.
 ghost use mathlib.Core.Path.{_≡_};
 ghost use mathlib.Core.Bool.{Bool, true, false};
@@ -9,7 +9,7 @@ ghost use lib.ListN.{length, getD};
 ghost use Rattle.cells.specs.Core.{Differ, Answer, coreOf};
 ghost use Rattle.numbering.specs.Given.{Labels, labelAt, item};
 ghost use Rattle.readers.specs.Masks.{Short, Decided};
-ghost use Rattle.fewest.specs.Choice.{Rows, Alike, Chosen, Suits, Zeroed};
+ghost use Rattle.fewest.specs.Choice.{Rows, Alike, Chosen, Suits, Zeroed, Answered};
 
 pub fn smaller(a: u8, b: u8) -> u8
     ensures { λ r. ⌜ r ≡ min a b ⌝ }
@@ -21,7 +21,7 @@ pub fn smaller(a: u8, b: u8) -> u8
 pub fn suits(r: u8, want: u8, same: u8) -> bool
     ensures { λ ok. ⌜ Suits r want same ok ⌝ }
 {
-    let n = readers::digits(r);
+    let n = bounds::digits(r);
     if n == want {
         (r / 2) & !r & same == 0
     } else {
@@ -37,7 +37,7 @@ pub fn alive(cl: &[u8], v: usize, m: usize, n: usize, rows: [u8; 8]) -> bool
     if n + 1 == m {
         return true;
     }
-    let c = readers::codes_for(cl, v, n + 1, rows);
+    let c = joint::codes_for(cl, v, n + 1, rows);
     c.ok
 }
 
@@ -63,7 +63,7 @@ pub fn choose(
     ensures { λ r. ⌜ Chosen (now (cl .entry)) budgets v m u n rows (r .ok) (r .rows) (r .codes) ⌝ }
 {
     if n == m {
-        let c = readers::codes_for(cl, v, m, rows);
+        let c = joint::codes_for(cl, v, m, rows);
         let codes = c.codes;
         return Choice {
             ok: c.ok,
@@ -72,7 +72,7 @@ pub fn choose(
         };
     }
     let want = smaller(budgets[n], u);
-    let end = readers::power(u);
+    let end = bounds::power(u);
     let mut r: u8 = 0;
     while r < end {
         if suits(r, want, same) {
@@ -119,7 +119,7 @@ pub struct Core {
 // The fewest cells, up to the limit, that serve m outputs with these classes of v vertices and these budgets.
 pub fn fewest(cl: &[u8], budgets: [u8; 8], v: usize, m: usize, limit: u8) -> Core
     requires { ⌜ Labels (now cl) × (v ≤ 32) × (m ≤ 8) × (limit ≤ 6) ⌝ }
-    ensures { λ r. ⌜ Answer v m (Differ (labelAt (now (cl .entry)))) (item budgets) limit (r .found) (coreOf (r .count) (item (r .rows)) (item (r .codes))) ⌝ }
+    ensures { λ r. ⌜ Answered (now (cl .entry)) budgets v m limit (r .found) (r .count) (r .rows) (r .codes) ⌝ }
 {
     let none = [0u8; 8];
     let mut u: u8 = 0;

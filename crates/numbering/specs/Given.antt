@@ -41,7 +41,7 @@ pub record Plan (ms ps caps : List ℕ) (j : ℕ) : Type 0 where
 
 -- codes over the shared cells that stand for a core
 pub record Solves (cl base ms caps spots : List ℕ) (v j : ℕ) (g : ℕ → ℕ) : Type 0 where
-  pub fits : Fits v j (labelAt cl) (item ms) (item caps) (item spots) (labelAt base) g
+  pub fits : Fits v j 32 (labelAt cl) (item ms) (item caps) (item spots) (labelAt base) g
   pub small : (x : ℕ) → x < v → g x < 64
 
 -- g has the codes given so far, and keeps to the sets that are left

@@ -27,28 +27,6 @@ pub fn shared(rows: [u8; 8], j: usize) -> u8
     many & 63
 }
 
-// How many cells a set of cells below 6 has.
-pub fn digits(x: u8) -> u8
-    ensures { λ r. ⌜ (r ≡ count (on x) 6) × (r ≤ 6) ⌝ }
-{
-    let mut n: u8 = 0;
-    let mut i: u8 = 0;
-    while i < 6 {
-        if cells::in_set(x as u64, i) {
-            n += 1;
-        }
-        i += 1;
-    }
-    n
-}
-
-pub fn power(k: u8) -> u8
-    requires { ⌜ k ≤ 6 ⌝ }
-    ensures { λ r. ⌜ r ≡ 2 ^ k ⌝ }
-{
-    1 << k
-}
-
 // For each output its shared and its private cells, and 2 to the number of the private ones and of all that it reads.
 pub struct Sets {
     pub ms: [u8; 8],
@@ -72,9 +50,9 @@ pub fn plan(rows: [u8; 8], j: usize, sh: u8) -> Sets
         let p = r & !sh;
         ms[o] = m;
         ps[o] = p;
-        let a = power(digits(p));
+        let a = bounds::power(bounds::digits(p));
         caps[o] = a;
-        let b = power(digits(r));
+        let b = bounds::power(bounds::digits(r));
         spots[o] = b;
         o += 1;
     }
@@ -95,7 +73,7 @@ pub struct State {
 pub fn begin(sh: u8) -> State
     ensures { λ r. ⌜ Start sh (r .codes) (r .dom) ⌝ }
 {
-    let s = coding::block(!sh, 0);
+    let s = holding::block(!sh, 0);
     let mut dom = [s; 32];
     dom[0] = 1;
     State {
@@ -115,8 +93,8 @@ pub fn codes_for(cl: &[u8], v: usize, j: usize, rows: [u8; 8]) -> numbering::Cod
     let ps = p.ps;
     let caps = p.caps;
     let spots = p.spots;
-    let bs = coding::blocks(ms);
-    let base = [0u8; 256];
+    let bs = holding::blocks(ms);
+    let base = bounds::bases(cl, v, j, rows);
     let b = begin(sh);
     let codes = b.codes;
     let dom = b.dom;

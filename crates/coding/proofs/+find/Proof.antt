@@ -1,4 +1,4 @@
-use Rattle.coding.specs.Search.{uncoded, uncoded-less, Trying, trying-start, trying-more, trying-end, told-found, told-lost}
+use Rattle.holding.specs.Search.{uncoded, uncoded-less, Trying, trying-start, trying-more, trying-end, told-found, told-lost}
 use Rattle.numbering.specs.Given.{item}
 use Rattle.bits.specs.Logic.{true-false}
 use lib.ListN.{length, getD, set}
@@ -37,7 +37,7 @@ find-Inv-loop cl base bs ms ps caps spots v j codes dom x left₀ left = (length
 abbrev find-μ-loop : find-lts.MeasureT-loop
 find-μ-loop cl base bs ms ps caps spots v j codes dom x left₀ left = left
 
--- src/lib.rt:217:9
+-- src/lib.rt:87:9
 find-pick-requires : (t : ℕ) → find-lts.Need-pick-requires (
   pick-reads.Asked,
   pick-reads.Learnt,
@@ -54,7 +54,7 @@ find-pick-requires : (t : ℕ) → find-lts.Need-pick-requires (
 ) (find-at t) find.Post find-Inv-loop find-μ-loop
 find-pick-requires t c κs = c .before .before .before .pre .1 .3
 
--- src/lib.rt:219:9
+-- src/lib.rt:89:9
 find-finish-requires : (t : ℕ) → find-lts.Need-finish-requires (
   pick-reads.Asked,
   pick-reads.Learnt,
@@ -71,7 +71,7 @@ find-finish-requires : (t : ℕ) → find-lts.Need-finish-requires (
 ) (find-at t) find.Post find-Inv-loop find-μ-loop
 find-finish-requires t c κs = let p = c .before .before .before .before .before .pre .1 in (p .0 .long, p .4, p .3, p .5, λ x h. c .before .pick .ensures .none (c .if1 .taken) x h)
 
--- src/lib.rt:219:9
+-- src/lib.rt:89:9
 find-returns : (t : ℕ) → find-lts.Need-returns (
   pick-reads.Asked,
   pick-reads.Learnt,
@@ -88,7 +88,7 @@ find-returns : (t : ℕ) → find-lts.Need-returns (
 ) (find-at t) find.Post find-Inv-loop find-μ-loop
 find-returns t c = c .finish .ensures (c .before .before .before .before .before .before .args .base .now) (c .before .before .before .before .before .before .args .spots) (c .before .before .before .before .before .before .args .t11)
 
--- src/lib.rt:221:20
+-- src/lib.rt:91:20
 find-mul-left : (t : ℕ) → find-lts.Need-mul-left (
   pick-reads.Asked,
   pick-reads.Learnt,
@@ -105,7 +105,7 @@ find-mul-left : (t : ℕ) → find-lts.Need-mul-left (
 ) (find-at t) find.Post find-Inv-loop find-μ-loop
 find-mul-left t c = let p = c .before .pick .ensures .some (c .if1 .left) in let a = p .0 in let b = c .before .before .before .before .before .pre .1 .3 in search needs
 
--- src/lib.rt:221:20
+-- src/lib.rt:91:20
 find-array-read-left : (t : ℕ) → find-lts.Need-array-read-left (
   pick-reads.Asked,
   pick-reads.Learnt,
@@ -122,7 +122,7 @@ find-array-read-left : (t : ℕ) → find-lts.Need-array-read-left (
 ) (find-at t) find.Post find-Inv-loop find-μ-loop
 find-array-read-left t c = let p = c .before .pick .ensures .some (c .if1 .left) in let a = p .0 in let b = c .before .before .before .before .before .pre .1 .3 in search needs
 
--- src/lib.rt:222:5
+-- src/lib.rt:92:5
 find-loop-holds : (t : ℕ) → find-lts.Need-loop-holds (
   pick-reads.Asked,
   pick-reads.Learnt,
@@ -139,7 +139,7 @@ find-loop-holds : (t : ℕ) → find-lts.Need-loop-holds (
 ) (find-at t) find.Post find-Inv-loop find-μ-loop
 find-loop-holds t c = let p = c .before .pick .ensures .some (c .if1 .left) in (search needs, p .0, p .1, trying-start (c .before .before .before .before .before .args .cl .now) (c .before .before .before .before .before .args .base .now) (c .before .before .before .before .before .args .ms) (c .before .before .before .before .before .args .caps) (c .before .before .before .before .before .args .spots) (c .before .before .before .before .before .args .v) (c .before .before .before .before .before .args .j) (c .before .before .before .before .before .args .codes) (c .before .before .before .before .before .args .t11) (c .before .pick .result) (p .0))
 
--- src/lib.rt:223:13
+-- src/lib.rt:93:13
 find-lowest-requires : (t : ℕ) → find-lts.Need-lowest-requires (
   pick-reads.Asked,
   pick-reads.Learnt,
@@ -156,7 +156,7 @@ find-lowest-requires : (t : ℕ) → find-lts.Need-lowest-requires (
 ) (find-at t) find.Post find-Inv-loop find-μ-loop
 find-lowest-requires t c κs = c .loop-test .taken
 
--- src/lib.rt:224:9
+-- src/lib.rt:94:9
 find-without-requires : (t : ℕ) → find-lts.Need-without-requires (
   pick-reads.Asked,
   pick-reads.Learnt,
@@ -173,7 +173,7 @@ find-without-requires : (t : ℕ) → find-lts.Need-without-requires (
 ) (find-at t) find.Post find-Inv-loop find-μ-loop
 find-without-requires t c κs = c .lowest .ensures .0
 
--- src/lib.rt:226:9
+-- src/lib.rt:96:9
 find-array-write-next : (t : ℕ) → find-lts.Need-array-write-next (
   pick-reads.Asked,
   pick-reads.Learnt,
@@ -190,7 +190,7 @@ find-array-write-next : (t : ℕ) → find-lts.Need-array-write-next (
 ) (find-at t) find.Post find-Inv-loop find-μ-loop
 find-array-write-next t c = let a = c .before .before .before .loop .inv .1 in let b = c .before .before .before .before .before .before .before .before .before .pre .1 .3 in search needs
 
--- src/lib.rt:227:13
+-- src/lib.rt:97:13
 find-settle-all-requires : (t : ℕ) → find-lts.Need-settle-all-requires (
   pick-reads.Asked,
   pick-reads.Learnt,
@@ -207,7 +207,7 @@ find-settle-all-requires : (t : ℕ) → find-lts.Need-settle-all-requires (
 ) (find-at t) find.Post find-Inv-loop find-μ-loop
 find-settle-all-requires t c κs = let p = c .before .before .before .before .before .before .before .before .before .pre .1 in (p .0, p .1, p .2, p .3, p .4, c .before .lowest .ensures .0)
 
--- src/lib.rt:228:13
+-- src/lib.rt:98:13
 find-find-requires : (t : ℕ) → find-lts.Need-find-requires (
   pick-reads.Asked,
   pick-reads.Learnt,
@@ -228,7 +228,7 @@ find-find-requires t c κs =
     let w = uncoded-less (c .before .before .before .before .before .before .before .before .before .before .args .codes) (c .before .before .before .before .before .before .before .before .before .before .args .v) (c .before .before .before .before .before .before .pick .result) (c .before .before .lowest .result) (c .before .before .before .before .loop .inv .0) (p .3) (c .before .before .before .before .loop .inv .1) (c .before .before .before .before .loop .inv .2) (c .before .before .lowest .ensures .0) in
     (omega arith, (p .0, p .1, p .2, p .3, p .4, p .5))
 
--- src/lib.rt:230:13
+-- src/lib.rt:100:13
 find-returns-2 : (t : ℕ) → find-lts.Need-returns-2 (
   pick-reads.Asked,
   pick-reads.Learnt,
@@ -245,7 +245,7 @@ find-returns-2 : (t : ℕ) → find-lts.Need-returns-2 (
 ) (find-at t) find.Post find-Inv-loop find-μ-loop
 find-returns-2 t c = told-found (c .before .before .before .before .before .before .before .before .before .before .before .before .args .cl .now) (c .before .before .before .before .before .before .before .before .before .before .before .before .args .base .now) (c .before .before .before .before .before .before .before .before .before .before .before .before .args .ms) (c .before .before .before .before .before .before .before .before .before .before .before .before .args .ps) (c .before .before .before .before .before .before .before .before .before .before .before .before .args .caps) (c .before .before .before .before .before .before .before .before .before .before .before .before .args .spots) (c .before .before .before .before .before .before .before .before .before .before .before .before .args .v) (c .before .before .before .before .before .before .before .before .before .before .before .before .args .j) (c .before .before .before .before .before .before .before .before .before .before .before .before .args .codes) (c .before .before .before .before .before .before .before .before .before .before .before .before .args .t11) (set (c .before .before .before .before .before .before .before .before .before .before .before .before .args .codes) (c .before .before .before .before .before .before .before .before .pick .result) (c .before .before .before .before .lowest .result)) (c .before .before .settle-all .result) _ _ (c .if2 .taken) (c .before .find .ensures)
 
--- src/lib.rt:222:5
+-- src/lib.rt:92:5
 find-loop-less : (t : ℕ) → find-lts.Need-loop-less (
   pick-reads.Asked,
   pick-reads.Learnt,
@@ -262,7 +262,7 @@ find-loop-less : (t : ℕ) → find-lts.Need-loop-less (
 ) (find-at t) find.Post find-Inv-loop find-μ-loop
 find-loop-less t c = c .before .before .before .without .ensures .less (c .before .before .before .before .lowest .ensures .1)
 
--- src/lib.rt:222:5
+-- src/lib.rt:92:5
 find-loop-again : (t : ℕ) → find-lts.Need-loop-again (
   pick-reads.Asked,
   pick-reads.Learnt,
@@ -286,7 +286,7 @@ find-loop-again t c =
           (told-lost (c .before .before .before .before .before .before .before .before .before .before .before .before .args .cl .now) (c .before .before .before .before .before .before .before .before .before .before .before .before .args .base .now) (c .before .before .before .before .before .before .before .before .before .before .before .before .args .ms) (c .before .before .before .before .before .before .before .before .before .before .before .before .args .ps) (c .before .before .before .before .before .before .before .before .before .before .before .before .args .caps) (c .before .before .before .before .before .before .before .before .before .before .before .before .args .spots) (c .before .before .before .before .before .before .before .before .before .before .before .before .args .v) (c .before .before .before .before .before .before .before .before .before .before .before .before .args .j) (set (c .before .before .before .before .before .before .before .before .before .before .before .before .args .codes) (c .before .before .before .before .before .before .before .before .pick .result) (c .before .before .before .before .lowest .result)) (c .before .before .settle-all .result) (c .before .before .before .before .before .before .before .before .before .before .before .before .args .codes) (c .before .before .before .before .before .before .before .before .before .before .before .before .args .t11) _ _ (c .if2 .left) (c .before .find .ensures)) (i .3),
     )
 
--- src/lib.rt:213:1
+-- src/lib.rt:71:1
 find-returns-3 : (t : ℕ) → find-lts.Need-returns-3 (
   pick-reads.Asked,
   pick-reads.Learnt,

@@ -1,4 +1,4 @@
-use Rattle.coding.specs.Search.{Seeking, seeking-start, seeking-coded, seeking-better, seeking-worse}
+use Rattle.holding.specs.Search.{Seeking, seeking-start, seeking-coded, seeking-better, seeking-worse}
 use borrow.Author.Tests.{not-true, not-false}
 use Rattle.bits.specs.Logic.{true-false}
 use lib.ListN.{length, getD, set}

@@ -15,11 +15,11 @@ use borrow.Fn.PlainCycle.{Measures, is, falls, and}
 use Rattle.fewest.proofs.choose.Reads as choose
 use Rattle.fewest.proofs.choose.Kinds as choose-kinds
 use Rattle.fewest.proofs.+choose.Lts-choose as choose-lts
+use Rattle.bounds.proofs.power.Reads as power-reads
 use Rattle.fewest.proofs.alive.Reads as alive-reads
 use Rattle.fewest.proofs.smaller.Reads as smaller-reads
 use Rattle.fewest.proofs.suits.Reads as suits-reads
-use Rattle.readers.proofs.codes_for.Reads as codes-for-reads
-use Rattle.readers.proofs.power.Reads as power-reads
+use Rattle.joint.proofs.codes_for.Reads as codes-for-reads
 use Rattle.fewest.proofs.+choose.{statement}
 use Rattle.fewest.proofs.+choose.Tie.{close}
 
@@ -38,7 +38,7 @@ choose-Inv-loop cl v m u rows n same budgets want end r₀ r = (r ≤ end) × (n
 abbrev choose-μ-loop : choose-lts.MeasureT-loop
 choose-μ-loop cl v m u rows n same budgets want end r₀ r = end - r
 
--- src/lib.rt:57:13
+-- src/lib.rt:66:13
 choose-codes-for-requires : (t : ℕ) → choose-lts.Need-codes-for-requires (
   codes-for-reads.Asked,
   codes-for-reads.Learnt,
@@ -55,7 +55,7 @@ choose-codes-for-requires : (t : ℕ) → choose-lts.Need-codes-for-requires (
 ) (choose-at t) choose.Post choose-Inv-loop choose-μ-loop
 choose-codes-for-requires t c κs = let p = c .before .before .pre .1 in (p .0, p .1, p .2, λ o h. rows-short (c .before .before .args .t2) (c .before .before .args .u) (c .before .before .args .n) (c .before .before .args .rows) (p .3) (p .5) o (let e = c .if1 .taken in omega arith))
 
--- src/lib.rt:59:9
+-- src/lib.rt:68:9
 choose-returns : (t : ℕ) → choose-lts.Need-returns (
   codes-for-reads.Asked,
   codes-for-reads.Learnt,
@@ -72,7 +72,7 @@ choose-returns : (t : ℕ) → choose-lts.Need-returns (
 ) (choose-at t) choose.Post choose-Inv-loop choose-μ-loop
 choose-returns t c = let p = c .before .before .before .before .pre .1 in chosen-end (c .before .before .before .before .args .cl .now) (c .before .before .before .before .args .t2) (c .before .before .before .before .args .v) (c .before .before .before .before .args .m) (c .before .before .before .before .args .u) (c .before .before .before .before .args .n) (c .before .before .before .before .args .rows) (c .before .codes-for .result .codes) (c .before .codes-for .result .ok) (c .before .before .if1 .taken) (p .5) (c .before .codes-for .ensures)
 
--- src/lib.rt:65:24
+-- src/lib.rt:74:24
 choose-array-read-smaller : (t : ℕ) → choose-lts.Need-array-read-smaller (
   codes-for-reads.Asked,
   codes-for-reads.Learnt,
@@ -89,7 +89,7 @@ choose-array-read-smaller : (t : ℕ) → choose-lts.Need-array-read-smaller (
 ) (choose-at t) choose.Post choose-Inv-loop choose-μ-loop
 choose-array-read-smaller t c = let p = c .before .before .pre .1 in let a = p .2 in let b = p .4 in let e = c .if1 .left in search needs
 
--- src/lib.rt:65:9
+-- src/lib.rt:74:9
 choose-smaller-requires : (t : ℕ) → choose-lts.Need-smaller-requires (
   codes-for-reads.Asked,
   codes-for-reads.Learnt,
@@ -106,7 +106,7 @@ choose-smaller-requires : (t : ℕ) → choose-lts.Need-smaller-requires (
 ) (choose-at t) choose.Post choose-Inv-loop choose-μ-loop
 choose-smaller-requires t c κs = search needs
 
--- src/lib.rt:66:9
+-- src/lib.rt:75:9
 choose-power-requires : (t : ℕ) → choose-lts.Need-power-requires (
   codes-for-reads.Asked,
   codes-for-reads.Learnt,
@@ -123,7 +123,7 @@ choose-power-requires : (t : ℕ) → choose-lts.Need-power-requires (
 ) (choose-at t) choose.Post choose-Inv-loop choose-μ-loop
 choose-power-requires t c κs = c .before .before .before .pre .1 .3
 
--- src/lib.rt:68:5
+-- src/lib.rt:77:5
 choose-loop-holds : (t : ℕ) → choose-lts.Need-loop-holds (
   codes-for-reads.Asked,
   codes-for-reads.Learnt,
@@ -142,10 +142,10 @@ choose-loop-holds t c =
     let p = c .before .before .before .before .pre .1 in
     let b = p .4 in
     let e = c .before .before .if1 .left in
-    let w = c .power .ensures in
-    (omega arith, omega arith, c .before .smaller .ensures, c .power .ensures, (let z : 2 ^ c .before .before .before .before .args .u ≤ 2 ^ 6 = pow-mono (p .3) in omega arith), tried-start (c .before .before .before .before .args .cl .now) (c .before .before .before .before .args .t2) (c .before .before .before .before .args .v) (c .before .before .before .before .args .m) (c .before .before .before .before .args .u) (c .before .before .before .before .args .n) (c .before .before .before .before .args .rows))
+    let w = c .power .ensures .0 in
+    (omega arith, omega arith, c .before .smaller .ensures, c .power .ensures .0, c .power .ensures .2, tried-start (c .before .before .before .before .args .cl .now) (c .before .before .before .before .args .t2) (c .before .before .before .before .args .v) (c .before .before .before .before .args .m) (c .before .before .before .before .args .u) (c .before .before .before .before .args .n) (c .before .before .before .before .args .rows))
 
--- src/lib.rt:69:12
+-- src/lib.rt:78:12
 choose-suits-requires : (t : ℕ) → choose-lts.Need-suits-requires (
   codes-for-reads.Asked,
   codes-for-reads.Learnt,
@@ -162,7 +162,7 @@ choose-suits-requires : (t : ℕ) → choose-lts.Need-suits-requires (
 ) (choose-at t) choose.Post choose-Inv-loop choose-μ-loop
 choose-suits-requires t c κs = search needs
 
--- src/lib.rt:71:13
+-- src/lib.rt:80:13
 choose-array-write-next : (t : ℕ) → choose-lts.Need-array-write-next (
   codes-for-reads.Asked,
   codes-for-reads.Learnt,
@@ -179,7 +179,7 @@ choose-array-write-next : (t : ℕ) → choose-lts.Need-array-write-next (
 ) (choose-at t) choose.Post choose-Inv-loop choose-μ-loop
 choose-array-write-next t c = let p = c .before .before .before .before .before .before .before .before .pre .1 in let a = p .2 in let b = c .before .before .before .loop .inv .1 in search needs
 
--- src/lib.rt:72:16
+-- src/lib.rt:81:16
 choose-alive-requires : (t : ℕ) → choose-lts.Need-alive-requires (
   codes-for-reads.Asked,
   codes-for-reads.Learnt,
@@ -203,7 +203,7 @@ choose-alive-requires t c κs =
     let l : c .before .before .before .loop .r < 2 ^ c .before .before .before .before .before .before .before .before .args .u = omega arith in
     (p .0, p .1, a, b, rows-short (c .before .before .before .before .before .before .before .before .args .t2) (c .before .before .before .before .before .before .before .before .args .u) (c .before .before .before .before .before .before .before .before .args .n + 1) (set (c .before .before .before .before .before .before .before .before .args .rows) (c .before .before .before .before .before .before .before .before .args .n) (c .before .before .before .loop .r)) (p .3) (rows-more (c .before .before .before .before .before .before .before .before .args .t2) (c .before .before .before .before .before .before .before .before .args .u) (c .before .before .before .before .before .before .before .before .args .n) (c .before .before .before .loop .r) (c .before .before .before .before .before .before .before .before .args .rows) (omega arith) (p .3) l (c .before .suits .ensures .right (c .if2 .taken) ∙ c .before .before .before .loop .inv .2) (p .5)))
 
--- src/lib.rt:73:60
+-- src/lib.rt:82:60
 choose-add-choose : (t : ℕ) → choose-lts.Need-add-choose (
   codes-for-reads.Asked,
   codes-for-reads.Learnt,
@@ -220,7 +220,7 @@ choose-add-choose : (t : ℕ) → choose-lts.Need-add-choose (
 ) (choose-at t) choose.Post choose-Inv-loop choose-μ-loop
 choose-add-choose t c = let p = c .before .before .before .before .before .before .before .before .before .before .pre .1 in let a = p .2 in let b = c .before .before .before .before .before .loop .inv .1 in omega arith
 
--- src/lib.rt:73:21
+-- src/lib.rt:82:21
 choose-choose-requires : (t : ℕ) → choose-lts.Need-choose-requires (
   codes-for-reads.Asked,
   codes-for-reads.Learnt,
@@ -245,7 +245,7 @@ choose-choose-requires t c κs =
     let l : c .before .before .before .before .before .loop .r < 2 ^ c .before .before .before .before .before .before .before .before .before .before .args .u = omega arith in
     (omega arith, (p .0, p .1, p .2, p .3, (omega arith), rows-more (c .before .before .before .before .before .before .before .before .before .before .args .t2) (c .before .before .before .before .before .before .before .before .before .before .args .u) (c .before .before .before .before .before .before .before .before .before .before .args .n) (c .before .before .before .before .before .loop .r) (c .before .before .before .before .before .before .before .before .before .before .args .rows) (omega arith) (p .3) l (c .before .before .before .suits .ensures .right (c .before .before .if2 .taken) ∙ c .before .before .before .before .before .loop .inv .2) (p .5), alike-more (c .before .before .before .before .before .before .before .before .before .before .args .rows) (c .before .before .before .before .before .before .before .before .before .before .args .n) (c .before .before .before .before .before .before .before .before .before .before .args .same) (c .before .before .before .before .before .loop .r) (p .5 .long) (omega arith) (power-low (c .before .before .before .before .before .before .before .before .before .before .args .u) (c .before .before .before .before .before .loop .r) (p .3) l) (p .6)))
 
--- src/lib.rt:75:21
+-- src/lib.rt:84:21
 choose-returns-2 : (t : ℕ) → choose-lts.Need-returns-2 (
   codes-for-reads.Asked,
   codes-for-reads.Learnt,
@@ -262,7 +262,7 @@ choose-returns-2 : (t : ℕ) → choose-lts.Need-returns-2 (
 ) (choose-at t) choose.Post choose-Inv-loop choose-μ-loop
 choose-returns-2 t c = chosen-found (c .before .before .before .before .before .before .before .before .before .before .before .before .args .cl .now) (c .before .before .before .before .before .before .before .before .before .before .before .before .args .t2) (c .before .before .before .before .before .before .before .before .before .before .before .before .args .v) (c .before .before .before .before .before .before .before .before .before .before .before .before .args .m) (c .before .before .before .before .before .before .before .before .before .before .before .before .args .u) (c .before .before .before .before .before .before .before .before .before .before .before .before .args .n) (c .before .before .before .before .before .before .before .before .before .before .before .before .args .n + 1) (c .before .before .before .before .before .before .before .before .before .before .before .before .args .rows) (set (c .before .before .before .before .before .before .before .before .before .before .before .before .args .rows) (c .before .before .before .before .before .before .before .before .before .before .before .before .args .n) (c .before .before .before .before .before .before .before .loop .r)) (c .before .choose .result .rows) (c .before .choose .result .codes) (c .before .choose .result .ok) (c .if4 .taken) (c .before .choose .ensures)
 
--- src/lib.rt:79:9
+-- src/lib.rt:88:9
 choose-add-r : (t : ℕ) → choose-lts.Need-add-r (
   codes-for-reads.Asked,
   codes-for-reads.Learnt,
@@ -279,7 +279,7 @@ choose-add-r : (t : ℕ) → choose-lts.Need-add-r (
 ) (choose-at t) choose.Post choose-Inv-loop choose-μ-loop
 choose-add-r t c = let h = c .before .before .loop-test .taken in let z = c .before .before .before .loop .inv .4 in omega arith
 
--- src/lib.rt:68:5
+-- src/lib.rt:77:5
 choose-loop-less : (t : ℕ) → choose-lts.Need-loop-less (
   codes-for-reads.Asked,
   codes-for-reads.Learnt,
@@ -296,7 +296,7 @@ choose-loop-less : (t : ℕ) → choose-lts.Need-loop-less (
 ) (choose-at t) choose.Post choose-Inv-loop choose-μ-loop
 choose-loop-less t c = search needs
 
--- src/lib.rt:68:5
+-- src/lib.rt:77:5
 choose-loop-again : (t : ℕ) → choose-lts.Need-loop-again (
   codes-for-reads.Asked,
   codes-for-reads.Learnt,

@@ -11,7 +11,7 @@ use Rattle.fewest.proofs.alive.Statement.{statement}
 use Rattle.fewest.proofs.alive.Tie as tie
 use Rattle.fewest.proofs.alive.Reads as reads
 use Rattle.fewest.proofs.alive.Lts as lts
-use Rattle.readers.proofs.codes_for.Reads as codes-for-reads
+use Rattle.joint.proofs.codes_for.Reads as codes-for-reads
 
 -- src/lib.rt:37:8
 add-if1 : tie.Need-add-if1

@@ -49,7 +49,7 @@ loop-again c = let h = c .before .before .loop-test .taken in (omega arith, refl
 
 -- src/lib.rt:111:1
 returns-2 : tie.Need-returns-2 Inv-loop μ-loop
-returns-2 c = answer-none (c .before .before .before .args .cl .now) (c .before .before .before .args .budgets) (c .before .before .before .args .v) (c .before .before .before .args .m) (c .before .loop .u) (c .before .before .before .args .limit) [] (c .loop-test .left) (c .before .loop .inv .2)
+returns-2 c = answer-none (c .before .before .before .args .cl .now) (c .before .before .before .args .budgets) (c .before .before .before .args .v) (c .before .before .before .args .m) (c .before .loop .u) (c .before .before .before .args .limit) _ _ (c .loop-test .left) (c .before .loop .inv .2)
 
 pub fewest-spec : {M : Type 1} → statement M
 fewest-spec =

@@ -11,7 +11,7 @@ use Rattle.fewest.proofs.suits.Statement.{statement}
 use Rattle.fewest.proofs.suits.Tie as tie
 use Rattle.fewest.proofs.suits.Reads as reads
 use Rattle.fewest.proofs.suits.Lts as lts
-use Rattle.readers.proofs.digits.Reads as digits-reads
+use Rattle.bounds.proofs.digits.Reads as digits-reads
 
 -- src/lib.rt:24:9
 digits-requires : tie.Need-digits-requires

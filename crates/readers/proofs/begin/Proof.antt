@@ -4,7 +4,7 @@ use Rattle.readers.proofs.begin.Statement.{statement}
 use Rattle.readers.proofs.begin.Tie as tie
 use Rattle.readers.proofs.begin.Reads as reads
 use Rattle.readers.proofs.begin.Lts as lts
-use Rattle.coding.proofs.block.Reads as block-reads
+use Rattle.holding.proofs.block.Reads as block-reads
 
 -- src/lib.rt:98:9
 block-requires : tie.Need-block-requires

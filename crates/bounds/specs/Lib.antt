@@ -1,0 +1,2 @@
+-- Reasons has the definitions that contracts cite, and their laws.
+pub mod Reasons

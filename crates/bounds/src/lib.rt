@@ -1,0 +1,88 @@
+// How many blocks each class of each output cannot do without, for given reading sets (specs/Reasons has the argument).
+ghost use mathlib.Core.Path.{_≡_};
+ghost use mathlib.Core.Bool.{Bool, true, false};
+ghost use mathlib.Core.List.{List};
+ghost use Prim.Native.Nat.{ℕ, _+_, _*_, _<_, _≤_, _^_};
+ghost use lib.ListN.{length, getD};
+ghost use Rattle.bits.specs.Digit.{on};
+ghost use Rattle.cells.specs.Lists.{count};
+ghost use Rattle.numbering.specs.Given.{Labels, item};
+ghost use Rattle.bounds.specs.Reasons.{Kinds32, Reason, Based};
+
+// How many cells a set of cells below 6 has.
+pub fn digits(x: u8) -> u8
+    ensures { λ r. ⌜ (r ≡ count (on x) 6) × (r ≤ 6) ⌝ }
+{
+    let mut n: u8 = 0;
+    let mut i: u8 = 0;
+    while i < 6 {
+        if cells::in_set(x as u64, i) {
+            n += 1;
+        }
+        i += 1;
+    }
+    n
+}
+
+pub fn power(k: u8) -> u8
+    requires { ⌜ k ≤ 6 ⌝ }
+    ensures { λ r. ⌜ (r ≡ 2 ^ k) × (0 < r) × (r ≤ 64) ⌝ }
+{
+    1 << k
+}
+
+// How many classes of q occur in class l of o.
+pub fn kinds(cl: &[u8], v: usize, o: usize, l: u8, q: usize) -> u8
+    requires { ⌜ Labels (now cl) × (v ≤ 32) × (o < 8) × (q < 8) ⌝ }
+    ensures { λ r. ⌜ Kinds32 (now (cl .entry)) v o l q r ⌝ }
+{
+    let mut seen: u64 = 0;
+    let mut g: u8 = 0;
+    let mut x = 0;
+    while x < v {
+        let t = numbering::label(cl, o, x);
+        if t == l {
+            let k = numbering::label(cl, q, x);
+            if !cells::in_set(seen, k) {
+                seen = cells::with(seen, k);
+                g += 1;
+            }
+        }
+        x += 1;
+    }
+    g
+}
+
+// How many blocks class l of o needs.
+pub fn need(cl: &[u8], v: usize, j: usize, rows: [u8; 8], o: usize, l: u8) -> u8
+    requires { ⌜ Labels (now cl) × (v ≤ 32) × (j ≤ 8) × (o < j) ⌝ }
+    ensures { λ r. ⌜ Reason (now (cl .entry)) rows v j o l r ⌝ }
+{
+    let mut n: u8 = 0;
+    let mut q = 0;
+    while q < j {
+        let g = kinds(cl, v, o, l, q);
+        let p = power(digits(rows[q] & !rows[o]));
+        let b = (g + p - 1) / p;
+        if n < b {
+            n = b;
+        }
+        q += 1;
+    }
+    n
+}
+
+// The same for each class l of each output o, at o * 32 + l.
+pub fn bases(cl: &[u8], v: usize, j: usize, rows: [u8; 8]) -> [u8; 256]
+    requires { ⌜ Labels (now cl) × (v ≤ 32) × (j ≤ 8) ⌝ }
+    ensures { λ r. ⌜ Based (now (cl .entry)) rows v j (j * 32) r ⌝ }
+{
+    let mut r = [0u8; 256];
+    let end = j * 32;
+    let mut i = 0;
+    while i < end {
+        r[i] = need(cl, v, j, rows, i / 32, (i % 32) as u8);
+        i += 1;
+    }
+    r
+}

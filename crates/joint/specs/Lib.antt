@@ -1,0 +1,2 @@
+-- Merge has the definitions that contracts cite, and their laws.
+pub mod Merge

@@ -1,0 +1,119 @@
+// One vertex for each joint class of the outputs in question: the vertices are merged, the search for codes runs on the
+// classes, and each vertex takes the code of its class. The contract is that of the search on all vertices.
+ghost use mathlib.Core.Path.{_≡_};
+ghost use mathlib.Core.Bool.{Bool, true, false};
+ghost use mathlib.Core.List.{List};
+ghost use Prim.Native.Nat.{ℕ, _+_, _*_, _<_, _≤_};
+ghost use lib.ListN.{length, getD};
+ghost use Rattle.numbering.specs.Given.{Labels, item};
+ghost use Rattle.readers.specs.Masks.{Short, Decided};
+ghost use Rattle.joint.specs.Merge.{Alike, Merged, Picked, Spread};
+
+// Whether x and y have the same classes for the first j outputs.
+pub fn alike(cl: &[u8], j: usize, x: usize, y: usize) -> bool
+    requires { ⌜ Labels (now cl) × (j ≤ 8) × (x < 32) × (y < 32) ⌝ }
+    ensures { λ r. ⌜ (r ≡ true → Alike (now (cl .entry)) j x y) ⌝ }
+{
+    let mut o = 0;
+    while o < j {
+        let a = numbering::label(cl, o, x);
+        let b = numbering::label(cl, o, y);
+        if a != b {
+            return false;
+        }
+        o += 1;
+    }
+    true
+}
+
+// The class of x among the first n, or n where it is in none of them.
+pub fn class_of(cl: &[u8], j: usize, first: [u8; 32], n: usize, x: usize) -> usize
+    requires { ⌜ Labels (now cl) × (j ≤ 8) × (x < 32) × (n ≤ 32) × ((i : ℕ) → i < 32 → item first i < 32) ⌝ }
+    ensures { λ r. ⌜ (r ≤ n) × (r < n → Alike (now (cl .entry)) j x (item first r)) ⌝ }
+{
+    let mut i = 0;
+    while i < n {
+        if alike(cl, j, x, first[i] as usize) {
+            return i;
+        }
+        i += 1;
+    }
+    n
+}
+
+// The number of joint classes, the first vertex of each class, and the class of each vertex.
+pub struct Classes {
+    pub count: usize,
+    pub first: [u8; 32],
+    pub place: [u8; 32],
+}
+
+pub fn merge(cl: &[u8], v: usize, j: usize) -> Classes
+    requires { ⌜ Labels (now cl) × (v ≤ 32) × (j ≤ 8) ⌝ }
+    ensures { λ r. ⌜ Merged (now (cl .entry)) j v (r .count) (r .first) (r .place) ⌝ }
+{
+    let mut first = [0u8; 32];
+    let mut place = [0u8; 32];
+    let mut n: usize = 0;
+    let mut x: usize = 0;
+    while x < v {
+        let q = class_of(cl, j, first, n, x);
+        if q == n {
+            first[n] = x as u8;
+            place[x] = n as u8;
+            n += 1;
+        } else {
+            place[x] = q as u8;
+        }
+        x += 1;
+    }
+    Classes {
+        count: n,
+        first,
+        place,
+    }
+}
+
+// The labels of the classes.
+pub fn relabel(cl: &[u8], first: [u8; 32]) -> [u8; 256]
+    requires { ⌜ Labels (now cl) × ((i : ℕ) → i < 32 → item first i < 32) ⌝ }
+    ensures { λ r. ⌜ Picked (now (cl .entry)) first 256 r ⌝ }
+{
+    let mut r = [0u8; 256];
+    let mut i = 0;
+    while i < 256 {
+        r[i] = numbering::label(cl, i / 32, first[i % 32] as usize);
+        i += 1;
+    }
+    r
+}
+
+// Each vertex with the code of its class.
+pub fn expand(codes: [u8; 32], place: [u8; 32], v: usize) -> [u8; 32]
+    requires { ⌜ (v ≤ 32) × ((x : ℕ) → x < v → item place x < 32) ⌝ }
+    ensures { λ r. ⌜ Spread place codes v r ⌝ }
+{
+    let mut r = [0u8; 32];
+    let mut x = 0;
+    while x < v {
+        r[x] = codes[place[x] as usize];
+        x += 1;
+    }
+    r
+}
+
+// Codes for v vertices that tell the classes of the first j outputs apart, each reading its row of cells.
+pub fn codes_for(cl: &[u8], v: usize, j: usize, rows: [u8; 8]) -> numbering::Codes
+    requires { ⌜ Labels (now cl) × (v ≤ 32) × (j ≤ 8) × Short rows j ⌝ }
+    ensures { λ r. ⌜ Decided (now (cl .entry)) v j rows (r .ok) (r .codes) ⌝ }
+{
+    let m = merge(cl, v, j);
+    let n = m.count;
+    let first = m.first;
+    let place = m.place;
+    let labels = relabel(cl, first);
+    let c = readers::codes_for(&labels, n, j, rows);
+    let small = c.codes;
+    let codes = expand(small, place, v);
+    numbering::Codes { ok: c.ok, codes }
+}
