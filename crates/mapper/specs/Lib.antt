@@ -3,3 +3,4 @@ pub mod Map
 pub mod DesignLaws
 pub mod SizeLaws
 pub mod Demands
+pub mod MapLaws

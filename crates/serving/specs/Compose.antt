@@ -94,7 +94,7 @@ first-found f (suc k) i x a b e =
     after i x a n = omega arith
 
 -- ---- the parts of the built network
-lut-built : (d : Design) (codes : ℕ → ℕ) (k j i x : ℕ) → i < k → x < vertexCount (d .bound) → getD (getD (lutsBuilt d codes k j) i []) x false ≡ on (codes x) (j + i)
+pub lut-built : (d : Design) (codes : ℕ → ℕ) (k j i x : ℕ) → i < k → x < vertexCount (d .bound) → getD (getD (lutsBuilt d codes k j) i []) x false ≡ on (codes x) (j + i)
 unfolding lutsBuilt
 lut-built d codes zero j i x h a = absurd (omega arith)
 lut-built d codes (suc k) j zero x h a = values-at (λ y. on (codes y) j) (vertexCount (d .bound)) x a ∙ ap (on (codes x)) (sym (add-zero j))
@@ -194,7 +194,7 @@ module _ (d : Design) (u : ℕ) (rows codes : ℕ → ℕ) (p : Parts (d .inputs
       ap₂ (λ (r : ℕ) (t : Option ℕ). entryAt d o r t) lo (f .is)
       ∙ one-code o (f .at) x h (omega (arith, f .below)) a (eqb-true (codeIn is (codes (f .at))) (j / freeCount (d .inputs) (d .bound)) (f .passes) ∙ hi) z c
 
-  tables-at : (o x : ℕ) → x < vertexCount (d .bound) → map (λ i. lutAt (built d u rows codes) i x) (numbers u 0 (rows o)) ≡ map (on (codes x)) (numbers u 0 (rows o))
+  pub tables-at : (o x : ℕ) → x < vertexCount (d .bound) → map (λ i. lutAt (built d u rows codes) i x) (numbers u 0 (rows o)) ≡ map (on (codes x)) (numbers u 0 (rows o))
   unfolding built
   tables-at o x a =
       map-each (λ i. lutAt (built d u rows codes) i x) (on (codes x))
