@@ -1,9 +1,9 @@
 -- The local and the global classes of a design's vertices, by the laws of classes: one class means no conflict, in one
 -- output or in every output; class numbers are those below the number of classes; an output's width is at most the
 -- number of bound inputs. Assumes nothing.
-use mathlib.Core.Path.{_≡_, refl, sym, ap, subst, _∙_}
+use mathlib.Core.Path.{_≡_, refl, ap}
 use mathlib.Core.Logic.{⊎-elim}
-use mathlib.Core.Bool.{Bool, true, false, not, _&&_}
+use mathlib.Core.Bool.{true, false, not}
 use mathlib.Core.List.{List}
 use Prim.Native.Nat.{ℕ, zero, suc, _≤_, _<_}
 use native.Mathlib.Omega.{arith}
@@ -14,8 +14,8 @@ use Rattle.rows.specs.EveryLaws.{last-or-below}
 use Rattle.names.specs.Name.{Name}
 use Rattle.sheet.specs.Examine.{Design}
 use Rattle.classes.specs.Columns.{vertexCount, conflict, alike, alikeUpto, alikeInAll}
-use Rattle.classes.specs.Classes.{classCount, classOf, localCount, localClass, globalCount, globalClass}
-use Rattle.classes.specs.Width.{widthOf, width}
+use Rattle.classes.specs.Classes.{localCount, localClass, globalCount, globalClass}
+use Rattle.classes.specs.Width.{width}
 use Rattle.classes.specs.ClassLaws.{Taken, count-most, related-class, class-related, class-below, class-taken}
 use Rattle.classes.specs.ColumnLaws.{alike-equivalence, upto-equivalence}
 use Rattle.classes.specs.WidthLaws.{width-least}

@@ -1,82 +1,62 @@
+-- `shape_of`: the rows gathered by the inputs' digits are those of vertices and free rows. Assumes nothing.
+use mathlib.Core.Path.{_≡_, sym}
+use native.Mathlib.Omega.{arith}
+use borrow.Author.Needs.{needs}
+use lib.ListN.{length, take}
+use lib.Seq.{length-take-le}
 use Rattle.classes.proofs.Arrays.{bound-sized}
 use Rattle.classes.specs.ShapeLaws.{shaped, small-part, few-power}
-use lib.Seq.{length-take-le}
-use lib.ListN.{length, take}
-use native.Mathlib.Omega.{arith}
-use Prim.Native.Nat.{ℕ, _≤_, _<_, _-_, _^_}
-use mathlib.Core.Path.{_≡_, refl, sym, ap, _∙_}
-use borrow.Author.Needs.{needs}
 use Rattle.classes.proofs.shape_of.Statement.{statement}
 use Rattle.classes.proofs.shape_of.Tie as tie
-use Rattle.classes.proofs.shape_of.Reads as reads
-use Rattle.classes.proofs.shape_of.Lts as lts
-use Rattle.classes.proofs.digits.Reads as digits-reads
-use Rattle.classes.proofs.fill.Reads as fill-reads
-use Rattle.classes.proofs.power.Reads as power-reads
 
--- src/lib.rt:139:23
 array-share-prefix-bound : tie.Need-array-share-prefix-bound
 array-share-prefix-bound c = omega (arith, c .before .pre .few-bound, bound-sized (c .before .args .k) (c .before .good .0))
 
--- src/lib.rt:139:23
 slice-aggregate-digits : tie.Need-slice-aggregate-digits
 slice-aggregate-digits c = sym (length-take-le _ _ (omega (arith, c .before .before .pre .few-bound, bound-sized (c .before .before .args .k) (c .before .before .good .0))))
 
--- src/lib.rt:139:16
 digits-requires : tie.Need-digits-requires
 digits-requires c κs =
     let e : length (take (c .before .before .args .k .bounds) (c .before .before .args .k .bound)) ≡ c .before .before .args .k .bounds = length-take-le _ _ (omega (arith, c .before .before .pre .few-bound, bound-sized (c .before .before .args .k) (c .before .before .good .0))) in
     (c .before .before .pre .few-inputs, omega (arith, c .before .before .pre .few-bound))
 
--- src/lib.rt:140:9
 power-requires : tie.Need-power-requires
 power-requires c κs = omega (arith, c .before .before .before .pre .few-bound)
 
--- src/lib.rt:143:10
 slice-aggregate-fill : tie.Need-slice-aggregate-fill
 slice-aggregate-fill c = search needs
 
--- src/lib.rt:143:23
 array-share-prefix-list : tie.Need-array-share-prefix-list
 array-share-prefix-list c = omega (arith, c .before .before .before .before .before .pre .few-inputs, c .before .before .digits .ensures .size)
 
--- src/lib.rt:143:23
 slice-aggregate-fill-2 : tie.Need-slice-aggregate-fill-2
 slice-aggregate-fill-2 c = sym (length-take-le _ _ (omega (arith, c .before .before .before .before .before .before .pre .few-inputs, c .before .before .before .digits .ensures .size)))
 
--- src/lib.rt:143:5
 fill-requires : tie.Need-fill-requires
 fill-requires c κs =
     let p = small-part (c .before .before .before .digits .result) (c .before .before .before .before .before .before .args .k .inputs) (c .before .before .before .digits .ensures .small) (c .before .before .before .before .before .before .pre .few-inputs) (c .before .before .before .digits .ensures .size) in
     (search needs, search needs, p .0, p .1)
 
--- src/lib.rt:144:10
 slice-aggregate-fill-3 : tie.Need-slice-aggregate-fill-3
 slice-aggregate-fill-3 c = search needs
 
--- src/lib.rt:144:21
 array-share-prefix-list-2 : tie.Need-array-share-prefix-list-2
 array-share-prefix-list-2 c = omega (arith, c .before .before .before .before .before .before .before .before .before .pre .few-inputs, c .before .before .before .before .before .before .digits .ensures .size)
 
--- src/lib.rt:144:21
 slice-aggregate-fill-4 : tie.Need-slice-aggregate-fill-4
 slice-aggregate-fill-4 c = sym (length-take-le _ _ (omega (arith, c .before .before .before .before .before .before .before .before .before .before .pre .few-inputs, c .before .before .before .before .before .before .before .digits .ensures .size)))
 
--- src/lib.rt:144:5
 fill-requires-2 : tie.Need-fill-requires-2
 fill-requires-2 c κs =
     let p = small-part (c .before .before .before .before .before .before .before .digits .result) (c .before .before .before .before .before .before .before .before .before .before .args .k .inputs) (c .before .before .before .before .before .before .before .digits .ensures .small) (c .before .before .before .before .before .before .before .before .before .before .pre .few-inputs) (c .before .before .before .before .before .before .before .digits .ensures .size) in
     (search needs, few-power (c .before .before .before .before .before .before .before .before .before .before .args .k .bounds) _ (c .before .before .before .before .before .before .power .ensures) (c .before .before .before .before .before .before .before .before .before .before .pre .few-bound), p .0, p .1)
 
--- src/lib.rt:147:22
 sub-power : tie.Need-sub-power
 sub-power c = c .before .before .before .before .before .before .before .before .before .before .before .before .pre .bound-inputs
 
--- src/lib.rt:147:16
 power-requires-2 : tie.Need-power-requires-2
 power-requires-2 c κs = omega (arith, c .before .before .before .before .before .before .before .before .before .before .before .before .pre .few-inputs)
 
--- src/lib.rt:132:1
 returns : tie.Need-returns
 returns c = shaped (c .before .before .before .before .before .before .before .before .before .before .before .before .before .args .k) (c .before .before .before .before .before .before .before .before .before .before .digits .result) _ (c .before .before .before .before .before .before .before .before .before .before .before .before .before .pre) (c .before .before .before .before .before .before .before .before .before .before .digits .ensures) (c .before .before .before .before .before .before .before .before .before .power .ensures) (c .power2 .ensures) (c .before .before .before .before .before .before .fill .ensures) (c .before .before .fill2 .ensures) (c .before .before .before .before .before .before .fill .kept .0) (c .before .before .fill2 .kept .0)
 
