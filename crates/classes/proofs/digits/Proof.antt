@@ -35,7 +35,12 @@ loop-less : tie.Need-loop-less Inv-loop μ-loop
 loop-less c = search needs
 
 loop-again : tie.Need-loop-again Inv-loop μ-loop
-loop-again c = placed-bound (c .before .before .before .loop .inv) (c .before .before .before .before .before .pre .0) (c .before .before .loop-test .taken) (c .before .place .ensures) (c .before .before .before .before .before .pre .1) (c .if1 .taken)
+loop-again c =
+    let turn = c .before .before in
+    let head = turn .before in
+    let start = head .before .before in
+    placed-bound (head .loop .inv) (start .pre .0) (turn .loop-test .taken) (c .before .place .ensures) (start .pre .1)
+    (c .if1 .taken)
 
 mul-list-2 : tie.Need-mul-list-2 Inv-loop μ-loop
 mul-list-2 c = search needs
@@ -50,7 +55,12 @@ loop-less-2 : tie.Need-loop-less-2 Inv-loop μ-loop
 loop-less-2 c = search needs
 
 loop-again-2 : tie.Need-loop-again-2 Inv-loop μ-loop
-loop-again-2 c = placed-free (c .before .before .before .loop .inv) (c .before .before .before .before .before .pre .0) (c .before .before .loop-test .taken) (c .before .place .ensures) (c .before .before .before .before .before .pre .1) (c .if1 .left)
+loop-again-2 c =
+    let turn = c .before .before in
+    let head = turn .before in
+    let start = head .before .before in
+    placed-free (head .loop .inv) (start .pre .0) (turn .loop-test .taken) (c .before .place .ensures) (start .pre .1)
+    (c .if1 .left)
 
 returns : tie.Need-returns Inv-loop μ-loop
 returns c = placed-all (c .before .loop .inv) (c .loop-test .left)

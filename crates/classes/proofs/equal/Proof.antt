@@ -36,19 +36,41 @@ shared-slice-read-row : tie.Need-shared-slice-read-row Inv-loop μ-loop
 shared-slice-read-row c = search needs
 
 add-value : tie.Need-add-value Inv-loop μ-loop
-add-value c = omega (arith, c .before .before .before .before .before .before .before .before .pre .1 .each (c .before .before .before .before .before .before .before .before .args .x .0) (c .before .before .loop .f) (c .before .before .before .before .before .before .before .before .pre .2) (c .before .loop-test .taken))
+add-value c =
+    let head = c .before .before in
+    let start = head .before .before .before .before .before .before in
+    omega (arith, start .pre .1 .each (start .args .x .0) (head .loop .f) (start .pre .2) (c .before .loop-test .taken))
 
 value-requires : tie.Need-value-requires Inv-loop μ-loop
-value-requires c κs = (c .before .before .before .before .before .before .before .before .pre .0, c .before .before .before .before .before .before .before .before .pre .1 .each (c .before .before .before .before .before .before .before .before .args .x .0) (c .before .before .loop .f) (c .before .before .before .before .before .before .before .before .pre .2) (c .before .loop-test .taken))
+value-requires c κs =
+    let head = c .before .before in
+    let start = head .before .before .before .before .before .before in
+    (start .pre .0, start .pre .1 .each (start .args .x .0) (head .loop .f) (start .pre .2) (c .before .loop-test .taken))
 
 add-value-2 : tie.Need-add-value-2 Inv-loop μ-loop
-add-value-2 c = omega (arith, c .before .before .before .before .before .before .before .before .before .pre .1 .each (c .before .before .before .before .before .before .before .before .before .args .y .0) (c .before .before .before .loop .f) (c .before .before .before .before .before .before .before .before .before .pre .3) (c .before .before .loop-test .taken))
+add-value-2 c =
+    let turn = c .before .before in
+    let head = turn .before in
+    let start = head .before .before .before .before .before .before in
+    omega (arith, start .pre .1 .each (start .args .y .0) (head .loop .f) (start .pre .3) (turn .loop-test .taken))
 
 value-requires-2 : tie.Need-value-requires-2 Inv-loop μ-loop
-value-requires-2 c κs = (c .before .before .before .before .before .before .before .before .before .pre .0, c .before .before .before .before .before .before .before .before .before .pre .1 .each (c .before .before .before .before .before .before .before .before .before .args .y .0) (c .before .before .before .loop .f) (c .before .before .before .before .before .before .before .before .before .pre .3) (c .before .before .loop-test .taken))
+value-requires-2 c κs =
+    let turn = c .before .before in
+    let head = turn .before in
+    let start = head .before .before .before .before .before .before in
+    (start .pre .0, start .pre .1 .each (start .args .y .0) (head .loop .f) (start .pre .3) (turn .loop-test .taken))
 
 returns : tie.Need-returns Inv-loop μ-loop
-returns c = differing (c .before .before .before .before .before .loop .inv) (c .before .before .before .before .loop-test .taken) (read-differ (c .before .before .before .before .before .before .before .before .before .before .before .args .t .now) (c .before .before .before .before .before .before .before .before .before .before .before .args .vertex .now) (c .before .before .before .before .before .before .before .before .before .before .before .args .free .now) (c .before .before .before .before .before .before .before .before .before .before .before .args .x .0) (c .before .before .before .before .before .before .before .before .before .before .before .args .y .0) (c .before .before .before .before .before .loop .f) (c .before .before .value .ensures) (c .before .value2 .ensures) (c .if1 .taken))
+returns c =
+    let at-value = c .before .before in
+    let turn = at-value .before .before in
+    let head = turn .before in
+    let start = head .before .before .before .before .before .before in
+    differing (head .loop .inv) (turn .loop-test .taken)
+    (read-differ (start .args .t .now) (start .args .vertex .now) (start .args .free .now)
+    (start .args .x .0) (start .args .y .0) (head .loop .f)
+    (at-value .value .ensures) (c .before .value2 .ensures) (c .if1 .taken))
 
 add-f : tie.Need-add-f Inv-loop μ-loop
 add-f c = search needs
@@ -57,7 +79,15 @@ loop-less : tie.Need-loop-less Inv-loop μ-loop
 loop-less c = search needs
 
 loop-again : tie.Need-loop-again Inv-loop μ-loop
-loop-again c = agreeing-more (c .before .before .before .before .before .loop .inv) (c .before .before .before .before .loop-test .taken) (read-agree (c .before .before .before .before .before .before .before .before .before .before .before .args .t .now) (c .before .before .before .before .before .before .before .before .before .before .before .args .vertex .now) (c .before .before .before .before .before .before .before .before .before .before .before .args .free .now) (c .before .before .before .before .before .before .before .before .before .before .before .args .x .0) (c .before .before .before .before .before .before .before .before .before .before .before .args .y .0) (c .before .before .before .before .before .loop .f) (c .before .before .value .ensures) (c .before .value2 .ensures) (c .if1 .left))
+loop-again c =
+    let at-value = c .before .before in
+    let turn = at-value .before .before in
+    let head = turn .before in
+    let start = head .before .before .before .before .before .before in
+    agreeing-more (head .loop .inv) (turn .loop-test .taken)
+    (read-agree (start .args .t .now) (start .args .vertex .now) (start .args .free .now)
+    (start .args .x .0) (start .args .y .0) (head .loop .f)
+    (at-value .value .ensures) (c .before .value2 .ensures) (c .if1 .left))
 
 returns-2 : tie.Need-returns-2 Inv-loop μ-loop
 returns-2 c = agreeing-all (c .before .loop .inv) (c .loop-test .left)

@@ -1,6 +1,6 @@
 -- `fill`: each turn stores one row. Assumes nothing.
 use mathlib.Core.Path.{_≡_, refl, _∙_}
-use Prim.Native.Nat.{_-_}
+use Prim.Native.Nat.{_≤_, _-_}
 use native.Mathlib.Omega.{arith}
 use borrow.Author.Needs.{needs}
 use lib.ListN.{length, length-set}
@@ -18,7 +18,11 @@ loop-holds : tie.Need-loop-holds Inv-loop μ-loop
 loop-holds c = (refl, filled-none)
 
 mul-gather : tie.Need-mul-gather Inv-loop μ-loop
-mul-gather c = omega (arith, product-small (c .before .loop .i) (c .before .before .before .before .args .step) (let a = c .before .before .before .before .pre .0 in let b = c .before .loop .inv .0 in let d = c .loop-test .taken in omega arith) (c .before .before .before .before .pre .1))
+mul-gather c =
+    let start = c .before .before .before .before in
+    let i = c .before .loop .i in
+    let few : i ≤ 512 = (let a = start .pre .0 in let b = c .before .loop .inv .0 in let d = c .loop-test .taken in omega arith) in
+    omega (arith, product-small i (start .args .step) few (start .pre .1))
 
 gather-requires : tie.Need-gather-requires Inv-loop μ-loop
 gather-requires c κs = (c .before .before .before .before .pre .2, c .before .before .before .before .pre .3)
@@ -36,7 +40,11 @@ loop-less : tie.Need-loop-less Inv-loop μ-loop
 loop-less c = (let b = c .before .before .loop .inv .0 in let d = c .before .loop-test .taken in omega arith)
 
 loop-again : tie.Need-loop-again Inv-loop μ-loop
-loop-again c = (length-set (c .before .before .loop .out) (c .before .before .loop .i) (c .gather .result) ∙ c .before .before .loop .inv .0, filled-more (c .before .before .loop .inv .1) (c .before .loop-test .taken) (c .gather .ensures))
+loop-again c =
+    let head = c .before .before in (
+      length-set (head .loop .out) (head .loop .i) (c .gather .result) ∙ head .loop .inv .0,
+      filled-more (head .loop .inv .1) (c .before .loop-test .taken) (c .gather .ensures),
+    )
 
 same-length : tie.Need-same-length Inv-loop μ-loop
 same-length c = c .before .loop .inv .0

@@ -19,10 +19,15 @@ loop-holds : tie.Need-loop-holds Inv-loop μ-loop
 loop-holds c = unlike-none
 
 equal-requires : tie.Need-equal-requires Inv-loop μ-loop
-equal-requires c κs = (c .before .before .before .before .before .pre .0, c .before .before .before .before .before .pre .1, (let a = c .before .before .before .before .before .pre .2 in let b = c .loop-test .taken in omega arith), c .before .before .before .before .before .pre .2)
+equal-requires c κs =
+    let start = c .before .before .before .before .before in
+    (start .pre .0, start .pre .1, (let a = start .pre .2 in let b = c .loop-test .taken in omega arith), start .pre .2)
 
 returns : tie.Need-returns Inv-loop μ-loop
-returns c = like-found (c .before .before .before .loop .inv) (c .before .before .loop-test .taken) (sym (c .before .equal .ensures) ∙ c .if1 .taken)
+returns c =
+    let turn = c .before .before in
+    let head = turn .before in
+    like-found (head .loop .inv) (turn .loop-test .taken) (sym (c .before .equal .ensures) ∙ c .if1 .taken)
 
 add-y : tie.Need-add-y Inv-loop μ-loop
 add-y c = search needs
@@ -31,7 +36,10 @@ loop-less : tie.Need-loop-less Inv-loop μ-loop
 loop-less c = search needs
 
 loop-again : tie.Need-loop-again Inv-loop μ-loop
-loop-again c = unlike-more (c .before .before .before .loop .inv) (c .before .before .loop-test .taken) (sym (c .before .equal .ensures) ∙ c .if1 .left)
+loop-again c =
+    let turn = c .before .before in
+    let head = turn .before in
+    unlike-more (head .loop .inv) (turn .loop-test .taken) (sym (c .before .equal .ensures) ∙ c .if1 .left)
 
 returns-2 : tie.Need-returns-2 Inv-loop μ-loop
 returns-2 c = like-itself (c .before .loop .inv) (c .loop-test .left)

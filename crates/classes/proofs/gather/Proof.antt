@@ -20,7 +20,10 @@ loop-holds : tie.Need-loop-holds Inv-loop μ-loop
 loop-holds c = (search needs, gather-none (c .before .args .digits .now) (c .before .args .z))
 
 mul-r : tie.Need-mul-r Inv-loop μ-loop
-mul-r c = omega (arith, gather-small (c .before .before .before .args .digits .now) (c .before .before .before .args .z) (c .before .loop .i) (c .before .before .before .pre .0), c .before .loop .inv .1)
+mul-r c =
+    let start = c .before .before .before in
+    omega
+    (arith, gather-small (start .args .digits .now) (start .args .z) (c .before .loop .i) (start .pre .0), c .before .loop .inv .1)
 
 mul-has : tie.Need-mul-has Inv-loop μ-loop
 mul-has c = search needs
@@ -38,7 +41,11 @@ bit-requires : tie.Need-bit-requires Inv-loop μ-loop
 bit-requires c κs = search needs
 
 add-r : tie.Need-add-r Inv-loop μ-loop
-add-r c = omega (arith, gather-small (c .before .before .before .before .before .before .args .digits .now) (c .before .before .before .before .before .before .args .z) (c .before .before .before .before .loop .i) (c .before .before .before .before .before .before .pre .0), c .before .before .before .before .loop .inv .1, c .bit .ensures, bit-most (c .before .has .result))
+add-r c =
+    let head = c .before .before .before .before in
+    let start = head .before .before in
+    let small = gather-small (start .args .digits .now) (start .args .z) (head .loop .i) (start .pre .0) in
+    omega (arith, small, head .loop .inv .1, c .bit .ensures, bit-most (c .before .has .result))
 
 add-i : tie.Need-add-i Inv-loop μ-loop
 add-i c = search needs
@@ -47,10 +54,19 @@ loop-less : tie.Need-loop-less Inv-loop μ-loop
 loop-less c = search needs
 
 loop-again : tie.Need-loop-again Inv-loop μ-loop
-loop-again c = (search needs, gather-more (c .before .before .before .before .before .before .args .digits .now) (c .before .before .before .before .before .before .args .z) (c .before .before .before .before .loop .i) (c .before .before .before .before .loop .r) (c .bit .result) (c .before .has .result) (c .before .before .before .loop-test .taken) (c .before .before .before .before .loop .inv .1) (c .before .has .ensures) (c .bit .ensures))
+loop-again c =
+    let turn = c .before .before .before in
+    let head = turn .before in
+    let start = head .before .before in (
+      search needs,
+      gather-more (start .args .digits .now) (start .args .z) (head .loop .i) (head .loop .r) (c .bit .result)
+          (c .before .has .result) (turn .loop-test .taken) (head .loop .inv .1) (c .before .has .ensures) (c .bit .ensures),
+    )
 
 returns : tie.Need-returns Inv-loop μ-loop
-returns c = c .before .loop .inv .1 ∙ gather-all (c .before .before .before .args .digits .now) (c .before .before .before .args .z) (c .before .loop .i) (c .loop-test .left)
+returns c =
+    let start = c .before .before .before in
+    c .before .loop .inv .1 ∙ gather-all (start .args .digits .now) (start .args .z) (c .before .loop .i) (c .loop-test .left)
 
 pub gather-spec : {M : Type 1} → statement M
 gather-spec =

@@ -13,7 +13,8 @@ use Rattle.classes.proofs.global_classes.Statement.{statement}
 use Rattle.classes.proofs.global_classes.Tie as tie
 
 abbrev Inv-loop : tie.InvT-loop
-Inv-loop keys classes₀ count₀ x₀ classes count x = (x ≤ length keys) × Numbered (λ (g : GlobalClass). g .0) (record { 0 = 0 }) (sameKey keys) classes x count
+Inv-loop keys classes₀ count₀ x₀ classes count x =
+    (x ≤ length keys) × Numbered (λ (g : GlobalClass). g .0) (record { 0 = 0 }) (sameKey keys) classes x count
 
 abbrev μ-loop : tie.MeasureT-loop
 μ-loop keys classes₀ count₀ x₀ classes count x = length keys - x
@@ -43,7 +44,11 @@ array-set-from-classes-2 : tie.Need-array-set-from-classes-2 Inv-loop μ-loop
 array-set-from-classes-2 c = search needs
 
 add-count : tie.Need-add-count Inv-loop μ-loop
-add-count c = omega (arith, numbered-few (c .before .before .before .loop .inv .1), c .before .before .loop-test .taken, c .before .before .before .before .before .pre)
+add-count c =
+    let turn = c .before .before in
+    let head = turn .before in
+    let start = head .before .before in
+    omega (arith, numbered-few (head .loop .inv .1), turn .loop-test .taken, start .pre)
 
 add-x : tie.Need-add-x Inv-loop μ-loop
 add-x c = search needs
@@ -53,17 +58,22 @@ loop-less c = search needs
 
 loop-again : tie.Need-loop-again Inv-loop μ-loop
 loop-again c =
-    let l = c .before .before .loop-test .taken in
-    let m = c .before .before .before .before .before .pre in (
+    let turn = c .before .before in
+    let head = turn .before in
+    let start = head .before .before in
+    let l = turn .loop-test .taken in
+    let m = start .pre in
+    let equivalence = same-key (start .args .keys .now) in (
       omega arith,
       ⊎-elim
-          (λ w. numbered-old (same-key (c .before .before .before .before .before .args .keys .now)) (c .before .before .before .loop .inv .1) (omega arith) (w .0 .taken) (c .before .first-key .ensures) (w .2) (w .3))
-          (λ w. numbered-new (c .before .before .before .loop .inv .1) (omega arith) (w .0 .left) (c .before .first-key .ensures) (w .1) refl (w .2))
+          (λ w. numbered-old equivalence (head .loop .inv .1) (omega arith) (w .0 .taken) (c .before .first-key .ensures) (w .2) (w .3))
+          (λ w. numbered-new (head .loop .inv .1) (omega arith) (w .0 .left) (c .before .first-key .ensures) (w .1) refl (w .2))
           (c .if1 .came),
     )
 
 returns : tie.Need-returns Inv-loop μ-loop
-returns c = numbered-all (c .before .loop .inv .1) (let a = c .before .loop .inv .0 in let b = c .loop-test .left in omega arith)
+returns c =
+    numbered-all (c .before .loop .inv .1) (let a = c .before .loop .inv .0 in let b = c .loop-test .left in omega arith)
 
 pub global-classes-spec : {M : Type 1} → statement M
 global-classes-spec =

@@ -13,7 +13,8 @@ use Rattle.classes.proofs.local_classes.Statement.{statement}
 use Rattle.classes.proofs.local_classes.Tie as tie
 
 abbrev Inv-loop : tie.InvT-loop
-Inv-loop vertex free t classes₀ count₀ x₀ classes count x = (x ≤ length vertex) × Numbered (λ (l : LocalClass). l .0) (record { 0 = 0 }) (sameColumn (seen t vertex free) (length free)) classes x count
+Inv-loop vertex free t classes₀ count₀ x₀ classes count x =
+    (x ≤ length vertex) × Numbered (λ (l : LocalClass). l .0) (record { 0 = 0 }) (sameColumn (seen t vertex free) (length free)) classes x count
 
 abbrev μ-loop : tie.MeasureT-loop
 μ-loop vertex free t classes₀ count₀ x₀ classes count x = length vertex - x
@@ -46,7 +47,11 @@ array-set-from-classes-2 : tie.Need-array-set-from-classes-2 Inv-loop μ-loop
 array-set-from-classes-2 c = search needs
 
 add-count : tie.Need-add-count Inv-loop μ-loop
-add-count c = omega (arith, numbered-few (c .before .before .before .before .loop .inv .1), c .before .before .before .loop-test .taken, c .before .before .before .before .before .before .before .pre .1)
+add-count c =
+    let turn = c .before .before .before in
+    let head = turn .before in
+    let start = head .before .before .before in
+    omega (arith, numbered-few (head .loop .inv .1), turn .loop-test .taken, start .pre .1)
 
 add-x : tie.Need-add-x Inv-loop μ-loop
 add-x c = search needs
@@ -56,17 +61,23 @@ loop-less c = search needs
 
 loop-again : tie.Need-loop-again Inv-loop μ-loop
 loop-again c =
-    let l = c .before .before .before .loop-test .taken in
-    let m = c .before .before .before .before .before .before .before .pre .1 in (
+    let turn = c .before .before .before in
+    let head = turn .before in
+    let start = head .before .before .before in
+    let l = turn .loop-test .taken in
+    let m = start .pre .1 in
+    let columns = seen (start .args .t1) (start .args .vertex .now) (start .args .free .now) in
+    let equivalence = same-column columns (length (start .args .free .now)) in (
       omega arith,
       ⊎-elim
-          (λ w. numbered-old (same-column (seen (c .before .before .before .before .before .before .before .args .t1) (c .before .before .before .before .before .before .before .args .vertex .now) (c .before .before .before .before .before .before .before .args .free .now)) (length (c .before .before .before .before .before .before .before .args .free .now))) (c .before .before .before .before .loop .inv .1) (omega arith) (w .0 .taken) (c .before .first-equal .ensures) (w .2) (w .3))
-          (λ w. numbered-new (c .before .before .before .before .loop .inv .1) (omega arith) (w .0 .left) (c .before .first-equal .ensures) (w .1) refl (w .2))
+          (λ w. numbered-old equivalence (head .loop .inv .1) (omega arith) (w .0 .taken) (c .before .first-equal .ensures) (w .2) (w .3))
+          (λ w. numbered-new (head .loop .inv .1) (omega arith) (w .0 .left) (c .before .first-equal .ensures) (w .1) refl (w .2))
           (c .if1 .came),
     )
 
 returns : tie.Need-returns Inv-loop μ-loop
-returns c = numbered-all (c .before .loop .inv .1) (let a = c .before .loop .inv .0 in let b = c .loop-test .left in omega arith)
+returns c =
+    numbered-all (c .before .loop .inv .1) (let a = c .before .loop .inv .0 in let b = c .loop-test .left in omega arith)
 
 pub local-classes-spec : {M : Type 1} → statement M
 local-classes-spec =

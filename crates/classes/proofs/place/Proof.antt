@@ -24,7 +24,9 @@ shared-slice-read-if1 : tie.Need-shared-slice-read-if1 Inv-loop μ-loop
 shared-slice-read-if1 c = search needs
 
 returns : tie.Need-returns Inv-loop μ-loop
-returns c = record { within = c .before .before .before .loop .inv .0; there = λ h. c .if1 .taken; not-before = c .before .before .before .loop .inv .1 }
+returns c =
+    let head = c .before .before .before in
+    record { within = head .loop .inv .0; there = λ h. c .if1 .taken; not-before = head .loop .inv .1 }
 
 add-j : tie.Need-add-j Inv-loop μ-loop
 add-j c = search needs
@@ -36,7 +38,9 @@ loop-again : tie.Need-loop-again Inv-loop μ-loop
 loop-again c = (search needs, below-more _ _ (c .before .before .before .loop .inv .1) (c .if1 .left))
 
 returns-2 : tie.Need-returns-2 Inv-loop μ-loop
-returns-2 c = record { within = c .before .loop .inv .0; there = λ h. absurd (let e = c .loop-test .left in omega arith); not-before = c .before .loop .inv .1 }
+returns-2 c =
+    record
+    { within = c .before .loop .inv .0; there = λ h. absurd (let e = c .loop-test .left in omega arith); not-before = c .before .loop .inv .1 }
 
 pub place-spec : {M : Type 1} → statement M
 place-spec =

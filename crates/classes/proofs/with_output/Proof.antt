@@ -30,10 +30,18 @@ array-read-list : tie.Need-array-read-list Inv-loop μ-loop
 array-read-list c = search needs
 
 mul-list-2 : tie.Need-mul-list-2 Inv-loop μ-loop
-mul-list-2 c = omega (arith, key-small (c .before .before .loop .inv) (c .before .before .before .before .pre .1) (c .before .loop-test .taken) .0)
+mul-list-2 c =
+    let head = c .before .before in
+    let start = head .before .before in
+    omega (arith, key-small (head .loop .inv) (start .pre .1) (c .before .loop-test .taken) .0)
 
 add-list : tie.Need-add-list Inv-loop μ-loop
-add-list c = omega (arith, key-small (c .before .before .before .loop .inv) (c .before .before .before .before .before .pre .1) (c .before .before .loop-test .taken) .0, key-small (c .before .before .before .loop .inv) (c .before .before .before .before .before .pre .1) (c .before .before .loop-test .taken) .1)
+add-list c =
+    let turn = c .before .before in
+    let head = turn .before in
+    let start = head .before .before in
+    let small = key-small (head .loop .inv) (start .pre .1) (turn .loop-test .taken) in
+    omega (arith, small .0, small .1)
 
 mul-list-3 : tie.Need-mul-list-3 Inv-loop μ-loop
 mul-list-3 c = search needs
@@ -48,7 +56,11 @@ loop-less : tie.Need-loop-less Inv-loop μ-loop
 loop-less c = search needs
 
 loop-again : tie.Need-loop-again Inv-loop μ-loop
-loop-again c = joining-more (c .before .before .before .loop .inv) (c .before .before .loop-test .taken) (c .before .before .before .before .before .pre .0) refl
+loop-again c =
+    let turn = c .before .before in
+    let head = turn .before in
+    let start = head .before .before in
+    joining-more (head .loop .inv) (turn .loop-test .taken) (start .pre .0) refl
 
 returns : tie.Need-returns Inv-loop μ-loop
 returns c = joining-all (c .before .loop .inv) (c .loop-test .left)
