@@ -5,10 +5,9 @@ use mathlib.Core.List.{List}
 use Prim.Native.Nat.{ℕ, _+_, _≤_, _<_}
 use native.Mathlib.Omega.{arith}
 use borrow.Author.Count.{below-more}
-use lib.ListN.{length, getD}
+use lib.ListN.{getD}
 use Rattle.bits.specs.Logic.{true-false}
 use Rattle.rows.specs.Words.{rowOn}
-use Rattle.classes.specs.Columns.{apart, valuesUpto}
 use Rattle.classes.specs.Seen.{seen, sameColumn}
 use Rattle.classes.specs.ColumnLaws.{agree-same, differ-apart}
 

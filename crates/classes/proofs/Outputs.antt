@@ -1,15 +1,13 @@
 -- The loop over the outputs: the local classes and the width of each, and keys that tell vertices apart by the outputs so
 -- far. Assumes nothing.
-use mathlib.Core.Path.{_≡_, refl, sym, ap, ap₂, subst, _∙_}
-use mathlib.Core.Bool.{Bool}
+use mathlib.Core.Path.{_≡_, sym, ap, ap₂, subst, _∙_}
 use mathlib.Core.List.{List, []}
-use Prim.Native.Nat.{ℕ, suc, _+_, _*_, _^_, _≤_, _<_}
+use Prim.Native.Nat.{ℕ, _+_, _*_, _^_, _≤_, _<_}
 use native.Mathlib.Omega.{arith}
 use native.Mathlib.Numerals.{add-one}
 use borrow.Author.Count.{below-more}
 use borrow.Author.Tests.{eq-eqb}
 use lib.Arith.{digits-lt}
-use lib.Dec.{eqb}
 use lib.ListN.{length, getD, take, set, length-set, replicate, length-replicate, getD-replicate}
 use lib.Pow.{pow-mono, pow-add}
 use lib.Seq.{getD-set-same, getD-set-other, getD-take, length-take-le}
@@ -20,7 +18,7 @@ use Rattle.classes.specs.Columns.{vertexCount, alikeUpto}
 use Rattle.classes.specs.Width.{widthOf}
 use Rattle.classes.specs.Proper.{Proper}
 use Rattle.classes.specs.Seen.{seen, sameColumn, sameKey, Inside, Keyable, KeysBy, ClassesBy}
-use Rattle.classes.specs.Answer.{Counts, ShapeIs, Shaped, localAt, globalAt, localsAt, LocalsAre, WidthIs, ClassesAre}
+use Rattle.classes.specs.Answer.{ShapeIs, Shaped, localAt, globalAt, localsAt, LocalsAre, WidthIs, ClassesAre}
 use Rattle.classes.specs.ColumnLaws.{same-column}
 use Rattle.classes.specs.SeenLaws.{classes-few, classes-low, locals-are, globals-are, width-known, keys-more}
 use Rattle.classes.specs.declared.Shape.{Shape}

@@ -1,13 +1,12 @@
 -- The loop that gives each input its digit, from the last input to the first. Assumes nothing.
-use mathlib.Core.Path.{_≡_, refl, sym, ap, subst, _∙_}
-use mathlib.Core.Bool.{true, false}
+use mathlib.Core.Path.{_≡_, sym, ap, subst, _∙_}
 use mathlib.Core.List.{List, [], map}
 use Prim.Native.Nat.{ℕ, zero, suc, _+_, _-_, _≤_, _<_}
 use native.Mathlib.Decide.{ℕ-discrete}
 use native.Mathlib.Omega.{arith}
 use lib.ListN.{length, getD, set, drop, length-set, length-map, replicate, drop-of-length-le}
 use lib.Seq.{getD-set-same, getD-set-other}
-use Rattle.names.specs.Name.{Name, among}
+use Rattle.names.specs.Name.{Name}
 use Rattle.sheet.specs.Known.{position}
 use Rattle.classes.specs.Columns.{free}
 use Rattle.classes.specs.Proper.{Parted}

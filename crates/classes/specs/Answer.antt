@@ -1,7 +1,7 @@
 -- What the code knows of a design's columns and classes, by the definitions. Assumes nothing.
 use mathlib.Core.Path.{_≡_}
 use mathlib.Core.List.{List, []}
-use Prim.Native.Nat.{ℕ, _-_, _^_, _+_, _≤_, _<_}
+use Prim.Native.Nat.{ℕ, _+_, _≤_, _<_}
 use lib.ListN.{length, getD}
 use Rattle.text.specs.Limits.{maxInputs, maxBound, maxOutputs}
 use Rattle.sheet.specs.Examine.{Design}

@@ -5,17 +5,17 @@ use mathlib.Core.Path.{_≡_, refl, sym, ap, ap₂, _∙_}
 use mathlib.Core.Logic.{⊎-elim}
 use mathlib.Core.Bool.{Bool, true, false, not, _&&_, _||_}
 use mathlib.Core.List.{List, [], _∷_, _++_}
-use Prim.Native.Nat.{ℕ, zero, suc, _+_, _≤_, _<_}
+use Prim.Native.Nat.{ℕ, zero, suc, _+_, _<_}
 use native.Mathlib.Omega.{arith}
 use native.Mathlib.Numerals.{add-one}
 use lib.ListN.{length, length-append}
-use borrow.Author.Tests.{not-true, not-false}
+use borrow.Author.Tests.{not-true}
 use Rattle.bits.specs.Logic.{xorb, true-false, and-left, and-right, and-both}
 use Rattle.rows.specs.EveryLaws.{last-or-below}
 use Rattle.names.specs.Name.{Name}
 use Rattle.sheet.specs.Examine.{Design}
-use Rattle.classes.specs.Cases.{either, not-both, same-test}
-use Rattle.classes.specs.Columns.{freeCount, valueAt, valuesUpto, column, apart, conflict, alike, alikeUpto, alikeInAll}
+use Rattle.classes.specs.Cases.{either, not-both}
+use Rattle.classes.specs.Columns.{freeCount, valueAt, valuesUpto, column, apart, conflict, alike, alikeUpto}
 use Rattle.classes.specs.Seen.{sameColumn}
 use Rattle.classes.specs.ClassLaws.{Equivalence}
 

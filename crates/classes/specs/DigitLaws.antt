@@ -1,17 +1,17 @@
 -- Digits of a vertex and a free row joined in one number, and rows gathered by the inputs' digits: the row that joins a
 -- vertex and a free row is gathered from the number that joins them. Assumes nothing.
-use mathlib.Core.Path.{_≡_, refl, sym, ap, ap₂, subst, _∙_}
+use mathlib.Core.Path.{_≡_, sym, ap, subst, _∙_}
 use mathlib.Core.Logic.{⊎-elim}
 use mathlib.Core.Bool.{Bool, true, false}
 use mathlib.Core.List.{List, [], _∷_, _++_, map, map-append, map-map}
-use Prim.Native.Nat.{ℕ, zero, suc, _+_, _-_, _*_, _/_, _%_, _^_, _≤_, _<_}
+use Prim.Native.Nat.{ℕ, suc, _+_, _-_, _*_, _^_, _<_}
 use native.Mathlib.Decide.{decLt}
 use native.Mathlib.Omega.{arith}
-use native.Mathlib.Nat.{add-zero, add-mul, mul-assoc, pow-suc}
+use native.Mathlib.Nat.{add-zero, mul-assoc, pow-suc}
 use native.Mathlib.Numerals.{add-one}
-use lib.ListN.{length, getD, length-map, length-append}
+use lib.ListN.{length, length-map, length-append}
 use lib.Pow.{high, low, pow-pos}
-use Rattle.bits.specs.Logic.{pick, true-false}
+use Rattle.bits.specs.Logic.{true-false}
 use Rattle.bits.specs.Digit.{on, on-zero, on-above}
 use Rattle.names.specs.Name.{Name, sameName, among}
 use Rattle.rows.specs.Row.{bit, rowOf}

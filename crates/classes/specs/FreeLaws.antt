@@ -2,13 +2,13 @@
 -- many as inputs are left when the bound ones are taken out. Assumes nothing.
 use mathlib.Core.Path.{_≡_, refl, sym, ap, ap₂, subst, _∙_}
 use mathlib.Core.Logic.{_⊎_, inl, inr, ⊎-elim}
-use mathlib.Core.Bool.{Bool, true, false, not, _&&_, _||_}
+use mathlib.Core.Bool.{Bool, true, false, not, _||_}
 use mathlib.Core.List.{List, [], _∷_, map}
-use Prim.Native.Nat.{ℕ, zero, suc, _+_, _-_, _≤_, _<_}
+use Prim.Native.Nat.{ℕ, zero, suc, _+_, _-_, _<_}
 use native.Mathlib.Omega.{arith}
 use lib.ListN.{length, getD}
 use borrow.Author.Tests.{not-true}
-use Rattle.bits.specs.Logic.{pick, true-false, and-left, and-right, and-both}
+use Rattle.bits.specs.Logic.{true-false, and-left, and-right, and-both}
 use Rattle.names.specs.Name.{Name, sameName, among, distinct, allAmong}
 use Rattle.names.specs.SameLaws.{same-name-true, same-name-self}
 use Rattle.classes.specs.Cases.{either, not-both}

@@ -4,7 +4,7 @@ use mathlib.Core.Path.{_≡_, refl, sym, ap, ap₂, subst, _∙_}
 use mathlib.Core.Logic.{⊎-elim}
 use mathlib.Core.Bool.{Bool, true, false}
 use mathlib.Core.List.{List, [], _∷_, map}
-use Prim.Native.Nat.{ℕ, zero, suc, _+_, _*_, _/_, _%_, _^_, _≤_, _<_}
+use Prim.Native.Nat.{ℕ, _+_, _*_, _%_, _^_, _≤_, _<_}
 use native.Mathlib.Omega.{arith}
 use native.Mathlib.Nat.{add-zero, add-mul}
 use lib.ListN.{length, length-map}
@@ -20,7 +20,7 @@ use Rattle.formula.specs.Value.{onRow}
 use Rattle.classes.specs.Cases.{either}
 use Rattle.classes.specs.Columns.{free, onParts, joinRow, vertexOf, freeRowOf, vertexCount, freeCount}
 use Rattle.classes.specs.Proper.{Parted}
-use Rattle.classes.specs.FreeLaws.{among-first, among-cases, map-agree, distinct-later, first-another, all-among, free-input, free-not-bound, unbound-free, free-distinct}
+use Rattle.classes.specs.FreeLaws.{map-agree, distinct-later, first-another, all-among, free-input, free-not-bound, unbound-free, free-distinct}
 
 -- ---- names on a row
 on-bit : (b : Bool) → on (bit b) 0 ≡ b

@@ -1,11 +1,10 @@
 -- What the code sees in the table of an output is what the definitions say: the value at each vertex and free row, so the
 -- local classes, the width, and by the keys the global classes. Assumes nothing.
-use mathlib.Core.Path.{_≡_, refl, sym, ap, ap₂, subst, _∙_}
-use mathlib.Core.Bool.{Bool, true, false, _&&_}
+use mathlib.Core.Path.{_≡_, sym, ap, ap₂, subst, _∙_}
+use mathlib.Core.Bool.{Bool, _&&_}
 use mathlib.Core.List.{List}
 use Prim.Native.Nat.{ℕ, suc, _+_, _*_, _^_, _≤_, _<_}
 use native.Mathlib.Omega.{arith}
-use native.Mathlib.Nat.{add-mul}
 use lib.Dec.{eqb}
 use lib.ListN.{length, getD, take}
 use lib.Pow.{pow-mono}
@@ -14,7 +13,7 @@ use borrow.Author.Tests.{eq-eqb, eqb-true}
 use Rattle.bits.specs.Logic.{and-left, and-right, and-both}
 use Rattle.names.specs.Name.{Name}
 use Rattle.sheet.specs.Examine.{Design}
-use Rattle.sheet.specs.Known.{Holds, tableAt, outputOn}
+use Rattle.sheet.specs.Known.{Holds, tableAt}
 use Rattle.sheet.specs.declared.Sheet.{Sheet}
 use Rattle.rows.specs.Words.{rowOn}
 use Rattle.classes.specs.Cases.{same-test}

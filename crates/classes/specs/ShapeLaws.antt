@@ -1,19 +1,19 @@
 -- The shape of a design's rows: rows gathered by the inputs' digits are the rows of vertices and free rows, and every row of
 -- a vertex and a free row is a row of a table. Assumes nothing.
-use mathlib.Core.Path.{_≡_, refl, sym, ap, ap₂, subst, _∙_}
-use mathlib.Core.List.{List, [], map}
-use Prim.Native.Nat.{ℕ, suc, _+_, _-_, _*_, _^_, _≤_, _<_}
+use mathlib.Core.Path.{_≡_, sym, ap, ap₂, subst, _∙_}
+use mathlib.Core.List.{List, map}
+use Prim.Native.Nat.{ℕ, _+_, _-_, _*_, _^_, _≤_, _<_}
 use native.Mathlib.Decide.{decLt}
 use native.Mathlib.Omega.{arith}
 use native.Mathlib.Nat.{mul-one, zero-mul, zero-add, add-zero}
 use lib.ListN.{length, getD, take, length-map, List·getD-eq-default}
-use lib.Pow.{pow-mono, pow-pos, pow-lt}
+use lib.Pow.{pow-mono, pow-pos}
 use lib.Seq.{ext-getD, getD-take, length-take-le}
 use Rattle.names.specs.Name.{Name}
 use Rattle.sheet.specs.Examine.{Design}
 use Rattle.sheet.specs.Known.{Holds, position}
 use Rattle.sheet.specs.declared.Sheet.{Sheet}
-use Rattle.classes.specs.Columns.{free, joinRow, vertexCount, freeCount}
+use Rattle.classes.specs.Columns.{free, vertexCount}
 use Rattle.classes.specs.Proper.{Proper, Parted}
 use Rattle.classes.specs.Seen.{Small, DigitsAre, digitOf, gathered, Gathered}
 use Rattle.classes.specs.Answer.{Counts, ShapeIs, Shaped}

@@ -1,15 +1,12 @@
-use Rattle.classes.proofs.Comparing.{Agreeing, agreeing-none, agreeing-more, agreeing-all, differing, read-differ, read-agree}
-use Rattle.classes.specs.Seen.{seen, sameColumn}
-use lib.ListN.{length}
+-- `equal`: each turn compares one free row, and the first difference decides. Assumes nothing.
+use Prim.Native.Nat.{_-_}
 use native.Mathlib.Omega.{arith}
-use Prim.Native.Nat.{ℕ, _≤_, _<_, _-_}
-use mathlib.Core.Path.{_≡_, sym, _∙_}
 use borrow.Author.Needs.{needs}
+use lib.ListN.{length}
+use Rattle.classes.proofs.Comparing.{Agreeing, agreeing-none, agreeing-more, agreeing-all, differing, read-differ, read-agree}
+use Rattle.classes.specs.Seen.{seen}
 use Rattle.classes.proofs.equal.Statement.{statement}
 use Rattle.classes.proofs.equal.Tie as tie
-use Rattle.classes.proofs.equal.Reads as reads
-use Rattle.classes.proofs.equal.Lts as lts
-use Rattle.classes.proofs.value.Reads as value-reads
 
 abbrev Inv-loop : tie.InvT-loop
 Inv-loop t vertex free i j a b f₀ f = Agreeing (seen t vertex free) (length free) i j f
@@ -17,67 +14,81 @@ Inv-loop t vertex free i j a b f₀ f = Agreeing (seen t vertex free) (length fr
 abbrev μ-loop : tie.MeasureT-loop
 μ-loop t vertex free i j a b f₀ f = length free - f
 
--- src/lib.rt:168:13
 mul-a : tie.Need-mul-a Inv-loop μ-loop
 mul-a c = search needs
 
--- src/lib.rt:168:13
 shared-slice-read-a : tie.Need-shared-slice-read-a Inv-loop μ-loop
 shared-slice-read-a c = search needs
 
--- src/lib.rt:169:13
 mul-b : tie.Need-mul-b Inv-loop μ-loop
 mul-b c = search needs
 
--- src/lib.rt:169:13
 shared-slice-read-b : tie.Need-shared-slice-read-b Inv-loop μ-loop
 shared-slice-read-b c = search needs
 
--- src/lib.rt:171:5
 loop-holds : tie.Need-loop-holds Inv-loop μ-loop
 loop-holds c = agreeing-none
 
--- src/lib.rt:172:19
 mul-row : tie.Need-mul-row Inv-loop μ-loop
 mul-row c = search needs
 
--- src/lib.rt:172:19
 shared-slice-read-row : tie.Need-shared-slice-read-row Inv-loop μ-loop
 shared-slice-read-row c = search needs
 
--- src/lib.rt:173:21
 add-value : tie.Need-add-value Inv-loop μ-loop
-add-value c = omega (arith, c .before .before .before .before .before .before .before .before .pre .1 .each (c .before .before .before .before .before .before .before .before .args .x .0) (c .before .before .loop .f) (c .before .before .before .before .before .before .before .before .pre .2) (c .before .loop-test .taken))
+add-value c =
+    let head = c .before .before in
+    let start = head .before .before .before .before .before .before in
+    omega (arith, start .pre .1 .each (start .args .x .0) (head .loop .f) (start .pre .2) (c .before .loop-test .taken))
 
--- src/lib.rt:173:12
 value-requires : tie.Need-value-requires Inv-loop μ-loop
-value-requires c κs = (c .before .before .before .before .before .before .before .before .pre .0, c .before .before .before .before .before .before .before .before .pre .1 .each (c .before .before .before .before .before .before .before .before .args .x .0) (c .before .before .loop .f) (c .before .before .before .before .before .before .before .before .pre .2) (c .before .loop-test .taken))
+value-requires c κs =
+    let head = c .before .before in
+    let start = head .before .before .before .before .before .before in
+    (start .pre .0, start .pre .1 .each (start .args .x .0) (head .loop .f) (start .pre .2) (c .before .loop-test .taken))
 
--- src/lib.rt:173:42
 add-value-2 : tie.Need-add-value-2 Inv-loop μ-loop
-add-value-2 c = omega (arith, c .before .before .before .before .before .before .before .before .before .pre .1 .each (c .before .before .before .before .before .before .before .before .before .args .y .0) (c .before .before .before .loop .f) (c .before .before .before .before .before .before .before .before .before .pre .3) (c .before .before .loop-test .taken))
+add-value-2 c =
+    let turn = c .before .before in
+    let head = turn .before in
+    let start = head .before .before .before .before .before .before in
+    omega (arith, start .pre .1 .each (start .args .y .0) (head .loop .f) (start .pre .3) (turn .loop-test .taken))
 
--- src/lib.rt:173:33
 value-requires-2 : tie.Need-value-requires-2 Inv-loop μ-loop
-value-requires-2 c κs = (c .before .before .before .before .before .before .before .before .before .pre .0, c .before .before .before .before .before .before .before .before .before .pre .1 .each (c .before .before .before .before .before .before .before .before .before .args .y .0) (c .before .before .before .loop .f) (c .before .before .before .before .before .before .before .before .before .pre .3) (c .before .before .loop-test .taken))
+value-requires-2 c κs =
+    let turn = c .before .before in
+    let head = turn .before in
+    let start = head .before .before .before .before .before .before in
+    (start .pre .0, start .pre .1 .each (start .args .y .0) (head .loop .f) (start .pre .3) (turn .loop-test .taken))
 
--- src/lib.rt:174:13
 returns : tie.Need-returns Inv-loop μ-loop
-returns c = differing (c .before .before .before .before .before .loop .inv) (c .before .before .before .before .loop-test .taken) (read-differ (c .before .before .before .before .before .before .before .before .before .before .before .args .t .now) (c .before .before .before .before .before .before .before .before .before .before .before .args .vertex .now) (c .before .before .before .before .before .before .before .before .before .before .before .args .free .now) (c .before .before .before .before .before .before .before .before .before .before .before .args .x .0) (c .before .before .before .before .before .before .before .before .before .before .before .args .y .0) (c .before .before .before .before .before .loop .f) (c .before .before .value .ensures) (c .before .value2 .ensures) (c .if1 .taken))
+returns c =
+    let at-value = c .before .before in
+    let turn = at-value .before .before in
+    let head = turn .before in
+    let start = head .before .before .before .before .before .before in
+    differing (head .loop .inv) (turn .loop-test .taken)
+    (read-differ (start .args .t .now) (start .args .vertex .now) (start .args .free .now)
+    (start .args .x .0) (start .args .y .0) (head .loop .f)
+    (at-value .value .ensures) (c .before .value2 .ensures) (c .if1 .taken))
 
--- src/lib.rt:176:9
 add-f : tie.Need-add-f Inv-loop μ-loop
 add-f c = search needs
 
--- src/lib.rt:171:5
 loop-less : tie.Need-loop-less Inv-loop μ-loop
 loop-less c = search needs
 
--- src/lib.rt:171:5
 loop-again : tie.Need-loop-again Inv-loop μ-loop
-loop-again c = agreeing-more (c .before .before .before .before .before .loop .inv) (c .before .before .before .before .loop-test .taken) (read-agree (c .before .before .before .before .before .before .before .before .before .before .before .args .t .now) (c .before .before .before .before .before .before .before .before .before .before .before .args .vertex .now) (c .before .before .before .before .before .before .before .before .before .before .before .args .free .now) (c .before .before .before .before .before .before .before .before .before .before .before .args .x .0) (c .before .before .before .before .before .before .before .before .before .before .before .args .y .0) (c .before .before .before .before .before .loop .f) (c .before .before .value .ensures) (c .before .value2 .ensures) (c .if1 .left))
+loop-again c =
+    let at-value = c .before .before in
+    let turn = at-value .before .before in
+    let head = turn .before in
+    let start = head .before .before .before .before .before .before in
+    agreeing-more (head .loop .inv) (turn .loop-test .taken)
+    (read-agree (start .args .t .now) (start .args .vertex .now) (start .args .free .now)
+    (start .args .x .0) (start .args .y .0) (head .loop .f)
+    (at-value .value .ensures) (c .before .value2 .ensures) (c .if1 .left))
 
--- src/lib.rt:162:1
 returns-2 : tie.Need-returns-2 Inv-loop μ-loop
 returns-2 c = agreeing-all (c .before .loop .inv) (c .loop-test .left)
 

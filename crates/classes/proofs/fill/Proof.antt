@@ -1,16 +1,12 @@
-use Rattle.classes.proofs.Rows.{Filled, filled-none, filled-more, filled-all, product-small}
-use Rattle.classes.proofs.Rows.{Filled, filled-none, filled-more, filled-all}
-use lib.ListN.{length, length-set}
-use native.Mathlib.Nat.{mul-le-mul}
-use native.Mathlib.Omega.{arith}
-use Prim.Native.Nat.{ℕ, _≤_, _-_, _*_}
+-- `fill`: each turn stores one row. Assumes nothing.
 use mathlib.Core.Path.{_≡_, refl, _∙_}
+use Prim.Native.Nat.{_≤_, _-_}
+use native.Mathlib.Omega.{arith}
 use borrow.Author.Needs.{needs}
+use lib.ListN.{length, length-set}
+use Rattle.classes.proofs.Rows.{Filled, filled-none, filled-more, filled-all, product-small}
 use Rattle.classes.proofs.fill.Statement.{statement}
 use Rattle.classes.proofs.fill.Tie as tie
-use Rattle.classes.proofs.fill.Reads as reads
-use Rattle.classes.proofs.fill.Lts as lts
-use Rattle.classes.proofs.gather.Reads as gather-reads
 
 abbrev Inv-loop : tie.InvT-loop
 Inv-loop out₀ digits step i₀ out i = (length out ≡ length out₀) × Filled digits step out i
@@ -18,43 +14,41 @@ Inv-loop out₀ digits step i₀ out i = (length out ≡ length out₀) × Fille
 abbrev μ-loop : tie.MeasureT-loop
 μ-loop out₀ digits step i₀ out i = length out₀ - i
 
--- src/lib.rt:118:5
 loop-holds : tie.Need-loop-holds Inv-loop μ-loop
 loop-holds c = (refl, filled-none)
 
--- src/lib.rt:119:33
 mul-gather : tie.Need-mul-gather Inv-loop μ-loop
-mul-gather c = omega (arith, product-small (c .before .loop .i) (c .before .before .before .before .args .step) (let a = c .before .before .before .before .pre .0 in let b = c .before .loop .inv .0 in let d = c .loop-test .taken in omega arith) (c .before .before .before .before .pre .1))
+mul-gather c =
+    let start = c .before .before .before .before in
+    let i = c .before .loop .i in
+    let few : i ≤ 512 = (let a = start .pre .0 in let b = c .before .loop .inv .0 in let d = c .loop-test .taken in omega arith) in
+    omega (arith, product-small i (start .args .step) few (start .pre .1))
 
--- src/lib.rt:119:18
 gather-requires : tie.Need-gather-requires Inv-loop μ-loop
 gather-requires c κs = (c .before .before .before .before .pre .2, c .before .before .before .before .pre .3)
 
--- src/lib.rt:119:9
 mul-out : tie.Need-mul-out Inv-loop μ-loop
 mul-out c = search needs
 
--- src/lib.rt:119:9
 slice-write-out : tie.Need-slice-write-out Inv-loop μ-loop
 slice-write-out c = search needs
 
--- src/lib.rt:120:9
 add-i : tie.Need-add-i Inv-loop μ-loop
 add-i c = search needs
 
--- src/lib.rt:118:5
 loop-less : tie.Need-loop-less Inv-loop μ-loop
 loop-less c = (let b = c .before .before .loop .inv .0 in let d = c .before .loop-test .taken in omega arith)
 
--- src/lib.rt:118:5
 loop-again : tie.Need-loop-again Inv-loop μ-loop
-loop-again c = (length-set (c .before .before .loop .out) (c .before .before .loop .i) (c .gather .result) ∙ c .before .before .loop .inv .0, filled-more (c .before .before .loop .inv .1) (c .before .loop-test .taken) (c .gather .ensures))
+loop-again c =
+    let head = c .before .before in (
+      length-set (head .loop .out) (head .loop .i) (c .gather .result) ∙ head .loop .inv .0,
+      filled-more (head .loop .inv .1) (c .before .loop-test .taken) (c .gather .ensures),
+    )
 
--- src/lib.rt:113:1
 same-length : tie.Need-same-length Inv-loop μ-loop
 same-length c = c .before .loop .inv .0
 
--- src/lib.rt:113:1
 returns : tie.Need-returns Inv-loop μ-loop
 returns c = filled-all (c .before .loop .inv .1) (c .loop-test .left)
 

@@ -1,15 +1,13 @@
+-- `first_equal`: each turn passes one vertex with another column. Assumes nothing.
+use mathlib.Core.Path.{sym, _∙_}
+use Prim.Native.Nat.{_-_}
+use native.Mathlib.Omega.{arith}
+use borrow.Author.Needs.{needs}
+use lib.ListN.{length}
 use Rattle.classes.proofs.Search.{Unlike, unlike-none, unlike-more, like-found, like-itself}
 use Rattle.classes.specs.Seen.{seen, sameColumn}
-use lib.ListN.{length}
-use native.Mathlib.Omega.{arith}
-use Prim.Native.Nat.{_<_, _-_}
-use mathlib.Core.Path.{_≡_, sym, _∙_}
-use borrow.Author.Needs.{needs}
 use Rattle.classes.proofs.first_equal.Statement.{statement}
 use Rattle.classes.proofs.first_equal.Tie as tie
-use Rattle.classes.proofs.first_equal.Reads as reads
-use Rattle.classes.proofs.first_equal.Lts as lts
-use Rattle.classes.proofs.equal.Reads as equal-reads
 
 abbrev Inv-loop : tie.InvT-loop
 Inv-loop t vertex free x i y₀ y = Unlike (sameColumn (seen t vertex free) (length free)) i y
@@ -17,31 +15,32 @@ Inv-loop t vertex free x i y₀ y = Unlike (sameColumn (seen t vertex free) (len
 abbrev μ-loop : tie.MeasureT-loop
 μ-loop t vertex free x i y₀ y = i - y
 
--- src/lib.rt:188:5
 loop-holds : tie.Need-loop-holds Inv-loop μ-loop
 loop-holds c = unlike-none
 
--- src/lib.rt:189:12
 equal-requires : tie.Need-equal-requires Inv-loop μ-loop
-equal-requires c κs = (c .before .before .before .before .before .pre .0, c .before .before .before .before .before .pre .1, (let a = c .before .before .before .before .before .pre .2 in let b = c .loop-test .taken in omega arith), c .before .before .before .before .before .pre .2)
+equal-requires c κs =
+    let start = c .before .before .before .before .before in
+    (start .pre .0, start .pre .1, (let a = start .pre .2 in let b = c .loop-test .taken in omega arith), start .pre .2)
 
--- src/lib.rt:190:13
 returns : tie.Need-returns Inv-loop μ-loop
-returns c = like-found (c .before .before .before .loop .inv) (c .before .before .loop-test .taken) (sym (c .before .equal .ensures) ∙ c .if1 .taken)
+returns c =
+    let turn = c .before .before in
+    let head = turn .before in
+    like-found (head .loop .inv) (turn .loop-test .taken) (sym (c .before .equal .ensures) ∙ c .if1 .taken)
 
--- src/lib.rt:192:9
 add-y : tie.Need-add-y Inv-loop μ-loop
 add-y c = search needs
 
--- src/lib.rt:188:5
 loop-less : tie.Need-loop-less Inv-loop μ-loop
 loop-less c = search needs
 
--- src/lib.rt:188:5
 loop-again : tie.Need-loop-again Inv-loop μ-loop
-loop-again c = unlike-more (c .before .before .before .loop .inv) (c .before .before .loop-test .taken) (sym (c .before .equal .ensures) ∙ c .if1 .left)
+loop-again c =
+    let turn = c .before .before in
+    let head = turn .before in
+    unlike-more (head .loop .inv) (turn .loop-test .taken) (sym (c .before .equal .ensures) ∙ c .if1 .left)
 
--- src/lib.rt:182:1
 returns-2 : tie.Need-returns-2 Inv-loop μ-loop
 returns-2 c = like-itself (c .before .loop .inv) (c .loop-test .left)
 

@@ -1,12 +1,11 @@
-use Rattle.classes.proofs.Search.{Unlike, unlike-none, unlike-more, like-found, like-itself}
-use Rattle.classes.specs.Seen.{sameKey}
-use borrow.Author.Tests.{eq-eqb, ne-eqb}
+-- `first_key`: each turn passes one vertex with another key. Assumes nothing.
 use Prim.Native.Nat.{_-_}
 use borrow.Author.Needs.{needs}
+use borrow.Author.Tests.{eq-eqb, ne-eqb}
+use Rattle.classes.proofs.Search.{Unlike, unlike-none, unlike-more, like-found, like-itself}
+use Rattle.classes.specs.Seen.{sameKey}
 use Rattle.classes.proofs.first_key.Statement.{statement}
 use Rattle.classes.proofs.first_key.Tie as tie
-use Rattle.classes.proofs.first_key.Reads as reads
-use Rattle.classes.proofs.first_key.Lts as lts
 
 abbrev Inv-loop : tie.InvT-loop
 Inv-loop keys x i y₀ y = Unlike (sameKey keys) i y
@@ -14,43 +13,39 @@ Inv-loop keys x i y₀ y = Unlike (sameKey keys) i y
 abbrev μ-loop : tie.MeasureT-loop
 μ-loop keys x i y₀ y = i - y
 
--- src/lib.rt:256:5
 loop-holds : tie.Need-loop-holds Inv-loop μ-loop
 loop-holds c = unlike-none
 
--- src/lib.rt:257:12
 mul-if1 : tie.Need-mul-if1 Inv-loop μ-loop
 mul-if1 c = search needs
 
--- src/lib.rt:257:12
 shared-slice-read-if1 : tie.Need-shared-slice-read-if1 Inv-loop μ-loop
 shared-slice-read-if1 c = search needs
 
--- src/lib.rt:257:23
 mul-if1-2 : tie.Need-mul-if1-2 Inv-loop μ-loop
 mul-if1-2 c = search needs
 
--- src/lib.rt:257:23
 shared-slice-read-if1-2 : tie.Need-shared-slice-read-if1-2 Inv-loop μ-loop
 shared-slice-read-if1-2 c = search needs
 
--- src/lib.rt:258:13
 returns : tie.Need-returns Inv-loop μ-loop
-returns c = like-found (c .before .before .before .before .loop .inv) (c .before .before .before .loop-test .taken) (eq-eqb _ _ (c .if1 .taken))
+returns c =
+    let turn = c .before .before .before in
+    let head = turn .before in
+    like-found (head .loop .inv) (turn .loop-test .taken) (eq-eqb _ _ (c .if1 .taken))
 
--- src/lib.rt:260:9
 add-y : tie.Need-add-y Inv-loop μ-loop
 add-y c = search needs
 
--- src/lib.rt:256:5
 loop-less : tie.Need-loop-less Inv-loop μ-loop
 loop-less c = search needs
 
--- src/lib.rt:256:5
 loop-again : tie.Need-loop-again Inv-loop μ-loop
-loop-again c = unlike-more (c .before .before .before .before .loop .inv) (c .before .before .before .loop-test .taken) (ne-eqb _ _ (c .if1 .left))
+loop-again c =
+    let turn = c .before .before .before in
+    let head = turn .before in
+    unlike-more (head .loop .inv) (turn .loop-test .taken) (ne-eqb _ _ (c .if1 .left))
 
--- src/lib.rt:250:1
 returns-2 : tie.Need-returns-2 Inv-loop μ-loop
 returns-2 c = like-itself (c .before .loop .inv) (c .loop-test .left)
 
