@@ -5,3 +5,13 @@ pub mod Reader
 pub mod Examine
 pub mod Value
 pub mod Check
+pub mod Numbers
+pub mod LineAnswer
+pub mod ChainLaws
+pub mod SpellLaws
+pub mod ListedLaws
+pub mod NumbersLaws
+pub mod TablesLaws
+pub mod GatherLaws
+pub mod HeadLaws
+pub mod LineReadLaws
