@@ -1,11 +1,8 @@
 // Columns, classes and widths of a design: vertices are the rows of the bound inputs, and two of them are in one class
 // when their columns are equal. Rests on sheet for what a design says.
 ghost use mathlib.Core.Path.{_≡_};
-ghost use mathlib.Core.List.{List, map};
-ghost use Prim.Native.Nat.{ℕ, _+_, _*_, _^_, _≤_, _<_};
-ghost use lib.Dec.{eqb};
-ghost use lib.ListN.{length, getD, take};
-ghost use Rattle.bits.specs.Digit.{on};
+ghost use Prim.Native.Nat.{_^_, _≤_, _<_};
+ghost use lib.ListN.{length};
 ghost use Rattle.rows.specs.Row as row;
 ghost use Rattle.rows.specs.Words.{rowOn};
 ghost use Rattle.sheet.specs.Examine.{Design};
