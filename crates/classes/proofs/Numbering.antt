@@ -74,6 +74,7 @@ module _ {A : Type 0} {number : A → ℕ} {blank : A} {same : ℕ → ℕ → B
       let m : classCount same x ≤ x = count-most same x in
       omega arith
 
-  pub numbered-all : {l : List A} {x count v : ℕ} → Numbered number blank same l x count → x ≡ v → ClassesBy same v count (λ z. number (getD l z blank))
+  pub numbered-all : {l : List A} {x count v : ℕ} → Numbered number blank same l x count → x ≡ v
+      → ClassesBy same v count (λ z. number (getD l z blank))
   numbered-all {l} {x} {count} {v} n e =
       subst (λ (u : ℕ). ClassesBy same u count (λ z. number (getD l z blank))) e (n .by)

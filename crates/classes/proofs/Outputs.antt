@@ -17,7 +17,7 @@ use Rattle.sheet.specs.declared.Sheet.{Sheet}
 use Rattle.classes.specs.Columns.{vertexCount, alikeUpto}
 use Rattle.classes.specs.Width.{widthOf}
 use Rattle.classes.specs.Proper.{Proper}
-use Rattle.classes.specs.Seen.{seen, sameColumn, sameKey, Inside, Keyable, KeysBy, ClassesBy}
+use Rattle.classes.specs.Seen.{seen, alikeSeen, sameKey, Inside, Keyable, KeysBy, ClassesBy}
 use Rattle.classes.specs.Answer.{ShapeIs, Shaped, localAt, globalAt, localsAt, LocalsAre, WidthIs, ClassesAre}
 use Rattle.classes.specs.ColumnLaws.{same-column}
 use Rattle.classes.specs.SeenLaws.{classes-few, classes-low, locals-are, globals-are, width-known, keys-more}
@@ -100,7 +100,8 @@ module _ {k : Sheet} {sh : Shape} (s : Shaped k sh) where
 
 module _ {k : Sheet} {sh : Shape} {locals : List Locals} {widths keys : List ℕ} {o : ℕ} (s : Shaped k sh) (m : k .outputs ≤ 4)
     (q : Outlined k sh locals widths keys o) (h : o < k .outputs) (r : Locals)
-    (c : ClassesBy (sameColumn (seen (tableAt (k .tables) o) (vertexPart sh) (freePart sh)) (length (freePart sh))) (length (vertexPart sh)) (r .count) (localAt (r .classes))) where
+    (c : ClassesBy (alikeSeen (tableAt (k .tables) o) (vertexPart sh) (freePart sh)) (length (vertexPart sh)) (r .count)
+    (localAt (r .classes))) where
   pub few-classes : r .count ≤ 32
   few-classes = classes-few c (few-part s)
 

@@ -137,10 +137,6 @@ module _ (same : ℕ → ℕ → Bool) where
   unfolding classOf
   class-of-first u e = ap (classCount same) e
 
-  -- a first member's class is the first that no earlier number has
-  pub first-new : (v : ℕ) → firstLike same v ≡ v → (classOf same v ≡ classCount same v) × (classCount same (suc v) ≡ classCount same v + 1)
-  first-new v e = (class-of-first v e, first-counts v e)
-
 -- ---- an equivalence
 pub record Equivalence (same : ℕ → ℕ → Bool) : Type 0 where
   pub self : (x : ℕ) → same x x ≡ true
@@ -204,7 +200,8 @@ module _ (same : ℕ → ℕ → Bool) (q : Equivalence same) where
   pub class-related : (x y : ℕ) → classOf same x ≡ classOf same y → same x y ≡ true
   unfolding classOf
   class-related x y e =
-      let f : firstLike same x ≡ firstLike same y = first-member same (firstLike same x) (firstLike same y) (first-again x) (first-again y) e in
+      let f : firstLike same x ≡ firstLike same y
+      = first-member same (firstLike same x) (firstLike same y) (first-again x) (first-again y) e in
       q .chain x (firstLike same x) y
       (q .back (firstLike same x) x (first-related x))
       (subst (λ (z : ℕ). same z y ≡ true) (sym f) (first-related y))

@@ -181,15 +181,18 @@ module _ (d : Design) (bs : List Name) where
   unfolding conflict column
   conflict-differ o x y e = apart-differ (valueAt d bs o x) (valueAt d bs o y) (freeCount (d .inputs) bs) e
 
-  pub differ-conflict : (o x y i : ℕ) → i < freeCount (d .inputs) bs → (valueAt d bs o x i ≡ valueAt d bs o y i → ⊥) → conflict d bs o x y ≡ true
+  pub differ-conflict : (o x y i : ℕ) → i < freeCount (d .inputs) bs
+      → (valueAt d bs o x i ≡ valueAt d bs o y i → ⊥) → conflict d bs o x y ≡ true
   unfolding conflict column
   differ-conflict o x y i l h = differ-apart (valueAt d bs o x) (valueAt d bs o y) (freeCount (d .inputs) bs) i l h
 
-  pub no-conflict-agree : (o x y : ℕ) → conflict d bs o x y ≡ false → (i : ℕ) → i < freeCount (d .inputs) bs → valueAt d bs o x i ≡ valueAt d bs o y i
+  pub no-conflict-agree : (o x y : ℕ) → conflict d bs o x y ≡ false
+      → (i : ℕ) → i < freeCount (d .inputs) bs → valueAt d bs o x i ≡ valueAt d bs o y i
   unfolding conflict column
   no-conflict-agree o x y e i l = apart-agree (valueAt d bs o x) (valueAt d bs o y) (freeCount (d .inputs) bs) e i l
 
-  pub agree-no-conflict : (o x y : ℕ) → ((i : ℕ) → i < freeCount (d .inputs) bs → valueAt d bs o x i ≡ valueAt d bs o y i) → conflict d bs o x y ≡ false
+  pub agree-no-conflict : (o x y : ℕ) → ((i : ℕ) → i < freeCount (d .inputs) bs → valueAt d bs o x i ≡ valueAt d bs o y i)
+      → conflict d bs o x y ≡ false
   unfolding conflict column
   agree-no-conflict o x y h = agree-apart (valueAt d bs o x) (valueAt d bs o y) (freeCount (d .inputs) bs) h
 

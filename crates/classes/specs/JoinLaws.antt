@@ -103,7 +103,9 @@ module _ (ns bs : List Name) (p : Parted ns bs) where
   unfolding vertexOf freeRowOf
   parts-back r n h =
       ⊎-elim
-      (λ e. on-bound bs (free ns bs) (rowOf (map (onRow ns r) bs)) (rowOf (map (onRow ns r) (free ns bs))) n e ∙ read-back (onRow ns r) bs n e)
+      (λ e.
+      on-bound bs (free ns bs) (rowOf (map (onRow ns r) bs)) (rowOf (map (onRow ns r) (free ns bs))) n e
+      ∙ read-back (onRow ns r) bs n e)
       (λ e.
       on-free bs (free ns bs) (rowOf (map (onRow ns r) bs)) (rowOf (map (onRow ns r) (free ns bs))) n e
       ∙ read-back (onRow ns r) (free ns bs) n (unbound-free ns bs n h e))

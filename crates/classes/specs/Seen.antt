@@ -65,6 +65,10 @@ seen t vertex free x y = rowOn t (getD vertex x 0 + getD free y 0)
 unfoldable pub sameColumn : (ℕ → ℕ → Bool) → ℕ → ℕ → ℕ → Bool
 sameColumn f n x y = not (apart (valuesUpto (f x) n) (valuesUpto (f y) n))
 
+-- whether vertices x and y have equal columns in the table t
+abbrev pub alikeSeen : List ℕ → List ℕ → List ℕ → ℕ → ℕ → Bool
+alikeSeen t vertex free = sameColumn (seen t vertex free) (length free)
+
 -- ---- keys
 abbrev pub sameKey : List ℕ → ℕ → ℕ → Bool
 sameKey l x y = eqb (getD l x 0) (getD l y 0)

@@ -21,7 +21,7 @@ use Rattle.classes.specs.Columns.{joinRow, vertexCount, freeCount, value
 use Rattle.classes.specs.Classes.{classCount, classOf, localCount, localClass, globalCount, globalClass}
 use Rattle.classes.specs.Width.{widthOf, width}
 use Rattle.classes.specs.Proper.{Proper}
-use Rattle.classes.specs.Seen.{seen, sameColumn, sameKey, ClassesBy}
+use Rattle.classes.specs.Seen.{seen, sameColumn, alikeSeen, sameKey, ClassesBy}
 use Rattle.classes.specs.Answer.{ShapeIs, localAt, globalAt, LocalsAre, WidthIs, GlobalsAre}
 use Rattle.classes.specs.ClassLaws.{Equivalence, count-most, class-below, class-test, count-agrees, class-agrees}
 use Rattle.classes.specs.ColumnLaws.{alike-columns, same-columns, alike-equivalence}
@@ -86,8 +86,7 @@ module _ (d : Design) (k : Sheet) (sh : Shape) (h : Holds d k) (p : Proper d) (s
       ap (rowOn (tableAt (k .tables) o)) row ∙ h .tabled o l .each (joinRow ns bs x y) (omega arith)
 
   alike-seen : (o x y : ℕ) → o < k .outputs → x < vertexCount (d .bound) → y < vertexCount (d .bound)
-      → sameColumn (seen (tableAt (k .tables) o) (take (sh .vertices) (sh .vertex)) (take (sh .frees) (sh .free)))
-      (length (take (sh .frees) (sh .free))) x y ≡ alike d (d .bound) o x y
+      → alikeSeen (tableAt (k .tables) o) (take (sh .vertices) (sh .vertex)) (take (sh .frees) (sh .free)) x y ≡ alike d (d .bound) o x y
   alike-seen o x y l a b =
       let f : ℕ → ℕ → Bool = seen (tableAt (k .tables) o) (take (sh .vertices) (sh .vertex)) (take (sh .frees) (sh .free)) in
       ap (λ (n : ℕ). sameColumn f n x y) part-free
@@ -97,7 +96,7 @@ module _ (d : Design) (k : Sheet) (sh : Shape) (h : Holds d k) (p : Proper d) (s
 
   pub locals-are : (o : ℕ) (r : Locals) → o < k .outputs
       → ClassesBy
-      (sameColumn (seen (tableAt (k .tables) o) (take (sh .vertices) (sh .vertex)) (take (sh .frees) (sh .free))) (length (take (sh .frees) (sh .free))))
+      (alikeSeen (tableAt (k .tables) o) (take (sh .vertices) (sh .vertex)) (take (sh .frees) (sh .free)))
       (length (take (sh .vertices) (sh .vertex))) (r .count) (localAt (r .classes))
       → LocalsAre d o r
   unfolding localCount localClass

@@ -28,7 +28,8 @@ proper-counts d k h p =
     let a : k .inputs ≡ length (d .inputs) = h .inputs-counted in
     let b : k .bounds ≡ length (d .bound) = h .bound-counted in
     let s : 1 ≤ length (d .bound) = p .some-bound in
-    let f : length (d .bound) + length (free (d .inputs) (d .bound)) ≡ length (d .inputs) = bound-and-free (d .inputs) (d .bound) (p .parted) in
+    let f : length (d .bound) + length (free (d .inputs) (d .bound)) ≡ length (d .inputs)
+    = bound-and-free (d .inputs) (d .bound) (p .parted) in
     record {
       few-inputs = h .inputs-few;
       some-bound = omega arith;

@@ -1,11 +1,8 @@
 // Columns, classes and widths of a design: vertices are the rows of the bound inputs, and two of them are in one class
 // when their columns are equal. Rests on sheet for what a design says.
 ghost use mathlib.Core.Path.{_≡_};
-ghost use mathlib.Core.List.{List, map};
-ghost use Prim.Native.Nat.{ℕ, _+_, _*_, _^_, _≤_, _<_};
-ghost use lib.Dec.{eqb};
-ghost use lib.ListN.{length, getD, take};
-ghost use Rattle.bits.specs.Digit.{on};
+ghost use Prim.Native.Nat.{_^_, _≤_, _<_};
+ghost use lib.ListN.{length};
 ghost use Rattle.rows.specs.Row as row;
 ghost use Rattle.rows.specs.Words.{rowOn};
 ghost use Rattle.sheet.specs.Examine.{Design};
@@ -13,7 +10,7 @@ ghost use Rattle.sheet.specs.Known.{Holds};
 ghost use Rattle.classes.specs.Classes.{firstLike};
 ghost use Rattle.classes.specs.Width.{widthOf};
 ghost use Rattle.classes.specs.Proper.{Proper};
-ghost use Rattle.classes.specs.Seen.{PlaceIs, DigitsAre, Small, gathered, Gathered, Inside, seen, sameColumn, sameKey, Keyable, KeysBy, ClassesBy};
+ghost use Rattle.classes.specs.Seen.{PlaceIs, DigitsAre, Small, gathered, Gathered, Inside, alikeSeen, sameKey, Keyable, KeysBy, ClassesBy};
 ghost use Rattle.classes.specs.Answer.{Counts, Shaped, localAt, globalAt, ClassesAre};
 use sheet::Sheet;
 
@@ -161,7 +158,7 @@ fn value(t: &[u64], r: usize) -> bool
 // Whether vertices x and y have equal columns.
 fn equal(t: &[u64], vertex: &[usize], free: &[usize], x: Vertex, y: Vertex) -> bool
     requires { ⌜ (length (now t) ≡ 16) × Inside (now vertex) (now free) × (x .0 < length (now vertex)) × (y .0 < length (now vertex)) ⌝ }
-    ensures { λ r. ⌜ r ≡ sameColumn (seen (now (t .entry)) (now (vertex .entry)) (now (free .entry))) (length (now (free .entry))) (x .0) (y .0) ⌝ }
+    ensures { λ r. ⌜ r ≡ alikeSeen (now (t .entry)) (now (vertex .entry)) (now (free .entry)) (x .0) (y .0) ⌝ }
 {
     let i = x.0;
     let j = y.0;
@@ -181,7 +178,7 @@ fn equal(t: &[u64], vertex: &[usize], free: &[usize], x: Vertex, y: Vertex) -> b
 // The first vertex with a column equal to that of x.
 fn first_equal(t: &[u64], vertex: &[usize], free: &[usize], x: Vertex) -> Vertex
     requires { ⌜ (length (now t) ≡ 16) × Inside (now vertex) (now free) × (x .0 < length (now vertex)) ⌝ }
-    ensures { λ r. ⌜ r .0 ≡ firstLike (sameColumn (seen (now (t .entry)) (now (vertex .entry)) (now (free .entry))) (length (now (free .entry)))) (x .0) ⌝ }
+    ensures { λ r. ⌜ r .0 ≡ firstLike (alikeSeen (now (t .entry)) (now (vertex .entry)) (now (free .entry))) (x .0) ⌝ }
 {
     let i = x.0;
     let mut y = 0;
@@ -197,7 +194,7 @@ fn first_equal(t: &[u64], vertex: &[usize], free: &[usize], x: Vertex) -> Vertex
 // The local classes of the output with the table t.
 fn local_classes(t: [u64; 16], vertex: &[usize], free: &[usize]) -> Locals
     requires { ⌜ Inside (now vertex) (now free) × (length (now vertex) ≤ 32) ⌝ }
-    ensures { λ r. ⌜ ClassesBy (sameColumn (seen t (now (vertex .entry)) (now (free .entry))) (length (now (free .entry)))) (length (now (vertex .entry))) (r .count) (localAt (r .classes)) ⌝ }
+    ensures { λ r. ⌜ ClassesBy (alikeSeen t (now (vertex .entry)) (now (free .entry))) (length (now (vertex .entry))) (r .count) (localAt (r .classes)) ⌝ }
 {
     let mut classes = [LocalClass(0); 32];
     let mut count = 0;

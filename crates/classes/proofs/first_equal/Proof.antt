@@ -5,12 +5,12 @@ use native.Mathlib.Omega.{arith}
 use borrow.Author.Needs.{needs}
 use lib.ListN.{length}
 use Rattle.classes.proofs.Search.{Unlike, unlike-none, unlike-more, like-found, like-itself}
-use Rattle.classes.specs.Seen.{seen, sameColumn}
+use Rattle.classes.specs.Seen.{alikeSeen}
 use Rattle.classes.proofs.first_equal.Statement.{statement}
 use Rattle.classes.proofs.first_equal.Tie as tie
 
 abbrev Inv-loop : tie.InvT-loop
-Inv-loop t vertex free x i y₀ y = Unlike (sameColumn (seen t vertex free) (length free)) i y
+Inv-loop t vertex free x i y₀ y = Unlike (alikeSeen t vertex free) i y
 
 abbrev μ-loop : tie.MeasureT-loop
 μ-loop t vertex free x i y₀ y = i - y

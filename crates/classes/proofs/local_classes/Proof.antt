@@ -7,14 +7,14 @@ use borrow.Author.Needs.{needs}
 use lib.ListN.{length}
 use Rattle.classes.proofs.Numbering.{Numbered, numbered-none, numbered-old, numbered-new, numbered-few, numbered-all}
 use Rattle.classes.specs.ColumnLaws.{same-column}
-use Rattle.classes.specs.Seen.{seen, sameColumn}
+use Rattle.classes.specs.Seen.{seen, alikeSeen}
 use Rattle.classes.specs.declared.LocalClass.{LocalClass}
 use Rattle.classes.proofs.local_classes.Statement.{statement}
 use Rattle.classes.proofs.local_classes.Tie as tie
 
 abbrev Inv-loop : tie.InvT-loop
 Inv-loop vertex free t classes₀ count₀ x₀ classes count x =
-    (x ≤ length vertex) × Numbered (λ (l : LocalClass). l .0) (record { 0 = 0 }) (sameColumn (seen t vertex free) (length free)) classes x count
+    (x ≤ length vertex) × Numbered (λ (l : LocalClass). l .0) (record { 0 = 0 }) (alikeSeen t vertex free) classes x count
 
 abbrev μ-loop : tie.MeasureT-loop
 μ-loop vertex free t classes₀ count₀ x₀ classes count x = length vertex - x
