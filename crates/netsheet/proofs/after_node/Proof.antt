@@ -13,10 +13,14 @@ add-t6 : tie.Need-add-t6
 add-t6 c = search needs
 
 returns : tie.Need-returns
-returns c = rw (lt-ltb (c .before .args .o + 1) (c .before .args .outputs) (c .if1 .taken)) refl
+returns c =
+    let a = c .before .args in
+    rw (lt-ltb (a .o + 1) (a .outputs) (c .if1 .taken)) refl
 
 returns-2 : tie.Need-returns-2
-returns-2 c = rw (le-ltb (c .before .args .o + 1) (c .before .args .outputs) (c .if1 .left)) refl
+returns-2 c =
+    let a = c .before .args in
+    rw (le-ltb (a .o + 1) (a .outputs) (c .if1 .left)) refl
 
 pub after-node-spec : {M : Type 1} → statement M
 after-node-spec = tie.close (tie.spec add-if1 add-t6 returns returns-2)

@@ -25,15 +25,18 @@ enum-told-2 : tie.Need-enum-told-2
 enum-told-2 c = search needs
 
 ask-lut-requires : tie.Need-ask-lut-requires
-ask-lut-requires c κs = (c .before .before .before .pre .0, c .before .before .before .pre .1 .few, c .before .before .before .pre .2)
+ask-lut-requires c κs =
+    let pre = c .before .before .before .pre in
+    (pre .0, pre .1 .few, pre .2)
 
 enum-known-p : tie.Need-enum-known-p
 enum-known-p c = search needs
 
 ask-node-requires : tie.Need-ask-node-requires
 ask-node-requires c κs =
-    let o : PlaceFits (Place.Node (c .before .p .given .0 .0)) = subst (λ (x : Place). PlaceFits x) (c .before .p .given .1) (c .before .before .before .before .pre .1 .fits) in
-    (c .before .before .before .before .pre .0, c .before .before .before .before .pre .1 .few, o, c .before .before .before .before .pre .2)
+    let pre = c .before .before .before .before .pre in
+    let o : PlaceFits (Place.Node (c .before .p .given .0 .0)) = subst (λ (x : Place). PlaceFits x) (c .before .p .given .1) (pre .1 .fits) in
+    (pre .0, pre .1 .few, o, pre .2)
 
 enum-told-3 : tie.Need-enum-told-3
 enum-told-3 c = search needs
@@ -64,42 +67,48 @@ onward-requires-4 c κs = search needs
 
 returns : tie.Need-returns
 returns c =
-    let is = c .onward .ensures ∙ ap (λ (b : Bool). moved (c .before .before .before .before .before .before .args .s) b Place.Luts) (c .before .equal .ensures) in (
-      safe-moved (c .before .before .before .before .before .before .args .s) (c .onward .result) _ Place.Luts is (c .before .before .before .before .before .before .pre .1 .few) tt,
-      λ t d w q n kn some-outputs. network-line (c .before .before .before .before .before .before .args .l .now) t d w (c .before .before .before .before .before .before .args .s) (c .onward .result) kn (c .before .before .before .enum-told .given .1) is,
+    let a = c .before .before .before .before .before .before .args in
+    let is = c .onward .ensures ∙ ap (λ (b : Bool). moved (a .s) b Place.Luts) (c .before .equal .ensures) in (
+      safe-moved (a .s) (c .onward .result) _ Place.Luts is (c .before .before .before .before .before .before .pre .1 .few) tt,
+      λ t d w q n kn some-outputs. network-line (a .l .now) t d w (a .s) (c .onward .result) kn (c .before .before .before .enum-told .given .1) is,
     )
 
 returns-2 : tie.Need-returns-2
-returns-2 c = (
-  c .ask-lut .ensures .0,
-  λ t d w q n kn some-outputs. luts-line (c .before .before .before .before .args .l .now) t d w (c .before .before .before .before .args .s) (c .ask-lut .result) kn (c .before .enum-told2 .given .1) (λ none-yet. c .ask-lut .ensures .1 t d w q n (kn .held) none-yet some-outputs),
-)
+returns-2 c =
+    let a = c .before .before .before .before .args in (
+      c .ask-lut .ensures .0,
+      λ t d w q n kn some-outputs. luts-line (a .l .now) t d w (a .s) (c .ask-lut .result) kn (c .before .enum-told2 .given .1) (λ none-yet. c .ask-lut .ensures .1 t d w q n (kn .held) none-yet some-outputs),
+    )
 
 returns-3 : tie.Need-returns-3
-returns-3 c = (
-  c .ask-node .ensures .0,
-  λ t d w q n kn some-outputs. node-line (c .before .before .before .before .before .args .l .now) t d w (c .before .before .before .before .before .args .s) (c .ask-node .result) kn (c .before .before .p .given .0 .0) (c .before .before .p .given .1) (λ here below. c .ask-node .ensures .1 t d w q n (kn .held) here below),
-)
+returns-3 c =
+    let a = c .before .before .before .before .before .args in (
+      c .ask-node .ensures .0,
+      λ t d w q n kn some-outputs. node-line (a .l .now) t d w (a .s) (c .ask-node .result) kn (c .before .before .p .given .0 .0) (c .before .before .p .given .1) (λ here below. c .ask-node .ensures .1 t d w q n (kn .held) here below),
+    )
 
 returns-4 : tie.Need-returns-4
 returns-4 c =
-    let is = c .onward2 .ensures ∙ ap (λ (b : Bool). moved (c .before .before .before .before .before .args .s) b Place.End) (c .before .is-count .ensures) in (
-      safe-moved (c .before .before .before .before .before .args .s) (c .onward2 .result) _ Place.End is (c .before .before .before .before .before .pre .1 .few) tt,
-      λ t d w q n kn some-outputs. count-line (c .before .before .before .before .before .args .l .now) t d w (c .before .before .before .before .before .args .s) (c .onward2 .result) kn (c .before .before .enum-told3 .given .1) is,
+    let a = c .before .before .before .before .before .args in
+    let is = c .onward2 .ensures ∙ ap (λ (b : Bool). moved (a .s) b Place.End) (c .before .is-count .ensures) in (
+      safe-moved (a .s) (c .onward2 .result) _ Place.End is (c .before .before .before .before .before .pre .1 .few) tt,
+      λ t d w q n kn some-outputs. count-line (a .l .now) t d w (a .s) (c .onward2 .result) kn (c .before .before .enum-told3 .given .1) is,
     )
 
 returns-5 : tie.Need-returns-5
 returns-5 c =
-    let is = c .onward3 .ensures ∙ ap (λ (b : Bool). moved (c .before .before .before .before .before .before .args .s) b Place.Over) (c .before .equal2 .ensures) in (
-      safe-moved (c .before .before .before .before .before .before .args .s) (c .onward3 .result) _ Place.Over is (c .before .before .before .before .before .before .pre .1 .few) tt,
-      λ t d w q n kn some-outputs. end-line (c .before .before .before .before .before .before .args .l .now) t d w (c .before .before .before .before .before .before .args .s) (c .onward3 .result) kn (c .before .before .before .enum-told4 .given .1) is,
+    let a = c .before .before .before .before .before .before .args in
+    let is = c .onward3 .ensures ∙ ap (λ (b : Bool). moved (a .s) b Place.Over) (c .before .equal2 .ensures) in (
+      safe-moved (a .s) (c .onward3 .result) _ Place.Over is (c .before .before .before .before .before .before .pre .1 .few) tt,
+      λ t d w q n kn some-outputs. end-line (a .l .now) t d w (a .s) (c .onward3 .result) kn (c .before .before .before .enum-told4 .given .1) is,
     )
 
 returns-6 : tie.Need-returns-6
-returns-6 c = (
-  safe-moved (c .before .before .before .before .args .s) (c .onward4 .result) _ Place.Over (c .onward4 .ensures) (c .before .before .before .before .pre .1 .few) tt,
-  λ t d w q n kn some-outputs. over-line (c .before .before .before .before .args .l .now) t d w (c .before .before .before .before .args .s) (c .onward4 .result) kn (c .before .enum-told5 .given .1) Place.Over (c .onward4 .ensures),
-)
+returns-6 c =
+    let a = c .before .before .before .before .args in (
+      safe-moved (a .s) (c .onward4 .result) _ Place.Over (c .onward4 .ensures) (c .before .before .before .before .pre .1 .few) tt,
+      λ t d w q n kn some-outputs. over-line (a .l .now) t d w (a .s) (c .onward4 .result) kn (c .before .enum-told5 .given .1) Place.Over (c .onward4 .ensures),
+    )
 
 pub ask-line-spec : {M : Type 1} → statement M
 ask-line-spec =

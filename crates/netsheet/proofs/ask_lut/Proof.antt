@@ -22,28 +22,33 @@ add-with-lut c =
 
 with-lut-requires : tie.Need-with-lut-requires
 with-lut-requires c κs =
+    let a = c .before .before .before .before .before .args in
     let line = rw (c .before .r .given .1) at (c .before .before .before .lut-line .ensures) in
-    lut-few (map nameOf (take (c .before .before .before .before .before .args .k .bounds) (c .before .before .before .before .before .args .k .bound))) (c .before .before .before .before .before .args .s .luts) (c .before .before .before .before .before .args .l .now) line
+    lut-few (map nameOf (take (a .k .bounds) (a .k .bound))) (a .s .luts) (a .l .now) line
 
 enum-told : tie.Need-enum-told
 enum-told c = search needs
 
 ask-node-requires : tie.Need-ask-node-requires
-ask-node-requires c κs = (c .before .before .before .before .pre .0, c .before .before .before .before .pre .1, omega arith, c .before .before .before .before .pre .2)
+ask-node-requires c κs =
+    let pre = c .before .before .before .before .pre in
+    (pre .0, pre .1, omega arith, pre .2)
 
 returns : tie.Need-returns
 returns c =
+    let a = c .before .before .before .before .before .before .args in
     let line = rw (c .before .before .r .given .1) at (c .before .before .before .before .lut-line .ensures) in
-    let few = lut-few (map nameOf (take (c .before .before .before .before .before .before .args .k .bounds) (c .before .before .before .before .before .before .args .k .bound))) (c .before .before .before .before .before .before .args .s .luts) (c .before .before .before .before .before .before .args .l .now) line in (
-      safe-lut (c .before .before .before .before .before .before .args .s) (c .with-lut .result) _ (c .with-lut .ensures) few,
-      λ t d w q n h none-yet some-outputs. lut-good (c .before .before .before .before .before .before .args .l .now) t (c .before .before .before .before .before .before .args .at) d w (c .before .before .before .before .before .before .args .k) (c .before .before .before .before .before .before .args .s) (c .with-lut .result) q n h line (c .with-lut .ensures) few (lutat-sized (c .before .before .before .before .before .before .args .s) (c .before .before .before .before .before .before .good .1 .1 .1 .0)) none-yet,
+    let few = lut-few (map nameOf (take (a .k .bounds) (a .k .bound))) (a .s .luts) (a .l .now) line in (
+      safe-lut (a .s) (c .with-lut .result) _ (c .with-lut .ensures) few,
+      λ t d w q n h none-yet some-outputs. lut-good (a .l .now) t (a .at) d w (a .k) (a .s) (c .with-lut .result) q n h line (c .with-lut .ensures) few (lutat-sized (a .s) (c .before .before .before .before .before .before .good .1 .1 .1 .0)) none-yet,
     )
 
 returns-2 : tie.Need-returns-2
 returns-2 c =
+    let a = c .before .before .before .before .before .args in
     let line = rw (c .before .enum-told .given .1) at (c .before .before .before .lut-line .ensures) in (
       c .ask-node .ensures .0,
-      λ t d w q n h none-yet some-outputs. lut-bad (c .before .before .before .before .before .args .l .now) t (c .before .before .before .before .before .args .at) d w (c .before .before .before .before .before .args .k) (c .before .before .before .before .before .args .s) (c .ask-node .result) q n h line (c .ask-node .ensures .1 t d w q n h none-yet some-outputs),
+      λ t d w q n h none-yet some-outputs. lut-bad (a .l .now) t (a .at) d w (a .k) (a .s) (c .ask-node .result) q n h line (c .ask-node .ensures .1 t d w q n h none-yet some-outputs),
     )
 
 pub ask-lut-spec : {M : Type 1} → statement M

@@ -19,13 +19,17 @@ array-share-prefix-free : tie.Need-array-share-prefix-free
 array-share-prefix-free c = omega (arith, c .before .before .before .pre .0 .few-free, free-sized (c .before .before .before .args .k) (c .before .before .before .good .1 .1 .0))
 
 slice-aggregate-read-node : tie.Need-slice-aggregate-read-node
-slice-aggregate-read-node c = sym (length-take-le (c .before .before .before .before .args .k .frees) (c .before .before .before .before .args .k .free) (omega (arith, c .before .before .before .before .pre .0 .few-free, free-sized (c .before .before .before .before .args .k) (c .before .before .before .before .good .1 .1 .0))))
+slice-aggregate-read-node c =
+    let a = c .before .before .before .before .args in
+    sym (length-take-le (a .k .frees) (a .k .free) (omega (arith, c .before .before .before .before .pre .0 .few-free, free-sized (a .k) (c .before .before .before .before .good .1 .1 .0))))
 
 read-node-requires : tie.Need-read-node-requires
 read-node-requires c κs =
-    let few = c .before .before .before .before .pre .0 .few-free in
-    let count = length-take-le (c .before .before .before .before .args .k .frees) (c .before .before .before .before .args .k .free) (omega (arith, free-sized (c .before .before .before .before .args .k) (c .before .before .before .before .good .1 .1 .0))) in
-    (omega arith, c .before .before .before .before .pre .1)
+    let a = c .before .before .before .before .args in
+    let pre = c .before .before .before .before .pre in
+    let few = pre .0 .few-free in
+    let count = length-take-le (a .k .frees) (a .k .free) (omega (arith, free-sized (a .k) (c .before .before .before .before .good .1 .1 .0))) in
+    (omega arith, pre .1)
 
 enum-known-r : tie.Need-enum-known-r
 enum-known-r c = search needs
@@ -46,16 +50,20 @@ onward-requires c κs = search needs
 
 returns : tie.Need-returns
 returns c =
+    let a = c .before .before .before .before .before .before .before .before .before .args in
+    let pre = c .before .before .before .before .before .before .before .before .before .pre in
+    let owned = c .before .before .before .before .before .before .before .before .before .good in
     let line = rw (c .before .before .r .given .1) at (c .before .before .before .before .read-node .ensures) in (
-      safe-node (c .before .before .before .before .before .before .before .before .before .args .s) (c .with-node .result) _ _ _ _ (c .with-node .ensures) (c .before .before .before .before .before .before .before .before .before .pre .1) (c .before .before .before .before .before .before .before .before .before .pre .0 .few-outputs),
-      λ t d w q n h here below. node-good (c .before .before .before .before .before .before .before .before .before .args .l .now) t (c .before .before .before .before .before .before .before .before .before .args .at) d w (c .before .before .before .before .before .before .before .before .before .args .k) (c .before .before .before .before .before .before .before .before .before .args .s) (c .with-node .result) q n h (c .before .before .before .before .before .before .before .before .before .args .o) here below line (c .with-node .ensures) (reads-sized (c .before .before .before .before .before .before .before .before .before .args .s) (c .before .before .before .before .before .before .before .before .before .good .1 .1 .1 .0)) (nodeat-sized (c .before .before .before .before .before .before .before .before .before .args .s) (c .before .before .before .before .before .before .before .before .before .good .1 .1 .1 .0)) (c .before .before .before .before .before .before .before .before .before .pre .2),
+      safe-node (a .s) (c .with-node .result) _ _ _ _ (c .with-node .ensures) (pre .1) (pre .0 .few-outputs),
+      λ t d w q n h here below. node-good (a .l .now) t (a .at) d w (a .k) (a .s) (c .with-node .result) q n h (a .o) here below line (c .with-node .ensures) (reads-sized (a .s) (owned .1 .1 .1 .0)) (nodeat-sized (a .s) (owned .1 .1 .1 .0)) (pre .2),
     )
 
 returns-2 : tie.Need-returns-2
 returns-2 c =
+    let a = c .before .before .before .before .before .before .before .before .args in
     let line = rw (c .before .enum-told .given .1) at (c .before .before .before .read-node .ensures) in (
-      safe-moved (c .before .before .before .before .before .before .before .before .args .s) (c .onward .result) _ Place.Over (c .onward .ensures) (c .before .before .before .before .before .before .before .before .pre .1) tt,
-      λ t d w q n h here below. node-bad (c .before .before .before .before .before .before .before .before .args .l .now) t (c .before .before .before .before .before .before .before .before .args .at) d w (c .before .before .before .before .before .before .before .before .args .k) (c .before .before .before .before .before .before .before .before .args .s) (c .onward .result) q n h (c .before .before .before .before .before .before .before .before .args .o) here below line Place.Over (c .onward .ensures),
+      safe-moved (a .s) (c .onward .result) _ Place.Over (c .onward .ensures) (c .before .before .before .before .before .before .before .before .pre .1) tt,
+      λ t d w q n h here below. node-bad (a .l .now) t (a .at) d w (a .k) (a .s) (c .onward .result) q n h (a .o) here below line Place.Over (c .onward .ensures),
     )
 
 pub ask-node-spec : {M : Type 1} → statement M

@@ -16,7 +16,9 @@ abbrev μ-loop : tie.MeasureT-loop
 μ-loop names bound list₀ count₀ i₀ list count i = length names - i
 
 loop-holds : tie.Need-loop-holds Inv-loop μ-loop
-loop-holds c = parting-none (c .before .before .args .names .now) (c .before .before .args .bound .now) _ refl
+loop-holds c =
+    let a = c .before .before .args in
+    parting-none (a .names .now) (a .bound .now) _ refl
 
 mul-v : tie.Need-mul-v Inv-loop μ-loop
 mul-v c = search needs
@@ -50,13 +52,14 @@ loop-less c = omega arith
 
 loop-again : tie.Need-loop-again Inv-loop μ-loop
 loop-again c =
+    let turn = c .before .before .before .before .loop in
     ⊎-elim
     (λ w.
     let there = w .1 .given in
-    rw (w .2, w .3) (parting-bound (c .before .before .before .before .loop .inv) (c .before .before .before .loop-test .taken) (there .0 .0) (rw (there .1) at (c .before .find .ensures))))
+    rw (w .2, w .3) (parting-bound (turn .inv) (c .before .before .before .loop-test .taken) (there .0 .0) (rw (there .1) at (c .before .find .ensures))))
     (λ w.
     let nowhere = rw (w .1 .given .1) at (c .before .find .ensures) in
-    rw (w .2, w .3) (parting-free (c .before .before .before .before .loop .inv) (c .before .before .before .loop-test .taken) nowhere (c .before .before .before .before .before .before .before .pre)))
+    rw (w .2, w .3) (parting-free (turn .inv) (c .before .before .before .loop-test .taken) nowhere (c .before .before .before .before .before .before .before .pre)))
     (c .match .came)
 
 returns : tie.Need-returns Inv-loop μ-loop

@@ -18,13 +18,17 @@ bad-line-requires : tie.Need-bad-line-requires Inv-loop μ-loop
 bad-line-requires c κs = search needs
 
 returns : tie.Need-returns Inv-loop μ-loop
-returns c = λ d h p o. refused-at d (c .before .before .before .args .t .now) 0 (c .bad-line .result) (no-bytes d (c .before .before .before .args .t .now) (c .before .if1 .taken)) (c .bad-line .ensures)
+returns c =
+    let a = c .before .before .before .args in
+    λ d h p o. refused-at d (a .t .now) 0 (c .bad-line .result) (no-bytes d (a .t .now) (c .before .if1 .taken)) (c .bad-line .ensures)
 
 bad-line-requires-2 : tie.Need-bad-line-requires-2 Inv-loop μ-loop
 bad-line-requires-2 c κs = search needs
 
 returns-2 : tie.Need-returns-2 Inv-loop μ-loop
-returns-2 c = λ d h p o. refused-at d (c .before .before .before .before .args .t .now) 0 (c .bad-line2 .result) (many-bytes d (c .before .before .before .before .args .t .now) (c .before .if2 .taken)) (c .bad-line2 .ensures)
+returns-2 c =
+    let a = c .before .before .before .before .args in
+    λ d h p o. refused-at d (a .t .now) 0 (c .bad-line2 .result) (many-bytes d (a .t .now) (c .before .if2 .taken)) (c .bad-line2 .ensures)
 
 names-of-requires : tie.Need-names-of-requires Inv-loop μ-loop
 names-of-requires c κs = (c .before .before .before .pre)
@@ -42,7 +46,9 @@ bad-line-requires-3 : tie.Need-bad-line-requires-3 Inv-loop μ-loop
 bad-line-requires-3 c κs = search needs
 
 returns-3 : tie.Need-returns-3 Inv-loop μ-loop
-returns-3 c = λ d h p o. walk-open (c .before .before .before .before .loop .inv) (c .before .before .line-end .result) (c .before .before .before .loop-test .taken) (c .before .before .line-end .ensures) (c .before .if3 .taken) (c .bad-line3 .result) (c .bad-line3 .ensures) d (c .before .before .before .before .before .before .names-of .ensures .right d h p) o
+returns-3 c =
+    let end = c .before .before .line-end in
+    λ d h p o. walk-open (c .before .before .before .before .loop .inv) (end .result) (c .before .before .before .loop-test .taken) (end .ensures) (c .before .if3 .taken) (c .bad-line3 .result) (c .bad-line3 .ensures) d (c .before .before .before .before .before .before .names-of .ensures .right d h p) o
 
 sub-ask-line : tie.Need-sub-ask-line Inv-loop μ-loop
 sub-ask-line c = omega (arith, c .before .line-end .ensures .after-start)
@@ -54,25 +60,34 @@ part-ask-line-end : tie.Need-part-ask-line-end Inv-loop μ-loop
 part-ask-line-end c = omega (arith, c .before .line-end .ensures .inside)
 
 ask-line-requires : tie.Need-ask-line-requires Inv-loop μ-loop
-ask-line-requires c κs = (c .before .before .before .before .before .before .names-of .ensures .counts, c .before .before .before .before .loop .inv .safe, walk-room (c .before .before .before .before .loop .inv) (c .before .before .line-end .result) (c .before .before .before .loop-test .taken) (c .before .before .line-end .ensures))
+ask-line-requires c κs =
+    let turn = c .before .before .before .before .loop in
+    let end = c .before .before .line-end in
+    (c .before .before .before .before .before .before .names-of .ensures .counts, turn .inv .safe, walk-room (turn .inv) (end .result) (c .before .before .before .loop-test .taken) (end .ensures))
 
 bad-line-requires-4 : tie.Need-bad-line-requires-4 Inv-loop μ-loop
 bad-line-requires-4 c κs = search needs
 
 returns-4 : tie.Need-returns-4 Inv-loop μ-loop
-returns-4 c = λ d h p o. walk-bad (c .before .before .before .before .before .before .before .before .loop .inv) (c .before .before .before .before .before .before .line-end .result) (c .before .before .before .before .before .before .before .loop-test .taken) (c .before .before .before .before .before .before .line-end .ensures) (c .before .before .before .before .before .if3 .left) (c .before .before .before .ask-line .result) (c .before .before .before .ask-line .ensures .1) (not-true _ (c .before .if4 .taken)) (c .bad-line4 .result) (c .bad-line4 .ensures) d (c .before .before .before .before .before .before .before .before .before .before .names-of .ensures .right d h p) o
+returns-4 c =
+    let end = c .before .before .before .before .before .before .line-end in
+    λ d h p o. walk-bad (c .before .before .before .before .before .before .before .before .loop .inv) (end .result) (c .before .before .before .before .before .before .before .loop-test .taken) (end .ensures) (c .before .before .before .before .before .if3 .left) (c .before .before .before .ask-line .result) (c .before .before .before .ask-line .ensures .1) (not-true _ (c .before .if4 .taken)) (c .bad-line4 .result) (c .bad-line4 .ensures) d (c .before .before .before .before .before .before .before .before .before .before .names-of .ensures .right d h p) o
 
 add-at : tie.Need-add-at Inv-loop μ-loop
 add-at c = omega (arith, c .before .before .before .before .before .line-end .ensures .inside)
 
 add-n : tie.Need-add-n Inv-loop μ-loop
-add-n c = omega (arith, c .before .before .before .before .before .before .before .loop .inv .few, c .before .before .before .before .before .before .before .loop .inv .inside)
+add-n c =
+    let turn = c .before .before .before .before .before .before .before .loop in
+    omega (arith, turn .inv .few, turn .inv .inside)
 
 loop-less : tie.Need-loop-less Inv-loop μ-loop
 loop-less c = omega (arith, c .before .before .before .before .before .line-end .ensures .after-start, c .before .before .before .before .before .before .loop-test .taken)
 
 loop-again : tie.Need-loop-again Inv-loop μ-loop
-loop-again c = walk-more (c .before .before .before .before .before .before .before .loop .inv) (c .before .before .before .before .before .line-end .result) (c .before .before .before .before .before .before .loop-test .taken) (c .before .before .before .before .before .line-end .ensures) (c .before .before .before .before .if3 .left) (c .before .before .ask-line .result) (c .before .before .ask-line .ensures .1) (not-false _ (c .if4 .left)) (c .before .before .ask-line .ensures .0)
+loop-again c =
+    let end = c .before .before .before .before .before .line-end in
+    walk-more (c .before .before .before .before .before .before .before .loop .inv) (end .result) (c .before .before .before .before .before .before .loop-test .taken) (end .ensures) (c .before .before .before .before .if3 .left) (c .before .before .ask-line .result) (c .before .before .ask-line .ensures .1) (not-false _ (c .if4 .left)) (c .before .before .ask-line .ensures .0)
 
 ended-requires : tie.Need-ended-requires Inv-loop μ-loop
 ended-requires c κs = search needs

@@ -20,8 +20,9 @@ enum-told c = search needs
 
 returns : tie.Need-returns
 returns c =
+    let a = c .before .before .before .before .before .args in
     let items = rw (c .enum-told .given .1) at (c .before .before .names-at .ensures) in
-    part-missing (ledAll (c .before .before .before .before .before .args .first) (map nameOf (c .before .before .before .before .before .args .ns .now))) (bytes ") ") (drop (c .before .before .before .before .before .args .c .at) (c .before .before .before .before .before .args .s .now)) items
+    part-missing (ledAll (a .first) (map nameOf (a .ns .now))) (bytes ") ") (drop (a .c .at) (a .s .now)) items
 
 slice-aggregate-text : tie.Need-slice-aggregate-text
 slice-aggregate-text c = search needs
@@ -33,8 +34,9 @@ text-requires c κs =
 
 returns-2 : tie.Need-returns-2
 returns-2 c =
+    let a = c .before .before .before .before .before .before .before .before .args in
     let items = rw (c .before .before .before .m .given .1) at (c .before .before .before .before .before .names-at .ensures) in
-    part-then (ledAll (c .before .before .before .before .before .before .before .before .args .first) (map nameOf (c .before .before .before .before .before .before .before .before .args .ns .now))) (bytes ") ") (drop (c .before .before .before .before .before .before .before .before .args .c .at) (c .before .before .before .before .before .before .before .before .args .s .now)) items (c .text .result) (c .text .ensures)
+    part-then (ledAll (a .first) (map nameOf (a .ns .now))) (bytes ") ") (drop (a .c .at) (a .s .now)) items (c .text .result) (c .text .ensures)
 
 pub inputs-at-spec : {M : Type 1} → statement M
 inputs-at-spec =

@@ -20,7 +20,9 @@ equal-requires : tie.Need-equal-requires
 equal-requires c κs = search needs
 
 returns : tie.Need-returns
-returns c = c .equal .ensures ∙ ap (same (c .before .before .before .args .l .now)) (count-bytes (c .before .before .before .args .u) (c .before .before .before .pre))
+returns c =
+    let a = c .before .before .before .args in
+    c .equal .ensures ∙ ap (same (a .l .now)) (count-bytes (a .u) (c .before .before .before .pre))
 
 pub is-count-spec : {M : Type 1} → statement M
 is-count-spec = tie.close (tie.spec cast-t4 add-t5 slice-aggregate-equal equal-requires returns)

@@ -28,8 +28,9 @@ enum-told c = search needs
 
 returns-2 : tie.Need-returns-2
 returns-2 c =
+    let a = c .before .before .before .before .before .before .args in
     let gap = rw (c .enum-told .given .1) at (c .before .before .text .ensures) in
-    rw (c .before .before .before .before .if1 .left) (part-missing (space ∷ []) (nameOf (c .before .before .before .before .before .before .args .v)) (drop (c .before .before .before .before .before .before .args .c .at) (c .before .before .before .before .before .before .args .s .now)) gap)
+    rw (c .before .before .before .before .if1 .left) (part-missing (space ∷ []) (nameOf (a .v)) (drop (a .c .at) (a .s .now)) gap)
 
 name-at-requires-2 : tie.Need-name-at-requires-2
 name-at-requires-2 c κs =
@@ -38,8 +39,9 @@ name-at-requires-2 c κs =
 
 returns-3 : tie.Need-returns-3
 returns-3 c =
+    let a = c .before .before .before .before .before .before .before .before .args in
     let gap = rw (c .before .before .m .given .1) at (c .before .before .before .before .text .ensures) in
-    rw (c .before .before .before .before .before .before .if1 .left) (part-then (space ∷ []) (nameOf (c .before .before .before .before .before .before .before .before .args .v)) (drop (c .before .before .before .before .before .before .before .before .args .c .at) (c .before .before .before .before .before .before .before .before .args .s .now)) gap (c .name-at2 .result) (c .name-at2 .ensures))
+    rw (c .before .before .before .before .before .before .if1 .left) (part-then (space ∷ []) (nameOf (a .v)) (drop (a .c .at) (a .s .now)) gap (c .name-at2 .result) (c .name-at2 .ensures))
 
 pub led-name-spec : {M : Type 1} → statement M
 led-name-spec =

@@ -20,8 +20,9 @@ enum-told c = search needs
 
 returns : tie.Need-returns
 returns c =
+    let a = c .before .before .before .before .before .before .args in
     let word = rw (c .enum-told .given .1) at (c .before .before .text .ensures) in
-    lut-no-word (c .before .before .before .before .before .before .args .l .now) (map nameOf (c .before .before .before .before .before .before .args .bs .now)) (c .before .before .before .before .before .before .args .i) word
+    lut-no-word (a .l .now) (map nameOf (a .bs .now)) (a .i) word
 
 lut-at-requires : tie.Need-lut-at-requires
 lut-at-requires c κs =
@@ -36,9 +37,10 @@ enum-told-2 c = search needs
 
 returns-2 : tie.Need-returns-2
 returns-2 c =
+    let a = c .before .before .before .before .before .before .before .before .before .before .args in
     let word = rw (c .before .before .before .before .m .given .1) at (c .before .before .before .before .before .before .text .ensures) in
     let number = rw (c .enum-told2 .given .1) at (c .before .before .lut-at .ensures) in
-    lut-no-number (c .before .before .before .before .before .before .before .before .before .before .args .l .now) (map nameOf (c .before .before .before .before .before .before .before .before .before .before .args .bs .now)) (c .before .before .before .before .before .before .before .before .before .before .args .i) word number
+    lut-no-number (a .l .now) (map nameOf (a .bs .now)) (a .i) word number
 
 slice-aggregate-text-2 : tie.Need-slice-aggregate-text-2
 slice-aggregate-text-2 c = search needs
@@ -56,10 +58,11 @@ enum-told-3 c = search needs
 
 returns-3 : tie.Need-returns-3
 returns-3 c =
+    let a = c .before .before .before .before .before .before .before .before .before .before .before .before .before .before .before .args in
     let word = rw (c .before .before .before .before .before .before .before .before .before .m .given .1) at (c .before .before .before .before .before .before .before .before .before .before .before .text .ensures) in
     let number = rw (c .before .before .before .before .before .m2 .given .1) at (c .before .before .before .before .before .before .before .lut-at .ensures) in
     let list = rw (c .enum-told3 .given .1) at (c .before .before .text2 .ensures) in
-    lut-no-list (c .before .before .before .before .before .before .before .before .before .before .before .before .before .before .before .args .l .now) (map nameOf (c .before .before .before .before .before .before .before .before .before .before .before .before .before .before .before .args .bs .now)) (c .before .before .before .before .before .before .before .before .before .before .before .before .before .before .before .args .i) word number list
+    lut-no-list (a .l .now) (map nameOf (a .bs .now)) (a .i) word number list
 
 inputs-at-requires : tie.Need-inputs-at-requires
 inputs-at-requires c κs =
@@ -68,10 +71,11 @@ inputs-at-requires c κs =
 
 returns-4 : tie.Need-returns-4
 returns-4 c =
+    let a = c .before .before .before .before .before .before .before .before .before .before .before .before .before .before .before .before .before .args in
     let word = rw (c .before .before .before .before .before .before .before .before .before .before .before .m .given .1) at (c .before .before .before .before .before .before .before .before .before .before .before .before .before .text .ensures) in
     let number = rw (c .before .before .before .before .before .before .before .m2 .given .1) at (c .before .before .before .before .before .before .before .before .before .lut-at .ensures) in
     let list = rw (c .before .before .m3 .given .1) at (c .before .before .before .before .text2 .ensures) in
-    lut-list (c .before .before .before .before .before .before .before .before .before .before .before .before .before .before .before .before .before .args .l .now) (map nameOf (c .before .before .before .before .before .before .before .before .before .before .before .before .before .before .before .before .before .args .bs .now)) (c .before .before .before .before .before .before .before .before .before .before .before .before .before .before .before .before .before .args .i) word number list (c .inputs-at .result) (c .inputs-at .ensures)
+    lut-list (a .l .now) (map nameOf (a .bs .now)) (a .i) word number list (c .inputs-at .result) (c .inputs-at .ensures)
 
 pub lut-head-spec : {M : Type 1} → statement M
 lut-head-spec =

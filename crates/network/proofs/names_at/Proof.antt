@@ -15,7 +15,9 @@ abbrev μ-loop : tie.MeasureT-loop
 μ-loop s first ns at₀ leads₀ i₀ at leads i = length ns - i
 
 loop-holds : tie.Need-loop-holds Inv-loop μ-loop
-loop-holds c = listed-none (c .before .before .args .s .now) (c .before .before .args .ns .now) (c .before .before .args .first) (c .before .before .args .c .at) (c .before .before .pre)
+loop-holds c =
+    let a = c .before .before .args in
+    listed-none (a .s .now) (a .ns .now) (a .first) (a .c .at) (c .before .before .pre)
 
 mul-led-name : tie.Need-mul-led-name Inv-loop μ-loop
 mul-led-name c = search needs

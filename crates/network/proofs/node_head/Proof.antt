@@ -19,8 +19,9 @@ enum-told c = search needs
 
 returns : tie.Need-returns
 returns c =
+    let a = c .before .before .before .before .before .args in
     let word = rw (c .enum-told .given .1) at (c .before .before .text .ensures) in
-    node-no-word (c .before .before .before .before .before .args .l .now) (nameOf (c .before .before .before .before .before .args .name)) word
+    node-no-word (a .l .now) (nameOf (a .name)) word
 
 name-at-requires : tie.Need-name-at-requires
 name-at-requires c κs =
@@ -35,9 +36,10 @@ enum-told-2 c = search needs
 
 returns-2 : tie.Need-returns-2
 returns-2 c =
+    let a = c .before .before .before .before .before .before .before .before .before .args in
     let word = rw (c .before .before .before .before .m .given .1) at (c .before .before .before .before .before .before .text .ensures) in
     let name = rw (c .enum-told2 .given .1) at (c .before .before .name-at .ensures) in
-    node-no-name (c .before .before .before .before .before .before .before .before .before .args .l .now) (nameOf (c .before .before .before .before .before .before .before .before .before .args .name)) word name
+    node-no-name (a .l .now) (nameOf (a .name)) word name
 
 slice-aggregate-text-2 : tie.Need-slice-aggregate-text-2
 slice-aggregate-text-2 c = search needs
@@ -49,9 +51,10 @@ text-requires-2 c κs =
 
 returns-3 : tie.Need-returns-3
 returns-3 c =
+    let a = c .before .before .before .before .before .before .before .before .before .before .before .before .args in
     let word = rw (c .before .before .before .before .before .before .before .m .given .1) at (c .before .before .before .before .before .before .before .before .before .text .ensures) in
     let name = rw (c .before .before .before .m2 .given .1) at (c .before .before .before .before .before .name-at .ensures) in
-    node-list (c .before .before .before .before .before .before .before .before .before .before .before .before .args .l .now) (nameOf (c .before .before .before .before .before .before .before .before .before .before .before .before .args .name)) word name (c .text2 .result) (c .text2 .ensures)
+    node-list (a .l .now) (nameOf (a .name)) word name (c .text2 .result) (c .text2 .ensures)
 
 pub node-head-spec : {M : Type 1} → statement M
 node-head-spec =

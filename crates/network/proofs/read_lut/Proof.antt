@@ -19,8 +19,9 @@ enum-told c = search needs
 
 returns : tie.Need-returns
 returns c =
+    let a = c .before .before .before .before .before .args in
     let head = rw (c .enum-told .given .1) at (c .before .before .lut-head .ensures) in
-    lut-no-head (c .before .before .before .before .before .args .l .now) (map nameOf (c .before .before .before .before .before .args .bs .now)) (c .before .before .before .before .before .args .i) head
+    lut-no-head (a .l .now) (map nameOf (a .bs .now)) (a .i) head
 
 row-count-requires : tie.Need-row-count-requires
 row-count-requires c κs = search needs
@@ -32,8 +33,10 @@ table-at-requires c κs =
 
 returns-2 : tie.Need-returns-2
 returns-2 c =
+    let a = c .before .before .before .before .before .before .before .before .args in
+    let rows = c .before .row-count in
     let head = rw (c .before .before .before .m .given .1) at (c .before .before .before .before .before .lut-head .ensures) in
-    lut-digits (c .before .before .before .before .before .before .before .before .args .l .now) (map nameOf (c .before .before .before .before .before .before .before .before .args .bs .now)) (c .before .before .before .before .before .before .before .before .args .i) head (c .table-at .result) (c .before .row-count .result) (length (c .before .before .before .before .before .before .before .before .args .bs .now)) (c .before .row-count .ensures .0) (sym (length-map (c .before .before .before .before .before .before .before .before .args .bs .now) nameOf)) (c .table-at .ensures)
+    lut-digits (a .l .now) (map nameOf (a .bs .now)) (a .i) head (c .table-at .result) (rows .result) (length (a .bs .now)) (rows .ensures .0) (sym (length-map (a .bs .now) nameOf)) (c .table-at .ensures)
 
 pub read-lut-spec : {M : Type 1} → statement M
 read-lut-spec =

@@ -20,8 +20,9 @@ enum-told c = search needs
 
 returns : tie.Need-returns
 returns c =
+    let a = c .before .before .before .before .before .args in
     let head = rw (c .enum-told .given .1) at (c .before .before .node-head .ensures) in
-    node-no-head (c .before .before .before .before .before .args .l .now) (nameOf (c .before .before .before .before .before .args .name)) (map nameOf (c .before .before .before .before .before .args .fs .now)) (c .before .before .before .before .before .args .u) head
+    node-no-head (a .l .now) (nameOf (a .name)) (map nameOf (a .fs .now)) (a .u) head
 
 reads-at-requires : tie.Need-reads-at-requires
 reads-at-requires c κs =
@@ -39,15 +40,21 @@ enum-told-2 c = search needs
 
 returns-2 : tie.Need-returns-2
 returns-2 c =
+    let a = c .before .before .before .before .before .before .before .before .before .before .before .before .args in
+    let tables = c .before .before .before .before .before .reads-at in
     let head = rw (c .before .before .before .before .before .before .before .m .given .1) at (c .before .before .before .before .before .before .before .before .before .node-head .ensures) in
     let inputs = rw (c .enum-told2 .given .1) at (c .before .before .inputs-at .ensures) in
-    node-no-inputs (c .before .before .before .before .before .before .before .before .before .before .before .before .args .l .now) (nameOf (c .before .before .before .before .before .before .before .before .before .before .before .before .args .name)) (map nameOf (c .before .before .before .before .before .before .before .before .before .before .before .before .args .fs .now)) (c .before .before .before .before .before .before .before .before .before .before .before .before .args .u) head (c .before .before .before .before .before .reads-at .result) (c .before .before .before .before .before .reads-at .ensures) inputs
+    node-no-inputs (a .l .now) (nameOf (a .name)) (map nameOf (a .fs .now)) (a .u) head (tables .result) (tables .ensures) inputs
 
 add-row-count : tie.Need-add-row-count
-add-row-count c = omega (arith, c .before .before .before .before .before .before .before .reads-at .ensures .few, c .before .before .before .before .before .before .before .before .before .before .before .before .before .before .pre .0, c .before .before .before .before .before .before .before .before .before .before .before .before .before .before .pre .1)
+add-row-count c =
+    let pre = c .before .before .before .before .before .before .before .before .before .before .before .before .before .before .pre in
+    omega (arith, c .before .before .before .before .before .before .before .reads-at .ensures .few, pre .0, pre .1)
 
 row-count-requires : tie.Need-row-count-requires
-row-count-requires c κs = omega (arith, c .before .before .before .before .before .before .before .reads-at .ensures .few, c .before .before .before .before .before .before .before .before .before .before .before .before .before .before .pre .0, c .before .before .before .before .before .before .before .before .before .before .before .before .before .before .pre .1)
+row-count-requires c κs =
+    let pre = c .before .before .before .before .before .before .before .before .before .before .before .before .before .before .pre in
+    omega (arith, c .before .before .before .before .before .before .before .reads-at .ensures .few, pre .0, pre .1)
 
 table-at-requires : tie.Need-table-at-requires
 table-at-requires c κs =
@@ -62,17 +69,23 @@ enum-told-3 c = search needs
 
 returns-3 : tie.Need-returns-3
 returns-3 c =
+    let a = c .before .before .before .before .before .before .before .before .before .before .before .before .before .before .before .before .before .before .before .args in
+    let tables = c .before .before .before .before .before .before .before .before .before .before .before .before .reads-at in
+    let rows = c .before .before .before .before .row-count in
     let head = rw (c .before .before .before .before .before .before .before .before .before .before .before .before .before .before .m .given .1) at (c .before .before .before .before .before .before .before .before .before .before .before .before .before .before .before .before .node-head .ensures) in
     let inputs = rw (c .before .before .before .before .before .before .before .m2 .given .1) at (c .before .before .before .before .before .before .before .before .before .inputs-at .ensures) in
     let table = rw (c .before .p .given .1) at (c .before .before .before .table-at .ensures) in
-    node-digits (c .before .before .before .before .before .before .before .before .before .before .before .before .before .before .before .before .before .before .before .args .l .now) (nameOf (c .before .before .before .before .before .before .before .before .before .before .before .before .before .before .before .before .before .before .before .args .name)) (map nameOf (c .before .before .before .before .before .before .before .before .before .before .before .before .before .before .before .before .before .before .before .args .fs .now)) (c .before .before .before .before .before .before .before .before .before .before .before .before .before .before .before .before .before .before .before .args .u) head (c .before .before .before .before .before .before .before .before .before .before .before .before .reads-at .result) (c .before .before .before .before .before .before .before .before .before .before .before .before .reads-at .ensures) inputs (length (c .before .before .before .before .before .before .before .before .before .before .before .before .before .before .before .before .before .before .before .args .fs .now)) (c .before .before .before .before .row-count .result) (sym (length-map (c .before .before .before .before .before .before .before .before .before .before .before .before .before .before .before .before .before .before .before .args .fs .now) nameOf)) (c .before .before .before .before .row-count .ensures .0) table
+    node-digits (a .l .now) (nameOf (a .name)) (map nameOf (a .fs .now)) (a .u) head (tables .result) (tables .ensures) inputs (length (a .fs .now)) (rows .result) (sym (length-map (a .fs .now) nameOf)) (rows .ensures .0) table
 
 returns-4 : tie.Need-returns-4
 returns-4 c =
+    let a = c .before .before .before .before .before .before .before .before .before .before .before .before .before .before .before .before .before .before .args in
+    let tables = c .before .before .before .before .before .before .before .before .before .before .before .reads-at in
+    let rows = c .before .before .before .row-count in
     let head = rw (c .before .before .before .before .before .before .before .before .before .before .before .before .before .m .given .1) at (c .before .before .before .before .before .before .before .before .before .before .before .before .before .before .before .node-head .ensures) in
     let inputs = rw (c .before .before .before .before .before .before .m2 .given .1) at (c .before .before .before .before .before .before .before .before .inputs-at .ensures) in
     let table = rw (c .enum-told3 .given .1) at (c .before .before .table-at .ensures) in
-    node-no-digits (c .before .before .before .before .before .before .before .before .before .before .before .before .before .before .before .before .before .before .args .l .now) (nameOf (c .before .before .before .before .before .before .before .before .before .before .before .before .before .before .before .before .before .before .args .name)) (map nameOf (c .before .before .before .before .before .before .before .before .before .before .before .before .before .before .before .before .before .before .args .fs .now)) (c .before .before .before .before .before .before .before .before .before .before .before .before .before .before .before .before .before .before .args .u) head (c .before .before .before .before .before .before .before .before .before .before .before .reads-at .result) (c .before .before .before .before .before .before .before .before .before .before .before .reads-at .ensures) inputs (length (c .before .before .before .before .before .before .before .before .before .before .before .before .before .before .before .before .before .before .args .fs .now)) (c .before .before .before .row-count .result) (sym (length-map (c .before .before .before .before .before .before .before .before .before .before .before .before .before .before .before .before .before .before .args .fs .now) nameOf)) (c .before .before .before .row-count .ensures .0) table
+    node-no-digits (a .l .now) (nameOf (a .name)) (map nameOf (a .fs .now)) (a .u) head (tables .result) (tables .ensures) inputs (length (a .fs .now)) (rows .result) (sym (length-map (a .fs .now) nameOf)) (rows .ensures .0) table
 
 pub read-node-spec : {M : Type 1} → statement M
 read-node-spec =

@@ -15,7 +15,9 @@ abbrev μ-loop : tie.MeasureT-loop
 μ-loop s u at₀ mask₀ count₀ i₀ at mask count i = u - i
 
 loop-holds : tie.Need-loop-holds Inv-loop μ-loop
-loop-holds c = gathered-none (c .before .args .s .now) (c .before .args .u) (c .before .args .c .at) (c .before .pre .0)
+loop-holds c =
+    let a = c .before .args in
+    gathered-none (a .s .now) (a .u) (a .c .at) (c .before .pre .0)
 
 lut-at-requires : tie.Need-lut-at-requires Inv-loop μ-loop
 lut-at-requires c κs = (c .before .loop .inv .inside, omega (arith, c .before .before .before .pre .1))
@@ -31,8 +33,10 @@ shl-mask c = omega (arith, c .before .before .before .before .before .before .be
 
 add-mask : tie.Need-add-mask Inv-loop μ-loop
 add-mask c =
+    let pre = c .before .before .before .before .before .before .before .pre in
+    let turn = c .before .before .before .before .before .loop in
     let h = c .before .before .before .before .loop-test .taken in
-    record { fits = omega (arith, shifted-byte (c .before .before .before .before .before .loop .i) (omega (arith, c .before .before .before .before .before .before .before .pre .1)), mask-fits (c .before .before .before .before .before .loop .i) (c .before .before .before .before .before .loop .mask) (omega (arith, c .before .before .before .before .before .before .before .pre .1)) (c .before .before .before .before .before .loop .inv .small)) }
+    record { fits = omega (arith, shifted-byte (turn .i) (omega (arith, pre .1)), mask-fits (turn .i) (turn .mask) (omega (arith, pre .1)) (turn .inv .small)) }
 
 add-count : tie.Need-add-count Inv-loop μ-loop
 add-count c = record { fits = omega (arith, c .before .before .before .before .before .loop .inv .few, c .before .before .before .before .before .before .before .pre .1) }

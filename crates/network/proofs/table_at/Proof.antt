@@ -13,7 +13,9 @@ add-if1 : tie.Need-add-if1
 add-if1 c = omega (arith, c .before .pre .1)
 
 returns : tie.Need-returns
-returns c = wrong-length (c .before .before .args .l .now) (c .before .before .args .c .at) (c .before .before .args .n) (c .before .before .pre .0) (c .if1 .taken)
+returns c =
+    let a = c .before .before .args in
+    wrong-length (a .l .now) (a .c .at) (a .n) (c .before .before .pre .0) (c .if1 .taken)
 
 add-if2 : tie.Need-add-if2
 add-if2 c = omega (arith, c .before .before .pre .1, c .before .before .good .0 .0)
@@ -22,16 +24,22 @@ shared-slice-read-if2 : tie.Need-shared-slice-read-if2
 shared-slice-read-if2 c = omega (arith, c .before .before .before .pre .0)
 
 returns-2 : tie.Need-returns-2
-returns-2 c = no-bracket (c .before .before .before .before .args .l .now) (c .before .before .before .before .args .c .at) (c .before .before .before .before .args .n) (c .before .before .before .before .pre .0) (c .before .before .if1 .left) (c .if2 .taken)
+returns-2 c =
+    let a = c .before .before .before .before .args in
+    no-bracket (a .l .now) (a .c .at) (a .n) (c .before .before .before .before .pre .0) (c .before .before .if1 .left) (c .if2 .taken)
 
 digits-at-requires : tie.Need-digits-at-requires
 digits-at-requires c κs = omega (arith, c .before .before .before .before .pre .0)
 
 returns-3 : tie.Need-returns-3
-returns-3 c = table-read (c .before .before .before .before .before .before .args .l .now) (c .before .before .before .before .before .before .args .c .at) (c .before .before .before .before .before .before .args .n) (c .before .before .before .before .before .before .pre .0) (c .before .before .before .before .if1 .left) (c .before .before .if2 .left) (sym (c .before .digits-at .ensures) ∙ c .if3 .taken)
+returns-3 c =
+    let a = c .before .before .before .before .before .before .args in
+    table-read (a .l .now) (a .c .at) (a .n) (c .before .before .before .before .before .before .pre .0) (c .before .before .before .before .if1 .left) (c .before .before .if2 .left) (sym (c .before .digits-at .ensures) ∙ c .if3 .taken)
 
 returns-4 : tie.Need-returns-4
-returns-4 c = no-digits (c .before .before .before .before .before .before .args .l .now) (c .before .before .before .before .before .before .args .c .at) (c .before .before .before .before .before .before .args .n) (c .before .before .before .before .before .before .pre .0) (c .before .before .before .before .if1 .left) (sym (c .before .digits-at .ensures) ∙ c .if3 .left)
+returns-4 c =
+    let a = c .before .before .before .before .before .before .args in
+    no-digits (a .l .now) (a .c .at) (a .n) (c .before .before .before .before .before .before .pre .0) (c .before .before .before .before .if1 .left) (sym (c .before .digits-at .ensures) ∙ c .if3 .left)
 
 pub table-at-spec : {M : Type 1} → statement M
 table-at-spec =
