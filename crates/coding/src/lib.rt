@@ -7,9 +7,24 @@ ghost use mathlib.Core.List.{List};
 ghost use Prim.Native.Nat.{ℕ, _+_, _*_, _<_, _≤_};
 ghost use lib.ListN.{length, getD};
 ghost use Rattle.numbering.specs.Given.{Labels, Blocks, Plan, Kept, Told};
-ghost use Rattle.holding.specs.Search.{Seeking};
+ghost use Rattle.holding.specs.Search.{Seeking, Empty};
 
-// The sets narrowed by each output after some vertex took code c. Where one output leaves none, the set of vertex 0 is empty.
+// Whether some vertex has no code left.
+pub fn empty(dom: [u64; 32], v: usize) -> bool
+    requires { ⌜ v ≤ 32 ⌝ }
+    ensures { λ r. ⌜ (r ≡ true → Empty dom v) ⌝ }
+{
+    let mut y = 0;
+    while y < v {
+        if dom[y] == 0 {
+            return true;
+        }
+        y += 1;
+    }
+    false
+}
+
+// The sets narrowed by each output after some vertex took code c. Where a set is empty the other outputs are left out.
 pub fn settle_all(
     cl: &[u8],
     base: &[u8],
@@ -31,7 +46,7 @@ pub fn settle_all(
     while o < j {
         let s = holding::settle(cl, base, bs, ms, caps, spots, v, j, o, codes, r, c);
         r = s;
-        if r[0] == 0 {
+        if empty(r, v) {
             return r;
         }
         o += 1;
@@ -95,9 +110,11 @@ pub fn find(
         let mut next = codes;
         next[x] = c;
         let d = settle_all(cl, base, bs, ms, caps, spots, v, j, next, dom, c);
-        let r = find(cl, base, bs, ms, ps, caps, spots, v, j, next, d);
-        if r.ok {
-            return r;
+        if !empty(d, v) {
+            let r = find(cl, base, bs, ms, ps, caps, spots, v, j, next, d);
+            if r.ok {
+                return r;
+            }
         }
     }
     numbering::Codes { ok: false, codes }

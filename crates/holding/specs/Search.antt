@@ -260,6 +260,13 @@ module _ (cl base ms caps spots : List ℕ) (v j : ℕ) (codes dom : List ℕ) (
   pub trying-end : (left : ℕ) → left ≡ 0 → Trying cl base ms caps spots v j codes dom x left → Hopeless cl base ms caps spots v j codes dom
   trying-end left z t = record { none = λ g f e. never-both (t .tried g f e) (ap (λ (n : ℕ). on n (g x)) z ∙ on-zero (g x)) }
 
+-- some vertex has no code left
+abbrev pub Empty : List ℕ → ℕ → Type 0
+Empty dom v = (y : ℕ) × (y < v) × (item dom y ≡ 0)
+
+pub empty-hopeless : (cl base ms caps spots : List ℕ) (v j : ℕ) (codes dom : List ℕ) → Empty dom v → Hopeless cl base ms caps spots v j codes dom
+empty-hopeless cl base ms caps spots v j codes dom e = record { none = λ g f k. never-both (k .within (e .0) (e .1)) (ap (λ (n : ℕ). on n (g (e .0))) (e .2) ∙ on-zero (g (e .0))) }
+
 -- the two answers
 module _ (cl base ms ps caps spots : List ℕ) (v j : ℕ) (codes dom codes' dom' r : List ℕ) where
   pub told-found : (ok : Bool) → ok ≡ true → Told cl base ms ps caps spots v j codes' dom' ok r → Told cl base ms ps caps spots v j codes dom ok r

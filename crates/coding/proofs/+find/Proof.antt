@@ -1,5 +1,6 @@
-use Rattle.holding.specs.Search.{uncoded, uncoded-less, Trying, trying-start, trying-more, trying-end, told-found, told-lost}
+use Rattle.holding.specs.Search.{uncoded, uncoded-less, Trying, trying-start, trying-more, trying-end, told-found, told-lost, empty-hopeless}
 use Rattle.numbering.specs.Given.{item}
+use borrow.Author.Tests.{not-true, not-false}
 use Rattle.bits.specs.Logic.{true-false}
 use lib.ListN.{length, getD, set}
 use native.Mathlib.Omega.{arith}
@@ -16,6 +17,7 @@ use Rattle.coding.proofs.find.Kinds as find-kinds
 use Rattle.coding.proofs.+find.Lts-find as find-lts
 use Rattle.cells.proofs.lowest.Reads as lowest-reads
 use Rattle.cells.proofs.without.Reads as without-reads
+use Rattle.coding.proofs.empty.Reads as empty-reads
 use Rattle.coding.proofs.pick.Reads as pick-reads
 use Rattle.coding.proofs.settle_all.Reads as settle-all-reads
 use Rattle.numbering.proofs.finish.Reads as finish-reads
@@ -37,7 +39,7 @@ find-Inv-loop cl base bs ms ps caps spots v j codes dom x left₀ left = (length
 abbrev find-μ-loop : find-lts.MeasureT-loop
 find-μ-loop cl base bs ms ps caps spots v j codes dom x left₀ left = left
 
--- src/lib.rt:87:9
+-- src/lib.rt:102:9
 find-pick-requires : (t : ℕ) → find-lts.Need-pick-requires (
   pick-reads.Asked,
   pick-reads.Learnt,
@@ -49,12 +51,14 @@ find-pick-requires : (t : ℕ) → find-lts.Need-pick-requires (
   without-reads.Learnt,
   settle-all-reads.Asked,
   settle-all-reads.Learnt,
+  empty-reads.Asked,
+  empty-reads.Learnt,
   find-below t,
   find.Post,
 ) (find-at t) find.Post find-Inv-loop find-μ-loop
 find-pick-requires t c κs = c .before .before .before .pre .1 .3
 
--- src/lib.rt:89:9
+-- src/lib.rt:104:9
 find-finish-requires : (t : ℕ) → find-lts.Need-finish-requires (
   pick-reads.Asked,
   pick-reads.Learnt,
@@ -66,12 +70,14 @@ find-finish-requires : (t : ℕ) → find-lts.Need-finish-requires (
   without-reads.Learnt,
   settle-all-reads.Asked,
   settle-all-reads.Learnt,
+  empty-reads.Asked,
+  empty-reads.Learnt,
   find-below t,
   find.Post,
 ) (find-at t) find.Post find-Inv-loop find-μ-loop
 find-finish-requires t c κs = let p = c .before .before .before .before .before .pre .1 in (p .0 .long, p .4, p .3, p .5, λ x h. c .before .pick .ensures .none (c .if1 .taken) x h)
 
--- src/lib.rt:89:9
+-- src/lib.rt:104:9
 find-returns : (t : ℕ) → find-lts.Need-returns (
   pick-reads.Asked,
   pick-reads.Learnt,
@@ -83,12 +89,14 @@ find-returns : (t : ℕ) → find-lts.Need-returns (
   without-reads.Learnt,
   settle-all-reads.Asked,
   settle-all-reads.Learnt,
+  empty-reads.Asked,
+  empty-reads.Learnt,
   find-below t,
   find.Post,
 ) (find-at t) find.Post find-Inv-loop find-μ-loop
 find-returns t c = c .finish .ensures (c .before .before .before .before .before .before .args .base .now) (c .before .before .before .before .before .before .args .spots) (c .before .before .before .before .before .before .args .t11)
 
--- src/lib.rt:91:20
+-- src/lib.rt:106:20
 find-mul-left : (t : ℕ) → find-lts.Need-mul-left (
   pick-reads.Asked,
   pick-reads.Learnt,
@@ -100,12 +108,14 @@ find-mul-left : (t : ℕ) → find-lts.Need-mul-left (
   without-reads.Learnt,
   settle-all-reads.Asked,
   settle-all-reads.Learnt,
+  empty-reads.Asked,
+  empty-reads.Learnt,
   find-below t,
   find.Post,
 ) (find-at t) find.Post find-Inv-loop find-μ-loop
 find-mul-left t c = let p = c .before .pick .ensures .some (c .if1 .left) in let a = p .0 in let b = c .before .before .before .before .before .pre .1 .3 in search needs
 
--- src/lib.rt:91:20
+-- src/lib.rt:106:20
 find-array-read-left : (t : ℕ) → find-lts.Need-array-read-left (
   pick-reads.Asked,
   pick-reads.Learnt,
@@ -117,12 +127,14 @@ find-array-read-left : (t : ℕ) → find-lts.Need-array-read-left (
   without-reads.Learnt,
   settle-all-reads.Asked,
   settle-all-reads.Learnt,
+  empty-reads.Asked,
+  empty-reads.Learnt,
   find-below t,
   find.Post,
 ) (find-at t) find.Post find-Inv-loop find-μ-loop
 find-array-read-left t c = let p = c .before .pick .ensures .some (c .if1 .left) in let a = p .0 in let b = c .before .before .before .before .before .pre .1 .3 in search needs
 
--- src/lib.rt:92:5
+-- src/lib.rt:107:5
 find-loop-holds : (t : ℕ) → find-lts.Need-loop-holds (
   pick-reads.Asked,
   pick-reads.Learnt,
@@ -134,12 +146,14 @@ find-loop-holds : (t : ℕ) → find-lts.Need-loop-holds (
   without-reads.Learnt,
   settle-all-reads.Asked,
   settle-all-reads.Learnt,
+  empty-reads.Asked,
+  empty-reads.Learnt,
   find-below t,
   find.Post,
 ) (find-at t) find.Post find-Inv-loop find-μ-loop
 find-loop-holds t c = let p = c .before .pick .ensures .some (c .if1 .left) in (search needs, p .0, p .1, trying-start (c .before .before .before .before .before .args .cl .now) (c .before .before .before .before .before .args .base .now) (c .before .before .before .before .before .args .ms) (c .before .before .before .before .before .args .caps) (c .before .before .before .before .before .args .spots) (c .before .before .before .before .before .args .v) (c .before .before .before .before .before .args .j) (c .before .before .before .before .before .args .codes) (c .before .before .before .before .before .args .t11) (c .before .pick .result) (p .0))
 
--- src/lib.rt:93:13
+-- src/lib.rt:108:13
 find-lowest-requires : (t : ℕ) → find-lts.Need-lowest-requires (
   pick-reads.Asked,
   pick-reads.Learnt,
@@ -151,12 +165,14 @@ find-lowest-requires : (t : ℕ) → find-lts.Need-lowest-requires (
   without-reads.Learnt,
   settle-all-reads.Asked,
   settle-all-reads.Learnt,
+  empty-reads.Asked,
+  empty-reads.Learnt,
   find-below t,
   find.Post,
 ) (find-at t) find.Post find-Inv-loop find-μ-loop
 find-lowest-requires t c κs = c .loop-test .taken
 
--- src/lib.rt:94:9
+-- src/lib.rt:109:9
 find-without-requires : (t : ℕ) → find-lts.Need-without-requires (
   pick-reads.Asked,
   pick-reads.Learnt,
@@ -168,12 +184,14 @@ find-without-requires : (t : ℕ) → find-lts.Need-without-requires (
   without-reads.Learnt,
   settle-all-reads.Asked,
   settle-all-reads.Learnt,
+  empty-reads.Asked,
+  empty-reads.Learnt,
   find-below t,
   find.Post,
 ) (find-at t) find.Post find-Inv-loop find-μ-loop
 find-without-requires t c κs = c .lowest .ensures .0
 
--- src/lib.rt:96:9
+-- src/lib.rt:111:9
 find-array-write-next : (t : ℕ) → find-lts.Need-array-write-next (
   pick-reads.Asked,
   pick-reads.Learnt,
@@ -185,12 +203,14 @@ find-array-write-next : (t : ℕ) → find-lts.Need-array-write-next (
   without-reads.Learnt,
   settle-all-reads.Asked,
   settle-all-reads.Learnt,
+  empty-reads.Asked,
+  empty-reads.Learnt,
   find-below t,
   find.Post,
 ) (find-at t) find.Post find-Inv-loop find-μ-loop
 find-array-write-next t c = let a = c .before .before .before .loop .inv .1 in let b = c .before .before .before .before .before .before .before .before .before .pre .1 .3 in search needs
 
--- src/lib.rt:97:13
+-- src/lib.rt:112:13
 find-settle-all-requires : (t : ℕ) → find-lts.Need-settle-all-requires (
   pick-reads.Asked,
   pick-reads.Learnt,
@@ -202,12 +222,33 @@ find-settle-all-requires : (t : ℕ) → find-lts.Need-settle-all-requires (
   without-reads.Learnt,
   settle-all-reads.Asked,
   settle-all-reads.Learnt,
+  empty-reads.Asked,
+  empty-reads.Learnt,
   find-below t,
   find.Post,
 ) (find-at t) find.Post find-Inv-loop find-μ-loop
 find-settle-all-requires t c κs = let p = c .before .before .before .before .before .before .before .before .before .pre .1 in (p .0, p .1, p .2, p .3, p .4, c .before .lowest .ensures .0)
 
--- src/lib.rt:98:13
+-- src/lib.rt:113:13
+find-empty-requires : (t : ℕ) → find-lts.Need-empty-requires (
+  pick-reads.Asked,
+  pick-reads.Learnt,
+  finish-reads.Asked,
+  finish-reads.Learnt,
+  lowest-reads.Asked,
+  lowest-reads.Learnt,
+  without-reads.Asked,
+  without-reads.Learnt,
+  settle-all-reads.Asked,
+  settle-all-reads.Learnt,
+  empty-reads.Asked,
+  empty-reads.Learnt,
+  find-below t,
+  find.Post,
+) (find-at t) find.Post find-Inv-loop find-μ-loop
+find-empty-requires t c κs = c .before .before .before .before .before .before .before .before .before .before .pre .1 .3
+
+-- src/lib.rt:114:17
 find-find-requires : (t : ℕ) → find-lts.Need-find-requires (
   pick-reads.Asked,
   pick-reads.Learnt,
@@ -219,16 +260,18 @@ find-find-requires : (t : ℕ) → find-lts.Need-find-requires (
   without-reads.Learnt,
   settle-all-reads.Asked,
   settle-all-reads.Learnt,
+  empty-reads.Asked,
+  empty-reads.Learnt,
   find-below t,
   find.Post,
 ) (find-at t) find.Post find-Inv-loop find-μ-loop
 find-find-requires t c κs =
-    let p = c .before .before .before .before .before .before .before .before .before .before .pre .1 in
-    let m = c .before .before .before .before .before .before .before .before .before .before .pre .0 in
-    let w = uncoded-less (c .before .before .before .before .before .before .before .before .before .before .args .codes) (c .before .before .before .before .before .before .before .before .before .before .args .v) (c .before .before .before .before .before .before .pick .result) (c .before .before .lowest .result) (c .before .before .before .before .loop .inv .0) (p .3) (c .before .before .before .before .loop .inv .1) (c .before .before .before .before .loop .inv .2) (c .before .before .lowest .ensures .0) in
+    let p = c .before .before .before .before .before .before .before .before .before .before .before .before .pre .1 in
+    let m = c .before .before .before .before .before .before .before .before .before .before .before .before .pre .0 in
+    let w = uncoded-less (c .before .before .before .before .before .before .before .before .before .before .before .before .args .codes) (c .before .before .before .before .before .before .before .before .before .before .before .before .args .v) (c .before .before .before .before .before .before .before .before .pick .result) (c .before .before .before .before .lowest .result) (c .before .before .before .before .before .before .loop .inv .0) (p .3) (c .before .before .before .before .before .before .loop .inv .1) (c .before .before .before .before .before .before .loop .inv .2) (c .before .before .before .before .lowest .ensures .0) in
     (omega arith, (p .0, p .1, p .2, p .3, p .4, p .5))
 
--- src/lib.rt:100:13
+-- src/lib.rt:116:17
 find-returns-2 : (t : ℕ) → find-lts.Need-returns-2 (
   pick-reads.Asked,
   pick-reads.Learnt,
@@ -240,12 +283,14 @@ find-returns-2 : (t : ℕ) → find-lts.Need-returns-2 (
   without-reads.Learnt,
   settle-all-reads.Asked,
   settle-all-reads.Learnt,
+  empty-reads.Asked,
+  empty-reads.Learnt,
   find-below t,
   find.Post,
 ) (find-at t) find.Post find-Inv-loop find-μ-loop
-find-returns-2 t c = told-found (c .before .before .before .before .before .before .before .before .before .before .before .before .args .cl .now) (c .before .before .before .before .before .before .before .before .before .before .before .before .args .base .now) (c .before .before .before .before .before .before .before .before .before .before .before .before .args .ms) (c .before .before .before .before .before .before .before .before .before .before .before .before .args .ps) (c .before .before .before .before .before .before .before .before .before .before .before .before .args .caps) (c .before .before .before .before .before .before .before .before .before .before .before .before .args .spots) (c .before .before .before .before .before .before .before .before .before .before .before .before .args .v) (c .before .before .before .before .before .before .before .before .before .before .before .before .args .j) (c .before .before .before .before .before .before .before .before .before .before .before .before .args .codes) (c .before .before .before .before .before .before .before .before .before .before .before .before .args .t11) (set (c .before .before .before .before .before .before .before .before .before .before .before .before .args .codes) (c .before .before .before .before .before .before .before .before .pick .result) (c .before .before .before .before .lowest .result)) (c .before .before .settle-all .result) _ _ (c .if2 .taken) (c .before .find .ensures)
+find-returns-2 t c = told-found (c .before .before .before .before .before .before .before .before .before .before .before .before .before .before .args .cl .now) (c .before .before .before .before .before .before .before .before .before .before .before .before .before .before .args .base .now) (c .before .before .before .before .before .before .before .before .before .before .before .before .before .before .args .ms) (c .before .before .before .before .before .before .before .before .before .before .before .before .before .before .args .ps) (c .before .before .before .before .before .before .before .before .before .before .before .before .before .before .args .caps) (c .before .before .before .before .before .before .before .before .before .before .before .before .before .before .args .spots) (c .before .before .before .before .before .before .before .before .before .before .before .before .before .before .args .v) (c .before .before .before .before .before .before .before .before .before .before .before .before .before .before .args .j) (c .before .before .before .before .before .before .before .before .before .before .before .before .before .before .args .codes) (c .before .before .before .before .before .before .before .before .before .before .before .before .before .before .args .t11) (set (c .before .before .before .before .before .before .before .before .before .before .before .before .before .before .args .codes) (c .before .before .before .before .before .before .before .before .before .before .pick .result) (c .before .before .before .before .before .before .lowest .result)) (c .before .before .before .before .settle-all .result) _ _ (c .if3 .taken) (c .before .find .ensures)
 
--- src/lib.rt:92:5
+-- src/lib.rt:107:5
 find-loop-less : (t : ℕ) → find-lts.Need-loop-less (
   pick-reads.Asked,
   pick-reads.Learnt,
@@ -257,12 +302,14 @@ find-loop-less : (t : ℕ) → find-lts.Need-loop-less (
   without-reads.Learnt,
   settle-all-reads.Asked,
   settle-all-reads.Learnt,
+  empty-reads.Asked,
+  empty-reads.Learnt,
   find-below t,
   find.Post,
 ) (find-at t) find.Post find-Inv-loop find-μ-loop
-find-loop-less t c = c .before .before .before .without .ensures .less (c .before .before .before .before .lowest .ensures .1)
+find-loop-less t c = c .before .before .before .before .before .without .ensures .less (c .before .before .before .before .before .before .lowest .ensures .1)
 
--- src/lib.rt:92:5
+-- src/lib.rt:107:5
 find-loop-again : (t : ℕ) → find-lts.Need-loop-again (
   pick-reads.Asked,
   pick-reads.Learnt,
@@ -274,19 +321,66 @@ find-loop-again : (t : ℕ) → find-lts.Need-loop-again (
   without-reads.Learnt,
   settle-all-reads.Asked,
   settle-all-reads.Learnt,
+  empty-reads.Asked,
+  empty-reads.Learnt,
   find-below t,
   find.Post,
 ) (find-at t) find.Post find-Inv-loop find-μ-loop
 find-loop-again t c =
+    let i = c .before .before .before .before .before .before .before .before .loop .inv in (
+      i .0,
+      i .1,
+      i .2,
+      trying-more (c .before .before .before .before .before .before .before .before .before .before .before .before .before .before .args .cl .now) (c .before .before .before .before .before .before .before .before .before .before .before .before .before .before .args .base .now) (c .before .before .before .before .before .before .before .before .before .before .before .before .before .before .args .ms) (c .before .before .before .before .before .before .before .before .before .before .before .before .before .before .args .caps) (c .before .before .before .before .before .before .before .before .before .before .before .before .before .before .args .spots) (c .before .before .before .before .before .before .before .before .before .before .before .before .before .before .args .v) (c .before .before .before .before .before .before .before .before .before .before .before .before .before .before .args .j) (c .before .before .before .before .before .before .before .before .before .before .before .before .before .before .args .codes) (c .before .before .before .before .before .before .before .before .before .before .before .before .before .before .args .t11) (c .before .before .before .before .before .before .before .before .before .before .pick .result) (i .1) (c .before .before .before .before .before .before .before .before .loop .left) (c .before .before .before .before .before .before .lowest .result) (c .before .before .before .before .before .without .result) (c .before .before .before .before .settle-all .result) (i .0) (c .before .before .before .before .before .before .before .before .before .before .before .before .before .before .pre .1 .3) (i .2) (c .before .before .before .before .before .without .ensures) (c .before .before .before .before .settle-all .ensures)
+          (told-lost (c .before .before .before .before .before .before .before .before .before .before .before .before .before .before .args .cl .now) (c .before .before .before .before .before .before .before .before .before .before .before .before .before .before .args .base .now) (c .before .before .before .before .before .before .before .before .before .before .before .before .before .before .args .ms) (c .before .before .before .before .before .before .before .before .before .before .before .before .before .before .args .ps) (c .before .before .before .before .before .before .before .before .before .before .before .before .before .before .args .caps) (c .before .before .before .before .before .before .before .before .before .before .before .before .before .before .args .spots) (c .before .before .before .before .before .before .before .before .before .before .before .before .before .before .args .v) (c .before .before .before .before .before .before .before .before .before .before .before .before .before .before .args .j) (set (c .before .before .before .before .before .before .before .before .before .before .before .before .before .before .args .codes) (c .before .before .before .before .before .before .before .before .before .before .pick .result) (c .before .before .before .before .before .before .lowest .result)) (c .before .before .before .before .settle-all .result) (c .before .before .before .before .before .before .before .before .before .before .before .before .before .before .args .codes) (c .before .before .before .before .before .before .before .before .before .before .before .before .before .before .args .t11) _ _ (c .if3 .left) (c .before .find .ensures)) (i .3),
+    )
+
+-- src/lib.rt:107:5
+find-loop-less-2 : (t : ℕ) → find-lts.Need-loop-less-2 (
+  pick-reads.Asked,
+  pick-reads.Learnt,
+  finish-reads.Asked,
+  finish-reads.Learnt,
+  lowest-reads.Asked,
+  lowest-reads.Learnt,
+  without-reads.Asked,
+  without-reads.Learnt,
+  settle-all-reads.Asked,
+  settle-all-reads.Learnt,
+  empty-reads.Asked,
+  empty-reads.Learnt,
+  find-below t,
+  find.Post,
+) (find-at t) find.Post find-Inv-loop find-μ-loop
+find-loop-less-2 t c = c .before .before .before .without .ensures .less (c .before .before .before .before .lowest .ensures .1)
+
+-- src/lib.rt:107:5
+find-loop-again-2 : (t : ℕ) → find-lts.Need-loop-again-2 (
+  pick-reads.Asked,
+  pick-reads.Learnt,
+  finish-reads.Asked,
+  finish-reads.Learnt,
+  lowest-reads.Asked,
+  lowest-reads.Learnt,
+  without-reads.Asked,
+  without-reads.Learnt,
+  settle-all-reads.Asked,
+  settle-all-reads.Learnt,
+  empty-reads.Asked,
+  empty-reads.Learnt,
+  find-below t,
+  find.Post,
+) (find-at t) find.Post find-Inv-loop find-μ-loop
+find-loop-again-2 t c =
     let i = c .before .before .before .before .before .before .loop .inv in (
       i .0,
       i .1,
       i .2,
       trying-more (c .before .before .before .before .before .before .before .before .before .before .before .before .args .cl .now) (c .before .before .before .before .before .before .before .before .before .before .before .before .args .base .now) (c .before .before .before .before .before .before .before .before .before .before .before .before .args .ms) (c .before .before .before .before .before .before .before .before .before .before .before .before .args .caps) (c .before .before .before .before .before .before .before .before .before .before .before .before .args .spots) (c .before .before .before .before .before .before .before .before .before .before .before .before .args .v) (c .before .before .before .before .before .before .before .before .before .before .before .before .args .j) (c .before .before .before .before .before .before .before .before .before .before .before .before .args .codes) (c .before .before .before .before .before .before .before .before .before .before .before .before .args .t11) (c .before .before .before .before .before .before .before .before .pick .result) (i .1) (c .before .before .before .before .before .before .loop .left) (c .before .before .before .before .lowest .result) (c .before .before .before .without .result) (c .before .before .settle-all .result) (i .0) (c .before .before .before .before .before .before .before .before .before .before .before .before .pre .1 .3) (i .2) (c .before .before .before .without .ensures) (c .before .before .settle-all .ensures)
-          (told-lost (c .before .before .before .before .before .before .before .before .before .before .before .before .args .cl .now) (c .before .before .before .before .before .before .before .before .before .before .before .before .args .base .now) (c .before .before .before .before .before .before .before .before .before .before .before .before .args .ms) (c .before .before .before .before .before .before .before .before .before .before .before .before .args .ps) (c .before .before .before .before .before .before .before .before .before .before .before .before .args .caps) (c .before .before .before .before .before .before .before .before .before .before .before .before .args .spots) (c .before .before .before .before .before .before .before .before .before .before .before .before .args .v) (c .before .before .before .before .before .before .before .before .before .before .before .before .args .j) (set (c .before .before .before .before .before .before .before .before .before .before .before .before .args .codes) (c .before .before .before .before .before .before .before .before .pick .result) (c .before .before .before .before .lowest .result)) (c .before .before .settle-all .result) (c .before .before .before .before .before .before .before .before .before .before .before .before .args .codes) (c .before .before .before .before .before .before .before .before .before .before .before .before .args .t11) _ _ (c .if2 .left) (c .before .find .ensures)) (i .3),
+          (empty-hopeless (c .before .before .before .before .before .before .before .before .before .before .before .before .args .cl .now) (c .before .before .before .before .before .before .before .before .before .before .before .before .args .base .now) (c .before .before .before .before .before .before .before .before .before .before .before .before .args .ms) (c .before .before .before .before .before .before .before .before .before .before .before .before .args .caps) (c .before .before .before .before .before .before .before .before .before .before .before .before .args .spots) (c .before .before .before .before .before .before .before .before .before .before .before .before .args .v) (c .before .before .before .before .before .before .before .before .before .before .before .before .args .j) (set (c .before .before .before .before .before .before .before .before .before .before .before .before .args .codes) (c .before .before .before .before .before .before .before .before .pick .result) (c .before .before .before .before .lowest .result)) (c .before .before .settle-all .result) (c .before .empty .ensures (not-false _ (c .if2 .left)))) (i .3),
     )
 
--- src/lib.rt:71:1
+-- src/lib.rt:86:1
 find-returns-3 : (t : ℕ) → find-lts.Need-returns-3 (
   pick-reads.Asked,
   pick-reads.Learnt,
@@ -298,6 +392,8 @@ find-returns-3 : (t : ℕ) → find-lts.Need-returns-3 (
   without-reads.Learnt,
   settle-all-reads.Asked,
   settle-all-reads.Learnt,
+  empty-reads.Asked,
+  empty-reads.Learnt,
   find-below t,
   find.Post,
 ) (find-at t) find.Post find-Inv-loop find-μ-loop
@@ -315,6 +411,8 @@ pub +find-spec : {M : Type 1} → statement M
   without-reads.Learnt,
   settle-all-reads.Asked,
   settle-all-reads.Learnt,
+  empty-reads.Asked,
+  empty-reads.Learnt,
   find-below t,
   find.Post,
 )
@@ -332,8 +430,11 @@ pub +find-spec : {M : Type 1} → statement M
     (find-without-requires t)
     (find-array-write-next t)
     (find-settle-all-requires t)
+    (find-empty-requires t)
     (find-find-requires t)
     (find-returns-2 t)
     (find-loop-less t)
     (find-loop-again t)
+    (find-loop-less-2 t)
+    (find-loop-again-2 t)
     (find-returns-3 t)

@@ -13,6 +13,7 @@ use Rattle.coding.proofs.settle_all.Statement.{statement}
 use Rattle.coding.proofs.settle_all.Tie as tie
 use Rattle.coding.proofs.settle_all.Reads as reads
 use Rattle.coding.proofs.settle_all.Lts as lts
+use Rattle.coding.proofs.empty.Reads as empty-reads
 use Rattle.holding.proofs.settle.Reads as settle-reads
 
 abbrev Inv-loop : tie.InvT-loop
@@ -21,35 +22,35 @@ Inv-loop cl base bs ms caps spots v j codes c r₀ o₀ r o = (o ≤ j) × Kept 
 abbrev μ-loop : tie.MeasureT-loop
 μ-loop cl base bs ms caps spots v j codes c r₀ o₀ r o = j - o
 
--- src/lib.rt:31:5
+-- src/lib.rt:46:5
 loop-holds : tie.Need-loop-holds Inv-loop μ-loop
 loop-holds c = (omega arith, kept-start (c .before .before .before .args .cl .now) (c .before .before .before .args .base .now) (c .before .before .before .args .ms) (c .before .before .before .args .caps) (c .before .before .before .args .spots) (c .before .before .before .args .v) (c .before .before .before .args .j) (c .before .before .before .args .codes) (c .before .before .before .args .dom))
 
--- src/lib.rt:32:13
+-- src/lib.rt:47:13
 settle-requires : tie.Need-settle-requires Inv-loop μ-loop
 settle-requires c κs = let p = c .before .before .before .before .before .pre in (p .0, p .1, p .2, p .3, p .4, c .loop-test .taken, p .5)
 
--- src/lib.rt:34:12
-array-read-if1 : tie.Need-array-read-if1 Inv-loop μ-loop
-array-read-if1 c = search needs
+-- src/lib.rt:49:12
+empty-requires : tie.Need-empty-requires Inv-loop μ-loop
+empty-requires c κs = c .before .before .before .before .before .before .pre .3
 
--- src/lib.rt:35:13
+-- src/lib.rt:50:13
 returns : tie.Need-returns Inv-loop μ-loop
-returns c = kept-more (c .before .before .before .before .before .before .before .args .cl .now) (c .before .before .before .before .before .before .before .args .base .now) (c .before .before .before .before .before .before .before .args .ms) (c .before .before .before .before .before .before .before .args .caps) (c .before .before .before .before .before .before .before .args .spots) (c .before .before .before .before .before .before .before .args .v) (c .before .before .before .before .before .before .before .args .j) (c .before .before .before .before .before .before .before .args .codes) (c .before .before .before .before .before .before .before .args .dom) (c .before .before .before .loop .r) _ (c .before .before .before .loop .inv .1) (c .before .settle .ensures)
+returns c = kept-more (c .before .before .before .before .before .before .before .before .args .cl .now) (c .before .before .before .before .before .before .before .before .args .base .now) (c .before .before .before .before .before .before .before .before .args .ms) (c .before .before .before .before .before .before .before .before .args .caps) (c .before .before .before .before .before .before .before .before .args .spots) (c .before .before .before .before .before .before .before .before .args .v) (c .before .before .before .before .before .before .before .before .args .j) (c .before .before .before .before .before .before .before .before .args .codes) (c .before .before .before .before .before .before .before .before .args .dom) (c .before .before .before .before .loop .r) _ (c .before .before .before .before .loop .inv .1) (c .before .before .settle .ensures)
 
--- src/lib.rt:37:9
+-- src/lib.rt:52:9
 add-o : tie.Need-add-o Inv-loop μ-loop
 add-o c = search needs
 
--- src/lib.rt:31:5
+-- src/lib.rt:46:5
 loop-less : tie.Need-loop-less Inv-loop μ-loop
 loop-less c = search needs
 
--- src/lib.rt:31:5
+-- src/lib.rt:46:5
 loop-again : tie.Need-loop-again Inv-loop μ-loop
-loop-again c = let h = c .before .before .loop-test .taken in (omega arith, kept-more (c .before .before .before .before .before .before .before .args .cl .now) (c .before .before .before .before .before .before .before .args .base .now) (c .before .before .before .before .before .before .before .args .ms) (c .before .before .before .before .before .before .before .args .caps) (c .before .before .before .before .before .before .before .args .spots) (c .before .before .before .before .before .before .before .args .v) (c .before .before .before .before .before .before .before .args .j) (c .before .before .before .before .before .before .before .args .codes) (c .before .before .before .before .before .before .before .args .dom) (c .before .before .before .loop .r) _ (c .before .before .before .loop .inv .1) (c .before .settle .ensures))
+loop-again c = let h = c .before .before .before .loop-test .taken in (omega arith, kept-more (c .before .before .before .before .before .before .before .before .args .cl .now) (c .before .before .before .before .before .before .before .before .args .base .now) (c .before .before .before .before .before .before .before .before .args .ms) (c .before .before .before .before .before .before .before .before .args .caps) (c .before .before .before .before .before .before .before .before .args .spots) (c .before .before .before .before .before .before .before .before .args .v) (c .before .before .before .before .before .before .before .before .args .j) (c .before .before .before .before .before .before .before .before .args .codes) (c .before .before .before .before .before .before .before .before .args .dom) (c .before .before .before .before .loop .r) _ (c .before .before .before .before .loop .inv .1) (c .before .before .settle .ensures))
 
--- src/lib.rt:13:1
+-- src/lib.rt:28:1
 returns-2 : tie.Need-returns-2 Inv-loop μ-loop
 returns-2 c = c .before .loop .inv .1
 
@@ -61,7 +62,7 @@ settle-all-spec =
     μ-loop
     loop-holds
     settle-requires
-    array-read-if1
+    empty-requires
     returns
     add-o
     loop-less

@@ -1,0 +1,65 @@
+use Rattle.bits.specs.Logic.{true-false}
+use lib.ListN.{length, getD, set}
+use native.Mathlib.Omega.{arith}
+use Prim.Native.Nat.{ℕ, _<_, _≤_, _+_, _-_, _*_}
+use mathlib.Core.Logic.{⊎-elim}
+use mathlib.Core.Bool.{Bool, true, false}
+use mathlib.Core.Path.{_≡_, refl, sym, ap, _∙_, subst}
+use borrow.Author.Needs.{needs}
+use Rattle.coding.proofs.empty.Statement.{statement}
+use Rattle.coding.proofs.empty.Tie as tie
+use Rattle.coding.proofs.empty.Reads as reads
+use Rattle.coding.proofs.empty.Lts as lts
+
+abbrev Inv-loop : tie.InvT-loop
+Inv-loop v dom y₀ y = y ≤ v
+
+abbrev μ-loop : tie.MeasureT-loop
+μ-loop v dom y₀ y = v - y
+
+-- src/lib.rt:18:5
+loop-holds : tie.Need-loop-holds Inv-loop μ-loop
+loop-holds c = search needs
+
+-- src/lib.rt:19:12
+mul-if1 : tie.Need-mul-if1 Inv-loop μ-loop
+mul-if1 c = let h = c .loop-test .taken in let z = c .before .before .pre in search needs
+
+-- src/lib.rt:19:12
+array-read-if1 : tie.Need-array-read-if1 Inv-loop μ-loop
+array-read-if1 c = let h = c .loop-test .taken in let z = c .before .before .pre in search needs
+
+-- src/lib.rt:20:13
+returns : tie.Need-returns Inv-loop μ-loop
+returns c = λ e. (c .before .before .loop .y, c .before .loop-test .taken, c .if1 .taken)
+
+-- src/lib.rt:22:9
+add-y : tie.Need-add-y Inv-loop μ-loop
+add-y c = search needs
+
+-- src/lib.rt:18:5
+loop-less : tie.Need-loop-less Inv-loop μ-loop
+loop-less c = search needs
+
+-- src/lib.rt:18:5
+loop-again : tie.Need-loop-again Inv-loop μ-loop
+loop-again c = search needs
+
+-- src/lib.rt:13:1
+returns-2 : tie.Need-returns-2 Inv-loop μ-loop
+returns-2 c = λ e. absurd (true-false (sym e))
+
+pub empty-spec : {M : Type 1} → statement M
+empty-spec =
+    tie.close
+    (tie.spec
+    Inv-loop
+    μ-loop
+    loop-holds
+    mul-if1
+    array-read-if1
+    returns
+    add-y
+    loop-less
+    loop-again
+    returns-2)

@@ -1,0 +1,3 @@
+-- Table has the definitions, TheoremA the theorem.
+pub mod Table
+pub mod TheoremA
