@@ -3,18 +3,16 @@
 use mathlib.Core.Path.{_≡_, refl, sym, ap, ap₂, subst, _∙_}
 use mathlib.Core.Bool.{Bool, true, false}
 use mathlib.Core.List.{List, [], _∷_, _++_, map, map-append, append-nil}
-use Prim.Native.Nat.{ℕ, zero, suc, _+_, _*_, _/_, _%_, _^_, _≤_, _<_}
+use Prim.Native.Nat.{ℕ, zero, suc, _+_, _*_, _%_, _^_, _≤_, _<_}
 use native.Mathlib.Omega.{arith}
 use native.Mathlib.Nat.{add-zero, zero-add, pow-suc, add-suc, suc-add}
 use native.Mathlib.Numerals.{add-one}
-use lib.Dec.{eqb, ltb}
 use lib.Pow.{pow-mono}
-use lib.ListN.{length, length-append, length-map}
-use borrow.Author.Tests.{ne-eqb, lt-ltb}
+use lib.ListN.{length, length-append}
+use borrow.Author.Tests.{lt-ltb}
 use Rattle.bits.specs.Logic.{pick}
 use Rattle.bits.specs.Digit.{on}
 use Rattle.rows.specs.Row.{bit, rowOf}
-use Rattle.rows.specs.RowLaws.{row-lt}
 use Rattle.text.specs.Number.{printNumber}
 use Rattle.names.specs.Name.{Name}
 use Rattle.names.specs.Pack.{pack, nameOf}
@@ -105,11 +103,15 @@ reading-all {mask} {u} {i} {count} {now} g l =
     subst (λ (k : ℕ). Reading mask u k count now) e g
 
 -- the number that holds the name of table i
-table-bytes : (i : ℕ) → i < 10 → lutName i ≡ 95 ∷ (48 + i) ∷ []
-unfolding lutName printNumber
-table-bytes i l =
+pub one-digit : (i : ℕ) → i < 10 → printNumber i ≡ (48 + i) ∷ []
+unfolding printNumber
+one-digit i l =
     let e : 0x30 + i % 10 ≡ 48 + i = omega arith in
     rw (lt-ltb i 10 l, e)
+
+table-bytes : (i : ℕ) → i < 10 → lutName i ≡ 95 ∷ (48 + i) ∷ []
+unfolding lutName
+table-bytes i l = ap (λ (t : List ℕ). 95 ∷ t) (one-digit i l)
 
 pub table-name : (i : ℕ) → i < 10 → nameOf ((i + 48) * 256 + 95) ≡ lutName i
 unfolding pack

@@ -1,14 +1,12 @@
 -- Names in a row: one name more at the end. Assumes nothing.
-use mathlib.Core.Path.{_≡_, refl, sym, ap, ap₂, _∙_}
+use mathlib.Core.Path.{_≡_, sym, ap, ap₂, _∙_}
 use mathlib.Core.List.{List, [], _∷_, _++_, map, map-append, append-assoc, append-nil}
-use Prim.Native.Nat.{ℕ, zero, suc, _+_, _≤_, _<_}
+use Prim.Native.Nat.{ℕ, _+_, _≤_, _<_}
 use native.Mathlib.Omega.{arith}
 use native.Mathlib.Numerals.{add-one}
 use lib.ListN.{length, take, getD, set, List·getD-eq-default}
-use lib.Seq.{take-suc, take-suc-set, take-all}
-use Rattle.names.specs.Name.{Name}
+use lib.Seq.{take-suc, take-suc-set}
 use Rattle.names.specs.Pack.{nameOf}
-use Rattle.network.specs.Printer.{lutName}
 
 pub named-more : (list : List ℕ) (at v : ℕ) → at < length list
     → map nameOf (take (at + 1) (set list at v)) ≡ map nameOf (take at list) ++ (nameOf v ∷ [])

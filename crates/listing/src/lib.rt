@@ -2,7 +2,7 @@
 // produces a code first. Rests on names for looking a name up.
 ghost use mathlib.Core.Path.{_≡_};
 ghost use mathlib.Core.List.{map, [], _∷_, _++_};
-ghost use Prim.Native.Nat.{ℕ, _+_, _*_, _≤_, _<_, _^_};
+ghost use Prim.Native.Nat.{ℕ, _+_, _*_, _≤_, _<_};
 ghost use lib.ListN.{length, take, getD};
 ghost use Rattle.rows.specs.Row.{bit};
 ghost use Rattle.names.specs.Pack.{nameOf};
@@ -21,7 +21,7 @@ pub struct Names {
 // A vertex number that no vertex has.
 const NONE: usize = 32;
 
-fn wide(x: u8) -> u64
+pub fn wide(x: u8) -> u64
     ensures { λ r. ⌜ r ≡ x ⌝ }
 {
     x as u64

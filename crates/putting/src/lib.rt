@@ -2,7 +2,7 @@
 // place after it; so a write into an empty buffer is a dry run. Rests on network for how a list of names is written.
 ghost use mathlib.Core.List.{[], _∷_, map};
 ghost use mathlib.Core.Bool.{true};
-ghost use Prim.Native.Nat.{ℕ, _+_, _*_, _≤_};
+ghost use Prim.Native.Nat.{_+_, _*_, _≤_};
 ghost use lib.ListN.{length};
 ghost use Rattle.names.specs.Pack.{nameOf};
 ghost use Rattle.rows.specs.Digits.{digit};
