@@ -21,7 +21,7 @@ use Rattle.design.specs.Answer.{ExaminedIs, RefusedAs, ValidAs}
 use Rattle.design.specs.declared.Examined.{Examined}
 
 -- a sheet that the code answers for, by its flag
-refused-here : (y : spec.Examined) (e : Examined) → ExaminedIs y e → e .ok ≡ false → refused (e .number) (e .line) ≡ y
+pub refused-here : (y : spec.Examined) (e : Examined) → ExaminedIs y e → e .ok ≡ false → refused (e .number) (e .line) ≡ y
 refused-here (refused q l) e h f = ap₂ refused (h .number) (h .line)
 refused-here (valid d) e h f = absurd (true-false (sym (h .all-ok) ∙ f))
 

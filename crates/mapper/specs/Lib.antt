@@ -4,3 +4,6 @@ pub mod DesignLaws
 pub mod SizeLaws
 pub mod Demands
 pub mod MapLaws
+pub mod Answer
+pub mod FillLaws
+pub mod MapSteps

@@ -1,0 +1,6 @@
+-- What the lines of a network sheet list, and laws about these.
+pub mod Listed
+pub mod ShownLaws
+pub mod FreeNameLaws
+pub mod NumbersLaws
+pub mod FirstLaws

@@ -1,0 +1,5 @@
+-- Texts put into a lent buffer, and laws about these.
+pub mod Written
+pub mod PutLaws
+pub mod NameLaws
+pub mod ListLaws

@@ -1,0 +1,36 @@
+-- `put_lut`: three texts, one after the other. Assumes nothing.
+use native.Mathlib.Omega.{arith}
+use borrow.Author.Needs.{needs}
+use Rattle.putting.specs.PutLaws.{put-next, put-then}
+use Rattle.writing.specs.TextLaws.{lut-text}
+use Rattle.writing.proofs.put_lut.Statement.{statement}
+use Rattle.writing.proofs.put_lut.Tie as tie
+
+put-lut-head-requires : tie.Need-put-lut-head-requires
+put-lut-head-requires c κs = search needs
+
+put-table-requires : tie.Need-put-table-requires
+put-table-requires c κs = search needs
+
+slice-aggregate-put-text : tie.Need-slice-aggregate-put-text
+slice-aggregate-put-text c = search needs
+
+put-text-requires : tie.Need-put-text-requires
+put-text-requires c κs = search needs
+
+same-length : tie.Need-same-length
+same-length c = search needs
+
+returns : tie.Need-returns
+returns c = put-next (c .before .before .before .before .before .before .before .before .before .before .before .put-lut-head .ensures) (put-then (c .before .before .before .before .before .before .before .put-table .ensures) (c .before .before .put-text .ensures)) (lut-text _ _ _) (omega (arith, (c .before .before .before .before .before .before .before .before .before .before .before .before .before .before .pre)))
+
+pub put-lut-spec : {M : Type 1} → statement M
+put-lut-spec =
+    tie.close
+    (tie.spec
+    put-lut-head-requires
+    put-table-requires
+    slice-aggregate-put-text
+    put-text-requires
+    same-length
+    returns)

@@ -1,0 +1,75 @@
+-- `put_nodes`: each turn puts one line more. Assumes nothing.
+use Prim.Native.Nat.{ℕ, _-_}
+use native.Mathlib.Omega.{arith}
+use borrow.Author.Needs.{needs}
+use Rattle.listing.specs.Listed.{shown, item}
+use Rattle.putting.specs.PutLaws.{put-length}
+use Rattle.serving.specs.Build.{numbers}
+use Rattle.network.specs.Printer.{printNode}
+use Rattle.sheet.specs.Known.{tableAt}
+use Rattle.names.specs.Pack.{nameOf}
+use Rattle.writing.specs.LineLaws.{Lines, lines-none, lines-put, lines-all}
+use Rattle.writing.specs.Lines.{nodeBy}
+use Rattle.writing.proofs.put_nodes.Statement.{statement}
+use Rattle.writing.proofs.put_nodes.Tie as tie
+
+abbrev Inv-loop : tie.InvT-loop
+Inv-loop buf₀ at fs u codes vertex free rows outputs outs tables p₀ o₀ buf p o = Lines (λ (j : ℕ). printNode (nameOf (item outs j)) (shown fs) (nodeBy (tableAt tables j) vertex free (item codes) (numbers u 0 (item rows j)))) 33000 outputs buf₀ buf at p o
+
+abbrev μ-loop : tie.MeasureT-loop
+μ-loop buf₀ at fs u codes vertex free rows outputs outs tables p₀ o₀ buf p o = outputs - o
+
+loop-holds : tie.Need-loop-holds Inv-loop μ-loop
+loop-holds c = lines-none _ _ _ _ _
+
+mul-table : tie.Need-mul-table Inv-loop μ-loop
+mul-table c = search needs
+
+array-copy-out-table : tie.Need-array-copy-out-table Inv-loop μ-loop
+array-copy-out-table c = search needs
+
+mul-put-node : tie.Need-mul-put-node Inv-loop μ-loop
+mul-put-node c = search needs
+
+array-read-put-node : tie.Need-array-read-put-node Inv-loop μ-loop
+array-read-put-node c = search needs
+
+array-read-put-node-2 : tie.Need-array-read-put-node-2 Inv-loop μ-loop
+array-read-put-node-2 c = search needs
+
+put-node-requires : tie.Need-put-node-requires Inv-loop μ-loop
+put-node-requires c κs = (omega (arith, (c .before .before .before .before .before .before .before .before .before .before .pre .0), (c .before .before .before .before .before .before .before .before .before .before .pre .1), (c .before .before .before .loop-test .taken), (c .before .before .before .before .loop .inv .so-far .place), (c .before .before .before .before .loop .inv .so-far .short)), (c .before .before .before .before .before .before .before .before .before .before .pre .2), (c .before .before .before .before .before .before .before .before .before .before .pre .3), (c .before .before .before .before .before .before .before .before .before .before .pre .4))
+
+add-o : tie.Need-add-o Inv-loop μ-loop
+add-o c = search needs
+
+loop-less : tie.Need-loop-less Inv-loop μ-loop
+loop-less c = search needs
+
+loop-again : tie.Need-loop-again Inv-loop μ-loop
+loop-again c = lines-put (c .before .before .before .before .before .before .before .loop .inv) (c .before .before .before .before .before .before .loop-test .taken) (c .before .before .put-node .ensures)
+
+same-length : tie.Need-same-length Inv-loop μ-loop
+same-length c = put-length ((c .before .loop .inv .so-far))
+
+returns : tie.Need-returns Inv-loop μ-loop
+returns c = lines-all (c .before .loop .inv) (c .loop-test .left) (omega (arith, (c .before .before .before .before .before .before .before .pre .1), (c .before .loop .inv .within)))
+
+pub put-nodes-spec : {M : Type 1} → statement M
+put-nodes-spec =
+    tie.close
+    (tie.spec
+    Inv-loop
+    μ-loop
+    loop-holds
+    mul-table
+    array-copy-out-table
+    mul-put-node
+    array-read-put-node
+    array-read-put-node-2
+    put-node-requires
+    add-o
+    loop-less
+    loop-again
+    same-length
+    returns)

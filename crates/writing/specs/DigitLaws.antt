@@ -1,0 +1,133 @@
+-- Digits put down one after the other, and what a digit of a composition table is. Assumes nothing.
+use mathlib.Core.Path.{_≡_, refl, sym, ap, ap₂, _∙_}
+use mathlib.Core.Bool.{Bool, true, false}
+use mathlib.Core.List.{List, [], _∷_, _++_, map, map-append}
+use mathlib.Core.Option.{Option, some, none}
+use Prim.Native.Nat.{ℕ, zero, suc, _+_, _*_, _/_, _%_, _^_, _≤_, _<_}
+use native.Mathlib.Omega.{arith}
+use native.Mathlib.Nat.{mod-lt, div-lt-iff-lt-mul, mul-le-mul, mod-eq-of-lt, one-mul}
+use native.Mathlib.Numerals.{add-one}
+use lib.Dec.{eqb, ltb}
+use lib.Pow.{pow-mono}
+use lib.ListN.{length, getD}
+use borrow.Author.Tests.{lt-ltb, le-ltb}
+use Rattle.bits.specs.Logic.{pick}
+use Rattle.rows.specs.Digits.{digit}
+use Rattle.rows.specs.Words.{rowOn}
+use Rattle.classes.specs.Columns.{valuesUpto}
+use Rattle.classes.specs.Seen.{seen}
+use Rattle.network.specs.Printer.{printDigits}
+use Rattle.network.specs.Check.{firstOf}
+use Rattle.serving.specs.Build.{codeIn}
+use Rattle.putting.specs.Written.{Written}
+use Rattle.putting.specs.PutLaws.{put-none, put-next, put-same}
+use Rattle.listing.specs.Listed.{FirstIs, Firsts}
+use Rattle.writing.specs.Lines.{chosen, entryBy, cellOn, cellBy}
+
+-- ---- one digit after the other
+pub values-same : (f g : ℕ → Bool) (n : ℕ) → ((i : ℕ) → i < n → f i ≡ g i) → valuesUpto f n ≡ valuesUpto g n
+unfolding valuesUpto
+values-same f g zero h = refl
+values-same f g (suc n) h =
+    ap₂ (λ (l : List Bool) (b : Bool). l ++ (b ∷ [])) (values-same f g n (λ i l. h i (omega arith))) (h n (omega arith))
+
+digits-more : (f : ℕ → Bool) (i : ℕ) → printDigits (valuesUpto f i) ++ (digit (f i) ∷ []) ≡ printDigits (valuesUpto f (i + 1))
+unfolding printDigits valuesUpto
+digits-more f i =
+    sym (map-append digit (valuesUpto f i) (f i ∷ [])) ∙ ap (λ (k : ℕ). map digit (valuesUpto f k)) (sym (add-one i))
+
+-- the first i of n digits are put down
+pub record Digits (f : ℕ → Bool) (n : ℕ) (a b : List ℕ) (at p i : ℕ) : Type 0 where
+  pub within : i ≤ n
+  pub so-far : Written i a b at p (printDigits (valuesUpto f i))
+
+pub digits-none : (f : ℕ → Bool) (n : ℕ) (a : List ℕ) (at : ℕ) → Digits f n a a at at 0
+unfolding printDigits valuesUpto
+digits-none f n a at = record { within = omega arith; so-far = put-none a at }
+
+pub digits-put : {f : ℕ → Bool} {n : ℕ} {a b e : List ℕ} {at p q i : ℕ} {v : Bool} → Digits f n a b at p i → i < n
+    → Written 1 b e p q (digit v ∷ []) → v ≡ f i → Digits f n a e at q (i + 1)
+digits-put {f} {i = i} {v = v} g l w s =
+    record {
+      within = omega arith;
+      so-far = put-next (g .so-far) w (ap (λ (x : Bool). printDigits (valuesUpto f i) ++ (digit x ∷ [])) s ∙ digits-more f i) (omega arith);
+    }
+
+pub digits-all : {f : ℕ → Bool} {n : ℕ} {a b : List ℕ} {at p i : ℕ} → Digits f n a b at p i → n ≤ i
+    → Written n a b at p (printDigits (valuesUpto f n))
+digits-all {f} {n} {i = i} g l =
+    let w : i ≤ n = g .within in
+    let e : i ≡ n = omega arith in
+    put-same (g .so-far) (ap (λ (k : ℕ). printDigits (valuesUpto f k)) e) (omega arith)
+
+-- ---- codes and free rows of a number
+pub some-free : (j n m : ℕ) → j < n → n ≤ 64 * m → 0 < m
+some-free j n m l h = omega arith
+
+pub code-below : (j n m : ℕ) → j < n → n ≤ 64 * m → j / m < 64
+code-below j n m l h = div-lt-iff-lt-mul (some-free j n m l h) .1 (omega arith)
+
+pub free-below : (j n m : ℕ) → j < n → n ≤ 64 * m → j % m < m
+free-below j n m l h = mod-lt j (some-free j n m l h)
+
+pub power-shifted : (n : ℕ) → n ≤ 6 → ((1 * 2 ^ n) % 18446744073709551616 ≡ 2 ^ n) × ((1 * 2 ^ n) % 18446744073709551616 ≤ 64)
+power-shifted n h =
+    let a : 2 ^ n ≤ 2 ^ 6 = pow-mono h in
+    let b : (1 * 2 ^ n) % 18446744073709551616 ≡ 2 ^ n
+    = ap (λ (x : ℕ). x % 18446744073709551616) (one-mul (2 ^ n)) ∙ mod-eq-of-lt (omega arith) in
+    (b, omega arith)
+
+pub entries-few : (p m : ℕ) → p ≤ 64 → m ≤ 512 → p * m ≤ 32768
+entries-few p m h g = mul-le-mul h g
+
+pub entries-within : (p m : ℕ) → p ≤ 64 → p * m ≤ 64 * m
+entries-within p m h = mul-le-mul h (omega arith)
+
+-- ---- the entry of a code is that of the vertex that the array has
+abbrev Within : ℕ → Option ℕ → Type 0
+Within n (some x) = x < n
+Within n none = Unit {0}
+
+either-within : (n : ℕ) (b : Bool) (i : ℕ) (q : Option ℕ) → i < n → Within n q → Within n (pick b (some i) q)
+either-within n true i q l w = l
+either-within n false i q l w = w
+
+first-within : (f : ℕ → Bool) (k i n : ℕ) → i + k ≡ n → Within n (firstOf f k i)
+unfolding firstOf
+first-within f zero i n e = tt
+first-within f (suc k) i n e =
+    either-within n (f i) i (firstOf f k (suc i)) (omega arith) (first-within f k (suc i) n (omega arith))
+
+module _ (g : ℕ → Bool) (n : ℕ) (few : n ≤ 32) where
+  chosen-at : (q : Option ℕ) (v : ℕ) → FirstIs q v → Within n q → pick (ltb v n) (g v) false ≡ chosen g q
+  chosen-at (some x) v e h =
+      ap (λ (k : ℕ). pick (ltb k n) (g k) false) e ∙ ap (λ (t : Bool). pick t (g x) false) (lt-ltb x n h)
+  chosen-at none v l h = ap (λ (t : Bool). pick t (g v) false) (le-ltb v n (omega arith))
+
+pub cells-are : (t vertex free l : List ℕ) (codes : ℕ → ℕ) (is : List ℕ) (n : ℕ) → Firsts (λ x. codeIn is (codes x)) (length vertex) 0 l
+    → length vertex ≤ 32 → n ≤ 64 * length free → valuesUpto (cellBy t vertex free l) n ≡ valuesUpto (entryBy t vertex free codes is) n
+unfolding cellBy cellOn entryBy
+cells-are t vertex free l codes is n g few h =
+    values-same (cellBy t vertex free l) (entryBy t vertex free codes is) n
+    (λ j lt.
+    let m : ℕ = length free in
+    let f : ℕ → Bool = λ x. eqb (codeIn is (codes x)) (j / m) in
+    chosen-at (λ x. seen t vertex free x (j % m)) (length vertex) few
+    (firstOf f (length vertex) 0) (getD l (j / m) 0)
+    (g .each (j / m) (code-below j n m lt h))
+    (first-within f (length vertex) 0 (length vertex) (omega arith)))
+
+-- ---- one cell
+pub cell-past : (t vertex free : List ℕ) (x z : ℕ) → length vertex ≤ x → false ≡ cellOn t vertex free x z
+unfolding cellOn
+cell-past t vertex free x z l = sym (ap (λ (b : Bool). pick b (seen t vertex free x z) false) (le-ltb x (length vertex) l))
+
+pub cell-there : (t vertex free : List ℕ) (x z : ℕ) → x < length vertex
+    → rowOn t (getD vertex x 0 + getD free z 0) ≡ cellOn t vertex free x z
+unfolding cellOn seen
+cell-there t vertex free x z l = sym (ap (λ (b : Bool). pick b (seen t vertex free x z) false) (lt-ltb x (length vertex) l))
+
+pub cell-by : (t vertex free firsts : List ℕ) (j : ℕ)
+    → cellOn t vertex free (getD firsts (j / length free) 0) (j % length free) ≡ cellBy t vertex free firsts j
+unfolding cellBy
+cell-by t vertex free firsts j = refl

@@ -1,0 +1,9 @@
+-- The lines of a network sheet as the code puts them down, and laws about these.
+pub mod Lines
+pub mod DigitLaws
+pub mod TextLaws
+pub mod NodeLaws
+pub mod SheetLaws
+pub mod LineLaws
+pub mod KnownLaws
+pub mod WrittenLaws

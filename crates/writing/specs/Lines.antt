@@ -1,0 +1,61 @@
+-- The lines of a network sheet by what the code has in hand: a table for each output, and the rows of a design by their
+-- parts. Assumes nothing.
+use mathlib.Core.Bool.{Bool, false}
+use mathlib.Core.List.{List, [], _∷_, _++_}
+use mathlib.Core.Option.{Option, some, none}
+use Prim.Native.Nat.{ℕ, zero, suc, _+_, _*_, _/_, _%_, _^_, _≤_, _<_}
+use lib.Dec.{eqb, ltb}
+use lib.ListN.{length, getD}
+use Rattle.bits.specs.Logic.{pick}
+use Rattle.text.specs.Bytes.{newline}
+use Rattle.sheet.specs.Lines.{endLine}
+use Rattle.classes.specs.Columns.{valuesUpto}
+use Rattle.classes.specs.Seen.{Inside, seen}
+use Rattle.classes.specs.declared.Shape.{Shape}
+use Rattle.network.specs.Network.{Node}
+use Rattle.network.specs.Printer.{printCount}
+use Rattle.network.specs.Check.{firstOf}
+use Rattle.serving.specs.Build.{codeIn}
+
+-- the first n lines that f says
+unfoldable pub linesUpto : (ℕ → List ℕ) → ℕ → List ℕ
+linesUpto f zero = []
+linesUpto f (suc n) = linesUpto f n ++ (f n ++ (newline ∷ []))
+
+-- the count line and the last line
+unfoldable pub lastLines : ℕ → List ℕ
+lastLines u = printCount u ++ (newline ∷ (endLine ++ (newline ∷ [])))
+
+-- the value at a vertex that was found, and 0 where none was
+abbrev pub chosen : (ℕ → Bool) → Option ℕ → Bool
+chosen f (some x) = f x
+chosen f none = false
+
+-- a composition entry: the value of the table t at the first vertex that produces the code
+unfoldable pub entryBy : List ℕ → List ℕ → List ℕ → (ℕ → ℕ) → List ℕ → ℕ → Bool
+entryBy t vertex free codes is j =
+    chosen (λ x. seen t vertex free x (j % length free))
+    (firstOf (λ x. eqb (codeIn is (codes x)) (j / length free)) (length vertex) 0)
+
+unfoldable pub nodeBy : List ℕ → List ℕ → List ℕ → (ℕ → ℕ) → List ℕ → Node
+nodeBy t vertex free codes is =
+    record { reads = is; digits = valuesUpto (entryBy t vertex free codes is) (2 ^ length is * length free) }
+
+-- the same entry, where an array has the first vertex of each code
+unfoldable pub cellOn : List ℕ → List ℕ → List ℕ → ℕ → ℕ → Bool
+cellOn t vertex free x z = pick (ltb x (length vertex)) (seen t vertex free x z) false
+
+unfoldable pub cellBy : List ℕ → List ℕ → List ℕ → List ℕ → ℕ → Bool
+cellBy t vertex free firsts j = cellOn t vertex free (getD firsts (j / length free) 0) (j % length free)
+
+-- as many vertices and free rows as there may be, on rows of a table
+pub record Bounded (vertex free : List ℕ) : Type 0 where
+  pub few-vertices : length vertex ≤ 32
+  pub few-free : length free ≤ 512
+  pub inside : Inside vertex free
+
+-- the same of a shape
+pub record Fitting (sh : Shape) : Type 0 where
+  pub few-vertices : sh .vertices ≤ 32
+  pub few-free : sh .frees ≤ 512
+  pub inside : (x y : ℕ) → x < sh .vertices → y < sh .frees → getD (sh .vertex) x 0 + getD (sh .free) y 0 < 1024

@@ -1,0 +1,230 @@
+// The network sheet put down line after line into a lent buffer: from what is known of a design, the shared tables as codes
+// of the vertices, and for each output a mask of the tables that it reads. Rests on putting for texts and on listing for
+// names.
+ghost use mathlib.Core.Path.{_≡_};
+ghost use mathlib.Core.List.{_++_, _∷_, []};
+ghost use Prim.Native.Nat.{ℕ, _+_, _*_, _≤_, _<_, _^_};
+ghost use lib.ListN.{length};
+ghost use lib.Seq.{sets};
+ghost use Rattle.bits.specs.Digit.{on};
+ghost use Rattle.text.specs.Bytes.{bytes, newline};
+ghost use Rattle.names.specs.Pack.{nameOf};
+ghost use Rattle.sheet.specs.Examine.{Design};
+ghost use Rattle.sheet.specs.Known.{Holds, tableAt};
+ghost use Rattle.classes.specs.Columns.{valuesUpto};
+ghost use Rattle.classes.specs.Proper.{Proper};
+ghost use Rattle.classes.specs.Seen.{Inside};
+ghost use Rattle.classes.specs.Answer.{ShapeIs};
+ghost use Rattle.network.specs.Printer.{ledAll, printDigits, lutHead, printLut, nodeHead, printNode, printNetwork};
+ghost use Rattle.serving.specs.Build.{numbers, built};
+ghost use Rattle.putting.specs.Written.{reach, Written};
+ghost use Rattle.listing.specs.Listed.{shown, item};
+ghost use Rattle.writing.specs.Lines.{linesUpto, lastLines, cellOn, cellBy, nodeBy, Bounded, Fitting};
+ghost use mathlib.Core.Bool.{true};
+use classes::Shape;
+use listing::Names;
+use sheet::Sheet;
+
+// The names ns as the items of a list, its closing bracket and a space.
+fn put_list(buf: &mut [u8], at: usize, ns: Names) -> usize
+    requires { ⌜ (at + 146 ≤ reach) × (ns .count ≤ 16) ⌝ }
+    ensures { λ r. ⌜ Written 146 (now (buf .entry)) (now (buf .exit)) at r (ledAll true (shown ns) ++ bytes ") ") ⌝ }
+{
+    let list = ns.list;
+    let n = ns.count;
+    let p = putting::put_names(buf, at, &list[..n]);
+    putting::put_text(buf, p, b") ")
+}
+
+// A lut line up to its digits.
+fn put_lut_head(buf: &mut [u8], at: usize, bs: Names, i: usize) -> usize
+    requires { ⌜ (at + 161 ≤ reach) × (bs .count ≤ 16) × (i < 10) ⌝ }
+    ensures { λ r. ⌜ Written 161 (now (buf .entry)) (now (buf .exit)) at r (lutHead (shown bs) i) ⌝ }
+{
+    let p = putting::put_text(buf, at, b"(lut ");
+    let q = putting::put_name(buf, p, listing::lut_name(i));
+    let r = putting::put_text(buf, q, b" (");
+    put_list(buf, r, bs)
+}
+
+// The digits of shared table i: digit i of the code of each of the n vertices.
+fn put_table(buf: &mut [u8], at: usize, codes: [u8; 32], i: usize, n: usize) -> usize
+    requires { ⌜ (at + n ≤ reach) × (n ≤ 32) × (i < 10) ⌝ }
+    ensures { λ r. ⌜ Written n (now (buf .entry)) (now (buf .exit)) at r (printDigits (valuesUpto (λ (x : ℕ). on (item codes x) i) n)) ⌝ }
+{
+    let mut p = at;
+    let mut x = 0;
+    while x < n {
+        p = putting::put_digit(buf, p, bits::has(listing::wide(codes[x]), i as u32));
+        x += 1;
+    }
+    p
+}
+
+// The line of shared table i.
+fn put_lut(buf: &mut [u8], at: usize, bs: Names, i: usize, codes: [u8; 32], n: usize) -> usize
+    requires { ⌜ (at + 200 ≤ reach) × (bs .count ≤ 16) × (n ≤ 32) × (i < 10) ⌝ }
+    ensures { λ r. ⌜ Written 200 (now (buf .entry)) (now (buf .exit)) at r (printLut (shown bs) i (valuesUpto (λ (x : ℕ). on (item codes x) i) n) ++ (newline ∷ [])) ⌝ }
+{
+    let p = put_lut_head(buf, at, bs, i);
+    let q = put_table(buf, p, codes, i, n);
+    putting::put_text(buf, q, b")\n")
+}
+
+// The lines of the u shared tables.
+fn put_luts(buf: &mut [u8], at: usize, bs: Names, u: usize, codes: [u8; 32], n: usize) -> usize
+    requires { ⌜ (at + 1200 ≤ reach) × (bs .count ≤ 16) × (n ≤ 32) × (u ≤ 6) ⌝ }
+    ensures { λ r. ⌜ Written 1200 (now (buf .entry)) (now (buf .exit)) at r (linesUpto (λ (i : ℕ). printLut (shown bs) i (valuesUpto (λ (x : ℕ). on (item codes x) i) n)) u) ⌝ }
+{
+    let mut p = at;
+    let mut i = 0;
+    while i < u {
+        p = put_lut(buf, p, bs, i, codes, n);
+        i += 1;
+    }
+    p
+}
+
+// A node line up to its list of inputs.
+fn put_node_head(buf: &mut [u8], at: usize, name: u64) -> usize
+    requires { ⌜ at + 16 ≤ reach ⌝ }
+    ensures { λ r. ⌜ Written 16 (now (buf .entry)) (now (buf .exit)) at r (nodeHead (nameOf name)) ⌝ }
+{
+    let p = putting::put_text(buf, at, b"(node ");
+    let q = putting::put_name(buf, p, name);
+    putting::put_text(buf, q, b" (")
+}
+
+// The value of the table t at vertex x and free row z, and 0 where x is no vertex.
+fn cell<'a>(t: [u64; 16], vertex: &'a [usize], free: &'a [usize], x: usize, z: usize) -> bool
+    requires { ⌜ (z < length (now free)) × Inside (now vertex) (now free) ⌝ }
+    ensures { λ r. ⌜ r ≡ cellOn t (now (vertex .entry)) (now (free .entry)) x z ⌝ }
+{
+    if vertex.len() <= x {
+        return false;
+    }
+    rows::row(t, vertex[x] + free[z])
+}
+
+// The first n digits of a composition table: code by code, and for each code free row by free row.
+fn put_entries<'a>(
+    buf: &mut [u8],
+    at: usize,
+    t: [u64; 16],
+    vertex: &'a [usize],
+    free: &'a [usize],
+    firsts: [usize; 64],
+    n: usize,
+) -> usize
+    requires { ⌜ (at + n ≤ reach) × (n ≤ 64 * length (now free)) × Inside (now vertex) (now free) ⌝ }
+    ensures { λ r. ⌜ Written n (now (buf .entry)) (now (buf .exit)) at r (printDigits (valuesUpto (cellBy t (now (vertex .entry)) (now (free .entry)) firsts) n)) ⌝ }
+{
+    let m = free.len();
+    let mut p = at;
+    let mut j = 0;
+    while j < n {
+        let x = firsts[j / m];
+        p = putting::put_digit(buf, p, cell(t, vertex, free, x, j % m));
+        j += 1;
+    }
+    p
+}
+
+// How many codes n tables have.
+fn power(n: usize) -> usize
+    requires { ⌜ n ≤ 6 ⌝ }
+    ensures { λ r. ⌜ (r ≡ 2 ^ n) × (r ≤ 64) ⌝ }
+{
+    1 << n
+}
+
+// The line of an output that reads the tables of the mask.
+fn put_node<'a>(
+    buf: &mut [u8],
+    at: usize,
+    name: u64,
+    fs: Names,
+    u: usize,
+    mask: u8,
+    codes: [u8; 32],
+    t: [u64; 16],
+    vertex: &'a [usize],
+    free: &'a [usize],
+) -> usize
+    requires { ⌜ (at + 33000 ≤ reach) × (fs .count ≤ 10) × (u ≤ 6) × Bounded (now vertex) (now free) ⌝ }
+    ensures { λ r. ⌜ Written 33000 (now (buf .entry)) (now (buf .exit)) at r (printNode (nameOf name) (shown fs) (nodeBy t (now (vertex .entry)) (now (free .entry)) (item codes) (numbers u 0 mask)) ++ (newline ∷ [])) ⌝ }
+{
+    let reads = listing::read_names(u, mask);
+    let n = power(reads.count) * free.len();
+    let firsts = listing::firsts(u, mask, codes, vertex.len());
+    let p = put_node_head(buf, at, name);
+    let q = put_list(buf, p, listing::joined(reads, fs));
+    let r = put_entries(buf, q, t, vertex, free, firsts, n);
+    putting::put_text(buf, r, b")\n")
+}
+
+// The lines of all outputs.
+fn put_nodes<'a>(
+    buf: &mut [u8],
+    at: usize,
+    k: Sheet,
+    fs: Names,
+    u: usize,
+    rows: [u8; 8],
+    codes: [u8; 32],
+    vertex: &'a [usize],
+    free: &'a [usize],
+) -> usize
+    requires { ⌜ (at + 132000 ≤ reach) × (k .outputs ≤ 4) × (fs .count ≤ 10) × (u ≤ 6) × Bounded (now vertex) (now free) ⌝ }
+    ensures { λ r. ⌜ Written 132000 (now (buf .entry)) (now (buf .exit)) at r (linesUpto (λ (o : ℕ). printNode (nameOf (item (k .outs) o)) (shown fs) (nodeBy (tableAt (k .tables) o) (now (vertex .entry)) (now (free .entry)) (item codes) (numbers u 0 (item rows o)))) (k .outputs)) ⌝ }
+{
+    let outputs = k.outputs;
+    let outs = k.outs;
+    let tables = k.tables;
+    let mut p = at;
+    let mut o = 0;
+    while o < outputs {
+        let table = tables[o];
+        let t = table.words;
+        p = put_node(buf, p, outs[o], fs, u, rows[o], codes, t, vertex, free);
+        o += 1;
+    }
+    p
+}
+
+// The count line and the last line.
+fn put_end(buf: &mut [u8], at: usize, u: usize) -> usize
+    requires { ⌜ (at + 16 ≤ reach) × (u < 10) ⌝ }
+    ensures { λ r. ⌜ Written 16 (now (buf .entry)) (now (buf .exit)) at r (lastLines u) ⌝ }
+{
+    let p = putting::put_text(buf, at, b"(count ");
+    let q = putting::put_byte(buf, p, b'0' + u as u8);
+    putting::put_text(buf, q, b")\n(end)\n")
+}
+
+// The network sheet of u tables: output o reads the tables whose digits are 1 in rows[o], and table i at vertex x is digit i
+// of codes[x].
+pub fn put_network(
+    buf: &mut [u8],
+    k: Sheet,
+    sh: Shape,
+    u: usize,
+    rows: [u8; 8],
+    codes: [u8; 32],
+) -> usize
+    requires { ⌜ (k .inputs ≤ 10) × (k .bounds ≤ 5) × (k .outputs ≤ 4) × (u ≤ 6) × Fitting sh ⌝ }
+    ensures { λ r. ⌜ ((d : Design) → Holds d k → Proper d → ShapeIs d sh → (r ≡ length (printNetwork d (built d u (item rows) (item codes)))) × (now (buf .exit) ≡ sets (now (buf .entry)) 0 (printNetwork d (built d u (item rows) (item codes))))) ⌝ }
+{
+    let names = k.names;
+    let places = k.bound;
+    let bs = listing::bound_names(names, places, k.bounds);
+    let fs = listing::free_names(names, k.inputs, bs);
+    let vertex = sh.vertex;
+    let free = sh.free;
+    let v = sh.vertices;
+    let f = sh.frees;
+    let p = putting::put_text(buf, 0, b"(network 1)\n");
+    let q = put_luts(buf, p, bs, u, codes, v);
+    let r = put_nodes(buf, q, k, fs, u, rows, codes, &vertex[..v], &free[..f]);
+    put_end(buf, r, u)
+}
