@@ -8,7 +8,7 @@ use lib.ListN.{length, getD}
 use Rattle.text.specs.Limits.{maxCells}
 use Rattle.sheet.specs.Examine.{Design}
 use Rattle.classes.specs.Columns.{free}
-use Rattle.network.specs.Network.{Network, Node}
+use Rattle.network.specs.Network.{Network}
 use Rattle.network.specs.Examine.{Answer, bad-line, network}
 use Rattle.network.specs.LineAnswer.{Stands, NodeStands}
 use Rattle.netsheet.specs.declared.NetworkSheet.{NetworkSheet}

@@ -7,14 +7,14 @@ use Prim.Native.Nat.{ℕ, suc, _+_, _^_, _≤_, _<_}
 use native.Mathlib.Omega.{arith}
 use native.Mathlib.Numerals.{add-one}
 use lib.Dec.{ltb}
-use lib.ListN.{length, getD, take, set, length-append, length-map, List·getD-map}
+use lib.ListN.{length, getD, take, length-append, length-map}
 use lib.Seq.{getD-take}
 use borrow.Author.Tests.{lt-ltb, le-ltb, ltb-true, ltb-false}
-use Rattle.bits.specs.Logic.{pick, true-false}
+use Rattle.bits.specs.Logic.{pick}
 use Rattle.text.specs.Bytes.{same}
 use Rattle.text.specs.Limits.{maxCells, maxOutputs}
 use Rattle.names.specs.Name.{Name}
-use Rattle.names.specs.Pack.{nameOf, unpackWithin}
+use Rattle.names.specs.Pack.{nameOf}
 use Rattle.sheet.specs.Lines.{endLine}
 use Rattle.sheet.specs.Examine.{Design, outputNames}
 use Rattle.classes.specs.Columns.{free}
@@ -22,12 +22,13 @@ use Rattle.network.specs.Network.{Network, Node}
 use Rattle.network.specs.Printer.{networkLine, printCount}
 use Rattle.network.specs.Reader.{readLut, readNode}
 use Rattle.network.specs.Examine as spec
-use Rattle.network.specs.Examine.{Step, misspelled, next, askNode, askLut, askLine, nodeStep, lutStep, withLut, withNode}
+use Rattle.network.specs.Examine.{Step, misspelled, next, askNode, askLut, askLine, nodeStep, lutStep, withNode}
 use Rattle.network.specs.LineAnswer.{TableIs, TableRead, NodeRead, NodeStands, Stands}
 use Rattle.network.specs.declared.Table.{Table}
-use Rattle.netsheet.specs.Answer.{Held, frees}
-use Rattle.netsheet.specs.Named.{NamedIs, Counts}
-use Rattle.netsheet.specs.Reading.{placeOf, moved, lutAdded, afterNode, nodeAdded, PlaceFits, Safe, PartOf, HeldBy, Staged, Known, Onward, StepIs, maybeLut}
+use Rattle.netsheet.specs.Answer.{frees}
+use Rattle.netsheet.specs.Named.{NamedIs}
+use Rattle.netsheet.specs.Reading.{placeOf, moved, lutAdded, afterNode, nodeAdded, PlaceFits, Safe, PartOf, HeldBy, Staged, Known, StepIs, maybeLut}
+use Rattle.netsheet.specs.NamedLaws.{name-at}
 use Rattle.netsheet.specs.HeldLaws.{held-lut, held-node}
 use Rattle.netsheet.specs.declared.Named.{Named}
 use Rattle.netsheet.specs.declared.Place.{Place}
@@ -69,10 +70,6 @@ next-staged d o w e h = go (ltb (suc o) (length (d .outputs))) refl
     go false f = let g = ltb-false (suc o) (length (d .outputs)) f in omega arith
 
 -- ---- a node line
-name-at : (vs : List ℕ) (i : ℕ) → getD (map nameOf vs) i [] ≡ nameOf (getD vs i 0)
-unfolding nameOf unpackWithin
-name-at vs i = List·getD-map nameOf vs i 0
-
 module _ (l t : List ℕ) (at : ℕ) (d : Design) (w : Network) (k : Named) (s r : Reading) (q : PartOf t at l) (n : NamedIs d k) (h : HeldBy d t w s) where
   module _ (o : ℕ) (here : length (w .nodes) ≡ o) (below : o < length (d .outputs)) where
     abbrev asked : Option Node
@@ -80,7 +77,7 @@ module _ (l t : List ℕ) (at : ℕ) (d : Design) (w : Network) (k : Named) (s r
 
     output-name : getD (outputNames (d .outputs)) o [] ≡ nameOf (getD (k .outs) o 0)
     output-name =
-        ap (λ (ns : List Name). getD ns o []) (sym (n .outs-named)) ∙ name-at (take (k .outputs) (k .outs)) o
+        ap (λ (ns : List Name). getD ns o []) (sym (n .outs-named)) ∙ sym (name-at (take (k .outputs) (k .outs)) o)
         ∙ ap nameOf (getD-take (k .outputs) (k .outs) o 0 (omega (arith, n .outs-counted)))
 
     by-names : askNode d w o l ≡ nodeStep d w o asked

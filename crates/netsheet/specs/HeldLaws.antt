@@ -1,15 +1,15 @@
 -- What is held of a network sheet, one table more: what stands in a line stands in the text, and a table's place is kept
 -- with those before it. Assumes nothing.
-use mathlib.Core.Path.{_≡_, refl, sym, ap, ap₂, subst, _∙_}
-use mathlib.Core.Logic.{_⊎_, inl, inr, ⊎-elim}
+use mathlib.Core.Path.{_≡_, sym, ap, subst, _∙_}
+use mathlib.Core.Logic.{⊎-elim}
 use mathlib.Core.Bool.{Bool}
 use mathlib.Core.List.{List, [], _∷_, _++_}
-use Prim.Native.Nat.{ℕ, _+_, _-_, _^_, _≤_, _<_}
+use Prim.Native.Nat.{ℕ, _+_, _-_, _^_, _<_}
 use native.Mathlib.Omega.{arith}
-use native.Mathlib.Decide.{decLt}
 use lib.ListN.{length, getD, take, drop, set, length-append, length-drop, List·getD-append}
 use lib.Seq.{drop-drop, drop-append-le, take-append-le, getD-at, getD-set-same, getD-set-other}
 use Rattle.text.specs.Limits.{maxCells}
+use Rattle.rows.specs.EveryLaws.{last-or-below}
 use Rattle.network.specs.Network.{Network, Node}
 use Rattle.network.specs.Examine.{withLut, withNode}
 use Rattle.network.specs.LineAnswer.{Stands, NodeStands}
@@ -35,14 +35,7 @@ module _ {t : List ℕ} {at : ℕ} {l : List ℕ} (q : PartOf t at l) where
   node-in-text : {u f mask p : ℕ} {x : Node} → NodeStands l u f mask p x → NodeStands t u f mask (at + p) x
   node-in-text h = record { reading = h .reading; stands = stands-in-text (h .stands) }
 
--- ---- the last of some, or one before it
-last-or-before : (i n : ℕ) → i < n + 1 → (i < n) ⊎ (i ≡ n)
-last-or-before i n h =
-    elim (decLt i n) as (λ _. (i < n) ⊎ (i ≡ n)) [
-      | yes l ↦ inl l
-      | no g ↦ inr (omega arith)
-    ]
-
+-- ---- one more at the end of a list
 kept-before : {A : Type 0} (xs : List A) (x d : A) (i : ℕ) → i < length xs → getD xs i d ≡ getD (xs ++ (x ∷ [])) i d
 kept-before xs x d i h = sym (List·getD-append xs (x ∷ []) d i h)
 
@@ -72,7 +65,7 @@ module _ {t : List ℕ} {b f : ℕ} {w : Network} {u : ℕ} {lutat reads nodeat 
             (λ e.
             subst (λ (a : ℕ). Stands t (2 ^ b) a (getD (w .luts ++ (ds ∷ [])) i [])) (place-last lutat u i (at + p) (omega arith) e)
             (subst (λ (x : List Bool). Stands t (2 ^ b) (at + p) x) (kept-last (w .luts) ds [] i (e ∙ c)) (stands-in-text q s)))
-            (last-or-before i u g);
+            (last-or-below i u (omega arith));
         nodes-stand = λ o g. absurd (omega arith);
       }
 
@@ -95,5 +88,5 @@ module _ {t : List ℕ} {b f : ℕ} {w : Network} {u : ℕ} {lutat reads nodeat 
             subst (λ (m : ℕ). NodeStands t u f m (getD (set nodeat o (at + p)) i 0) (getD (w .nodes ++ (x ∷ [])) i nobody)) (place-last reads o i mask room e)
             (subst (λ (a : ℕ). NodeStands t u f mask a (getD (w .nodes ++ (x ∷ [])) i nobody)) (place-last nodeat o i (at + p) place e)
             (subst (λ (y : Node). NodeStands t u f mask (at + p) y) (kept-last (w .nodes) x nobody i (e ∙ sym here)) (node-in-text q s))))
-            (last-or-before i o (omega arith));
+            (last-or-below i o (omega arith));
       }

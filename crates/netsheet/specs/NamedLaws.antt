@@ -1,14 +1,13 @@
 -- The names of a proper design that its sheet holds: the name at a name's place is the name, so the names at the places
 -- of the bound inputs are theirs, and the others are the free inputs'. Assumes nothing.
-use mathlib.Core.Path.{_≡_, refl, sym, ap, ap₂, subst, _∙_}
-use mathlib.Core.Bool.{Bool, true, false, _||_, _&&_}
-use mathlib.Core.List.{List, [], _∷_, map, map-map}
+use mathlib.Core.Path.{_≡_, refl, sym, ap, ap₂, _∙_}
+use mathlib.Core.Bool.{Bool, true, false, _||_}
+use mathlib.Core.List.{List, [], _∷_, map}
 use Prim.Native.Nat.{ℕ, zero, suc, _≤_, _<_}
 use native.Mathlib.Omega.{arith}
-use lib.ListN.{length, getD, take, length-map, List·getD-map}
+use lib.ListN.{length, getD, take, List·getD-map}
 use lib.Seq.{getD-take, length-take-le}
 use Rattle.bits.specs.Logic.{pick, true-false, and-left, and-right}
-use Rattle.text.specs.Limits.{maxInputs, maxBound}
 use Rattle.names.specs.Name.{Name, sameName, among, allAmong}
 use Rattle.names.specs.SameLaws.{same-name-true}
 use Rattle.names.specs.Pack.{nameOf, unpackWithin}
@@ -17,9 +16,8 @@ use Rattle.sheet.specs.Known.{position, Holds}
 use Rattle.sheet.specs.declared.Sheet.{Sheet}
 use Rattle.classes.specs.Columns.{free}
 use Rattle.classes.specs.Proper.{Proper}
-use Rattle.netsheet.specs.Named.{Ranged, FreesAre, NamedIs, NamedFor}
+use Rattle.netsheet.specs.Named.{Ranged, FreesAre, NamedFor}
 use Rattle.netsheet.specs.declared.Frees.{Frees}
-use Rattle.netsheet.specs.declared.Named.{Named}
 
 -- ---- the name at a name's place
 name-at-place : (ns : List Name) (n : Name) → among n ns ≡ true → getD ns (position ns n) [] ≡ n
@@ -72,7 +70,7 @@ holds-ranged d k h p =
     }
 
 -- ---- the names that the code gathers
-name-at : (vs : List ℕ) (k : ℕ) → nameOf (getD vs k 0) ≡ getD (map nameOf vs) k []
+pub name-at : (vs : List ℕ) (k : ℕ) → nameOf (getD vs k 0) ≡ getD (map nameOf vs) k []
 unfolding nameOf unpackWithin
 name-at vs k = sym (List·getD-map nameOf vs k 0)
 

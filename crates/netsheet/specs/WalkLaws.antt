@@ -2,8 +2,8 @@
 -- sheet is, beside every design whose names the code holds. Assumes nothing.
 use mathlib.Core.Path.{_≡_, refl, sym, ap, ap₂, subst, _∙_}
 use mathlib.Core.Bool.{Bool, true, false, not, _||_, _&&_}
-use mathlib.Core.List.{List, [], _∷_, _++_}
-use Prim.Native.Nat.{ℕ, zero, suc, _+_, _-_, _≤_, _<_}
+use mathlib.Core.List.{List, [], _∷_}
+use Prim.Native.Nat.{ℕ, suc, _+_, _-_, _≤_, _<_}
 use native.Mathlib.Omega.{arith}
 use native.Mathlib.Decide.{decLt}
 use native.Mathlib.Numerals.{add-one}
@@ -23,9 +23,9 @@ use Rattle.sheet.specs.Examine.{Design}
 use Rattle.network.specs.Network.{Network}
 use Rattle.network.specs.Examine as spec
 use Rattle.network.specs.Examine.{Answer, bad-line, Step, misspelled, next, askLine, askLines, atEnd, follow, isLast, endsLine, nothing, readNetwork}
-use Rattle.netsheet.specs.Answer.{BadLine, ReadAs, NetworkIs}
+use Rattle.netsheet.specs.Answer.{BadLine, NetworkIs}
 use Rattle.netsheet.specs.Named.{NamedIs}
-use Rattle.netsheet.specs.Reading.{placeOf, isOver, fresh, Safe, PartOf, Known, Onward, StepIs, Staged}
+use Rattle.netsheet.specs.Reading.{placeOf, isOver, fresh, Safe, PartOf, Known, StepIs, Staged}
 use Rattle.netsheet.specs.declared.Named.{Named}
 use Rattle.netsheet.specs.declared.NetworkSheet.{NetworkSheet}
 use Rattle.netsheet.specs.declared.Place.{Place}

@@ -1,17 +1,17 @@
 -- A fixed text read in parts: where the first part stands, the whole is read as what is left of it; where it does not,
 -- the whole is not there. Assumes nothing.
-use mathlib.Core.Path.{_≡_, refl, sym, ap, subst, _∙_}
+use mathlib.Core.Path.{_≡_, refl, ap, subst, _∙_}
 use mathlib.Core.Bool.{Bool, true, false}
 use mathlib.Core.List.{List, [], _∷_, _++_}
 use Prim.Native.Nat.{ℕ}
 use lib.Dec.{eqb}
 use Rattle.bits.specs.Logic.{pick}
-use Rattle.text.specs.Bytes.{Read, found, bad, after, eat}
+use Rattle.text.specs.Bytes.{Read, bad, after, eat}
 use Rattle.cursor.specs.Item.{At, MovedIs, from}
 use Rattle.cursor.specs.declared.Cursor.{Cursor}
 use Rattle.cursor.specs.declared.Moved.{Moved}
 
-eat-parts : (v w t : List ℕ) → after (eat v t) (λ _ u. eat w u) ≡ eat (v ++ w) t
+pub eat-parts : (v w t : List ℕ) → after (eat v t) (λ _ u. eat w u) ≡ eat (v ++ w) t
 unfolding eat
 eat-parts [] w t = refl
 eat-parts (b ∷ v) w [] = refl

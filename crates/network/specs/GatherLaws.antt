@@ -1,6 +1,6 @@
 -- The shared tables of a node's list, gathered into a mask: each number is looked for in turn, and what is left of the
 -- list is read from what is left of the text. Assumes nothing.
-use mathlib.Core.Path.{_≡_, refl, sym, ap, ap₂, subst, _∙_}
+use mathlib.Core.Path.{_≡_, refl, sym, ap, ap₂, _∙_}
 use mathlib.Core.Bool.{Bool, true, false}
 use mathlib.Core.List.{List, [], _∷_, _++_, append-assoc, append-nil}
 use Prim.Native.Nat.{ℕ, zero, suc, _+_, _-_, _^_, _≤_, _<_}
@@ -9,7 +9,6 @@ use native.Mathlib.Numerals.{add-one}
 use lib.Dec.{eqb}
 use lib.ListN.{length, drop}
 use borrow.Author.Tests.{ne-eqb}
-use Rattle.bits.specs.Logic.{pick}
 use Rattle.text.specs.Bytes.{Read, found, bad, after, eat}
 use Rattle.cursor.specs.Item.{At, from}
 use Rattle.cursor.specs.declared.Cursor.{Cursor}
@@ -18,7 +17,6 @@ use Rattle.network.specs.Reader.{readReads, firstFound}
 use Rattle.network.specs.Numbers.{numbersOf}
 use Rattle.network.specs.NumbersLaws.{numbers-with, numbers-without, mask-with, mask-without, count-with}
 use Rattle.network.specs.LineAnswer.{ReadsAre}
-use Rattle.network.specs.declared.Reads.{Reads}
 
 -- numbers before those that are read
 abbrev with-before : List ℕ → Read (List ℕ) → Read (List ℕ)

@@ -1,15 +1,12 @@
 -- The fixed texts of a network sheet's lines as the code spells them: the name of a shared table, the count line, and a
 -- lut line and a node line up to what differs from sheet to sheet. Assumes nothing.
-use mathlib.Core.Path.{_≡_, refl, sym, ap, subst, _∙_}
+use mathlib.Core.Path.{_≡_, refl, sym, ap}
 use mathlib.Core.Bool.{Bool, true, false}
-use mathlib.Core.List.{List, [], _∷_, _++_, map}
-use Prim.Native.Nat.{ℕ, _+_, _%_, _≤_, _<_}
-use native.Mathlib.Omega.{arith}
+use mathlib.Core.List.{List, [], _∷_, _++_}
+use Prim.Native.Nat.{ℕ, _+_, _%_, _<_}
 use native.Mathlib.Nat.{mod-eq-of-lt}
-use lib.ListN.{length, drop}
 use borrow.Author.Tests.{lt-ltb}
-use Rattle.bits.specs.Logic.{pick}
-use Rattle.text.specs.Bytes.{bytes, Read, bad, eat, space, closeBracket}
+use Rattle.text.specs.Bytes.{bytes, bad, eat, space, closeBracket}
 use Rattle.text.specs.Number.{printNumber}
 use Rattle.names.specs.Name.{Name}
 use Rattle.cursor.specs.Item.{At, MovedIs, from}

@@ -1,7 +1,7 @@
 -- A name that is held as a number is read from a text byte by byte: while the bytes agree, what is left of the number is
 -- read from what is left of the text. Assumes nothing.
 use mathlib.Core.Path.{_≡_, refl, sym, ap, _∙_}
-use mathlib.Core.Bool.{Bool, true, false}
+use mathlib.Core.Bool.{Bool}
 use mathlib.Core.List.{List, [], _∷_}
 use Prim.Native.Nat.{ℕ, zero, suc, _+_, _-_, _/_, _%_, _≤_, _<_}
 use native.Mathlib.Numerals.{add-one}
@@ -11,7 +11,7 @@ use lib.ListN.{length, getD, drop, drop-of-length-le}
 use lib.Seq.{drop-cons}
 use borrow.Author.Tests.{eq-eqb, ne-eqb}
 use Rattle.bits.specs.Logic.{pick}
-use Rattle.text.specs.Bytes.{Read, found, bad, eat}
+use Rattle.text.specs.Bytes.{found, bad, eat}
 use Rattle.names.specs.Pack.{unpackWithin, nameOf}
 use Rattle.cursor.specs.Item.{At}
 use Rattle.cursor.specs.declared.Cursor.{Cursor}

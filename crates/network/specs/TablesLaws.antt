@@ -1,6 +1,6 @@
 -- Digits 0 and 1 that stand in a line: so many are read just where so many bytes are such digits, and the line's end
 -- follows where one byte more is left, the closing bracket. Assumes nothing.
-use mathlib.Core.Path.{_≡_, refl, sym, ap, ap₂, subst, _∙_}
+use mathlib.Core.Path.{_≡_, refl, sym, ap, ap₂, _∙_}
 use mathlib.Core.Logic.{_⊎_, ⊎-elim}
 use mathlib.Core.Bool.{Bool, true, false, _&&_, _||_}
 use mathlib.Core.List.{List, [], _∷_, map}
@@ -8,7 +8,6 @@ use mathlib.Core.Option.{Option, some, none}
 use Prim.Native.Nat.{ℕ, zero, suc, _+_, _-_, _*_, _%_, _^_, _≤_, _<_}
 use native.Mathlib.Omega.{arith}
 use native.Mathlib.Nat.{mod-eq-of-lt, one-mul}
-use native.Mathlib.Numerals.{add-one}
 use native.Mathlib.Decide.{decLt, ℕ-discrete}
 use lib.Dec.{eqb}
 use lib.ListN.{length, getD, take, drop, length-drop, length-map}
@@ -23,7 +22,7 @@ use Rattle.sheet.specs.Known.{closesAt}
 use Rattle.sheet.specs.CloseLaws.{closed-whole, not-one-left, one-left}
 use Rattle.network.specs.Printer.{printDigits}
 use Rattle.network.specs.Reader.{readDigits}
-use Rattle.network.specs.LineAnswer.{binary, Stands, TableRead}
+use Rattle.network.specs.LineAnswer.{binary, TableRead}
 
 -- ---- the bytes at a place, one by one
 digit-within : (b : ℕ) → 0x30 ≤ b → b < 0x32 → eqb b 0x30 || eqb b 0x31 ≡ true

@@ -1,9 +1,9 @@
 // The lines of a network sheet, each read beside a design: a lut line, a node line and the count line. Digits are not
 // copied: a line's answer is the place where they stand. Rests on cursor for the items of a line.
 ghost use mathlib.Core.Path.{_≡_};
-ghost use mathlib.Core.Bool.{Bool, true};
+ghost use mathlib.Core.Bool.{true};
 ghost use mathlib.Core.List.{map, _++_};
-ghost use Prim.Native.Nat.{ℕ, _+_, _≤_, _<_, _^_};
+ghost use Prim.Native.Nat.{_+_, _≤_, _<_, _^_};
 ghost use lib.ListN.{length, take, drop};
 ghost use Rattle.text.specs.Bytes.{bytes, eat, same, whole};
 ghost use Rattle.names.specs.Pack.{nameOf};
