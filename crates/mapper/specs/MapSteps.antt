@@ -5,9 +5,9 @@ use mathlib.Core.List.{List, []}
 use Prim.Native.Nat.{ℕ, _+_, _*_, _/_, _%_, _^_, _≤_, _<_}
 use native.Mathlib.Omega.{arith}
 use native.Mathlib.Decide.{decLt}
-use lib.ListN.{length, getD, take, length-take}
+use lib.ListN.{length, getD}
 use lib.Pow.{pow-mono}
-use lib.Seq.{sets, getD-take}
+use lib.Seq.{sets}
 use Rattle.bits.specs.Logic.{true-false}
 use Rattle.text.specs.Limits.{maxCells, maxClasses}
 use Rattle.sheet.specs.Examine as spec
@@ -23,7 +23,6 @@ use Rattle.classes.specs.Columns.{vertexCount, freeCount, joinRow}
 use Rattle.classes.specs.Classes.{globalCount, localClass, localCount}
 use Rattle.classes.specs.Width.{budget, width}
 use Rattle.classes.specs.Proper.{Proper}
-use Rattle.classes.specs.Seen.{Inside}
 use Rattle.classes.specs.Answer.{ClassesAre, ShapeIs, Counts, localAt, localsAt}
 use Rattle.classes.specs.ShapeLaws.{proper-counts}
 use Rattle.classes.specs.JoinLaws.{join-add, join-lt}
@@ -110,7 +109,7 @@ module _ (s : List ℕ) (k : Sheet) (v : Valid (examine s) k) (c : Classes) (q :
       (let a = v .holds .outputs-few in omega arith),
       (let a = v .holds .limit-small in omega arith))
 
-  rows-inside : (x y : ℕ) → x < c .shape .vertices → y < c .shape .frees → getD (c .shape .vertex) x 0 + getD (c .shape .free) y 0 < 1024
+  pub rows-inside : (x y : ℕ) → x < c .shape .vertices → y < c .shape .frees → getD (c .shape .vertex) x 0 + getD (c .shape .free) y 0 < 1024
   rows-inside x y a b =
       let d = v .design in
       let e = q .shaped .at-vertex x a in
@@ -119,18 +118,6 @@ module _ (s : List ℕ) (k : Sheet) (v : Valid (examine s) k) (c : Classes) (q :
       let h = join-lt (d .inputs) (d .bound) x y in
       let p : 2 ^ length (d .inputs) ≤ 1024 = pow-mono (is-proper s k v .few-inputs) in
       omega arith
-
-  pub shape-inside : Inside (take (c .shape .vertices) (c .shape .vertex)) (take (c .shape .frees) (c .shape .free))
-  shape-inside =
-      record {
-        each = λ x y a b.
-            (let a' = subst (λ (n : ℕ). x < n) (length-take (c .shape .vertices) (c .shape .vertex)) a in
-            let b' = subst (λ (n : ℕ). y < n) (length-take (c .shape .frees) (c .shape .free)) b in
-            let r = rows-inside x y (omega arith) (omega arith) in
-            let e = getD-take (c .shape .vertices) (c .shape .vertex) x 0 (omega arith) in
-            let f = getD-take (c .shape .frees) (c .shape .free) y 0 (omega arith) in
-            omega arith);
-      }
 
   module _ (cl bs : List ℕ) (lh : LabelsAre (c .locals) cl) (bh : BudgetsAre (c .widths) bs) (few : c .globals .count ≤ maxClasses) (u : ℕ) (rows codes : List ℕ) where
     pub map-none : (b : List ℕ) (found : Bool) → found ≡ false → Answered cl bs (c .shape .vertices) (k .outputs) (k .limit % 8) found u rows codes → Outcome s b (refused-by 8 0) b

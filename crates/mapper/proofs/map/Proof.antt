@@ -1,4 +1,4 @@
-use Rattle.mapper.specs.MapSteps.{map-refused, counts, holding, is-proper, map-classes, search-ready, shape-inside, map-none, cells-few, map-short, map-written}
+use Rattle.mapper.specs.MapSteps.{map-refused, counts, holding, is-proper, map-classes, search-ready, rows-inside, map-none, cells-few, map-short, map-written}
 use Rattle.design.specs.TableLaws.{valid-here}
 use Rattle.sheet.specs.Examine as spec
 use borrow.Author.Tests.{not-true, not-false}
@@ -84,7 +84,7 @@ put-network-requires : tie.Need-put-network-requires
 put-network-requires c κs =
     let v = valid-here (spec.examine (c .before .before .before .before .before .before .before .before .before .before .before .before .before .before .before .before .before .before .before .before .before .before .before .before .args .sheet .now)) (c .before .before .before .before .before .before .before .before .before .before .before .before .before .before .before .before .before .before .before .before .before .examine .result) (c .before .before .before .before .before .before .before .before .before .before .before .before .before .before .before .before .before .before .before .before .before .examine .ensures) (not-false _ (c .before .before .before .before .before .before .before .before .before .before .before .before .before .before .before .before .before .before .before .if1 .left)) in
     let q = c .before .before .before .before .before .before .before .before .before .before .before .before .before .before .before .before .before .classes-of .ensures (v .design) (holding (c .before .before .before .before .before .before .before .before .before .before .before .before .before .before .before .before .before .before .before .before .before .before .before .before .args .sheet .now) (c .before .before .before .before .before .before .before .before .before .before .before .before .before .before .before .before .before .before .before .before .before .examine .result .sheet) v) (is-proper (c .before .before .before .before .before .before .before .before .before .before .before .before .before .before .before .before .before .before .before .before .before .before .before .before .args .sheet .now) (c .before .before .before .before .before .before .before .before .before .before .before .before .before .before .before .before .before .before .before .before .before .examine .result .sheet) v) in
-    (v .holds .inputs-few, v .holds .bound-few, v .holds .outputs-few, cells-few (c .before .before .before .before .before .before .before .before .before .before .before .before .before .before .before .before .before .before .before .before .before .before .before .before .args .sheet .now) (c .before .before .before .before .before .before .before .before .before .before .before .before .before .before .before .before .before .before .before .before .before .examine .result .sheet) v (c .before .before .before .before .before .before .before .before .before .before .before .before .before .before .before .before .before .classes-of .result) q (c .before .before .before .before .before .before .before .before .before .before .labels .result) (c .before .before .before .before .before .before .before .before .budgets .result) (c .before .before .before .before .before .before .before .before .before .before .labels .ensures) (c .before .before .before .before .before .before .before .before .budgets .ensures) (c .before .before .before .before .before .before .before .before .before .before .before .before .before .before .if2 .left) (c .before .before .before .before .before .before .fewest .result .count) (c .before .before .before .before .before .before .fewest .result .rows) (c .before .before .before .before .before .before .fewest .result .codes) (c .before .before .before .before .before .before .fewest .result .found) (c .before .before .before .before .before .before .fewest .ensures), q .shaped .few-vertices, q .shaped .few-free, shape-inside (c .before .before .before .before .before .before .before .before .before .before .before .before .before .before .before .before .before .before .before .before .before .before .before .before .args .sheet .now) (c .before .before .before .before .before .before .before .before .before .before .before .before .before .before .before .before .before .before .before .before .before .examine .result .sheet) v (c .before .before .before .before .before .before .before .before .before .before .before .before .before .before .before .before .before .classes-of .result) q)
+    (v .holds .inputs-few, v .holds .bound-few, v .holds .outputs-few, cells-few (c .before .before .before .before .before .before .before .before .before .before .before .before .before .before .before .before .before .before .before .before .before .before .before .before .args .sheet .now) (c .before .before .before .before .before .before .before .before .before .before .before .before .before .before .before .before .before .before .before .before .before .examine .result .sheet) v (c .before .before .before .before .before .before .before .before .before .before .before .before .before .before .before .before .before .classes-of .result) q (c .before .before .before .before .before .before .before .before .before .before .labels .result) (c .before .before .before .before .before .before .before .before .budgets .result) (c .before .before .before .before .before .before .before .before .before .before .labels .ensures) (c .before .before .before .before .before .before .before .before .budgets .ensures) (c .before .before .before .before .before .before .before .before .before .before .before .before .before .before .if2 .left) (c .before .before .before .before .before .before .fewest .result .count) (c .before .before .before .before .before .before .fewest .result .rows) (c .before .before .before .before .before .before .fewest .result .codes) (c .before .before .before .before .before .before .fewest .result .found) (c .before .before .before .before .before .before .fewest .ensures), record { few-vertices = q .shaped .few-vertices; few-free = q .shaped .few-free; inside = rows-inside (c .before .before .before .before .before .before .before .before .before .before .before .before .before .before .before .before .before .before .before .before .before .before .before .before .args .sheet .now) (c .before .before .before .before .before .before .before .before .before .before .before .before .before .before .before .before .before .before .before .before .before .examine .result .sheet) v (c .before .before .before .before .before .before .before .before .before .before .before .before .before .before .before .before .before .classes-of .result) q })
 
 -- src/lib.rt:79:9
 returns-4 : tie.Need-returns-4
@@ -98,7 +98,7 @@ put-network-requires-2 : tie.Need-put-network-requires-2
 put-network-requires-2 c κs =
     let v = valid-here (spec.examine (c .before .before .before .before .before .before .before .before .before .before .before .before .before .before .before .before .before .before .before .before .before .before .before .before .before .before .before .before .args .sheet .now)) (c .before .before .before .before .before .before .before .before .before .before .before .before .before .before .before .before .before .before .before .before .before .before .before .before .before .examine .result) (c .before .before .before .before .before .before .before .before .before .before .before .before .before .before .before .before .before .before .before .before .before .before .before .before .before .examine .ensures) (not-false _ (c .before .before .before .before .before .before .before .before .before .before .before .before .before .before .before .before .before .before .before .before .before .before .before .if1 .left)) in
     let q = c .before .before .before .before .before .before .before .before .before .before .before .before .before .before .before .before .before .before .before .before .before .classes-of .ensures (v .design) (holding (c .before .before .before .before .before .before .before .before .before .before .before .before .before .before .before .before .before .before .before .before .before .before .before .before .before .before .before .before .args .sheet .now) (c .before .before .before .before .before .before .before .before .before .before .before .before .before .before .before .before .before .before .before .before .before .before .before .before .before .examine .result .sheet) v) (is-proper (c .before .before .before .before .before .before .before .before .before .before .before .before .before .before .before .before .before .before .before .before .before .before .before .before .before .before .before .before .args .sheet .now) (c .before .before .before .before .before .before .before .before .before .before .before .before .before .before .before .before .before .before .before .before .before .before .before .before .before .examine .result .sheet) v) in
-    (v .holds .inputs-few, v .holds .bound-few, v .holds .outputs-few, cells-few (c .before .before .before .before .before .before .before .before .before .before .before .before .before .before .before .before .before .before .before .before .before .before .before .before .before .before .before .before .args .sheet .now) (c .before .before .before .before .before .before .before .before .before .before .before .before .before .before .before .before .before .before .before .before .before .before .before .before .before .examine .result .sheet) v (c .before .before .before .before .before .before .before .before .before .before .before .before .before .before .before .before .before .before .before .before .before .classes-of .result) q (c .before .before .before .before .before .before .before .before .before .before .before .before .before .before .labels .result) (c .before .before .before .before .before .before .before .before .before .before .before .before .budgets .result) (c .before .before .before .before .before .before .before .before .before .before .before .before .before .before .labels .ensures) (c .before .before .before .before .before .before .before .before .before .before .before .before .budgets .ensures) (c .before .before .before .before .before .before .before .before .before .before .before .before .before .before .before .before .before .before .if2 .left) (c .before .before .before .before .before .before .before .before .before .before .fewest .result .count) (c .before .before .before .before .before .before .before .before .before .before .fewest .result .rows) (c .before .before .before .before .before .before .before .before .before .before .fewest .result .codes) (c .before .before .before .before .before .before .before .before .before .before .fewest .result .found) (c .before .before .before .before .before .before .before .before .before .before .fewest .ensures), q .shaped .few-vertices, q .shaped .few-free, shape-inside (c .before .before .before .before .before .before .before .before .before .before .before .before .before .before .before .before .before .before .before .before .before .before .before .before .before .before .before .before .args .sheet .now) (c .before .before .before .before .before .before .before .before .before .before .before .before .before .before .before .before .before .before .before .before .before .before .before .before .before .examine .result .sheet) v (c .before .before .before .before .before .before .before .before .before .before .before .before .before .before .before .before .before .before .before .before .before .classes-of .result) q)
+    (v .holds .inputs-few, v .holds .bound-few, v .holds .outputs-few, cells-few (c .before .before .before .before .before .before .before .before .before .before .before .before .before .before .before .before .before .before .before .before .before .before .before .before .before .before .before .before .args .sheet .now) (c .before .before .before .before .before .before .before .before .before .before .before .before .before .before .before .before .before .before .before .before .before .before .before .before .before .examine .result .sheet) v (c .before .before .before .before .before .before .before .before .before .before .before .before .before .before .before .before .before .before .before .before .before .classes-of .result) q (c .before .before .before .before .before .before .before .before .before .before .before .before .before .before .labels .result) (c .before .before .before .before .before .before .before .before .before .before .before .before .budgets .result) (c .before .before .before .before .before .before .before .before .before .before .before .before .before .before .labels .ensures) (c .before .before .before .before .before .before .before .before .before .before .before .before .budgets .ensures) (c .before .before .before .before .before .before .before .before .before .before .before .before .before .before .before .before .before .before .if2 .left) (c .before .before .before .before .before .before .before .before .before .before .fewest .result .count) (c .before .before .before .before .before .before .before .before .before .before .fewest .result .rows) (c .before .before .before .before .before .before .before .before .before .before .fewest .result .codes) (c .before .before .before .before .before .before .before .before .before .before .fewest .result .found) (c .before .before .before .before .before .before .before .before .before .before .fewest .ensures), record { few-vertices = q .shaped .few-vertices; few-free = q .shaped .few-free; inside = rows-inside (c .before .before .before .before .before .before .before .before .before .before .before .before .before .before .before .before .before .before .before .before .before .before .before .before .before .before .before .before .args .sheet .now) (c .before .before .before .before .before .before .before .before .before .before .before .before .before .before .before .before .before .before .before .before .before .before .before .before .before .examine .result .sheet) v (c .before .before .before .before .before .before .before .before .before .before .before .before .before .before .before .before .before .before .before .before .before .classes-of .result) q })
 
 -- src/lib.rt:49:1
 same-length : tie.Need-same-length
