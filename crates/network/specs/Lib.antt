@@ -29,3 +29,13 @@ pub mod CompareLaws
 pub mod CheckLaws
 pub mod PrintedLaws
 pub mod Worked
+pub mod Numbers
+pub mod LineAnswer
+pub mod ChainLaws
+pub mod SpellLaws
+pub mod ListedLaws
+pub mod NumbersLaws
+pub mod TablesLaws
+pub mod GatherLaws
+pub mod HeadLaws
+pub mod LineReadLaws

@@ -1,2 +1,285 @@
-// The network sheet.
-pub fn nothing() {}
+// The lines of a network sheet, each read beside a design: a lut line, a node line and the count line. Digits are not
+// copied: a line's answer is the place where they stand. Rests on cursor for the items of a line.
+ghost use mathlib.Core.Path.{_≡_};
+ghost use mathlib.Core.Bool.{Bool, true};
+ghost use mathlib.Core.List.{map, _++_};
+ghost use Prim.Native.Nat.{ℕ, _+_, _≤_, _<_, _^_};
+ghost use lib.ListN.{length, take, drop};
+ghost use Rattle.text.specs.Bytes.{bytes, eat, same, whole};
+ghost use Rattle.names.specs.Pack.{nameOf};
+ghost use Rattle.cursor.specs.Item.{MovedIs};
+ghost use Rattle.sheet.specs.Lines.{closed};
+ghost use Rattle.network.specs.Printer.{led, ledAll, lutName, lutHead, nodeHead, printCount};
+ghost use Rattle.network.specs.Reader.{readDigits, readReads, readLut, readNode};
+ghost use Rattle.network.specs.LineAnswer.{binary, TableIs, ReadsAre, NodeIs};
+use cursor::Cursor;
+use cursor::Moved;
+
+// Where the digits of a line stand in it.
+pub enum Table {
+    At(usize),
+    Bad,
+}
+
+// A node line: a mask of the shared tables that it reads, and where its digits stand.
+pub enum NodeLine {
+    At(u8, usize),
+    Bad,
+}
+
+// The shared tables of a node's list: a mask, how many they are, and the place after them.
+pub struct Reads {
+    pub mask: u8,
+    pub count: usize,
+    pub next: Cursor,
+}
+
+// The most bytes of a name.
+const MAX_NAME: usize = 8;
+
+// The bytes of the name v.
+fn name_at(s: &[u8], c: Cursor, v: u64) -> Moved
+    requires { ⌜ c .at ≤ length (now s) ⌝ }
+    ensures { λ r. ⌜ MovedIs (now (s .entry)) r (eat (nameOf v) (drop (c .at) (now (s .entry)))) ⌝ }
+{
+    let mut at = c.at;
+    let mut rest = v;
+    let mut left = MAX_NAME;
+    while 0 < left {
+        if rest == 0 {
+            return Moved::To(Cursor { at });
+        }
+        if s.len() <= at {
+            return Moved::Bad;
+        }
+        if s[at] as u64 != rest % 256 {
+            return Moved::Bad;
+        }
+        rest = rest / 256;
+        at += 1;
+        left -= 1;
+    }
+    Moved::To(Cursor { at })
+}
+
+// The name v as an item of a list: a space stands before it unless it is the first.
+fn led_name(s: &[u8], c: Cursor, first: bool, v: u64) -> Moved
+    requires { ⌜ c .at ≤ length (now s) ⌝ }
+    ensures { λ r. ⌜ MovedIs (now (s .entry)) r (eat (led first (nameOf v)) (drop (c .at) (now (s .entry)))) ⌝ }
+{
+    if first {
+        return name_at(s, c, v);
+    }
+    let m = c.text(s, b" ");
+    let Moved::To(next) = m else {
+        return Moved::Bad;
+    };
+    name_at(s, next, v)
+}
+
+// The names ns as items of a list.
+fn names_at(s: &[u8], c: Cursor, first: bool, ns: &[u64]) -> Moved
+    requires { ⌜ c .at ≤ length (now s) ⌝ }
+    ensures { λ r. ⌜ MovedIs (now (s .entry)) r (eat (ledAll first (map nameOf (now (ns .entry)))) (drop (c .at) (now (s .entry)))) ⌝ }
+{
+    let mut at = c.at;
+    let mut leads = first;
+    let mut i = 0;
+    while i < ns.len() {
+        let m = led_name(s, Cursor { at }, leads, ns[i]);
+        let Moved::To(next) = m else {
+            return Moved::Bad;
+        };
+        at = next.at;
+        leads = false;
+        i += 1;
+    }
+    Moved::To(Cursor { at })
+}
+
+// The names ns as the last items of a list, its closing bracket and a space.
+fn inputs_at(s: &[u8], c: Cursor, first: bool, ns: &[u64]) -> Moved
+    requires { ⌜ c .at ≤ length (now s) ⌝ }
+    ensures { λ r. ⌜ MovedIs (now (s .entry)) r (eat (ledAll first (map nameOf (now (ns .entry))) ++ bytes ") ") (drop (c .at) (now (s .entry)))) ⌝ }
+{
+    let m = names_at(s, c, first, ns);
+    let Moved::To(next) = m else {
+        return Moved::Bad;
+    };
+    next.text(s, b") ")
+}
+
+// The name of shared table i as an item of a list.
+fn lut_at(s: &[u8], c: Cursor, first: bool, i: usize) -> Moved
+    requires { ⌜ (c .at ≤ length (now s)) × (i < 10) ⌝ }
+    ensures { λ r. ⌜ MovedIs (now (s .entry)) r (eat (led first (lutName i)) (drop (c .at) (now (s .entry)))) ⌝ }
+{
+    let w = [b' ', b'_', b'0' + i as u8];
+    if first {
+        c.text(s, &w[1..])
+    } else {
+        c.text(s, &w)
+    }
+}
+
+// Whether n digits 0 and 1 stand at a place.
+fn digits_at(s: &[u8], at: usize, n: usize) -> bool
+    requires { ⌜ at + n ≤ length (now s) ⌝ }
+    ensures { λ r. ⌜ r ≡ binary (take n (drop at (now (s .entry)))) ⌝ }
+{
+    let mut i = 0;
+    while i < n {
+        let b = s[at + i];
+        match b {
+            b'0' | b'1' => {}
+            _ => {
+                return false;
+            }
+        }
+        i += 1;
+    }
+    true
+}
+
+// The place of n digits that the closing bracket and the line's end follow.
+fn table_at(l: &[u8], c: Cursor, n: usize) -> Table
+    requires { ⌜ (c .at ≤ length (now l)) × (n ≤ 65536) ⌝ }
+    ensures { λ r. ⌜ TableIs (now (l .entry)) n r (whole (closed (readDigits n (drop (c .at) (now (l .entry)))))) ⌝ }
+{
+    let at = c.at;
+    if l.len() - at != n + 1 {
+        return Table::Bad;
+    }
+    if l[at + n] != b')' {
+        return Table::Bad;
+    }
+    if digits_at(l, at, n) {
+        Table::At(at)
+    } else {
+        Table::Bad
+    }
+}
+
+// How many rows n inputs have.
+fn row_count(n: usize) -> usize
+    requires { ⌜ n ≤ 16 ⌝ }
+    ensures { λ r. ⌜ (r ≡ 2 ^ n) × (r ≤ 65536) ⌝ }
+{
+    1 << n
+}
+
+// A lut line up to its digits.
+fn lut_head(l: &[u8], bs: &[u64], i: usize) -> Moved
+    requires { ⌜ i < 10 ⌝ }
+    ensures { λ r. ⌜ MovedIs (now (l .entry)) r (eat (lutHead (map nameOf (now (bs .entry))) i) (now (l .entry))) ⌝ }
+{
+    let m = Cursor { at: 0 }.text(l, b"(lut ");
+    let Moved::To(a) = m else {
+        return Moved::Bad;
+    };
+    let m = lut_at(l, a, true, i);
+    let Moved::To(b) = m else {
+        return Moved::Bad;
+    };
+    let m = b.text(l, b" (");
+    let Moved::To(d) = m else {
+        return Moved::Bad;
+    };
+    inputs_at(l, d, true, bs)
+}
+
+// The line of shared table i over the bound inputs bs.
+pub fn read_lut(l: &[u8], bs: &[u64], i: usize) -> Table
+    requires { ⌜ (length (now bs) ≤ 10) × (i < 10) ⌝ }
+    ensures { λ r. ⌜ TableIs (now (l .entry)) (2 ^ length (now (bs .entry))) r (readLut (map nameOf (now (bs .entry))) i (now (l .entry))) ⌝ }
+{
+    let m = lut_head(l, bs, i);
+    let Moved::To(c) = m else {
+        return Table::Bad;
+    };
+    table_at(l, c, row_count(bs.len()))
+}
+
+// The shared tables of a node's list, of those below u: each number is looked for once, after those before it.
+fn reads_at(s: &[u8], c: Cursor, u: usize) -> Reads
+    requires { ⌜ (c .at ≤ length (now s)) × (u ≤ 6) ⌝ }
+    ensures { λ r. ⌜ ReadsAre (now (s .entry)) u r (readReads true u 0 (drop (c .at) (now (s .entry)))) ⌝ }
+{
+    let mut at = c.at;
+    let mut mask: u8 = 0;
+    let mut count: usize = 0;
+    let mut i: usize = 0;
+    while i < u {
+        let m = lut_at(s, Cursor { at }, count == 0, i);
+        match m {
+            Moved::To(next) => {
+                at = next.at;
+                mask += 1 << i;
+                count += 1;
+            }
+            Moved::Bad => {}
+        }
+        i += 1;
+    }
+    Reads {
+        mask,
+        count,
+        next: Cursor { at },
+    }
+}
+
+// A node line up to its list of inputs.
+fn node_head(l: &[u8], name: u64) -> Moved
+    ensures { λ r. ⌜ MovedIs (now (l .entry)) r (eat (nodeHead (nameOf name)) (now (l .entry))) ⌝ }
+{
+    let m = Cursor { at: 0 }.text(l, b"(node ");
+    let Moved::To(a) = m else {
+        return Moved::Bad;
+    };
+    let m = name_at(l, a, name);
+    let Moved::To(b) = m else {
+        return Moved::Bad;
+    };
+    b.text(l, b" (")
+}
+
+// The node line of the output that name says, beside u shared tables and the free inputs fs.
+pub fn read_node(l: &[u8], name: u64, fs: &[u64], u: usize) -> NodeLine
+    requires { ⌜ (length (now fs) ≤ 10) × (u ≤ 6) ⌝ }
+    ensures { λ r. ⌜ NodeIs (now (l .entry)) u (length (now (fs .entry))) r (readNode (nameOf name) (map nameOf (now (fs .entry))) u (now (l .entry))) ⌝ }
+{
+    let m = node_head(l, name);
+    let Moved::To(a) = m else {
+        return NodeLine::Bad;
+    };
+    let w = reads_at(l, a, u);
+    let b = w.next;
+    let m = inputs_at(l, b, w.count == 0, fs);
+    let Moved::To(d) = m else {
+        return NodeLine::Bad;
+    };
+    let p = table_at(l, d, row_count(w.count + fs.len()));
+    match p {
+        Table::At(at) => NodeLine::At(w.mask, at),
+        Table::Bad => NodeLine::Bad,
+    }
+}
+
+// Whether a line is the count line of u shared tables.
+pub fn is_count(l: &[u8], u: usize) -> bool
+    requires { ⌜ u < 10 ⌝ }
+    ensures { λ r. ⌜ r ≡ same (now (l .entry)) (printCount u) ⌝ }
+{
+    let w = [
+        b'(',
+        b'c',
+        b'o',
+        b'u',
+        b'n',
+        b't',
+        b' ',
+        b'0' + u as u8,
+        b')',
+    ];
+    text::equal(l, &w)
+}

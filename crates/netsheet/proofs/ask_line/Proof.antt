@@ -1,0 +1,130 @@
+-- `ask_line`: each place has its line. Assumes nothing.
+use mathlib.Core.Bool.{Bool}
+use mathlib.Core.Path.{ap, _∙_, subst}
+use native.Mathlib.Omega.{arith}
+use borrow.Author.Needs.{needs}
+use Rattle.netsheet.specs.declared.Place.{Place}
+use Rattle.netsheet.specs.Reading.{moved, PlaceFits}
+use Rattle.netsheet.specs.AskLaws.{safe-moved, network-line, luts-line, node-line, count-line, end-line, over-line}
+use Rattle.netsheet.proofs.ask_line.Statement.{statement}
+use Rattle.netsheet.proofs.ask_line.Tie as tie
+
+enum-told : tie.Need-enum-told
+enum-told c = search needs
+
+slice-aggregate-equal : tie.Need-slice-aggregate-equal
+slice-aggregate-equal c = search needs
+
+equal-requires : tie.Need-equal-requires
+equal-requires c κs = search needs
+
+onward-requires : tie.Need-onward-requires
+onward-requires c κs = search needs
+
+enum-told-2 : tie.Need-enum-told-2
+enum-told-2 c = search needs
+
+ask-lut-requires : tie.Need-ask-lut-requires
+ask-lut-requires c κs = (c .before .before .before .pre .0, c .before .before .before .pre .1 .few, c .before .before .before .pre .2)
+
+enum-known-p : tie.Need-enum-known-p
+enum-known-p c = search needs
+
+ask-node-requires : tie.Need-ask-node-requires
+ask-node-requires c κs =
+    let o : PlaceFits (Place.Node (c .before .p .given .0 .0)) = subst (λ (x : Place). PlaceFits x) (c .before .p .given .1) (c .before .before .before .before .pre .1 .fits) in
+    (c .before .before .before .before .pre .0, c .before .before .before .before .pre .1 .few, o, c .before .before .before .before .pre .2)
+
+enum-told-3 : tie.Need-enum-told-3
+enum-told-3 c = search needs
+
+is-count-requires : tie.Need-is-count-requires
+is-count-requires c κs = omega (arith, c .before .before .before .pre .1 .few)
+
+onward-requires-2 : tie.Need-onward-requires-2
+onward-requires-2 c κs = search needs
+
+enum-told-4 : tie.Need-enum-told-4
+enum-told-4 c = search needs
+
+slice-aggregate-equal-2 : tie.Need-slice-aggregate-equal-2
+slice-aggregate-equal-2 c = search needs
+
+equal-requires-2 : tie.Need-equal-requires-2
+equal-requires-2 c κs = search needs
+
+onward-requires-3 : tie.Need-onward-requires-3
+onward-requires-3 c κs = search needs
+
+enum-told-5 : tie.Need-enum-told-5
+enum-told-5 c = search needs
+
+onward-requires-4 : tie.Need-onward-requires-4
+onward-requires-4 c κs = search needs
+
+returns : tie.Need-returns
+returns c =
+    let is = c .onward .ensures ∙ ap (λ (b : Bool). moved (c .before .before .before .before .before .before .args .s) b Place.Luts) (c .before .equal .ensures) in (
+      safe-moved (c .before .before .before .before .before .before .args .s) (c .onward .result) _ Place.Luts is (c .before .before .before .before .before .before .pre .1 .few) tt,
+      λ t d w q n kn some-outputs. network-line (c .before .before .before .before .before .before .args .l .now) t d w (c .before .before .before .before .before .before .args .s) (c .onward .result) kn (c .before .before .before .enum-told .given .1) is,
+    )
+
+returns-2 : tie.Need-returns-2
+returns-2 c = (
+  c .ask-lut .ensures .0,
+  λ t d w q n kn some-outputs. luts-line (c .before .before .before .before .args .l .now) t d w (c .before .before .before .before .args .s) (c .ask-lut .result) kn (c .before .enum-told2 .given .1) (λ none-yet. c .ask-lut .ensures .1 t d w q n (kn .held) none-yet some-outputs),
+)
+
+returns-3 : tie.Need-returns-3
+returns-3 c = (
+  c .ask-node .ensures .0,
+  λ t d w q n kn some-outputs. node-line (c .before .before .before .before .before .args .l .now) t d w (c .before .before .before .before .before .args .s) (c .ask-node .result) kn (c .before .before .p .given .0 .0) (c .before .before .p .given .1) (λ here below. c .ask-node .ensures .1 t d w q n (kn .held) here below),
+)
+
+returns-4 : tie.Need-returns-4
+returns-4 c =
+    let is = c .onward2 .ensures ∙ ap (λ (b : Bool). moved (c .before .before .before .before .before .args .s) b Place.End) (c .before .is-count .ensures) in (
+      safe-moved (c .before .before .before .before .before .args .s) (c .onward2 .result) _ Place.End is (c .before .before .before .before .before .pre .1 .few) tt,
+      λ t d w q n kn some-outputs. count-line (c .before .before .before .before .before .args .l .now) t d w (c .before .before .before .before .before .args .s) (c .onward2 .result) kn (c .before .before .enum-told3 .given .1) is,
+    )
+
+returns-5 : tie.Need-returns-5
+returns-5 c =
+    let is = c .onward3 .ensures ∙ ap (λ (b : Bool). moved (c .before .before .before .before .before .before .args .s) b Place.Over) (c .before .equal2 .ensures) in (
+      safe-moved (c .before .before .before .before .before .before .args .s) (c .onward3 .result) _ Place.Over is (c .before .before .before .before .before .before .pre .1 .few) tt,
+      λ t d w q n kn some-outputs. end-line (c .before .before .before .before .before .before .args .l .now) t d w (c .before .before .before .before .before .before .args .s) (c .onward3 .result) kn (c .before .before .before .enum-told4 .given .1) is,
+    )
+
+returns-6 : tie.Need-returns-6
+returns-6 c = (
+  safe-moved (c .before .before .before .before .args .s) (c .onward4 .result) _ Place.Over (c .onward4 .ensures) (c .before .before .before .before .pre .1 .few) tt,
+  λ t d w q n kn some-outputs. over-line (c .before .before .before .before .args .l .now) t d w (c .before .before .before .before .args .s) (c .onward4 .result) kn (c .before .enum-told5 .given .1) Place.Over (c .onward4 .ensures),
+)
+
+pub ask-line-spec : {M : Type 1} → statement M
+ask-line-spec =
+    tie.close
+    (tie.spec
+    enum-told
+    slice-aggregate-equal
+    equal-requires
+    onward-requires
+    enum-told-2
+    ask-lut-requires
+    enum-known-p
+    ask-node-requires
+    enum-told-3
+    is-count-requires
+    onward-requires-2
+    enum-told-4
+    slice-aggregate-equal-2
+    equal-requires-2
+    onward-requires-3
+    enum-told-5
+    onward-requires-4
+    returns
+    returns-2
+    returns-3
+    returns-4
+    returns-5
+    returns-6)

@@ -1,0 +1,352 @@
+// The network sheet as a whole, read beside a design: question 10, line by line. Tables stay in the sheet's bytes, and
+// the answer holds their places. Rests on network for what a line says.
+ghost use mathlib.Core.Path.{_≡_};
+ghost use mathlib.Core.List.{List, map};
+ghost use Prim.Native.Nat.{ℕ, _+_, _≤_, _<_, _^_};
+ghost use lib.ListN.{length, getD, take};
+ghost use Rattle.names.specs.Pack.{nameOf};
+ghost use Rattle.sheet.specs.Examine.{Design};
+ghost use Rattle.sheet.specs.Known.{Holds};
+ghost use Rattle.classes.specs.Proper.{Proper};
+ghost use Rattle.network.specs.Network.{Network};
+ghost use Rattle.network.specs.LineAnswer.{TableIs};
+ghost use Rattle.network.specs.Examine as spec;
+ghost use Rattle.netsheet.specs.Answer.{BadLine, NetworkIs};
+ghost use Rattle.netsheet.specs.Named.{Ranged, Counts, FreesAre, NamedFor, NamedIs};
+ghost use Rattle.netsheet.specs.Reading.{placeOf, isOver, fresh, moved, lutAdded, afterNode, nodeAdded, Safe, PartOf, HeldBy, Known, StepIs, maybeLut};
+use names::Position;
+use network::NodeLine;
+use network::Table;
+use sheet::Sheet;
+
+// What a network sheet says: its first bad line, or how many shared tables there are, where the digits of each stand, the
+// shared tables that each output reads, as a mask, and where the digits of its own table stand.
+pub struct NetworkSheet {
+    pub ok: bool,
+    pub line: usize,
+    pub luts: usize,
+    pub lutat: [usize; 6],
+    pub reads: [u8; 4],
+    pub nodeat: [usize; 4],
+}
+
+// Which line is wanted: a node line has the number of its output.
+pub enum Place {
+    Network,
+    Luts,
+    Node(usize),
+    Count,
+    End,
+    Over,
+}
+
+// What the lines so far say, and the place of the next; after a bad line it is not ok.
+pub struct Reading {
+    pub ok: bool,
+    pub place: Place,
+    pub luts: usize,
+    pub lutat: [usize; 6],
+    pub reads: [u8; 4],
+    pub nodeat: [usize; 4],
+}
+
+// The free inputs' names, with their count.
+pub struct Frees {
+    pub count: usize,
+    pub list: [u64; 10],
+}
+
+// The names of a design that the lines of a network sheet repeat: bound inputs, free inputs and outputs.
+pub struct Named {
+    pub bounds: usize,
+    pub bound: [u64; 5],
+    pub frees: usize,
+    pub free: [u64; 10],
+    pub outputs: usize,
+    pub outs: [u64; 4],
+}
+
+// The most shared tables, and the most bytes of a network sheet.
+const MAX_CELLS: usize = 6;
+
+const MAX_NETWORK: usize = 8192;
+
+// The names at some places.
+fn bound_names(names: &[u64], places: &[usize]) -> [u64; 5]
+    requires { ⌜ (length (now places) ≤ 5) × ((i : ℕ) → i < length (now places) → getD (now places) i 0 < length (now names)) ⌝ }
+    ensures { λ r. ⌜ (length r ≡ 5) × (take (length (now (places .entry))) r ≡ map (λ (p : ℕ). getD (now (names .entry)) p 0) (now (places .entry))) ⌝ }
+{
+    let mut list = [0u64; 5];
+    let mut i = 0;
+    while i < places.len() {
+        let p = places[i];
+        list[i] = names[p];
+        i += 1;
+    }
+    list
+}
+
+// The names that are not among the bound ones.
+fn free_names(names: &[u64], bound: &[u64]) -> Frees
+    requires { ⌜ length (now names) ≤ 10 ⌝ }
+    ensures { λ r. ⌜ FreesAre (now (names .entry)) (now (bound .entry)) r ⌝ }
+{
+    let mut list = [0u64; 10];
+    let mut count: usize = 0;
+    let mut i = 0;
+    while i < names.len() {
+        let v = names[i];
+        let p = names::find(bound, v);
+        match p {
+            Position::At(_) => {}
+            Position::Nowhere => {
+                list[count] = v;
+                count += 1;
+            }
+        }
+        i += 1;
+    }
+    Frees { count, list }
+}
+
+// The names that the lines repeat.
+fn names_of(k: Sheet) -> Named
+    requires { ⌜ Ranged k ⌝ }
+    ensures { λ r. ⌜ NamedFor k r ⌝ }
+{
+    let n = k.inputs;
+    let b = k.bounds;
+    let names = k.names;
+    let places = k.bound;
+    let bound = bound_names(&names[..n], &places[..b]);
+    let f = free_names(&names[..n], &bound[..b]);
+    let free = f.list;
+    let outs = k.outs;
+    Named {
+        bounds: b,
+        bound,
+        frees: f.count,
+        free,
+        outputs: k.outputs,
+        outs,
+    }
+}
+
+// Before the first line.
+fn blank() -> Reading
+    ensures { λ r. ⌜ r ≡ fresh ⌝ }
+{
+    Reading {
+        ok: true,
+        place: Place::Network,
+        luts: 0,
+        lutat: [0; 6],
+        reads: [0; 4],
+        nodeat: [0; 4],
+    }
+}
+
+// The place p next, where the line is as it must be.
+fn onward(s: Reading, good: bool, p: Place) -> Reading
+    ensures { λ r. ⌜ r ≡ moved s good p ⌝ }
+{
+    let lutat = s.lutat;
+    let reads = s.reads;
+    let nodeat = s.nodeat;
+    Reading {
+        ok: good,
+        place: p,
+        luts: s.luts,
+        lutat,
+        reads,
+        nodeat,
+    }
+}
+
+// One shared table more, whose digits stand at p.
+fn with_lut(s: Reading, p: usize) -> Reading
+    requires { ⌜ s .luts < 6 ⌝ }
+    ensures { λ r. ⌜ r ≡ lutAdded s p ⌝ }
+{
+    let u = s.luts;
+    let mut lutat = s.lutat;
+    lutat[u] = p;
+    let reads = s.reads;
+    let nodeat = s.nodeat;
+    Reading {
+        ok: true,
+        place: Place::Luts,
+        luts: u + 1,
+        lutat,
+        reads,
+        nodeat,
+    }
+}
+
+// The line after the node of output o.
+fn after_node(o: usize, outputs: usize) -> Place
+    requires { ⌜ o < 4 ⌝ }
+    ensures { λ r. ⌜ r ≡ afterNode o outputs ⌝ }
+{
+    if o + 1 < outputs {
+        Place::Node(o + 1)
+    } else {
+        Place::Count
+    }
+}
+
+// The node of output o, which reads the shared tables of the mask, and whose digits stand at p.
+fn with_node(s: Reading, o: usize, mask: u8, p: usize, outputs: usize) -> Reading
+    requires { ⌜ o < 4 ⌝ }
+    ensures { λ r. ⌜ r ≡ nodeAdded s o mask p outputs ⌝ }
+{
+    let lutat = s.lutat;
+    let mut reads = s.reads;
+    let mut nodeat = s.nodeat;
+    reads[o] = mask;
+    nodeat[o] = p;
+    let place = after_node(o, outputs);
+    Reading {
+        ok: true,
+        place,
+        luts: s.luts,
+        lutat,
+        reads,
+        nodeat,
+    }
+}
+
+// The node line of output o, which stands from at on.
+fn ask_node(l: &[u8], at: usize, k: Named, s: Reading, o: usize) -> Reading
+    requires { ⌜ Counts k × (s .luts ≤ 6) × (o < 4) × (at + length (now l) ≤ 8192) ⌝ }
+    ensures { λ r. ⌜ (Safe r) × ((t : List ℕ) (d : Design) (w : Network) → PartOf t at (now (l .entry)) → NamedIs d k → HeldBy d t w s → length (w .nodes) ≡ o → o < length (d .outputs) → StepIs d t (spec.askNode d w o (now (l .entry))) r) ⌝ }
+{
+    let f = k.frees;
+    let free = k.free;
+    let outs = k.outs;
+    let r = network::read_node(l, outs[o], &free[..f], s.luts);
+    match r {
+        NodeLine::At(mask, p) => with_node(s, o, mask, at + p, k.outputs),
+        NodeLine::Bad => onward(s, false, Place::Over),
+    }
+}
+
+// A lut line, where there may be one more.
+fn lut_line(l: &[u8], k: Named, u: usize) -> Table
+    requires { ⌜ Counts k ⌝ }
+    ensures { λ r. ⌜ TableIs (now (l .entry)) (2 ^ (k .bounds)) r (maybeLut (map nameOf (take (k .bounds) (k .bound))) u (now (l .entry))) ⌝ }
+{
+    if MAX_CELLS <= u {
+        return Table::Bad;
+    }
+    let b = k.bounds;
+    let bound = k.bound;
+    network::read_lut(l, &bound[..b], u)
+}
+
+// A lut line or the first node, which stands from at on.
+fn ask_lut(l: &[u8], at: usize, k: Named, s: Reading) -> Reading
+    requires { ⌜ Counts k × (s .luts ≤ 6) × (at + length (now l) ≤ 8192) ⌝ }
+    ensures { λ r. ⌜ (Safe r) × ((t : List ℕ) (d : Design) (w : Network) → PartOf t at (now (l .entry)) → NamedIs d k → HeldBy d t w s → length (w .nodes) ≡ 0 → 0 < length (d .outputs) → StepIs d t (spec.askLut d w (now (l .entry))) r) ⌝ }
+{
+    let r = lut_line(l, k, s.luts);
+    match r {
+        Table::At(p) => with_lut(s, at + p),
+        Table::Bad => ask_node(l, at, k, s, 0),
+    }
+}
+
+// One line by the place that it stands at; it stands from at on.
+fn ask_line(l: &[u8], at: usize, k: Named, s: Reading) -> Reading
+    requires { ⌜ Counts k × Safe s × (at + length (now l) ≤ 8192) ⌝ }
+    ensures { λ r. ⌜ (Safe r) × ((t : List ℕ) (d : Design) (w : Network) → PartOf t at (now (l .entry)) → NamedIs d k → Known d t w s → 0 < length (d .outputs) → StepIs d t (spec.askLine d (placeOf (s .place)) w (now (l .entry))) r) ⌝ }
+{
+    let p = s.place;
+    match p {
+        Place::Network => onward(s, text::equal(l, b"(network 1)"), Place::Luts),
+        Place::Luts => ask_lut(l, at, k, s),
+        Place::Node(o) => ask_node(l, at, k, s, o),
+        Place::Count => onward(s, network::is_count(l, s.luts), Place::End),
+        Place::End => onward(s, text::equal(l, b"(end)"), Place::Over),
+        Place::Over => onward(s, false, Place::Over),
+    }
+}
+
+// A refusal: the first bad line has the number n.
+fn bad_line(n: usize) -> NetworkSheet
+    ensures { λ r. ⌜ BadLine n r ⌝ }
+{
+    NetworkSheet {
+        ok: false,
+        line: n,
+        luts: 0,
+        lutat: [0; 6],
+        reads: [0; 4],
+        nodeat: [0; 4],
+    }
+}
+
+// Whether every line was read.
+fn is_over(p: Place) -> bool
+    ensures { λ r. ⌜ r ≡ isOver p ⌝ }
+{
+    match p {
+        Place::Network => false,
+        Place::Luts => false,
+        Place::Node(_) => false,
+        Place::Count => false,
+        Place::End => false,
+        Place::Over => true,
+    }
+}
+
+// The answer after the last line, where n is the number of the line after it.
+fn ended(s: Reading, n: usize) -> NetworkSheet
+    ensures { λ r. ⌜ ((t : List ℕ) (d : Design) (w : Network) → Known d t w s → NetworkIs d t (spec.atEnd (placeOf (s .place)) w n) r) ⌝ }
+{
+    let p = s.place;
+    if !is_over(p) {
+        return bad_line(n);
+    }
+    let lutat = s.lutat;
+    let reads = s.reads;
+    let nodeat = s.nodeat;
+    NetworkSheet {
+        ok: true,
+        line: 0,
+        luts: s.luts,
+        lutat,
+        reads,
+        nodeat,
+    }
+}
+
+// Question 10.
+pub fn read_network(t: &[u8], k: Sheet) -> NetworkSheet
+    requires { ⌜ Ranged k ⌝ }
+    ensures { λ r. ⌜ ((d : Design) → Holds d k → Proper d → 1 ≤ length (d .outputs) → NetworkIs d (now (t .entry)) (spec.readNetwork d (now (t .entry))) r) ⌝ }
+{
+    if t.len() < 1 {
+        return bad_line(0);
+    }
+    if MAX_NETWORK < t.len() {
+        return bad_line(0);
+    }
+    let names = names_of(k);
+    let mut s = blank();
+    let mut at = 0;
+    let mut n = 1;
+    while at < t.len() {
+        let e = text::line_end(t, at);
+        if e == t.len() {
+            return bad_line(n);
+        }
+        s = ask_line(&t[at..e], at, names, s);
+        if !s.ok {
+            return bad_line(n);
+        }
+        at = e + 1;
+        n += 1;
+    }
+    ended(s, n)
+}

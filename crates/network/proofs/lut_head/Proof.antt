@@ -1,0 +1,95 @@
+-- `lut_head`: each part where the one before ends. Assumes nothing.
+use mathlib.Core.List.{map}
+use borrow.Author.Needs.{needs}
+use Rattle.names.specs.Pack.{nameOf}
+use Rattle.network.specs.HeadLaws.{lut-no-word, lut-no-number, lut-no-list, lut-list}
+use Rattle.network.proofs.lut_head.Statement.{statement}
+use Rattle.network.proofs.lut_head.Tie as tie
+
+slice-aggregate-text : tie.Need-slice-aggregate-text
+slice-aggregate-text c = search needs
+
+text-requires : tie.Need-text-requires
+text-requires c κs = search needs
+
+enum-known-m : tie.Need-enum-known-m
+enum-known-m c = search needs
+
+enum-told : tie.Need-enum-told
+enum-told c = search needs
+
+returns : tie.Need-returns
+returns c =
+    let word = rw (c .enum-told .given .1) at (c .before .before .text .ensures) in
+    lut-no-word (c .before .before .before .before .before .before .args .l .now) (map nameOf (c .before .before .before .before .before .before .args .bs .now)) (c .before .before .before .before .before .before .args .i) word
+
+lut-at-requires : tie.Need-lut-at-requires
+lut-at-requires c κs =
+    let word = rw (c .before .m .given .1) at (c .before .before .before .text .ensures) in
+    (word .inside, (c .before .before .before .before .before .before .before .pre))
+
+enum-known-m-2 : tie.Need-enum-known-m-2
+enum-known-m-2 c = search needs
+
+enum-told-2 : tie.Need-enum-told-2
+enum-told-2 c = search needs
+
+returns-2 : tie.Need-returns-2
+returns-2 c =
+    let word = rw (c .before .before .before .before .m .given .1) at (c .before .before .before .before .before .before .text .ensures) in
+    let number = rw (c .enum-told2 .given .1) at (c .before .before .lut-at .ensures) in
+    lut-no-number (c .before .before .before .before .before .before .before .before .before .before .args .l .now) (map nameOf (c .before .before .before .before .before .before .before .before .before .before .args .bs .now)) (c .before .before .before .before .before .before .before .before .before .before .args .i) word number
+
+slice-aggregate-text-2 : tie.Need-slice-aggregate-text-2
+slice-aggregate-text-2 c = search needs
+
+text-requires-2 : tie.Need-text-requires-2
+text-requires-2 c κs =
+    let number = rw (c .before .before .m2 .given .1) at (c .before .before .before .before .lut-at .ensures) in
+    number .inside
+
+enum-known-m-3 : tie.Need-enum-known-m-3
+enum-known-m-3 c = search needs
+
+enum-told-3 : tie.Need-enum-told-3
+enum-told-3 c = search needs
+
+returns-3 : tie.Need-returns-3
+returns-3 c =
+    let word = rw (c .before .before .before .before .before .before .before .before .before .m .given .1) at (c .before .before .before .before .before .before .before .before .before .before .before .text .ensures) in
+    let number = rw (c .before .before .before .before .before .m2 .given .1) at (c .before .before .before .before .before .before .before .lut-at .ensures) in
+    let list = rw (c .enum-told3 .given .1) at (c .before .before .text2 .ensures) in
+    lut-no-list (c .before .before .before .before .before .before .before .before .before .before .before .before .before .before .before .args .l .now) (map nameOf (c .before .before .before .before .before .before .before .before .before .before .before .before .before .before .before .args .bs .now)) (c .before .before .before .before .before .before .before .before .before .before .before .before .before .before .before .args .i) word number list
+
+inputs-at-requires : tie.Need-inputs-at-requires
+inputs-at-requires c κs =
+    let list = rw (c .before .m3 .given .1) at (c .before .before .before .text2 .ensures) in
+    list .inside
+
+returns-4 : tie.Need-returns-4
+returns-4 c =
+    let word = rw (c .before .before .before .before .before .before .before .before .before .before .before .m .given .1) at (c .before .before .before .before .before .before .before .before .before .before .before .before .before .text .ensures) in
+    let number = rw (c .before .before .before .before .before .before .before .m2 .given .1) at (c .before .before .before .before .before .before .before .before .before .lut-at .ensures) in
+    let list = rw (c .before .before .m3 .given .1) at (c .before .before .before .before .text2 .ensures) in
+    lut-list (c .before .before .before .before .before .before .before .before .before .before .before .before .before .before .before .before .before .args .l .now) (map nameOf (c .before .before .before .before .before .before .before .before .before .before .before .before .before .before .before .before .before .args .bs .now)) (c .before .before .before .before .before .before .before .before .before .before .before .before .before .before .before .before .before .args .i) word number list (c .inputs-at .result) (c .inputs-at .ensures)
+
+pub lut-head-spec : {M : Type 1} → statement M
+lut-head-spec =
+    tie.close
+    (tie.spec
+    slice-aggregate-text
+    text-requires
+    enum-known-m
+    enum-told
+    returns
+    lut-at-requires
+    enum-known-m-2
+    enum-told-2
+    returns-2
+    slice-aggregate-text-2
+    text-requires-2
+    enum-known-m-3
+    enum-told-3
+    returns-3
+    inputs-at-requires
+    returns-4)

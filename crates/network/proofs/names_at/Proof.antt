@@ -1,0 +1,70 @@
+-- `names_at`: the items are read one after the other. Assumes nothing.
+use mathlib.Core.Path.{refl}
+use Prim.Native.Nat.{_-_}
+use native.Mathlib.Omega.{arith}
+use lib.ListN.{length}
+use borrow.Author.Needs.{needs}
+use Rattle.network.specs.ListedLaws.{Listed, listed-none, listed-missing, listed-more, listed-all}
+use Rattle.network.proofs.names_at.Statement.{statement}
+use Rattle.network.proofs.names_at.Tie as tie
+
+abbrev Inv-loop : tie.InvT-loop
+Inv-loop s first ns at₀ leads₀ i₀ at leads i = Listed s ns first at₀ at leads i
+
+abbrev μ-loop : tie.MeasureT-loop
+μ-loop s first ns at₀ leads₀ i₀ at leads i = length ns - i
+
+loop-holds : tie.Need-loop-holds Inv-loop μ-loop
+loop-holds c = listed-none (c .before .before .args .s .now) (c .before .before .args .ns .now) (c .before .before .args .first) (c .before .before .args .c .at) (c .before .before .pre)
+
+mul-led-name : tie.Need-mul-led-name Inv-loop μ-loop
+mul-led-name c = search needs
+
+shared-slice-read-led-name : tie.Need-shared-slice-read-led-name Inv-loop μ-loop
+shared-slice-read-led-name c = search needs
+
+led-name-requires : tie.Need-led-name-requires Inv-loop μ-loop
+led-name-requires c κs = c .before .before .loop .inv .inside
+
+enum-known-m : tie.Need-enum-known-m Inv-loop μ-loop
+enum-known-m c = search needs
+
+enum-told : tie.Need-enum-told Inv-loop μ-loop
+enum-told c = search needs
+
+returns : tie.Need-returns Inv-loop μ-loop
+returns c =
+    let item = rw (c .enum-told .given .1) at (c .before .before .led-name .ensures) in
+    listed-missing (c .before .before .before .before .before .loop .inv) (c .before .before .before .before .loop-test .taken) item
+
+add-i : tie.Need-add-i Inv-loop μ-loop
+add-i c = omega arith
+
+loop-less : tie.Need-loop-less Inv-loop μ-loop
+loop-less c = omega arith
+
+loop-again : tie.Need-loop-again Inv-loop μ-loop
+loop-again c =
+    let item = rw (c .before .m .given .1) at (c .before .before .before .led-name .ensures) in
+    listed-more (c .before .before .before .before .before .before .loop .inv) (c .before .before .before .before .before .loop-test .taken) item
+
+returns-2 : tie.Need-returns-2 Inv-loop μ-loop
+returns-2 c = listed-all (c .before .loop .inv) _ refl (c .loop-test .left)
+
+pub names-at-spec : {M : Type 1} → statement M
+names-at-spec =
+    tie.close
+    (tie.spec
+    Inv-loop
+    μ-loop
+    loop-holds
+    mul-led-name
+    shared-slice-read-led-name
+    led-name-requires
+    enum-known-m
+    enum-told
+    returns
+    add-i
+    loop-less
+    loop-again
+    returns-2)

@@ -1,0 +1,71 @@
+-- `node_head`: each part where the one before ends. Assumes nothing.
+use borrow.Author.Needs.{needs}
+use Rattle.names.specs.Pack.{nameOf}
+use Rattle.network.specs.HeadLaws.{node-no-word, node-no-name, node-list}
+use Rattle.network.proofs.node_head.Statement.{statement}
+use Rattle.network.proofs.node_head.Tie as tie
+
+slice-aggregate-text : tie.Need-slice-aggregate-text
+slice-aggregate-text c = search needs
+
+text-requires : tie.Need-text-requires
+text-requires c κs = search needs
+
+enum-known-m : tie.Need-enum-known-m
+enum-known-m c = search needs
+
+enum-told : tie.Need-enum-told
+enum-told c = search needs
+
+returns : tie.Need-returns
+returns c =
+    let word = rw (c .enum-told .given .1) at (c .before .before .text .ensures) in
+    node-no-word (c .before .before .before .before .before .args .l .now) (nameOf (c .before .before .before .before .before .args .name)) word
+
+name-at-requires : tie.Need-name-at-requires
+name-at-requires c κs =
+    let word = rw (c .before .m .given .1) at (c .before .before .before .text .ensures) in
+    word .inside
+
+enum-known-m-2 : tie.Need-enum-known-m-2
+enum-known-m-2 c = search needs
+
+enum-told-2 : tie.Need-enum-told-2
+enum-told-2 c = search needs
+
+returns-2 : tie.Need-returns-2
+returns-2 c =
+    let word = rw (c .before .before .before .before .m .given .1) at (c .before .before .before .before .before .before .text .ensures) in
+    let name = rw (c .enum-told2 .given .1) at (c .before .before .name-at .ensures) in
+    node-no-name (c .before .before .before .before .before .before .before .before .before .args .l .now) (nameOf (c .before .before .before .before .before .before .before .before .before .args .name)) word name
+
+slice-aggregate-text-2 : tie.Need-slice-aggregate-text-2
+slice-aggregate-text-2 c = search needs
+
+text-requires-2 : tie.Need-text-requires-2
+text-requires-2 c κs =
+    let name = rw (c .before .before .m2 .given .1) at (c .before .before .before .before .name-at .ensures) in
+    name .inside
+
+returns-3 : tie.Need-returns-3
+returns-3 c =
+    let word = rw (c .before .before .before .before .before .before .before .m .given .1) at (c .before .before .before .before .before .before .before .before .before .text .ensures) in
+    let name = rw (c .before .before .before .m2 .given .1) at (c .before .before .before .before .before .name-at .ensures) in
+    node-list (c .before .before .before .before .before .before .before .before .before .before .before .before .args .l .now) (nameOf (c .before .before .before .before .before .before .before .before .before .before .before .before .args .name)) word name (c .text2 .result) (c .text2 .ensures)
+
+pub node-head-spec : {M : Type 1} → statement M
+node-head-spec =
+    tie.close
+    (tie.spec
+    slice-aggregate-text
+    text-requires
+    enum-known-m
+    enum-told
+    returns
+    name-at-requires
+    enum-known-m-2
+    enum-told-2
+    returns-2
+    slice-aggregate-text-2
+    text-requires-2
+    returns-3)

@@ -1,0 +1,48 @@
+-- `read_lut`: the head, and the digits up to the line's end. Assumes nothing.
+use mathlib.Core.List.{map}
+use mathlib.Core.Path.{sym}
+use lib.ListN.{length, length-map}
+use borrow.Author.Needs.{needs}
+use Rattle.names.specs.Pack.{nameOf}
+use Rattle.network.specs.LineReadLaws.{lut-no-head, lut-digits}
+use Rattle.network.proofs.read_lut.Statement.{statement}
+use Rattle.network.proofs.read_lut.Tie as tie
+
+lut-head-requires : tie.Need-lut-head-requires
+lut-head-requires c κs = c .before .before .pre .1
+
+enum-known-m : tie.Need-enum-known-m
+enum-known-m c = search needs
+
+enum-told : tie.Need-enum-told
+enum-told c = search needs
+
+returns : tie.Need-returns
+returns c =
+    let head = rw (c .enum-told .given .1) at (c .before .before .lut-head .ensures) in
+    lut-no-head (c .before .before .before .before .before .args .l .now) (map nameOf (c .before .before .before .before .before .args .bs .now)) (c .before .before .before .before .before .args .i) head
+
+row-count-requires : tie.Need-row-count-requires
+row-count-requires c κs = search needs
+
+table-at-requires : tie.Need-table-at-requires
+table-at-requires c κs =
+    let head = rw (c .before .before .m .given .1) at (c .before .before .before .before .lut-head .ensures) in
+    (head .inside, c .row-count .ensures .1)
+
+returns-2 : tie.Need-returns-2
+returns-2 c =
+    let head = rw (c .before .before .before .m .given .1) at (c .before .before .before .before .before .lut-head .ensures) in
+    lut-digits (c .before .before .before .before .before .before .before .before .args .l .now) (map nameOf (c .before .before .before .before .before .before .before .before .args .bs .now)) (c .before .before .before .before .before .before .before .before .args .i) head (c .table-at .result) (c .before .row-count .result) (length (c .before .before .before .before .before .before .before .before .args .bs .now)) (c .before .row-count .ensures .0) (sym (length-map (c .before .before .before .before .before .before .before .before .args .bs .now) nameOf)) (c .table-at .ensures)
+
+pub read-lut-spec : {M : Type 1} → statement M
+read-lut-spec =
+    tie.close
+    (tie.spec
+    lut-head-requires
+    enum-known-m
+    enum-told
+    returns
+    row-count-requires
+    table-at-requires
+    returns-2)

@@ -1,0 +1,96 @@
+-- `read_node`: the head, the shared tables, the inputs, and the digits up to the line's end. Assumes nothing.
+use mathlib.Core.List.{map}
+use mathlib.Core.Path.{sym}
+use native.Mathlib.Omega.{arith}
+use lib.ListN.{length, length-map}
+use borrow.Author.Needs.{needs}
+use Rattle.names.specs.Pack.{nameOf}
+use Rattle.network.specs.LineReadLaws.{node-no-head, node-no-inputs, node-no-digits, node-digits}
+use Rattle.network.proofs.read_node.Statement.{statement}
+use Rattle.network.proofs.read_node.Tie as tie
+
+node-head-requires : tie.Need-node-head-requires
+node-head-requires c κs = search needs
+
+enum-known-m : tie.Need-enum-known-m
+enum-known-m c = search needs
+
+enum-told : tie.Need-enum-told
+enum-told c = search needs
+
+returns : tie.Need-returns
+returns c =
+    let head = rw (c .enum-told .given .1) at (c .before .before .node-head .ensures) in
+    node-no-head (c .before .before .before .before .before .args .l .now) (nameOf (c .before .before .before .before .before .args .name)) (map nameOf (c .before .before .before .before .before .args .fs .now)) (c .before .before .before .before .before .args .u) head
+
+reads-at-requires : tie.Need-reads-at-requires
+reads-at-requires c κs =
+    let head = rw (c .before .m .given .1) at (c .before .before .before .node-head .ensures) in
+    (head .inside, c .before .before .before .before .before .before .pre .1)
+
+inputs-at-requires : tie.Need-inputs-at-requires
+inputs-at-requires c κs = c .before .before .reads-at .ensures .inside
+
+enum-known-m-2 : tie.Need-enum-known-m-2
+enum-known-m-2 c = search needs
+
+enum-told-2 : tie.Need-enum-told-2
+enum-told-2 c = search needs
+
+returns-2 : tie.Need-returns-2
+returns-2 c =
+    let head = rw (c .before .before .before .before .before .before .before .m .given .1) at (c .before .before .before .before .before .before .before .before .before .node-head .ensures) in
+    let inputs = rw (c .enum-told2 .given .1) at (c .before .before .inputs-at .ensures) in
+    node-no-inputs (c .before .before .before .before .before .before .before .before .before .before .before .before .args .l .now) (nameOf (c .before .before .before .before .before .before .before .before .before .before .before .before .args .name)) (map nameOf (c .before .before .before .before .before .before .before .before .before .before .before .before .args .fs .now)) (c .before .before .before .before .before .before .before .before .before .before .before .before .args .u) head (c .before .before .before .before .before .reads-at .result) (c .before .before .before .before .before .reads-at .ensures) inputs
+
+add-row-count : tie.Need-add-row-count
+add-row-count c = omega (arith, c .before .before .before .before .before .before .before .reads-at .ensures .few, c .before .before .before .before .before .before .before .before .before .before .before .before .before .before .pre .0, c .before .before .before .before .before .before .before .before .before .before .before .before .before .before .pre .1)
+
+row-count-requires : tie.Need-row-count-requires
+row-count-requires c κs = omega (arith, c .before .before .before .before .before .before .before .reads-at .ensures .few, c .before .before .before .before .before .before .before .before .before .before .before .before .before .before .pre .0, c .before .before .before .before .before .before .before .before .before .before .before .before .before .before .pre .1)
+
+table-at-requires : tie.Need-table-at-requires
+table-at-requires c κs =
+    let inputs = rw (c .before .before .before .m2 .given .1) at (c .before .before .before .before .before .inputs-at .ensures) in
+    (inputs .inside, c .row-count .ensures .1)
+
+enum-known-p : tie.Need-enum-known-p
+enum-known-p c = search needs
+
+enum-told-3 : tie.Need-enum-told-3
+enum-told-3 c = search needs
+
+returns-3 : tie.Need-returns-3
+returns-3 c =
+    let head = rw (c .before .before .before .before .before .before .before .before .before .before .before .before .before .before .m .given .1) at (c .before .before .before .before .before .before .before .before .before .before .before .before .before .before .before .before .node-head .ensures) in
+    let inputs = rw (c .before .before .before .before .before .before .before .m2 .given .1) at (c .before .before .before .before .before .before .before .before .before .inputs-at .ensures) in
+    let table = rw (c .before .p .given .1) at (c .before .before .before .table-at .ensures) in
+    node-digits (c .before .before .before .before .before .before .before .before .before .before .before .before .before .before .before .before .before .before .before .args .l .now) (nameOf (c .before .before .before .before .before .before .before .before .before .before .before .before .before .before .before .before .before .before .before .args .name)) (map nameOf (c .before .before .before .before .before .before .before .before .before .before .before .before .before .before .before .before .before .before .before .args .fs .now)) (c .before .before .before .before .before .before .before .before .before .before .before .before .before .before .before .before .before .before .before .args .u) head (c .before .before .before .before .before .before .before .before .before .before .before .before .reads-at .result) (c .before .before .before .before .before .before .before .before .before .before .before .before .reads-at .ensures) inputs (length (c .before .before .before .before .before .before .before .before .before .before .before .before .before .before .before .before .before .before .before .args .fs .now)) (c .before .before .before .before .row-count .result) (sym (length-map (c .before .before .before .before .before .before .before .before .before .before .before .before .before .before .before .before .before .before .before .args .fs .now) nameOf)) (c .before .before .before .before .row-count .ensures .0) table
+
+returns-4 : tie.Need-returns-4
+returns-4 c =
+    let head = rw (c .before .before .before .before .before .before .before .before .before .before .before .before .before .m .given .1) at (c .before .before .before .before .before .before .before .before .before .before .before .before .before .before .before .node-head .ensures) in
+    let inputs = rw (c .before .before .before .before .before .before .m2 .given .1) at (c .before .before .before .before .before .before .before .before .inputs-at .ensures) in
+    let table = rw (c .enum-told3 .given .1) at (c .before .before .table-at .ensures) in
+    node-no-digits (c .before .before .before .before .before .before .before .before .before .before .before .before .before .before .before .before .before .before .args .l .now) (nameOf (c .before .before .before .before .before .before .before .before .before .before .before .before .before .before .before .before .before .before .args .name)) (map nameOf (c .before .before .before .before .before .before .before .before .before .before .before .before .before .before .before .before .before .before .args .fs .now)) (c .before .before .before .before .before .before .before .before .before .before .before .before .before .before .before .before .before .before .args .u) head (c .before .before .before .before .before .before .before .before .before .before .before .reads-at .result) (c .before .before .before .before .before .before .before .before .before .before .before .reads-at .ensures) inputs (length (c .before .before .before .before .before .before .before .before .before .before .before .before .before .before .before .before .before .before .args .fs .now)) (c .before .before .before .row-count .result) (sym (length-map (c .before .before .before .before .before .before .before .before .before .before .before .before .before .before .before .before .before .before .args .fs .now) nameOf)) (c .before .before .before .row-count .ensures .0) table
+
+pub read-node-spec : {M : Type 1} → statement M
+read-node-spec =
+    tie.close
+    (tie.spec
+    node-head-requires
+    enum-known-m
+    enum-told
+    returns
+    reads-at-requires
+    inputs-at-requires
+    enum-known-m-2
+    enum-told-2
+    returns-2
+    add-row-count
+    row-count-requires
+    table-at-requires
+    enum-known-p
+    enum-told-3
+    returns-3
+    returns-4)
