@@ -87,7 +87,14 @@ fn code(t: &[u8], lutat: [usize; 6], mask: u8, luts: usize, x: usize) -> usize
 }
 
 // Sets the digits that stand in t from a place on at the rows of one vertex, one for each free row.
-fn with_vertex(digits: [u8; 1024], t: &[u8], at: usize, row: usize, free: [usize; 512], frees: usize) -> [u8; 1024]
+fn with_vertex(
+    digits: [u8; 1024],
+    t: &[u8],
+    at: usize,
+    row: usize,
+    free: [usize; 512],
+    frees: usize,
+) -> [u8; 1024]
     requires { ⌜ Room (now t) at row free frees ⌝ }
     ensures { λ r. ⌜ Put (now (t .entry)) at row free frees digits r ⌝ }
 {
@@ -103,7 +110,14 @@ fn with_vertex(digits: [u8; 1024], t: &[u8], at: usize, row: usize, free: [usize
 
 // The digits of an output of the network, in row order: the output reads the shared tables of the mask, and its own table
 // stands in t from a place on.
-fn in_rows(t: &[u8], lutat: [usize; 6], mask: u8, luts: usize, at: usize, shape: Shape) -> [u8; 1024]
+fn in_rows(
+    t: &[u8],
+    lutat: [usize; 6],
+    mask: u8,
+    luts: usize,
+    at: usize,
+    shape: Shape,
+) -> [u8; 1024]
     requires { ⌜ Ready (now t) lutat mask luts at shape ⌝ }
     ensures { λ r. ⌜ Filled (now (t .entry)) lutat mask luts at shape (shape .vertices) r ⌝ }
 {

@@ -12,14 +12,14 @@ use Rattle.checker.proofs.compare.Statement.{statement}
 use Rattle.checker.proofs.compare.Tie as tie
 
 abbrev Inv-loop : tie.InvT-loop
-Inv-loop t shape k rows outputs luts lutat reads nodeat o r₀ words digits r = 
+Inv-loop t shape k rows outputs luts lutat reads nodeat o r₀ words digits r =
     AgreedRows t k (record { luts = luts; lutat = lutat; reads = reads; nodeat = nodeat }) shape o r
 
 abbrev μ-loop : tie.MeasureT-loop
 μ-loop t shape k rows outputs luts lutat reads nodeat o r₀ words digits r = rows - r
 
 abbrev Inv-outputs : tie.InvT-outputs
-Inv-outputs t shape k rows outputs luts lutat reads nodeat o₀ r₀ o r = 
+Inv-outputs t shape k rows outputs luts lutat reads nodeat o₀ r₀ o r =
     Agreed t k (record { luts = luts; lutat = lutat; reads = reads; nodeat = nodeat }) shape o
 
 abbrev μ-outputs : tie.MeasureT-outputs

@@ -8,7 +8,7 @@ use Rattle.checker.proofs.in_rows.Statement.{statement}
 use Rattle.checker.proofs.in_rows.Tie as tie
 
 abbrev Inv-loop : tie.InvT-loop
-Inv-loop t lutat mask luts at vertices frees vertex free digits₀ x₀ digits x = 
+Inv-loop t lutat mask luts at vertices frees vertex free digits₀ x₀ digits x =
     (x ≤ vertices) × Filled t lutat mask luts at (record { vertices = vertices; frees = frees; vertex = vertex; free = free }) x digits
 
 abbrev μ-loop : tie.MeasureT-loop
