@@ -12,6 +12,12 @@ fn refusal(number: usize, line: usize) {
     io::write_all(STDOUT_FILENO, b"\n");
 }
 
+fn show(network: &[u8; 8192], length: usize) {
+    if length <= 8192 {
+        io::write_all(STDOUT_FILENO, &network[..length]);
+    }
+}
+
 fn main() {
     let mut sheet = [0u8; 4097];
     let n = io::read_full(STDIN_FILENO, &mut sheet);
@@ -20,11 +26,7 @@ fn main() {
         let r = mapper::map(&sheet[..n], &mut network);
         match r {
             Mapped::Refused { number, line } => refusal(number, line),
-            Mapped::Written { cells: _, length } => {
-                if length <= 8192 {
-                    io::write_all(STDOUT_FILENO, &network[..length]);
-                }
-            }
+            Mapped::Written { cells: _, length } => show(&network, length),
         }
     }
 }

@@ -1,0 +1,215 @@
+// Check: a design sheet and a network sheet in, "same", "differs" or a refusal out. The network's digits are set in row order
+// beside the design's tables and compared row by row. Rests on design, netsheet and classes for what the sheets say.
+ghost use mathlib.Core.Path.{_≡_};
+ghost use mathlib.Core.Bool.{Bool};
+ghost use Prim.Native.Nat.{ℕ, _+_, _*_, _^_, _≤_, _<_};
+ghost use lib.ListN.{length, getD};
+ghost use Rattle.bits.specs.Logic.{xorb};
+ghost use Rattle.rows.specs.Row as row;
+ghost use Rattle.rows.specs.Words.{rowOn};
+ghost use Rattle.sheet.specs.Examine.{Design};
+ghost use Rattle.network.specs.Network.{Network};
+ghost use Rattle.network.specs.Numbers.{numbersOf};
+ghost use Rattle.network.specs.Answers.{compared};
+ghost use Rattle.network.specs.Check as spec;
+ghost use Rattle.checker.specs.Answer.{checkedOf};
+ghost use Rattle.checker.specs.Limits.{Small, LimitsAre, Judged};
+ghost use Rattle.checker.specs.Code.{oneAt, codeAt, isOne};
+ghost use Rattle.checker.specs.Filling.{Room, Put, Ready, Filled};
+ghost use Rattle.checker.specs.Drawing.{placesOf, Drawing, SomeDrawing};
+use classes::Shape;
+use netsheet::NetworkSheet;
+use sheet::Sheet;
+
+// What Check says: the question that was answered "no" and its line, or how the network compares with the design.
+pub enum Checked {
+    Refused { number: usize, line: usize },
+    Same,
+    Differs { output: usize, row: usize },
+}
+
+// How many numbers below u are in a mask.
+fn count(mask: u8, u: usize) -> usize
+    requires { ⌜ u ≤ 6 ⌝ }
+    ensures { λ r. ⌜ r ≡ length (numbersOf u mask) ⌝ }
+{
+    let mut n: usize = 0;
+    let mut i: usize = 0;
+    while i < u {
+        if bits::has(mask as u64, i as u32) {
+            n += 1;
+        }
+        i += 1;
+    }
+    n
+}
+
+// Question 11: the first line that offends, or 0 where none does.
+fn offending(limit: usize, luts: usize, outputs: usize, reads: [u8; 4], widths: [usize; 4]) -> usize
+    requires { ⌜ Small limit luts outputs ⌝ }
+    ensures { λ r. ⌜ ((d : Design) (w : Network) → LimitsAre d w limit luts outputs reads widths → Judged d w r) ⌝ }
+{
+    if limit < luts {
+        return limit + 2;
+    }
+    let mut o = 0;
+    while o < outputs {
+        if widths[o] < count(reads[o], luts) {
+            return luts + 2 + o;
+        }
+        o += 1;
+    }
+    0
+}
+
+// The digit of a byte, 1 or 0.
+fn one(b: u8) -> usize
+    ensures { λ r. ⌜ r ≡ row.bit (isOne b) ⌝ }
+{
+    if b == b'1' { 1 } else { 0 }
+}
+
+// The code of vertex x in the shared tables of a mask: their digits there, the lowest table first.
+fn code(t: &[u8], lutat: [usize; 6], mask: u8, luts: usize, x: usize) -> usize
+    requires { ⌜ (luts ≤ 6) × ((i : ℕ) → i < luts → getD lutat i 0 + x < length (now t)) ⌝ }
+    ensures { λ r. ⌜ r ≡ codeAt (now (t .entry)) lutat mask x luts ⌝ }
+{
+    let mut c: usize = 0;
+    let mut i: usize = 0;
+    while i < luts {
+        if bits::has(mask as u64, i as u32) {
+            let p = lutat[i];
+            c = 2 * c + one(t[p + x]);
+        }
+        i += 1;
+    }
+    c
+}
+
+// Sets the digits that stand in t from a place on at the rows of one vertex, one for each free row.
+fn with_vertex(
+    digits: [u8; 1024],
+    t: &[u8],
+    at: usize,
+    row: usize,
+    free: [usize; 512],
+    frees: usize,
+) -> [u8; 1024]
+    requires { ⌜ Room (now t) at row free frees ⌝ }
+    ensures { λ r. ⌜ Put (now (t .entry)) at row free frees digits r ⌝ }
+{
+    let mut list = digits;
+    let mut y = 0;
+    while y < frees {
+        let f = free[y];
+        list[row + f] = t[at + y];
+        y += 1;
+    }
+    list
+}
+
+// The digits of an output of the network, in row order: the output reads the shared tables of the mask, and its own table
+// stands in t from a place on.
+fn in_rows(
+    t: &[u8],
+    lutat: [usize; 6],
+    mask: u8,
+    luts: usize,
+    at: usize,
+    shape: Shape,
+) -> [u8; 1024]
+    requires { ⌜ Ready (now t) lutat mask luts at shape ⌝ }
+    ensures { λ r. ⌜ Filled (now (t .entry)) lutat mask luts at shape (shape .vertices) r ⌝ }
+{
+    let vertices = shape.vertices;
+    let frees = shape.frees;
+    let vertex = shape.vertex;
+    let free = shape.free;
+    let mut digits = [b'0'; 1024];
+    let mut x = 0;
+    while x < vertices {
+        let c = code(t, lutat, mask, luts, x);
+        let next = with_vertex(digits, t, at + c * frees, vertex[x], free, frees);
+        digits = next;
+        x += 1;
+    }
+    digits
+}
+
+// Whether a table and digits in row order differ on row r.
+fn differs(words: &[u64; 16], digits: &[u8; 1024], r: usize) -> bool
+    requires { ⌜ r < 1024 ⌝ }
+    ensures { λ v. ⌜ v ≡ xorb (rowOn (now (words .entry)) r) (oneAt (now (digits .entry)) r) ⌝ }
+{
+    bits::has(words[r / 64], (r % 64) as u32) != (digits[r] == b'1')
+}
+
+// 2 to the number of inputs.
+fn row_count(n: usize) -> usize
+    requires { ⌜ n ≤ 10 ⌝ }
+    ensures { λ r. ⌜ (r ≡ 2 ^ n) × (r ≤ 1024) ⌝ }
+{
+    1 << n
+}
+
+// The comparison: the lowest output that differs, and its lowest row.
+fn compare(t: &[u8], k: Sheet, n: NetworkSheet, shape: Shape) -> Checked
+    requires { ⌜ SomeDrawing (now t) k (placesOf n) shape ⌝ }
+    ensures { λ r. ⌜ ((d : Design) (w : Network) → Drawing d w (now (t .entry)) k (placesOf n) shape → checkedOf r ≡ compared d w) ⌝ }
+{
+    let rows = row_count(k.inputs);
+    let outputs = k.outputs;
+    let luts = n.luts;
+    let lutat = n.lutat;
+    let reads = n.reads;
+    let nodeat = n.nodeat;
+    let mut o = 0;
+    let mut r = 0;
+    'outputs: while o < outputs {
+        let table = k.tables[o];
+        let words = table.words;
+        let digits = in_rows(t, lutat, reads[o], luts, nodeat[o], shape);
+        r = 0;
+        while r < rows {
+            if differs(&words, &digits, r) {
+                break 'outputs;
+            }
+            r += 1;
+        }
+        o += 1;
+    }
+    if o < outputs {
+        return Checked::Differs { output: o, row: r };
+    }
+    Checked::Same
+}
+
+// Questions 1 to 5, 10 and 11, and then the comparison.
+pub fn check(sheet: &[u8], network: &[u8]) -> Checked
+    ensures { λ r. ⌜ checkedOf r ≡ spec.check (now (sheet .entry)) (now (network .entry)) ⌝ }
+{
+    let e = design::examine(sheet);
+    if !e.ok {
+        return Checked::Refused {
+            number: e.number,
+            line: e.line,
+        };
+    }
+    let k = e.sheet;
+    let n = netsheet::read_network(network, k);
+    if !n.ok {
+        return Checked::Refused {
+            number: 10,
+            line: n.line,
+        };
+    }
+    let c = classes::classes_of(k);
+    let reads = n.reads;
+    let widths = c.widths;
+    let line = offending(k.limit, n.luts, k.outputs, reads, widths);
+    if 0 < line {
+        return Checked::Refused { number: 11, line };
+    }
+    let shape = c.shape;
+    compare(network, k, n, shape)
+}
