@@ -1,5 +1,8 @@
 -- Table of document 01, and laws about it and the examination.
 pub mod Tabulate
+pub mod Sheets
+pub mod Computing
+pub mod Worked
 pub mod Answer
 pub mod SizeLaws
 pub mod ExamineLaws

@@ -14,11 +14,11 @@ use Rattle.names.specs.SameLaws.{same-name-true}
 use Rattle.names.specs.PackLaws.{name-of-one}
 use Rattle.names.specs.declared.Position.the-variants.{At, Nowhere}
 
-neither-left : (a b : Bool) → a || b ≡ false → a ≡ false
+pub neither-left : (a b : Bool) → a || b ≡ false → a ≡ false
 neither-left true b e = e
 neither-left false b e = refl
 
-neither-right : (a b : Bool) → a || b ≡ false → b ≡ false
+pub neither-right : (a b : Bool) → a || b ≡ false → b ≡ false
 neither-right true b e = absurd (true-false e)
 neither-right false b e = e
 

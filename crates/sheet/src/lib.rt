@@ -12,7 +12,7 @@ ghost use Rattle.names.specs.Names.{readNames};
 ghost use Rattle.rows.specs.Words.{Rowwise};
 ghost use Rattle.formula.specs.Value.{value, onRow};
 ghost use Rattle.sheet.specs.Lines.{Output, readIn, readBound, readLimit, readOut};
-ghost use Rattle.sheet.specs.Examine.{Design, askIn, askBound, askLimit, askOut, askEnd, askLine, withOutput, newName};
+ghost use Rattle.sheet.specs.Examine.{Design, within, askIn, askBound, askLimit, askOut, askEnd, askLine, withOutput, newName};
 ghost use Rattle.sheet.specs.Known.{Holds, Fresh, Fits, StepIs, Refused, LineIs, LimitIs, OutIs, placeOf, PlacesAre, outputAfter, closesAt};
 use cursor::Cursor;
 use cursor::Moved;
@@ -173,6 +173,13 @@ fn placed(ns: &[u64], inputs: &[u64]) -> Places
     Places { ok: true, list }
 }
 
+// Whether a count is 1 to high.
+fn in_range(n: usize, high: usize) -> bool
+    ensures { λ r. ⌜ r ≡ within 1 high n ⌝ }
+{
+    1 <= n && n <= high
+}
+
 // The `in` line.
 fn ask_in(k: Sheet, l: &[u8]) -> Asked
     ensures { λ r. ⌜ ((d : Design) → Holds d k → Fresh d → StepIs (askIn d (readIn (now (l .entry)))) r) ⌝ }
@@ -183,7 +190,7 @@ fn ask_in(k: Sheet, l: &[u8]) -> Asked
     if !w.ok {
         return refuse(2, k);
     }
-    if n < 1 || limits::MAX_INPUTS < n {
+    if !in_range(n, limits::MAX_INPUTS) {
         return refuse(3, k);
     }
     if !distinct(&ns[..n]) {
@@ -206,7 +213,7 @@ fn ask_bound(k: Sheet, l: &[u8]) -> Asked
     if !w.ok {
         return refuse(2, k);
     }
-    if n < 1 || limits::MAX_BOUND < n {
+    if !in_range(n, limits::MAX_BOUND) {
         return refuse(3, k);
     }
     if !distinct(&ns[..n]) {

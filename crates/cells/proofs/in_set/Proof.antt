@@ -1,0 +1,22 @@
+use Rattle.bits.specs.Digit.{on, digit}
+use lib.Bits.{and-mask}
+use lib.Dec.{eqb}
+use Prim.Native.Nat.{ℕ, _/_, _^_}
+use mathlib.Core.Path.{ap}
+use borrow.Author.Needs.{needs}
+use Rattle.cells.proofs.in_set.Statement.{statement}
+use Rattle.cells.proofs.in_set.Tie as tie
+use Rattle.cells.proofs.in_set.Reads as reads
+use Rattle.cells.proofs.in_set.Lts as lts
+
+-- src/lib.rt:14:6
+shr-result : tie.Need-shr-result
+shr-result c = search needs
+
+-- src/lib.rt:10:1
+returns : tie.Need-returns
+unfolding on digit
+returns c = ap (λ (y : ℕ). eqb y 1) (and-mask (c .args .s / 2 ^ c .args .c) 1)
+
+pub in-set-spec : {M : Type 1} → statement M
+in-set-spec = tie.close (tie.spec shr-result returns)

@@ -1,0 +1,18 @@
+use lib.Pow.{pow-lt}
+use native.Mathlib.Nat.{one-mul, mod-eq-of-lt}
+use borrow.Author.Needs.{needs}
+use Rattle.cells.proofs.single.Statement.{statement}
+use Rattle.cells.proofs.single.Tie as tie
+use Rattle.cells.proofs.single.Reads as reads
+use Rattle.cells.proofs.single.Lts as lts
+
+-- src/lib.rt:22:5
+shl-result : tie.Need-shl-result
+shl-result c = search needs
+
+-- src/lib.rt:18:1
+returns : tie.Need-returns
+returns c = rw one-mul (mod-eq-of-lt (pow-lt (c .pre)))
+
+pub single-spec : {M : Type 1} → statement M
+single-spec = tie.close (tie.spec shl-result returns)

@@ -1,0 +1,21 @@
+use Rattle.cells.specs.Sets.{With, with-power}
+use lib.Bits.{bitOr}
+use Prim.Native.Nat.{ℕ}
+use mathlib.Core.Path.{subst, sym}
+use borrow.Author.Needs.{needs}
+use Rattle.cells.proofs.with.Statement.{statement}
+use Rattle.cells.proofs.with.Tie as tie
+use Rattle.cells.proofs.with.Reads as reads
+use Rattle.cells.proofs.with.Lts as lts
+use Rattle.cells.proofs.single.Reads as single-reads
+
+-- src/lib.rt:30:9
+single-requires : tie.Need-single-requires
+single-requires c κs = search needs
+
+-- src/lib.rt:26:1
+returns : tie.Need-returns
+returns c = subst (λ (z : ℕ). With (c .before .args .s) (c .before .args .k) (bitOr (c .before .args .s) z)) (sym (c .single .ensures)) (with-power (c .before .args .s) (c .before .args .k))
+
+pub with-spec : {M : Type 1} → statement M
+with-spec = tie.close (tie.spec single-requires returns)

@@ -1,0 +1,9 @@
+-- The definitions that contracts cite stand in Core; the other files hold laws.
+pub mod Core
+pub mod Lists
+pub mod Pigeon
+pub mod Free
+pub mod Sorted
+pub mod Codes
+pub mod Shared
+pub mod Sets

@@ -1,0 +1,112 @@
+-- Private cells are left out of the search. A cell that only one output reads can do no more for it than number the classes
+-- inside each block, a block being the vertices with one code in the shared cells that the output reads. So codes over the
+-- shared cells stand for a core when no block of an output holds more classes than 2 to the number of its private cells.
+-- Here is what every core that tells apart says of its codes over the shared cells; the way back numbers the classes
+-- (see Numbering). Conflict is "the classes differ" throughout: counting the classes of a block asks for that. Assumes nothing.
+use mathlib.Core.Path.{_≡_, refl, sym, ap, _∙_, subst}
+use mathlib.Core.Bool.{Bool, true, false}
+use mathlib.Core.List.{List, [], _∷_, _++_}
+use mathlib.Core.Logic.{_⊎_, inl, inr, ⊎-elim}
+use Prim.Native.Nat.{ℕ, zero, suc, _+_, _*_, _^_, _≤_, _<_}
+use native.Mathlib.Decide.{ℕ-discrete}
+use native.Mathlib.Omega.{arith}
+use lib.Bits.{bitAnd}
+use lib.ListN.{length, length-append}
+use Rattle.bits.specs.Logic.{andb, orb, true-false}
+use Rattle.bits.specs.Digit.{on, on-and}
+use Rattle.cells.specs.Core.{Differ}
+use Rattle.cells.specs.Lists.{All, Pairs, count, sum, all-map, all-both, all-append, pairs-append, pairs-map, less-or-equal}
+use Rattle.cells.specs.Pigeon.{Agree, agree-and, and-agree, pigeon}
+use Rattle.cells.specs.Codes.{Coded}
+
+-- ======== definitions
+-- what each of j outputs reads, split into cells of sh and private ones, which no other output reads
+pub record Split (j u : ℕ) (rows shared private : ℕ → ℕ) (sh : ℕ) : Type 0 where
+  pub whole : (o i : ℕ) → o < j → on (rows o) i ≡ orb (on (shared o) i) (on (private o) i)
+  pub among : (o i : ℕ) → o < j → on (shared o) i ≡ true → on sh i ≡ true
+  pub outside : (o i : ℕ) → o < j → on (private o) i ≡ true → on sh i ≡ false
+  pub own : (o q i : ℕ) → o < j → q < j → (o ≡ q → ⊥) → on (private o) i ≡ true → on (rows q) i ≡ false
+  pub short : (o : ℕ) → o < j → rows o < 2 ^ u
+  pub short-shared : (o : ℕ) → o < j → shared o < 2 ^ u
+
+-- the block of x for an output: what x's code has in the output's shared cells
+abbrev pub block : (ℕ → ℕ) → (ℕ → ℕ) → ℕ → ℕ → ℕ
+block mask g o x = bitAnd (g x) (mask o)
+
+-- codes g over the shared cells: no block holds more classes than cap, no more pairs of a class and a block occur than
+-- spots, and class l of o occurs in at least base o l blocks
+pub record Fits (v j : ℕ) (cls : ℕ → ℕ → ℕ) (mask cap spots : ℕ → ℕ) (base : ℕ → ℕ → ℕ) (g : ℕ → ℕ) : Type 0 where
+  pub crowd : (o k : ℕ) (xs : List ℕ) → o < j → All (λ (x : ℕ). (x < v) × (block mask g o x ≡ k)) xs → Pairs (λ (x y : ℕ). cls o x ≡ cls o y → ⊥) xs → length xs ≤ cap o
+  pub places : (o : ℕ) (xs : List ℕ) → o < j → All (λ (x : ℕ). x < v) xs → Pairs (λ (x y : ℕ). cls o x ≡ cls o y → block mask g o x ≡ block mask g o y → ⊥) xs → length xs ≤ spots o
+  pub needs : (o l : ℕ) → o < j → (xs : List ℕ) × All (λ (x : ℕ). (x < v) × (cls o x ≡ l)) xs × Pairs (λ (x y : ℕ). block mask g o x ≡ block mask g o y → ⊥) xs × (base o l ≤ length xs)
+
+-- the codes of a core over the shared cells
+abbrev pub sharedCode : ℕ → (ℕ → ℕ) → ℕ → ℕ
+sharedCode sh f x = bitAnd (f x) sh
+
+-- ======== laws
+module _ (v j u : ℕ) (cls : ℕ → ℕ → ℕ) (rows shared private : ℕ → ℕ) (sh : ℕ) (s : Split j u rows shared private sh) (f : ℕ → ℕ) (c : Coded v j (Differ cls) rows f) where
+  -- a digit that o reads in a shared cell is the same in the code and in its shared part
+  pub shared-digit : (o i x : ℕ) → o < j → on (shared o) i ≡ true → on (sharedCode sh f x) i ≡ on (f x) i
+  shared-digit o i x h e = on-and (f x) sh i ∙ ap (λ (b : Bool). andb (on (f x) i) b) (s .among o i h e) ∙ all (on (f x) i)
+    where
+      all : (b : Bool) → andb b true ≡ b
+      all true = refl
+      all false = refl
+
+  same-block : (o x y : ℕ) → o < j → block shared (sharedCode sh f) o x ≡ block shared (sharedCode sh f) o y → Agree u (shared o) (f x) (f y)
+  same-block o x y h e i l m = sym (shared-digit o i x h m) ∙ and-agree u (shared o) (sharedCode sh f x) (sharedCode sh f y) e i l m ∙ shared-digit o i y h m
+
+  agree-block : (o x y : ℕ) → o < j → Agree u (rows o) (f x) (f y) → block shared (sharedCode sh f) o x ≡ block shared (sharedCode sh f) o y
+  agree-block o x y h a = agree-and u (shared o) (sharedCode sh f x) (sharedCode sh f y) (s .short-shared o h) (λ i l m.
+      shared-digit o i x h m ∙ a i l (s .whole o i h ∙ ap (λ (b : Bool). orb b (on (private o) i)) m) ∙ sym (shared-digit o i y h m))
+
+  both : (o x y : ℕ) → o < j → Agree u (shared o) (f x) (f y) → Agree u (private o) (f x) (f y) → Agree u (rows o) (f x) (f y)
+  both o x y h a b i l m = go (on (shared o) i) refl (on (private o) i) refl (sym (s .whole o i h) ∙ m)
+    where
+      go : (p : Bool) → on (shared o) i ≡ p → (q : Bool) → on (private o) i ≡ q → orb (on (shared o) i) (on (private o) i) ≡ true → on (f x) i ≡ on (f y) i
+      go true ep q eq e = a i l ep
+      go false ep true eq e = b i l eq
+      go false ep false eq e = absurd (true-false (sym e ∙ ap (λ (t : Bool). orb t (on (private o) i)) ep ∙ eq))
+
+  agree-class : (o x y : ℕ) → o < j → x < v → y < v → Agree u (rows o) (f x) (f y) → cls o x ≡ cls o y
+  agree-class o x y h p q a = go (ℕ-discrete (cls o x) (cls o y))
+    where
+      go : Dec (cls o x ≡ cls o y) → cls o x ≡ cls o y
+      go (yes e) = e
+      go (no d) = absurd (c .tells o x y h p q d (agree-and u (rows o) (f x) (f y) (s .short o h) a))
+
+  -- a block holds at most 2 to the private cells classes
+  pub crowd-bound : (o k : ℕ) (xs : List ℕ) → o < j → All (λ (x : ℕ). (x < v) × (block shared (sharedCode sh f) o x ≡ k)) xs → Pairs (λ (x y : ℕ). cls o x ≡ cls o y → ⊥) xs → length xs ≤ 2 ^ count (on (private o)) u
+  crowd-bound o k xs h a p = pigeon f (private o) u xs (pairs-map (λ (x : ℕ). (x < v) × (block shared (sharedCode sh f) o x ≡ k)) (λ (x y : ℕ). cls o x ≡ cls o y → ⊥) (λ (x y : ℕ). Agree u (private o) (f x) (f y) → ⊥) xs
+      (λ x y m n r b. r (agree-class o x y h (m .0) (n .0) (both o x y h (same-block o x y h (m .1 ∙ sym (n .1))) b))) a p)
+
+  -- there are at most 2 to the cells read pairs of a class and a block
+  pub places-bound : (o : ℕ) (xs : List ℕ) → o < j → All (λ (x : ℕ). x < v) xs → Pairs (λ (x y : ℕ). cls o x ≡ cls o y → block shared (sharedCode sh f) o x ≡ block shared (sharedCode sh f) o y → ⊥) xs → length xs ≤ 2 ^ count (on (rows o)) u
+  places-bound o xs h a p = pigeon f (rows o) u xs (pairs-map (λ (x : ℕ). x < v) (λ (x y : ℕ). cls o x ≡ cls o y → block shared (sharedCode sh f) o x ≡ block shared (sharedCode sh f) o y → ⊥) (λ (x y : ℕ). Agree u (rows o) (f x) (f y) → ⊥) xs
+      (λ x y m n r b. r (agree-class o x y h m n b) (agree-block o x y h b)) a p)
+
+-- ---- the classes of an output, each in as many blocks as it needs, need as many places together
+module _ (v : ℕ) (label key : ℕ → ℕ) where
+  -- class l in at least n blocks
+  abbrev pub Group : ℕ → ℕ → Type 0
+  Group l n = (xs : List ℕ) × All (λ (x : ℕ). (x < v) × (label x ≡ l)) xs × Pairs (λ (x y : ℕ). key x ≡ key y → ⊥) xs × (n ≤ length xs)
+
+  pub gather : (need : ℕ → ℕ) (n : ℕ) → ((l : ℕ) → l < n → Group l (need l)) → (xs : List ℕ) × All (λ (x : ℕ). (x < v) × (label x < n)) xs × Pairs (λ (x y : ℕ). label x ≡ label y → key x ≡ key y → ⊥) xs × (sum need n ≤ length xs)
+  unfolding sum
+  gather need zero h = ([], tt, tt, omega arith)
+  gather need (suc n) h =
+      let r = gather need n (λ l k. h l (omega arith)) in
+      let q = h n (omega arith) in (
+        r .0 ++ q .0,
+        all-append (λ (x : ℕ). (x < v) × (label x < suc n)) (r .0) (q .0)
+            (all-map (λ (x : ℕ). (x < v) × (label x < n)) (λ (x : ℕ). (x < v) × (label x < suc n)) (r .0) (λ x p. (p .0, (let z = p .1 in omega arith))) (r .1))
+            (all-map (λ (x : ℕ). (x < v) × (label x ≡ n)) (λ (x : ℕ). (x < v) × (label x < suc n)) (q .0) (λ x p. (p .0, (let z = p .1 in omega arith))) (q .1)),
+        pairs-append R (r .0) (q .0) (r .2)
+            (pairs-map (λ (x : ℕ). (x < v) × (label x ≡ n)) (λ (x y : ℕ). key x ≡ key y → ⊥) R (q .0) (λ x y a b d e. d) (q .1) (q .2))
+            (all-map (λ (x : ℕ). (x < v) × (label x < n)) (λ (x : ℕ). All (R x) (q .0)) (r .0) (λ x a. all-map (λ (y : ℕ). (y < v) × (label y ≡ n)) (R x) (q .0) (λ y b e k. let z = a .1 in let w = b .1 in omega arith) (q .1)) (r .1)),
+        (let a = r .3 in let b = q .3 in simp length-append (omega arith)),
+      )
+    where
+      R : ℕ → ℕ → Type 0
+      R x y = label x ≡ label y → key x ≡ key y → ⊥

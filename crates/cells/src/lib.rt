@@ -1,0 +1,47 @@
+// Cells without text: problems, cores, what it means to serve, what may be changed in a core that serves, and the laws
+// that the search rests on, in specs/. The code is sets of numbers below 64, kept as the digits of one number.
+ghost use mathlib.Core.Path.{_≡_};
+ghost use mathlib.Core.Bool.{true};
+ghost use Prim.Native.Nat.{_<_, _^_};
+ghost use Rattle.bits.specs.Digit.{on};
+ghost use Rattle.cells.specs.Sets.{With, Without};
+
+// Whether c is in the set s.
+pub fn in_set(s: u64, c: u8) -> bool
+    requires { ⌜ c < 64 ⌝ }
+    ensures { λ r. ⌜ r ≡ on s c ⌝ }
+{
+    (s >> c) & 1 == 1
+}
+
+// The set with the one element k.
+pub fn single(k: u8) -> u64
+    requires { ⌜ k < 64 ⌝ }
+    ensures { λ r. ⌜ r ≡ 2 ^ k ⌝ }
+{
+    1 << k
+}
+
+// The set s with k.
+pub fn with(s: u64, k: u8) -> u64
+    requires { ⌜ k < 64 ⌝ }
+    ensures { λ r. ⌜ With s k r ⌝ }
+{
+    s | single(k)
+}
+
+// The set s without k.
+pub fn without(s: u64, k: u8) -> u64
+    requires { ⌜ k < 64 ⌝ }
+    ensures { λ r. ⌜ Without s k r ⌝ }
+{
+    s & !single(k)
+}
+
+// The lowest element of s.
+pub fn lowest(s: u64) -> u8
+    requires { ⌜ (s ≡ 0 → ⊥) ⌝ }
+    ensures { λ r. ⌜ (r < 64) × (on s r ≡ true) ⌝ }
+{
+    u64::trailing_zeros(s) as u8
+}

@@ -1,0 +1,339 @@
+use Rattle.coding.specs.Search.{uncoded, uncoded-less, Trying, trying-start, trying-more, trying-end, told-found, told-lost}
+use Rattle.numbering.specs.Given.{item}
+use Rattle.bits.specs.Logic.{true-false}
+use lib.ListN.{length, getD, set}
+use native.Mathlib.Omega.{arith}
+use Prim.Native.Nat.{ℕ, _<_, _≤_, _+_, _-_, _*_}
+use mathlib.Core.Logic.{⊎-elim}
+use mathlib.Core.Bool.{Bool, true, false}
+use mathlib.Core.Path.{_≡_, refl, sym, ap, _∙_, subst}
+use borrow.Author.Needs.{needs}
+use Prim.Native.Nat.{ℕ, _<_}
+use borrow.Fn.Kinds.{In}
+use borrow.Fn.PlainCycle.{Measures, is, falls, and}
+use Rattle.coding.proofs.find.Reads as find
+use Rattle.coding.proofs.find.Kinds as find-kinds
+use Rattle.coding.proofs.+find.Lts-find as find-lts
+use Rattle.cells.proofs.lowest.Reads as lowest-reads
+use Rattle.cells.proofs.without.Reads as without-reads
+use Rattle.coding.proofs.pick.Reads as pick-reads
+use Rattle.coding.proofs.settle_all.Reads as settle-all-reads
+use Rattle.numbering.proofs.finish.Reads as finish-reads
+use Rattle.coding.proofs.+find.{statement}
+use Rattle.coding.proofs.+find.Tie.{close}
+
+abbrev μ-find : Measures 3 find-kinds.ps ℕ
+μ-find κs a = uncoded (a .1 .1 .1 .1 .1 .1 .1 .1 .1 .0) (a .1 .1 .1 .1 .1 .1 .1 .0)
+
+abbrev find-at : ℕ → In 3 find-kinds.ps
+find-at t = and 3 find-kinds.ps (is 3 find-kinds.ps μ-find t) find.Pre
+
+abbrev find-below : ℕ → In 3 find-kinds.ps
+find-below t = and 3 find-kinds.ps (falls 3 find-kinds.ps _<_ μ-find t) find.Pre
+
+abbrev find-Inv-loop : find-lts.InvT-loop
+find-Inv-loop cl base bs ms ps caps spots v j codes dom x left₀ left = (length codes ≡ 32) × (x < v) × (64 ≤ item codes x) × Trying cl base ms caps spots v j codes dom x left
+
+abbrev find-μ-loop : find-lts.MeasureT-loop
+find-μ-loop cl base bs ms ps caps spots v j codes dom x left₀ left = left
+
+-- src/lib.rt:217:9
+find-pick-requires : (t : ℕ) → find-lts.Need-pick-requires (
+  pick-reads.Asked,
+  pick-reads.Learnt,
+  finish-reads.Asked,
+  finish-reads.Learnt,
+  lowest-reads.Asked,
+  lowest-reads.Learnt,
+  without-reads.Asked,
+  without-reads.Learnt,
+  settle-all-reads.Asked,
+  settle-all-reads.Learnt,
+  find-below t,
+  find.Post,
+) (find-at t) find.Post find-Inv-loop find-μ-loop
+find-pick-requires t c κs = c .before .before .before .pre .1 .3
+
+-- src/lib.rt:219:9
+find-finish-requires : (t : ℕ) → find-lts.Need-finish-requires (
+  pick-reads.Asked,
+  pick-reads.Learnt,
+  finish-reads.Asked,
+  finish-reads.Learnt,
+  lowest-reads.Asked,
+  lowest-reads.Learnt,
+  without-reads.Asked,
+  without-reads.Learnt,
+  settle-all-reads.Asked,
+  settle-all-reads.Learnt,
+  find-below t,
+  find.Post,
+) (find-at t) find.Post find-Inv-loop find-μ-loop
+find-finish-requires t c κs = let p = c .before .before .before .before .before .pre .1 in (p .0 .long, p .4, p .3, p .5, λ x h. c .before .pick .ensures .none (c .if1 .taken) x h)
+
+-- src/lib.rt:219:9
+find-returns : (t : ℕ) → find-lts.Need-returns (
+  pick-reads.Asked,
+  pick-reads.Learnt,
+  finish-reads.Asked,
+  finish-reads.Learnt,
+  lowest-reads.Asked,
+  lowest-reads.Learnt,
+  without-reads.Asked,
+  without-reads.Learnt,
+  settle-all-reads.Asked,
+  settle-all-reads.Learnt,
+  find-below t,
+  find.Post,
+) (find-at t) find.Post find-Inv-loop find-μ-loop
+find-returns t c = c .finish .ensures (c .before .before .before .before .before .before .args .base .now) (c .before .before .before .before .before .before .args .spots) (c .before .before .before .before .before .before .args .t11)
+
+-- src/lib.rt:221:20
+find-mul-left : (t : ℕ) → find-lts.Need-mul-left (
+  pick-reads.Asked,
+  pick-reads.Learnt,
+  finish-reads.Asked,
+  finish-reads.Learnt,
+  lowest-reads.Asked,
+  lowest-reads.Learnt,
+  without-reads.Asked,
+  without-reads.Learnt,
+  settle-all-reads.Asked,
+  settle-all-reads.Learnt,
+  find-below t,
+  find.Post,
+) (find-at t) find.Post find-Inv-loop find-μ-loop
+find-mul-left t c = let p = c .before .pick .ensures .some (c .if1 .left) in let a = p .0 in let b = c .before .before .before .before .before .pre .1 .3 in search needs
+
+-- src/lib.rt:221:20
+find-array-read-left : (t : ℕ) → find-lts.Need-array-read-left (
+  pick-reads.Asked,
+  pick-reads.Learnt,
+  finish-reads.Asked,
+  finish-reads.Learnt,
+  lowest-reads.Asked,
+  lowest-reads.Learnt,
+  without-reads.Asked,
+  without-reads.Learnt,
+  settle-all-reads.Asked,
+  settle-all-reads.Learnt,
+  find-below t,
+  find.Post,
+) (find-at t) find.Post find-Inv-loop find-μ-loop
+find-array-read-left t c = let p = c .before .pick .ensures .some (c .if1 .left) in let a = p .0 in let b = c .before .before .before .before .before .pre .1 .3 in search needs
+
+-- src/lib.rt:222:5
+find-loop-holds : (t : ℕ) → find-lts.Need-loop-holds (
+  pick-reads.Asked,
+  pick-reads.Learnt,
+  finish-reads.Asked,
+  finish-reads.Learnt,
+  lowest-reads.Asked,
+  lowest-reads.Learnt,
+  without-reads.Asked,
+  without-reads.Learnt,
+  settle-all-reads.Asked,
+  settle-all-reads.Learnt,
+  find-below t,
+  find.Post,
+) (find-at t) find.Post find-Inv-loop find-μ-loop
+find-loop-holds t c = let p = c .before .pick .ensures .some (c .if1 .left) in (search needs, p .0, p .1, trying-start (c .before .before .before .before .before .args .cl .now) (c .before .before .before .before .before .args .base .now) (c .before .before .before .before .before .args .ms) (c .before .before .before .before .before .args .caps) (c .before .before .before .before .before .args .spots) (c .before .before .before .before .before .args .v) (c .before .before .before .before .before .args .j) (c .before .before .before .before .before .args .codes) (c .before .before .before .before .before .args .t11) (c .before .pick .result) (p .0))
+
+-- src/lib.rt:223:13
+find-lowest-requires : (t : ℕ) → find-lts.Need-lowest-requires (
+  pick-reads.Asked,
+  pick-reads.Learnt,
+  finish-reads.Asked,
+  finish-reads.Learnt,
+  lowest-reads.Asked,
+  lowest-reads.Learnt,
+  without-reads.Asked,
+  without-reads.Learnt,
+  settle-all-reads.Asked,
+  settle-all-reads.Learnt,
+  find-below t,
+  find.Post,
+) (find-at t) find.Post find-Inv-loop find-μ-loop
+find-lowest-requires t c κs = c .loop-test .taken
+
+-- src/lib.rt:224:9
+find-without-requires : (t : ℕ) → find-lts.Need-without-requires (
+  pick-reads.Asked,
+  pick-reads.Learnt,
+  finish-reads.Asked,
+  finish-reads.Learnt,
+  lowest-reads.Asked,
+  lowest-reads.Learnt,
+  without-reads.Asked,
+  without-reads.Learnt,
+  settle-all-reads.Asked,
+  settle-all-reads.Learnt,
+  find-below t,
+  find.Post,
+) (find-at t) find.Post find-Inv-loop find-μ-loop
+find-without-requires t c κs = c .lowest .ensures .0
+
+-- src/lib.rt:226:9
+find-array-write-next : (t : ℕ) → find-lts.Need-array-write-next (
+  pick-reads.Asked,
+  pick-reads.Learnt,
+  finish-reads.Asked,
+  finish-reads.Learnt,
+  lowest-reads.Asked,
+  lowest-reads.Learnt,
+  without-reads.Asked,
+  without-reads.Learnt,
+  settle-all-reads.Asked,
+  settle-all-reads.Learnt,
+  find-below t,
+  find.Post,
+) (find-at t) find.Post find-Inv-loop find-μ-loop
+find-array-write-next t c = let a = c .before .before .before .loop .inv .1 in let b = c .before .before .before .before .before .before .before .before .before .pre .1 .3 in search needs
+
+-- src/lib.rt:227:13
+find-settle-all-requires : (t : ℕ) → find-lts.Need-settle-all-requires (
+  pick-reads.Asked,
+  pick-reads.Learnt,
+  finish-reads.Asked,
+  finish-reads.Learnt,
+  lowest-reads.Asked,
+  lowest-reads.Learnt,
+  without-reads.Asked,
+  without-reads.Learnt,
+  settle-all-reads.Asked,
+  settle-all-reads.Learnt,
+  find-below t,
+  find.Post,
+) (find-at t) find.Post find-Inv-loop find-μ-loop
+find-settle-all-requires t c κs = let p = c .before .before .before .before .before .before .before .before .before .pre .1 in (p .0, p .1, p .2, p .3, p .4, c .before .lowest .ensures .0)
+
+-- src/lib.rt:228:13
+find-find-requires : (t : ℕ) → find-lts.Need-find-requires (
+  pick-reads.Asked,
+  pick-reads.Learnt,
+  finish-reads.Asked,
+  finish-reads.Learnt,
+  lowest-reads.Asked,
+  lowest-reads.Learnt,
+  without-reads.Asked,
+  without-reads.Learnt,
+  settle-all-reads.Asked,
+  settle-all-reads.Learnt,
+  find-below t,
+  find.Post,
+) (find-at t) find.Post find-Inv-loop find-μ-loop
+find-find-requires t c κs =
+    let p = c .before .before .before .before .before .before .before .before .before .before .pre .1 in
+    let m = c .before .before .before .before .before .before .before .before .before .before .pre .0 in
+    let w = uncoded-less (c .before .before .before .before .before .before .before .before .before .before .args .codes) (c .before .before .before .before .before .before .before .before .before .before .args .v) (c .before .before .before .before .before .before .pick .result) (c .before .before .lowest .result) (c .before .before .before .before .loop .inv .0) (p .3) (c .before .before .before .before .loop .inv .1) (c .before .before .before .before .loop .inv .2) (c .before .before .lowest .ensures .0) in
+    (omega arith, (p .0, p .1, p .2, p .3, p .4, p .5))
+
+-- src/lib.rt:230:13
+find-returns-2 : (t : ℕ) → find-lts.Need-returns-2 (
+  pick-reads.Asked,
+  pick-reads.Learnt,
+  finish-reads.Asked,
+  finish-reads.Learnt,
+  lowest-reads.Asked,
+  lowest-reads.Learnt,
+  without-reads.Asked,
+  without-reads.Learnt,
+  settle-all-reads.Asked,
+  settle-all-reads.Learnt,
+  find-below t,
+  find.Post,
+) (find-at t) find.Post find-Inv-loop find-μ-loop
+find-returns-2 t c = told-found (c .before .before .before .before .before .before .before .before .before .before .before .before .args .cl .now) (c .before .before .before .before .before .before .before .before .before .before .before .before .args .base .now) (c .before .before .before .before .before .before .before .before .before .before .before .before .args .ms) (c .before .before .before .before .before .before .before .before .before .before .before .before .args .ps) (c .before .before .before .before .before .before .before .before .before .before .before .before .args .caps) (c .before .before .before .before .before .before .before .before .before .before .before .before .args .spots) (c .before .before .before .before .before .before .before .before .before .before .before .before .args .v) (c .before .before .before .before .before .before .before .before .before .before .before .before .args .j) (c .before .before .before .before .before .before .before .before .before .before .before .before .args .codes) (c .before .before .before .before .before .before .before .before .before .before .before .before .args .t11) (set (c .before .before .before .before .before .before .before .before .before .before .before .before .args .codes) (c .before .before .before .before .before .before .before .before .pick .result) (c .before .before .before .before .lowest .result)) (c .before .before .settle-all .result) _ _ (c .if2 .taken) (c .before .find .ensures)
+
+-- src/lib.rt:222:5
+find-loop-less : (t : ℕ) → find-lts.Need-loop-less (
+  pick-reads.Asked,
+  pick-reads.Learnt,
+  finish-reads.Asked,
+  finish-reads.Learnt,
+  lowest-reads.Asked,
+  lowest-reads.Learnt,
+  without-reads.Asked,
+  without-reads.Learnt,
+  settle-all-reads.Asked,
+  settle-all-reads.Learnt,
+  find-below t,
+  find.Post,
+) (find-at t) find.Post find-Inv-loop find-μ-loop
+find-loop-less t c = c .before .before .before .without .ensures .less (c .before .before .before .before .lowest .ensures .1)
+
+-- src/lib.rt:222:5
+find-loop-again : (t : ℕ) → find-lts.Need-loop-again (
+  pick-reads.Asked,
+  pick-reads.Learnt,
+  finish-reads.Asked,
+  finish-reads.Learnt,
+  lowest-reads.Asked,
+  lowest-reads.Learnt,
+  without-reads.Asked,
+  without-reads.Learnt,
+  settle-all-reads.Asked,
+  settle-all-reads.Learnt,
+  find-below t,
+  find.Post,
+) (find-at t) find.Post find-Inv-loop find-μ-loop
+find-loop-again t c =
+    let i = c .before .before .before .before .before .before .loop .inv in (
+      i .0,
+      i .1,
+      i .2,
+      trying-more (c .before .before .before .before .before .before .before .before .before .before .before .before .args .cl .now) (c .before .before .before .before .before .before .before .before .before .before .before .before .args .base .now) (c .before .before .before .before .before .before .before .before .before .before .before .before .args .ms) (c .before .before .before .before .before .before .before .before .before .before .before .before .args .caps) (c .before .before .before .before .before .before .before .before .before .before .before .before .args .spots) (c .before .before .before .before .before .before .before .before .before .before .before .before .args .v) (c .before .before .before .before .before .before .before .before .before .before .before .before .args .j) (c .before .before .before .before .before .before .before .before .before .before .before .before .args .codes) (c .before .before .before .before .before .before .before .before .before .before .before .before .args .t11) (c .before .before .before .before .before .before .before .before .pick .result) (i .1) (c .before .before .before .before .before .before .loop .left) (c .before .before .before .before .lowest .result) (c .before .before .before .without .result) (c .before .before .settle-all .result) (i .0) (c .before .before .before .before .before .before .before .before .before .before .before .before .pre .1 .3) (i .2) (c .before .before .before .without .ensures) (c .before .before .settle-all .ensures)
+          (told-lost (c .before .before .before .before .before .before .before .before .before .before .before .before .args .cl .now) (c .before .before .before .before .before .before .before .before .before .before .before .before .args .base .now) (c .before .before .before .before .before .before .before .before .before .before .before .before .args .ms) (c .before .before .before .before .before .before .before .before .before .before .before .before .args .ps) (c .before .before .before .before .before .before .before .before .before .before .before .before .args .caps) (c .before .before .before .before .before .before .before .before .before .before .before .before .args .spots) (c .before .before .before .before .before .before .before .before .before .before .before .before .args .v) (c .before .before .before .before .before .before .before .before .before .before .before .before .args .j) (set (c .before .before .before .before .before .before .before .before .before .before .before .before .args .codes) (c .before .before .before .before .before .before .before .before .pick .result) (c .before .before .before .before .lowest .result)) (c .before .before .settle-all .result) (c .before .before .before .before .before .before .before .before .before .before .before .before .args .codes) (c .before .before .before .before .before .before .before .before .before .before .before .before .args .t11) _ _ (c .if2 .left) (c .before .find .ensures)) (i .3),
+    )
+
+-- src/lib.rt:213:1
+find-returns-3 : (t : ℕ) → find-lts.Need-returns-3 (
+  pick-reads.Asked,
+  pick-reads.Learnt,
+  finish-reads.Asked,
+  finish-reads.Learnt,
+  lowest-reads.Asked,
+  lowest-reads.Learnt,
+  without-reads.Asked,
+  without-reads.Learnt,
+  settle-all-reads.Asked,
+  settle-all-reads.Learnt,
+  find-below t,
+  find.Post,
+) (find-at t) find.Post find-Inv-loop find-μ-loop
+find-returns-3 t c = trying-end (c .before .before .before .before .before .before .before .args .cl .now) (c .before .before .before .before .before .before .before .args .base .now) (c .before .before .before .before .before .before .before .args .ms) (c .before .before .before .before .before .before .before .args .caps) (c .before .before .before .before .before .before .before .args .spots) (c .before .before .before .before .before .before .before .args .v) (c .before .before .before .before .before .before .before .args .j) (c .before .before .before .before .before .before .before .args .codes) (c .before .before .before .before .before .before .before .args .t11) (c .before .before .before .pick .result) (c .before .loop .inv .1) (c .before .loop .left) (c .loop-test .left) (c .before .loop .inv .3)
+
+pub +find-spec : {M : Type 1} → statement M
++find-spec = close μ-find λ t. find-lts.spec (
+  pick-reads.Asked,
+  pick-reads.Learnt,
+  finish-reads.Asked,
+  finish-reads.Learnt,
+  lowest-reads.Asked,
+  lowest-reads.Learnt,
+  without-reads.Asked,
+  without-reads.Learnt,
+  settle-all-reads.Asked,
+  settle-all-reads.Learnt,
+  find-below t,
+  find.Post,
+)
+    (find-at t)
+    find.Post
+    find-Inv-loop
+    find-μ-loop
+    (find-pick-requires t)
+    (find-finish-requires t)
+    (find-returns t)
+    (find-mul-left t)
+    (find-array-read-left t)
+    (find-loop-holds t)
+    (find-lowest-requires t)
+    (find-without-requires t)
+    (find-array-write-next t)
+    (find-settle-all-requires t)
+    (find-find-requires t)
+    (find-returns-2 t)
+    (find-loop-less t)
+    (find-loop-again t)
+    (find-returns-3 t)

@@ -1,0 +1,86 @@
+use Rattle.coding.specs.Search.{sum-next}
+use Rattle.coding.specs.Hold.{need}
+use Rattle.cells.specs.Lists.{sum}
+use borrow.Author.Tests.{not-true, not-false}
+use Rattle.bits.specs.Logic.{true-false}
+use lib.ListN.{length, getD, set}
+use native.Mathlib.Omega.{arith}
+use Prim.Native.Nat.{ℕ, _<_, _≤_, _+_, _-_, _*_, max}
+use mathlib.Core.Logic.{⊎-elim}
+use mathlib.Core.Bool.{Bool, true, false}
+use mathlib.Core.Path.{_≡_, refl, sym, ap, _∙_, subst}
+use borrow.Author.Needs.{needs}
+use Rattle.coding.proofs.total.Statement.{statement}
+use Rattle.coding.proofs.total.Tie as tie
+use Rattle.coding.proofs.total.Reads as reads
+use Rattle.coding.proofs.total.Lts as lts
+use Rattle.coding.proofs.larger.Reads as larger-reads
+use Rattle.numbering.proofs.label.Reads as label-reads
+
+abbrev Inv-loop : tie.InvT-loop
+Inv-loop base o owns t₀ l₀ t l = (l ≤ 32) × (t ≤ l * 255) × (t ≡ sum (need owns base o) l)
+
+abbrev μ-loop : tie.MeasureT-loop
+μ-loop base o owns t₀ l₀ t l = 32 - l
+
+-- src/lib.rt:86:5
+loop-holds : tie.Need-loop-holds Inv-loop μ-loop
+unfolding sum
+loop-holds c = (omega arith, omega arith, refl)
+
+-- src/lib.rt:87:21
+array-read-larger : tie.Need-array-read-larger Inv-loop μ-loop
+array-read-larger c = search needs
+
+-- src/lib.rt:87:30
+label-requires : tie.Need-label-requires Inv-loop μ-loop
+label-requires c κs = let h = c .loop-test .taken in (c .before .before .before .pre .0, c .before .before .before .pre .1, h)
+
+-- src/lib.rt:87:14
+larger-requires : tie.Need-larger-requires Inv-loop μ-loop
+larger-requires c κs = search needs
+
+-- src/lib.rt:87:14
+cast-t : tie.Need-cast-t Inv-loop μ-loop
+cast-t c = let z = c .larger .ensures .1 in record { fits = omega arith }
+
+-- src/lib.rt:87:9
+add-t : tie.Need-add-t Inv-loop μ-loop
+add-t c = let z = c .larger .ensures .1 in let w = c .before .before .before .loop .inv .1 in let h = c .before .before .loop-test .taken in record { fits = omega arith }
+
+-- src/lib.rt:88:9
+add-l : tie.Need-add-l Inv-loop μ-loop
+add-l c = search needs
+
+-- src/lib.rt:86:5
+loop-less : tie.Need-loop-less Inv-loop μ-loop
+loop-less c = search needs
+
+-- src/lib.rt:86:5
+loop-again : tie.Need-loop-again Inv-loop μ-loop
+loop-again c =
+    let h = c .before .before .loop-test .taken in
+    let z = c .larger .ensures .1 in
+    let w = c .before .before .before .loop .inv .1 in
+    (omega arith, omega arith, sum-next (need (c .before .before .before .before .before .args .t3) (c .before .before .before .before .before .args .base .now) (c .before .before .before .before .before .args .o)) (c .before .before .before .loop .l) (c .before .before .before .loop .t) (c .larger .result) (c .larger .ensures .0 ∙ ap (max (getD (c .before .before .before .before .before .args .t3) (c .before .before .before .loop .l) 0)) (c .before .label .ensures)) (c .before .before .before .loop .inv .2))
+
+-- src/lib.rt:80:1
+returns : tie.Need-returns Inv-loop μ-loop
+returns c = c .before .loop .inv .2 ∙ ap (sum (need (c .before .before .before .args .t3) (c .before .before .before .args .base .now) (c .before .before .before .args .o))) (let z = c .loop-test .left in let w = c .before .loop .inv .0 in omega arith)
+
+pub total-spec : {M : Type 1} → statement M
+total-spec =
+    tie.close
+    (tie.spec
+    Inv-loop
+    μ-loop
+    loop-holds
+    array-read-larger
+    label-requires
+    larger-requires
+    cast-t
+    add-t
+    add-l
+    loop-less
+    loop-again
+    returns)

@@ -1,0 +1,258 @@
+-- Which blocks each class of an output holds among the vertices with codes, and the two rules that follow for the others.
+-- Full block: where a block holds as many classes as it can, a vertex of another class keeps out of it. No place left: where
+-- the blocks held, or needed where that is more, are as many as there are places, a class that holds what it needs keeps
+-- to the blocks it holds. Assumes nothing.
+use mathlib.Core.Path.{_≡_, refl, sym, ap, _∙_, subst}
+use mathlib.Core.Bool.{Bool, true, false}
+use mathlib.Core.List.{List, [], _∷_}
+use mathlib.Core.Logic.{_⊎_, inl, inr, ⊎-elim}
+use Prim.Native.Nat.{ℕ, zero, suc, _+_, _*_, _^_, _≤_, _<_, max}
+use native.Mathlib.Decide.{ℕ-discrete, decLt}
+use native.Mathlib.Omega.{arith}
+use native.Mathlib.Numerals.{add-one}
+use lib.Bits.{bitAnd, bitOr}
+use lib.Dec.{eqb}
+use lib.ListN.{length, getD, set, length-set}
+use lib.Seq.{getD-set-same, getD-set-other}
+use borrow.Author.Tests.{eq-eqb, ne-eqb, eqb-true, eqb-false}
+use Rattle.bits.specs.Logic.{orb, pick, true-false}
+use Rattle.bits.specs.Digit.{on, on-or, on-zero}
+use Rattle.cells.specs.Lists.{All, Pairs, count, sum, all-map, all-both, pairs-map, less-or-equal, never-both, false-where, true-where, counted, sum-more}
+use Rattle.cells.specs.Shared.{Fits, block, Group, gather}
+use Rattle.numbering.specs.Given.{labelAt, item, Block, Solves, Extends}
+
+-- ======== definitions
+-- own has for each class the codes of the blocks that it holds among the first y vertices, owns how many blocks
+pub record Held (cl codes : List ℕ) (o mask y : ℕ) (own owns : List ℕ) : Type 0 where
+  pub own-long : length own ≡ 32
+  pub owns-long : length owns ≡ 32
+  pub inside : (w c : ℕ) → w < y → item codes w < 64 → c < 64 → bitAnd c mask ≡ bitAnd (item codes w) mask → on (getD own (labelAt cl o w) 0) c ≡ true
+  pub outside : (l c : ℕ) → l < 32 → c < 64 → on (getD own l 0) c ≡ true → (w : ℕ) × (w < y) × (item codes w < 64) × (labelAt cl o w ≡ l) × (bitAnd (item codes w) mask ≡ bitAnd c mask)
+  pub lists : (l : ℕ) → l < 32 → (ws : List ℕ) × All (λ (w : ℕ). (w < y) × (item codes w < 64) × (labelAt cl o w ≡ l)) ws × Pairs (λ (a b : ℕ). bitAnd (item codes a) mask ≡ bitAnd (item codes b) mask → ⊥) ws × (length ws ≡ getD owns l 0)
+  pub less : (l : ℕ) → l < 32 → getD owns l 0 ≤ y
+
+-- how many blocks class l of o holds or needs
+abbrev pub need : List ℕ → List ℕ → ℕ → ℕ → ℕ
+need owns base o l = max (getD owns l 0) (labelAt base o l)
+
+abbrev pub needed : List ℕ → List ℕ → ℕ → ℕ
+needed owns base o = sum (need owns base o) 32
+
+-- how many classes hold the block of c
+abbrev pub holders : List ℕ → ℕ → ℕ → ℕ
+holders own c n = count (λ (l : ℕ). on (getD own l 0) c) n
+
+-- ======== the scan
+module _ (cl codes : List ℕ) (o mask : ℕ) where
+  abbrev Fact : ℕ → ℕ → ℕ → Type 0
+  Fact y l w = (w < y) × (item codes w < 64) × (labelAt cl o w ≡ l)
+
+  up : (y l : ℕ) (ws : List ℕ) → All (Fact y l) ws → All (Fact (y + 1) l) ws
+  up y l ws a = all-map (Fact y l) (Fact (y + 1) l) ws (λ w p. ((let z = p .0 in omega arith), p .1, p .2)) a
+
+  pub held-start : (own owns : List ℕ) → length own ≡ 32 → length owns ≡ 32 → ((l : ℕ) → l < 32 → getD own l 0 ≡ 0) → ((l : ℕ) → l < 32 → getD owns l 0 ≡ 0) → Held cl codes o mask 0 own owns
+  held-start own owns a b e f = record {
+    own-long = a;
+    owns-long = b;
+    inside = λ w c h. absurd (omega arith);
+    outside = λ l c h k t. absurd (never-both t (ap (λ (z : ℕ). on z c) (e l h) ∙ on-zero c));
+    lists = λ l h. ([], tt, tt, sym (f l h));
+    less = λ l h. let z = f l h in omega arith;
+  }
+
+  pub held-skip : (y : ℕ) (own owns : List ℕ) → 64 ≤ item codes y → Held cl codes o mask y own owns → Held cl codes o mask (y + 1) own owns
+  held-skip y own owns u s = record {
+    own-long = s .own-long;
+    owns-long = s .owns-long;
+    inside = λ w c h k b e. ⊎-elim (λ l. s .inside w c l k b e) (λ q. absurd (let z : item codes y < 64 = subst (λ (i : ℕ). item codes i < 64) q k in omega arith)) (less-or-equal w y (omega arith));
+    outside = λ l c h b t. let r = s .outside l c h b t in (r .0, (let z = r .1 in omega arith), r .2, r .3, r .4);
+    lists = λ l h. let r = s .lists l h in (r .0, up y l (r .0) (r .1), r .2, r .3);
+    less = λ l h. let z = s .less l h in omega arith;
+  }
+
+  pub held-old : (y : ℕ) (own owns : List ℕ) → labelAt cl o y < 32 → item codes y < 64 → on (getD own (labelAt cl o y) 0) (item codes y) ≡ true → Held cl codes o mask y own owns → Held cl codes o mask (y + 1) own owns
+  held-old y own owns b u t s = record {
+    own-long = s .own-long;
+    owns-long = s .owns-long;
+    inside = λ w c h k d e. ⊎-elim (λ l. s .inside w c l k d e)
+        (λ q. let r = s .outside (labelAt cl o y) (item codes y) b u t in
+        let f : bitAnd c mask ≡ bitAnd (item codes (r .0)) mask = e ∙ ap (λ (i : ℕ). bitAnd (item codes i) mask) q ∙ sym (r .4) in
+        subst (λ (i : ℕ). on (getD own i 0) c ≡ true) (r .3 ∙ ap (labelAt cl o) (sym q)) (s .inside (r .0) c (r .1) (r .2) d f))
+        (less-or-equal w y (omega arith));
+    outside = λ l c h d t. let r = s .outside l c h d t in (r .0, (let z = r .1 in omega arith), r .2, r .3, r .4);
+    lists = λ l h. let r = s .lists l h in (r .0, up y l (r .0) (r .1), r .2, r .3);
+    less = λ l h. let z = s .less l h in omega arith;
+  }
+
+  pub held-new : (y bs : ℕ) (own owns : List ℕ) → labelAt cl o y < 32 → item codes y < 64 → on (getD own (labelAt cl o y) 0) (item codes y) ≡ false → Block mask (item codes y) bs → Held cl codes o mask y own owns → Held cl codes o mask (y + 1) (set own (labelAt cl o y) (bitOr (getD own (labelAt cl o y) 0) bs)) (set owns (labelAt cl o y) (getD owns (labelAt cl o y) 0 + 1))
+  held-new y bs own owns b u t is s = record {
+    own-long = length-set own q new ∙ s .own-long;
+    owns-long = length-set owns q _ ∙ s .owns-long;
+    inside = λ w c h k d e. ⊎-elim
+        (λ l. more (labelAt cl o w) c (s .inside w c l k d e))
+        (λ p. subst (λ (i : ℕ). on (getD (set own q new) (labelAt cl o i) 0) c ≡ true) (sym p) (hit c d (e ∙ ap (λ (i : ℕ). bitAnd (item codes i) mask) p)))
+        (less-or-equal w y (omega arith));
+    outside = λ l c h d e. out l c h d e (ℕ-discrete l q);
+    lists = λ l h. grow l h (ℕ-discrete l q);
+    less = λ l h. bound l h (ℕ-discrete l q);
+  }
+    where
+      q : ℕ
+      q = labelAt cl o y
+
+      new : ℕ
+      new = bitOr (getD own q 0) bs
+
+      same : getD (set own q new) q 0 ≡ new
+      same = getD-set-same own q new 0 (let z = s .own-long in omega arith)
+
+      other : (l : ℕ) → (l ≡ q → ⊥) → getD (set own q new) l 0 ≡ getD own l 0
+      other l ne = getD-set-other own q l new 0 ne
+
+      or-right : (a : Bool) → orb a true ≡ true
+      or-right true = refl
+      or-right false = refl
+
+      or-case : (a b : Bool) → orb a b ≡ true → (a ≡ true) ⊎ (b ≡ true)
+      or-case true b e = inl refl
+      or-case false b e = inr e
+
+      more : (l c : ℕ) → on (getD own l 0) c ≡ true → on (getD (set own q new) l 0) c ≡ true
+      more l c e = go (ℕ-discrete l q)
+        where
+          go : Dec (l ≡ q) → on (getD (set own q new) l 0) c ≡ true
+          go (yes p) = subst (λ (i : ℕ). on (getD (set own q new) i 0) c ≡ true) (sym p) (ap (λ (z : ℕ). on z c) same ∙ on-or (getD own q 0) bs c ∙ ap (λ (a : Bool). orb a (on bs c)) (subst (λ (i : ℕ). on (getD own i 0) c ≡ true) p e))
+          go (no p) = ap (λ (z : ℕ). on z c) (other l p) ∙ e
+
+      hit : (c : ℕ) → c < 64 → bitAnd c mask ≡ bitAnd (item codes y) mask → on (getD (set own q new) q 0) c ≡ true
+      hit c d e = ap (λ (z : ℕ). on z c) same ∙ on-or (getD own q 0) bs c ∙ ap (λ (a : Bool). orb (on (getD own q 0) c) a) (is c d ∙ eq-eqb _ _ e) ∙ or-right (on (getD own q 0) c)
+
+      Out : ℕ → ℕ → Type 0
+      Out l c = (w : ℕ) × (w < y + 1) × (item codes w < 64) × (labelAt cl o w ≡ l) × (bitAnd (item codes w) mask ≡ bitAnd c mask)
+
+      old : (l c : ℕ) → l < 32 → c < 64 → on (getD own l 0) c ≡ true → Out l c
+      old l c h d e = let r = s .outside l c h d e in (r .0, (let z = r .1 in omega arith), r .2, r .3, r .4)
+
+      out : (l c : ℕ) → l < 32 → c < 64 → on (getD (set own q new) l 0) c ≡ true → Dec (l ≡ q) → Out l c
+      out l c h d e (no p) = old l c h d (sym (ap (λ (z : ℕ). on z c) (other l p)) ∙ e)
+      out l c h d e (yes p) = ⊎-elim
+          (λ a. old l c h d (subst (λ (i : ℕ). on (getD own i 0) c ≡ true) (sym p) a))
+          (λ a. (y, (omega arith), u, sym p, sym (eqb-true (bitAnd c mask) (bitAnd (item codes y) mask) (sym (is c d) ∙ a))))
+          (or-case (on (getD own q 0) c) (on bs c) (sym (on-or (getD own q 0) bs c) ∙ ap (λ (z : ℕ). on z c) (sym same) ∙ subst (λ (i : ℕ). on (getD (set own q new) i 0) c ≡ true) p e))
+
+      owns' : List ℕ
+      owns' = set owns q (getD owns q 0 + 1)
+
+      List' : ℕ → Type 0
+      List' l = (ws : List ℕ) × All (Fact (y + 1) l) ws × Pairs (λ (a b : ℕ). bitAnd (item codes a) mask ≡ bitAnd (item codes b) mask → ⊥) ws × (length ws ≡ getD owns' l 0)
+
+      grow : (l : ℕ) → l < 32 → Dec (l ≡ q) → List' l
+      grow l h (no p) = let r = s .lists l h in (r .0, up y l (r .0) (r .1), r .2, r .3 ∙ sym (getD-set-other owns q l (getD owns q 0 + 1) 0 p))
+      grow l h (yes p) =
+          let r = s .lists l h in (
+            y ∷ r .0,
+            (((omega arith), u, sym p), up y l (r .0) (r .1)),
+            (
+              all-map (Fact y l) (λ (w : ℕ). bitAnd (item codes y) mask ≡ bitAnd (item codes w) mask → ⊥) (r .0) (λ w a e.
+                  never-both (subst (λ (i : ℕ). on (getD own i 0) (item codes y) ≡ true) (a .2 ∙ p) (s .inside w (item codes y) (a .0) (a .1) u e)) t) (r .1),
+              r .2,
+            ),
+            (let e : getD owns' l 0 ≡ getD owns q 0 + 1 = subst (λ (i : ℕ). getD owns' i 0 ≡ getD owns q 0 + 1) (sym p) (getD-set-same owns q (getD owns q 0 + 1) 0 (let z = s .owns-long in omega arith)) in
+                let f : length (r .0) ≡ getD owns q 0 = r .3 ∙ ap (λ (i : ℕ). getD owns i 0) p in omega arith),
+          )
+
+      bound : (l : ℕ) → l < 32 → Dec (l ≡ q) → getD owns' l 0 ≤ y + 1
+      bound l h (no p) = let e = getD-set-other owns q l (getD owns q 0 + 1) 0 p in let z = s .less l h in omega arith
+      bound l h (yes p) =
+          let e : getD owns' l 0 ≡ getD owns q 0 + 1 = subst (λ (i : ℕ). getD owns' i 0 ≡ getD owns q 0 + 1) (sym p) (getD-set-same owns q (getD owns q 0 + 1) 0 (let z = s .owns-long in omega arith)) in
+          let z = s .less q b in omega arith
+
+-- ======== the rules
+module _ (cl base ms caps spots : List ℕ) (v j o : ℕ) (codes dom own owns : List ℕ) (g : ℕ → ℕ) (h : o < j) (low : (x : ℕ) → x < v → labelAt cl o x < 32) (s : Held cl codes o (item ms o) v own owns) (f : Solves cl base ms caps spots v j g) (e : Extends codes dom v g) where
+  abbrev mask : ℕ
+  mask = item ms o
+
+  abbrev key : ℕ → ℕ
+  key x = block (item ms) g o x
+
+  -- the blocks that class l holds are blocks of the solution
+  held-group : (l : ℕ) → l < 32 → Group v (labelAt cl o) key l (getD owns l 0)
+  held-group l b =
+      let r = s .lists l b in (
+        r .0,
+        all-map (λ (w : ℕ). (w < v) × (item codes w < 64) × (labelAt cl o w ≡ l)) (λ (w : ℕ). (w < v) × (labelAt cl o w ≡ l)) (r .0) (λ w a. (a .0, a .2)) (r .1),
+        pairs-map (λ (w : ℕ). (w < v) × (item codes w < 64) × (labelAt cl o w ≡ l)) (λ (a b : ℕ). bitAnd (item codes a) mask ≡ bitAnd (item codes b) mask → ⊥) (λ (a b : ℕ). key a ≡ key b → ⊥) (r .0)
+            (λ x y a b d k. d (sym (ap (λ (z : ℕ). bitAnd z mask) (e .coded x (a .0) (a .1))) ∙ k ∙ ap (λ (z : ℕ). bitAnd z mask) (e .coded y (b .0) (b .1)))) (r .1) (r .2),
+        (let z = r .3 in omega arith),
+      )
+
+  pub need-group : (l : ℕ) → l < 32 → Group v (labelAt cl o) key l (need owns base o l)
+  need-group l b = elim (decLt (getD owns l 0) (labelAt base o l)) as (λ _. Group v (labelAt cl o) key l (need owns base o l)) [
+    | yes k ↦ (let r = f .fits .needs o l h in (r .0, r .1, r .2, (let z = r .3 in omega arith)))
+    | no k ↦ (let r = held-group l b in (r .0, r .1, r .2, (let z = r .3 in omega arith)))
+  ]
+
+  places : (n : ℕ → ℕ) → ((l : ℕ) → l < 32 → Group v (labelAt cl o) key l (n l)) → sum n 32 ≤ item spots o
+  places n k =
+      let r = gather v (labelAt cl o) key n 32 k in
+      let a = f .fits .places o (r .0) h (all-map (λ (x : ℕ). (x < v) × (labelAt cl o x < 32)) (λ (x : ℕ). x < v) (r .0) (λ x p. p .0) (r .1)) (r .2) in
+      let b = r .3 in omega arith
+
+  -- there are at least as many places as are held or needed
+  pub enough : needed owns base o ≤ item spots o
+  enough = places (need owns base o) need-group
+
+  -- no place is left: a class that holds what it needs keeps to its blocks
+  pub keeps-to : (y : ℕ) → y < v → needed owns base o ≡ item spots o → labelAt base o (labelAt cl o y) ≤ getD owns (labelAt cl o y) 0 → on (getD own (labelAt cl o y) 0) (g y) ≡ true
+  unfolding held-group
+  keeps-to y b t k = true-where _ (λ no-block. absurd (no-room no-block))
+    where
+      q : ℕ
+      q = labelAt cl o y
+
+      n : ℕ → ℕ
+      n l = pick (eqb l q) (getD owns q 0 + 1) (need owns base o l)
+
+      n-here : n q ≡ getD owns q 0 + 1
+      n-here = ap (λ (z : Bool). pick z (getD owns q 0 + 1) (need owns base o q)) (eq-eqb q q refl)
+
+      n-other : (l : ℕ) → (l ≡ q → ⊥) → n l ≡ need owns base o l
+      n-other l ne = ap (λ (z : Bool). pick z (getD owns q 0 + 1) (need owns base o l)) (ne-eqb l q ne)
+
+      no-room : on (getD own q 0) (g y) ≡ false → ⊥
+      no-room off =
+          let a = places n (λ l c. grow l c (ℕ-discrete l q)) in
+          let w = sum-more (need owns base o) n 32 q (low y b) (let z = n-here in omega arith) (λ l c ne. let z = n-other l ne in omega arith) in
+          omega arith
+        where
+          more : Group v (labelAt cl o) key q (getD owns q 0 + 1)
+          more =
+              let r = s .lists q (low y b) in
+              let p = held-group q (low y b) in (
+                y ∷ p .0,
+                ((b, refl), p .1),
+                (
+                  all-map (λ (w : ℕ). (w < v) × (item codes w < 64) × (labelAt cl o w ≡ q)) (λ (w : ℕ). key y ≡ key w → ⊥) (r .0) (λ w a k.
+                      never-both (subst (λ (i : ℕ). on (getD own i 0) (g y) ≡ true) (a .2) (s .inside w (g y) (a .0) (a .1) (f .small y b) (k ∙ ap (λ (z : ℕ). bitAnd z mask) (e .coded w (a .0) (a .1))))) off) (r .1),
+                  p .2,
+                ),
+                (let z = p .3 in omega arith),
+              )
+
+          grow : (l : ℕ) → l < 32 → Dec (l ≡ q) → Group v (labelAt cl o) key l (n l)
+          grow l c (yes p) = subst (λ (i : ℕ). Group v (labelAt cl o) key i (n i)) (sym p) (subst (Group v (labelAt cl o) key q) (sym n-here) more)
+          grow l c (no p) = subst (Group v (labelAt cl o) key l) (sym (n-other l p)) (need-group l c)
+
+  -- a full block: a vertex of a class that does not hold it keeps out
+  pub keeps-out : (y c : ℕ) → y < v → c < 64 → item caps o ≤ holders own c 32 → on (getD own (labelAt cl o y) 0) c ≡ false → bitAnd (g y) mask ≡ bitAnd c mask → ⊥
+  keeps-out y c b d full off same =
+      let r = counted (λ (l : ℕ). on (getD own l 0) c) W (λ (a b : ℕ). labelAt cl o a ≡ labelAt cl o b → ⊥) (λ l k w z lt p q i. let a = p .1 in let b = q .1 in omega arith) 32 (λ l k t. let r = s .outside l c k d t in (r .0, ((r .1, r .2, r .4), r .3, t))) in
+      let a = f .fits .crowd o (bitAnd c mask) (y ∷ r .0) h ((b, same), all-map (Wit 32) (λ (w : ℕ). (w < v) × (key w ≡ bitAnd c mask)) (r .0) (λ w p. (p .2 .0 .0, ap (λ (z : ℕ). bitAnd z mask) (e .coded w (p .2 .0 .0) (p .2 .0 .1)) ∙ p .2 .0 .2)) (r .2))
+      (all-map (Wit 32) (λ (w : ℕ). labelAt cl o y ≡ labelAt cl o w → ⊥) (r .0) (λ w p i. never-both (p .2 .2) (subst (λ (z : ℕ). on (getD own z 0) c ≡ false) (i ∙ p .2 .1) off)) (r .2), r .3) in
+      let z = r .1 in omega arith
+    where
+      W : ℕ → ℕ → Type 0
+      W l w = ((w < v) × (item codes w < 64) × (bitAnd (item codes w) mask ≡ bitAnd c mask)) × (labelAt cl o w ≡ l) × (on (getD own l 0) c ≡ true)
+
+      Wit : ℕ → ℕ → Type 0
+      Wit n w = (l : ℕ) × (l < n) × W l w

@@ -1,0 +1,66 @@
+use Rattle.fewest.specs.Choice.{Zeroed, zeroed-more}
+use Rattle.bits.specs.Logic.{true-false}
+use lib.ListN.{length, getD, set}
+use native.Mathlib.Omega.{arith}
+use Prim.Native.Nat.{ℕ, _<_, _≤_, _+_, _-_, _*_, _^_, min, _/_}
+use mathlib.Core.Logic.{⊎-elim}
+use mathlib.Core.Bool.{Bool, true, false}
+use mathlib.Core.Path.{_≡_, refl, sym, ap, _∙_, subst}
+use borrow.Author.Needs.{needs}
+use Rattle.fewest.proofs.zero_first.Statement.{statement}
+use Rattle.fewest.proofs.zero_first.Tie as tie
+use Rattle.fewest.proofs.zero_first.Reads as reads
+use Rattle.fewest.proofs.zero_first.Lts as lts
+
+abbrev Inv-loop : tie.InvT-loop
+Inv-loop codes first r₀ x₀ r x = (x ≤ 32) × (first ≡ getD codes 0 0) × Zeroed codes x r
+
+abbrev μ-loop : tie.MeasureT-loop
+μ-loop codes first r₀ x₀ r x = 32 - x
+
+-- src/lib.rt:92:17
+array-read-first : tie.Need-array-read-first Inv-loop μ-loop
+array-read-first c = search needs
+
+-- src/lib.rt:95:5
+loop-holds : tie.Need-loop-holds Inv-loop μ-loop
+loop-holds c = (omega arith, refl, record { long = refl; done = λ k h. absurd (omega arith) })
+
+-- src/lib.rt:96:16
+array-read-r : tie.Need-array-read-r Inv-loop μ-loop
+array-read-r c = search needs
+
+-- src/lib.rt:96:9
+array-write-r : tie.Need-array-write-r Inv-loop μ-loop
+array-write-r c = search needs
+
+-- src/lib.rt:97:9
+add-x : tie.Need-add-x Inv-loop μ-loop
+add-x c = search needs
+
+-- src/lib.rt:95:5
+loop-less : tie.Need-loop-less Inv-loop μ-loop
+loop-less c = search needs
+
+-- src/lib.rt:95:5
+loop-again : tie.Need-loop-again Inv-loop μ-loop
+loop-again c = let h = c .loop-test .taken in (omega arith, refl, zeroed-more (c .before .before .args .t1) (c .before .loop .x) (c .before .loop .r) _ h refl (c .before .loop .inv .2))
+
+-- src/lib.rt:89:1
+returns : tie.Need-returns Inv-loop μ-loop
+returns c = subst (λ (z : ℕ). Zeroed (c .before .before .args .t1) z (c .before .loop .r)) (let h = c .loop-test .left in let z = c .before .loop .inv .0 in omega arith) (c .before .loop .inv .2)
+
+pub zero-first-spec : {M : Type 1} → statement M
+zero-first-spec =
+    tie.close
+    (tie.spec
+    Inv-loop
+    μ-loop
+    array-read-first
+    loop-holds
+    array-read-r
+    array-write-r
+    add-x
+    loop-less
+    loop-again
+    returns)

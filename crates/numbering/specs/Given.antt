@@ -1,0 +1,67 @@
+-- What the search for codes is given, and what it is to find. Labels: output o's class at vertex x stands at o * 32 + x.
+-- A vertex without a code has 64. A set of codes is a number of 64 digits. Assumes nothing.
+use mathlib.Core.Path.{_≡_}
+use mathlib.Core.Bool.{Bool, true, false}
+use mathlib.Core.List.{List}
+use Prim.Native.Nat.{ℕ, _+_, _*_, _^_, _≤_, _<_}
+use lib.Bits.{bitAnd}
+use lib.Dec.{eqb}
+use lib.ListN.{length, getD}
+use Rattle.bits.specs.Digit.{on}
+use Rattle.cells.specs.Lists.{count}
+use Rattle.cells.specs.Shared.{Fits}
+
+abbrev pub labelAt : List ℕ → ℕ → ℕ → ℕ
+labelAt cl o x = getD cl (o * 32 + x) 0
+
+abbrev pub item : List ℕ → ℕ → ℕ
+item l o = getD l o 0
+
+-- the set of codes in one block with c, for a mask
+abbrev pub Block : ℕ → ℕ → ℕ → Type 0
+Block mask c s = (k : ℕ) → k < 64 → on s k ≡ eqb (bitAnd k mask) (bitAnd c mask)
+
+-- the labels of up to 8 outputs at up to 32 vertices
+pub record Labels (cl : List ℕ) : Type 0 where
+  pub long : length cl ≡ 256
+  pub low : (k : ℕ) → k < 256 → getD cl k 0 < 32
+
+-- for each output and code the block of the code
+pub record Blocks (ms bs : List ℕ) (j : ℕ) : Type 0 where
+  pub long : length bs ≡ 512
+  pub each : (o c : ℕ) → o < j → c < 64 → Block (item ms o) c (getD bs (o * 64 + c) 0)
+
+-- shared and private cells of each output: a private cell is no other output's, and cap is 2 to their number
+pub record Plan (ms ps caps : List ℕ) (j : ℕ) : Type 0 where
+  pub private : (o q i : ℕ) → o < j → q < j → on (item ps o) i ≡ true → on (item ms q) i ≡ false
+  pub single : (o q i : ℕ) → o < j → q < j → (o ≡ q → ⊥) → on (item ps o) i ≡ true → on (item ps q) i ≡ false
+  pub room : (o : ℕ) → o < j → item caps o ≡ 2 ^ count (on (item ps o)) 6
+  pub short : (o : ℕ) → o < j → item ps o < 64
+  pub short-shared : (o : ℕ) → o < j → item ms o < 64
+
+-- codes over the shared cells that stand for a core
+pub record Solves (cl base ms caps spots : List ℕ) (v j : ℕ) (g : ℕ → ℕ) : Type 0 where
+  pub fits : Fits v j (labelAt cl) (item ms) (item caps) (item spots) (labelAt base) g
+  pub small : (x : ℕ) → x < v → g x < 64
+
+-- g has the codes given so far, and keeps to the sets that are left
+pub record Extends (codes dom : List ℕ) (v : ℕ) (g : ℕ → ℕ) : Type 0 where
+  pub coded : (x : ℕ) → x < v → item codes x < 64 → g x ≡ item codes x
+  pub within : (x : ℕ) → x < v → on (item dom x) (g x) ≡ true
+
+-- each solution that keeps to dom keeps to r
+pub record Kept (cl base ms caps spots : List ℕ) (v j : ℕ) (codes dom r : List ℕ) : Type 0 where
+  pub keeps : (g : ℕ → ℕ) → Solves cl base ms caps spots v j g → Extends codes dom v g → Extends codes r v g
+
+-- codes over all cells that tell the classes of the first j outputs apart
+pub record Parted (cl ms ps : List ℕ) (v j : ℕ) (r : List ℕ) : Type 0 where
+  pub parted : (o x y : ℕ) → o < j → x < v → y < v → bitAnd (item r x) (item ms o) ≡ bitAnd (item r y) (item ms o) → bitAnd (item r x) (item ps o) ≡ bitAnd (item r y) (item ps o) → labelAt cl o x ≡ labelAt cl o y
+
+-- no solution goes on from the codes given
+pub record Hopeless (cl base ms caps spots : List ℕ) (v j : ℕ) (codes dom : List ℕ) : Type 0 where
+  pub none : (g : ℕ → ℕ) → Solves cl base ms caps spots v j g → Extends codes dom v g → ⊥
+
+-- what the search answers
+abbrev pub Told : List ℕ → List ℕ → List ℕ → List ℕ → List ℕ → List ℕ → ℕ → ℕ → List ℕ → List ℕ → Bool → List ℕ → Type 0
+Told cl base ms ps caps spots v j codes dom true r = Parted cl ms ps v j r
+Told cl base ms ps caps spots v j codes dom false r = Hopeless cl base ms caps spots v j codes dom

@@ -1,0 +1,127 @@
+// Private cells written out: given codes over the shared cells, each output's classes are numbered inside its blocks and
+// the numbers are spread over the digits of its private cells. It rests on the laws of specs/Number.
+ghost use mathlib.Core.Path.{_≡_};
+ghost use mathlib.Core.Bool.{Bool, true, false};
+ghost use Prim.Native.Nat.{ℕ, _+_, _*_, _<_, _≤_};
+ghost use mathlib.Core.List.{List};
+ghost use lib.ListN.{length, getD};
+ghost use Rattle.bits.specs.Digit.{on};
+ghost use Rattle.numbering.specs.Given.{labelAt, item, Plan, Told};
+ghost use Rattle.numbering.specs.Number.{Numbered, Number, Spread, Written};
+
+// The class of vertex x for output o.
+pub fn label(cl: &[u8], o: usize, x: usize) -> u8
+    requires { ⌜ (length (now cl) ≡ 256) × (o < 8) × (x < 32) ⌝ }
+    ensures { λ r. ⌜ r ≡ labelAt (now (cl .entry)) o x ⌝ }
+{
+    cl[o * 32 + x]
+}
+
+// A number for x's class inside its block: the one that it has, or the next after the highest.
+pub fn number(cl: &[u8], o: usize, mask: u8, codes: [u8; 32], nums: [u8; 32], x: usize) -> u8
+    requires { ⌜ (length (now cl) ≡ 256) × (o < 8) × (x < 32) × Numbered (now cl) codes o mask x nums ⌝ }
+    ensures { λ r. ⌜ Number (now (cl .entry)) codes o mask x nums r ⌝ }
+{
+    let block = codes[x] & mask;
+    let class = label(cl, o, x);
+    let mut next: u8 = 0;
+    let mut y = 0;
+    while y < x {
+        if codes[y] & mask == block {
+            let n = nums[y];
+            let l = label(cl, o, y);
+            if l == class {
+                return n;
+            }
+            if next <= n {
+                next = n + 1;
+            }
+        }
+        y += 1;
+    }
+    next
+}
+
+// The numbers of all v vertices.
+pub fn numbers(cl: &[u8], o: usize, mask: u8, codes: [u8; 32], v: usize) -> [u8; 32]
+    requires { ⌜ (length (now cl) ≡ 256) × (o < 8) × (v ≤ 32) ⌝ }
+    ensures { λ r. ⌜ Numbered (now (cl .entry)) codes o mask v r ⌝ }
+{
+    let mut nums = [0u8; 32];
+    let mut x = 0;
+    while x < v {
+        nums[x] = number(cl, o, mask, codes, nums, x);
+        x += 1;
+    }
+    nums
+}
+
+// The digits of n, lowest first, at the digits of p.
+pub fn spread(n: u8, p: u8) -> u8
+    ensures { λ r. ⌜ Spread n p 6 r ⌝ }
+{
+    let mut r: u64 = 0;
+    let mut k: u8 = 0;
+    let mut i: u8 = 0;
+    while i < 6 {
+        if cells::in_set(p as u64, i) {
+            if cells::in_set(n as u64, k) {
+                r = cells::with(r, i);
+            }
+            k += 1;
+        }
+        i += 1;
+    }
+    (r % 256) as u8
+}
+
+pub struct Codes {
+    pub ok: bool,
+    pub codes: [u8; 32],
+}
+
+// The codes with the numbers in the digits of p, unless a number is too large for them.
+pub fn write(nums: [u8; 32], cap: u8, p: u8, v: usize, codes: [u8; 32]) -> Codes
+    requires { ⌜ v ≤ 32 ⌝ }
+    ensures { λ r. ⌜ Written nums p cap v codes (r .ok) (r .codes) ⌝ }
+{
+    let mut r = codes;
+    let mut x = 0;
+    while x < v {
+        let n = nums[x];
+        if cap <= n {
+            return Codes { ok: false, codes };
+        }
+        r[x] = (r[x] & !p) | spread(n, p);
+        x += 1;
+    }
+    Codes { ok: true, codes: r }
+}
+
+// Codes over all cells from codes over the shared ones, unless some block has too many classes.
+pub fn finish(
+    cl: &[u8],
+    j: usize,
+    ms: [u8; 8],
+    ps: [u8; 8],
+    caps: [u8; 8],
+    v: usize,
+    codes: [u8; 32],
+) -> Codes
+    requires { ⌜ (length (now cl) ≡ 256) × (j ≤ 8) × (v ≤ 32) × Plan ms ps caps j × ((x : ℕ) → x < v → item codes x < 64) ⌝ }
+    ensures { λ r. ⌜ ((base spots dom : List ℕ) → Told (now (cl .entry)) base ms ps caps spots v j codes dom (r .ok) (r .codes)) ⌝ }
+{
+    let mut r = codes;
+    let mut o = 0;
+    while o < j {
+        let nums = numbers(cl, o, ms[o], codes, v);
+        let w = write(nums, caps[o], ps[o], v, r);
+        if w.ok {
+            r = w.codes;
+        } else {
+            return Codes { ok: false, codes };
+        }
+        o += 1;
+    }
+    Codes { ok: true, codes: r }
+}

@@ -1,0 +1,2 @@
+-- Masks has the definitions that contracts cite, and their laws.
+pub mod Masks

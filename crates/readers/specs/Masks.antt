@@ -1,0 +1,255 @@
+-- The cells that two outputs read, and each output's cells split by them: the facts that the search for codes and the
+-- writing of private cells ask for. Assumes nothing.
+use mathlib.Core.Path.{_≡_, refl, sym, ap, ap₂, _∙_, subst}
+use mathlib.Core.Bool.{Bool, true, false, not}
+use mathlib.Core.List.{List, [], _∷_}
+use mathlib.Core.Logic.{_⊎_, inl, inr, ⊎-elim}
+use Prim.Native.Nat.{ℕ, zero, suc, _+_, _-_, _*_, _/_, _%_, _^_, _≤_, _<_}
+use native.Mathlib.Decide.{ℕ-discrete, decLt}
+use native.Mathlib.Omega.{arith}
+use native.Mathlib.Numerals.{add-one}
+use lib.Bits.{bitAnd, bitOr, and-le-l, and-le-r}
+use lib.Dec.{eqb}
+use lib.ListN.{length, getD, set, length-set}
+use lib.Seq.{getD-set-same, getD-set-other}
+use borrow.Author.Tests.{eq-eqb, ne-eqb}
+use Rattle.bits.specs.Logic.{andb, orb, true-false, and-left, and-right}
+use Rattle.bits.specs.Digit.{on, on-and, on-or, on-zero, on-ones, on-above, on-complement, on-single, equal-digits}
+use Rattle.cells.specs.Core.{Differ}
+use Rattle.cells.specs.Lists.{All, Pairs, count, less-or-equal, never-both, false-where}
+use Rattle.cells.specs.Pigeon.{Agree, agree-and, and-agree}
+use Rattle.cells.specs.Codes.{Coded}
+use Rattle.cells.specs.Shared.{Split, Fits, sharedCode, crowd-bound, places-bound}
+use Rattle.numbering.specs.Given.{labelAt, item, Block, Blocks, Plan, Solves, Extends, Parted, Hopeless, Told}
+use Rattle.coding.specs.Search.{zeros, Table}
+
+-- ======== definitions
+-- each output reads cells below 6
+abbrev pub Short : List ℕ → ℕ → Type 0
+Short rows j = (o : ℕ) → o < j → item rows o < 64
+
+-- sh has every cell that two of the first j outputs read
+pub record Common (rows : List ℕ) (j sh : ℕ) : Type 0 where
+  pub two : (o q i : ℕ) → o < j → q < j → (o ≡ q → ⊥) → on (item rows o) i ≡ true → on (item rows q) i ≡ true → on sh i ≡ true
+  pub low : sh < 64
+
+-- each output's shared and private cells, 2 to the number of the private ones, and 2 to the number of all
+pub record Planned (rows : List ℕ) (sh n : ℕ) (ms ps caps spots : List ℕ) : Type 0 where
+  pub ms-long : length ms ≡ 8
+  pub ps-long : length ps ≡ 8
+  pub caps-long : length caps ≡ 8
+  pub spots-long : length spots ≡ 8
+  pub shared : (o : ℕ) → o < n → item ms o ≡ bitAnd (item rows o) sh
+  pub private : (o : ℕ) → o < n → item ps o ≡ bitAnd (item rows o) (2 ^ 8 - 1 - sh)
+  pub caps-are : (o : ℕ) → o < n → item caps o ≡ 2 ^ count (on (item ps o)) 6
+  pub spots-are : (o : ℕ) → o < n → item spots o ≡ 2 ^ count (on (item rows o)) 6
+
+-- ======== the loop over the outputs
+-- once has what some output before o reads, many what two of them read
+pub record Seen (rows : List ℕ) (o once many : ℕ) : Type 0 where
+  pub any : (q i : ℕ) → q < o → on (item rows q) i ≡ true → on once i ≡ true
+  pub two : (p q i : ℕ) → p < o → q < o → (p ≡ q → ⊥) → on (item rows p) i ≡ true → on (item rows q) i ≡ true → on many i ≡ true
+
+pub seen-start : (rows : List ℕ) → Seen rows 0 0 0
+seen-start rows = record { any = λ q i h. absurd (omega arith); two = λ p q i h. absurd (omega arith) }
+
+or-l : (a b : Bool) → a ≡ true → orb a b ≡ true
+or-l a b e = ap (λ (x : Bool). orb x b) e
+
+or-r : (a b : Bool) → b ≡ true → orb a b ≡ true
+or-r true b e = refl
+or-r false b e = e
+
+pub seen-more : (rows : List ℕ) (o once many : ℕ) → Seen rows o once many → Seen rows (o + 1) (bitOr once (item rows o)) (bitOr many (bitAnd once (item rows o)))
+seen-more rows o once many s = record {
+  any = λ q i h e. on-or once (item rows o) i ∙ ⊎-elim (λ l. or-l _ _ (s .any q i l e)) (λ p. or-r (on once i) _ (subst (λ (z : ℕ). on (item rows z) i ≡ true) p e)) (less-or-equal q o (omega arith));
+  two = λ p q i h k ne e f. on-or many (bitAnd once (item rows o)) i ∙ pair p q i (less-or-equal p o (omega arith)) (less-or-equal q o (omega arith)) ne e f;
+}
+  where
+    now-too : (q i : ℕ) → q < o → on (item rows q) i ≡ true → on (item rows o) i ≡ true → orb (on many i) (on (bitAnd once (item rows o)) i) ≡ true
+    now-too q i l e f = or-r (on many i) _ (on-and once (item rows o) i ∙ ap₂ andb (s .any q i l e) f)
+
+    pair : (p q i : ℕ) → (p < o) ⊎ (p ≡ o) → (q < o) ⊎ (q ≡ o) → (p ≡ q → ⊥) → on (item rows p) i ≡ true → on (item rows q) i ≡ true → orb (on many i) (on (bitAnd once (item rows o)) i) ≡ true
+    pair p q i (inl a) (inl b) ne e f = or-l _ _ (s .two p q i a b ne e f)
+    pair p q i (inl a) (inr b) ne e f = now-too p i a e (subst (λ (z : ℕ). on (item rows z) i ≡ true) b f)
+    pair p q i (inr a) (inl b) ne e f = now-too q i b f (subst (λ (z : ℕ). on (item rows z) i ≡ true) a e)
+    pair p q i (inr a) (inr b) ne e f = absurd (ne (a ∙ sym b))
+
+digit-low : (n i : ℕ) → n < 64 → on n i ≡ true → i < 6
+digit-low n i h e = elim (decLt i 6) as (λ _. i < 6) [ yes l ↦ l | no l ↦ absurd (never-both e (on-above 6 n i h (omega arith))) ]
+
+pub seen-all : (rows : List ℕ) (j o once many : ℕ) → j ≤ o → Short rows j → Seen rows o once many → Common rows j (bitAnd many 63)
+seen-all rows j o once many h short s = record {
+  two = λ p q i a b ne e f. on-and many 63 i ∙ ap₂ andb (s .two p q i (omega arith) (omega arith) ne e f) (on-ones 6 i (digit-low (item rows p) i (short p a) e));
+  low = (let z = and-le-r many 63 in omega arith);
+}
+
+-- ======== the plan, output by output
+pub planned-start : (rows : List ℕ) (sh : ℕ) → Planned rows sh 0 (zeros 8) (zeros 8) (zeros 8) (zeros 8)
+planned-start rows sh = record { ms-long = refl; ps-long = refl; caps-long = refl; spots-long = refl; shared = λ o h. absurd (omega arith); private = λ o h. absurd (omega arith); caps-are = λ o h. absurd (omega arith); spots-are = λ o h. absurd (omega arith) }
+
+store : (P : ℕ → ℕ → Type 0) (l : List ℕ) (n x : ℕ) → length l ≡ 8 → n < 8 → ((k : ℕ) → k < n → P k (item l k)) → P n x → (k : ℕ) → k < n + 1 → P k (item (set l n x) k)
+store P l n x e h a b k i = ⊎-elim
+    (λ j. subst (P k) (sym (getD-set-other l n k x 0 (λ q. let z : k ≡ n = q in omega arith))) (a k j))
+    (λ q. subst (λ (z : ℕ). P z (item (set l n x) z)) (sym q) (subst (P n) (sym (getD-set-same l n x 0 (omega arith))) b))
+    (less-or-equal k n (omega arith))
+
+pub planned-more : (rows : List ℕ) (sh n : ℕ) (ms ps caps spots : List ℕ) (m p a b : ℕ) → n < 8 → m ≡ bitAnd (item rows n) sh → p ≡ bitAnd (item rows n) (2 ^ 8 - 1 - sh) → a ≡ 2 ^ count (on p) 6 → b ≡ 2 ^ count (on (item rows n)) 6 → Planned rows sh n ms ps caps spots → Planned rows sh (n + 1) (set ms n m) (set ps n p) (set caps n a) (set spots n b)
+planned-more rows sh n ms ps caps spots m p a b h em ep ea eb s = record {
+  ms-long = length-set ms n m ∙ s .ms-long;
+  ps-long = length-set ps n p ∙ s .ps-long;
+  caps-long = length-set caps n a ∙ s .caps-long;
+  spots-long = length-set spots n b ∙ s .spots-long;
+  shared = store (λ (k x : ℕ). x ≡ bitAnd (item rows k) sh) ms n m (s .ms-long) h (s .shared) em;
+  private = store (λ (k x : ℕ). x ≡ bitAnd (item rows k) (2 ^ 8 - 1 - sh)) ps n p (s .ps-long) h (s .private) ep;
+  caps-are = λ k i. store (λ (k x : ℕ). x ≡ 2 ^ count (on (bitAnd (item rows k) (2 ^ 8 - 1 - sh))) 6) caps n a (s .caps-long) h (λ k i. s .caps-are k i ∙ ap (λ (z : ℕ). 2 ^ count (on z) 6) (s .private k i)) (ea ∙ ap (λ (z : ℕ). 2 ^ count (on z) 6) ep) k i
+      ∙ sym (ap (λ (z : ℕ). 2 ^ count (on z) 6) (store (λ (k x : ℕ). x ≡ bitAnd (item rows k) (2 ^ 8 - 1 - sh)) ps n p (s .ps-long) h (s .private) ep k i));
+  spots-are = store (λ (k x : ℕ). x ≡ 2 ^ count (on (item rows k)) 6) spots n b (s .spots-long) h (s .spots-are) eb;
+}
+
+-- ======== what the plan says
+module _ (rows : List ℕ) (sh j : ℕ) (ms ps caps spots : List ℕ) (short : Short rows j) (c : Common rows j sh) (p : Planned rows sh j ms ps caps spots) where
+  shared-on : (o i : ℕ) → o < j → on (item ms o) i ≡ andb (on (item rows o) i) (on sh i)
+  shared-on o i h = ap (λ (z : ℕ). on z i) (p .shared o h) ∙ on-and (item rows o) sh i
+
+  private-on : (o i : ℕ) → o < j → i < 6 → on (item ps o) i ≡ andb (on (item rows o) i) (not (on sh i))
+  private-on o i h l = ap (λ (z : ℕ). on z i) (p .private o h) ∙ on-and (item rows o) (2 ^ 8 - 1 - sh) i ∙ ap (λ (b : Bool). andb (on (item rows o) i) b) (on-complement 8 sh i (let z = c .low in omega arith) (omega arith))
+
+  pub private-low : (o : ℕ) → o < j → item ps o < 64
+  private-low o h = let e = p .private o h in let w = and-le-l (item rows o) (2 ^ 8 - 1 - sh) in let z = short o h in omega arith
+
+  pub shared-low : (o : ℕ) → o < j → item ms o < 64
+  shared-low o h = let e = p .shared o h in let w = and-le-l (item rows o) sh in let z = short o h in omega arith
+
+  -- a private cell is read by its output and is not shared
+  private-read : (o i : ℕ) → o < j → on (item ps o) i ≡ true → (on (item rows o) i ≡ true) × (on sh i ≡ false)
+  private-read o i h e = go (on (item rows o) i) (on sh i) (sym (private-on o i h (digit-low (item ps o) i (private-low o h) e)) ∙ e)
+    where
+      go : (a b : Bool) → andb a (not b) ≡ true → (a ≡ true) × (b ≡ false)
+      go true false e = (refl, refl)
+      go true true e = absurd (true-false (sym e))
+      go false b e = absurd (true-false (sym e))
+
+  and-false : (a : Bool) → andb a false ≡ false
+  and-false true = refl
+  and-false false = refl
+
+  pub plan-of : Plan ms ps caps j
+  plan-of = record {
+    private = λ o q i h k e. shared-on q i k ∙ ap (λ (b : Bool). andb (on (item rows q) i) b) (private-read o i h e .1) ∙ and-false (on (item rows q) i);
+    single = λ o q i h k ne e. false-where _ (λ f. never-both (c .two o q i h k ne (private-read o i h e .0) (private-read q i k f .0)) (private-read o i h e .1));
+    room = p .caps-are;
+    short = private-low;
+    short-shared = shared-low;
+  }
+
+  pub split-of : Split j 6 (item rows) (item ms) (item ps) sh
+  split-of = record {
+    whole = λ o i h. whole o i h (decLt i 6);
+    among = λ o i h e. and-right (on (item rows o) i) (on sh i) (sym (shared-on o i h) ∙ e);
+    outside = λ o i h e. private-read o i h e .1;
+    own = λ o q i h k ne e. false-where _ (λ f. never-both (c .two o q i h k ne (private-read o i h e .0) f) (private-read o i h e .1));
+    short = short;
+    short-shared = shared-low;
+  }
+    where
+      parts : (a b : Bool) → a ≡ orb (andb a b) (andb a (not b))
+      parts true true = refl
+      parts true false = refl
+      parts false b = refl
+
+      whole : (o i : ℕ) → o < j → Dec (i < 6) → on (item rows o) i ≡ orb (on (item ms o) i) (on (item ps o) i)
+      whole o i h (yes l) = parts (on (item rows o) i) (on sh i) ∙ sym (ap₂ orb (shared-on o i h) (private-on o i h l))
+      whole o i h (no l) = on-above 6 (item rows o) i (short o h) (omega arith) ∙ sym (ap₂ orb (on-above 6 (item ms o) i (shared-low o h) (omega arith)) (on-above 6 (item ps o) i (private-low o h) (omega arith)))
+
+  -- codes that part by shared and private cells part by what is read
+  pub coded-of : (cl : List ℕ) (v : ℕ) (r : List ℕ) → Parted cl ms ps v j r → Coded v j (Differ (labelAt cl)) (item rows) (item r)
+  coded-of cl v r t = record {
+    tells = λ o x y h a b d e. d (t .parted o x y h a b
+        (agree-and 6 (item ms o) (item r x) (item r y) (shared-low o h) (λ i l m. and-agree 6 (item rows o) (item r x) (item r y) e i l (and-left (on (item rows o) i) (on sh i) (sym (shared-on o i h) ∙ m))))
+        (agree-and 6 (item ps o) (item r x) (item r y) (private-low o h) (λ i l m. and-agree 6 (item rows o) (item r x) (item r y) e i l (private-read o i h m .0))));
+  }
+
+  -- a core gives codes over the shared cells; what base promises is asked
+  pub solves-of : (cl base : List ℕ) (v : ℕ) (f : ℕ → ℕ) → Coded v j (Differ (labelAt cl)) (item rows) f → ((o l : ℕ) → o < j → (xs : List ℕ) × All (λ (x : ℕ). (x < v) × (labelAt cl o x ≡ l)) xs × Pairs (λ (x y : ℕ). bitAnd (sharedCode sh f x) (item ms o) ≡ bitAnd (sharedCode sh f y) (item ms o) → ⊥) xs × (labelAt base o l ≤ length xs)) → Solves cl base ms caps spots v j (sharedCode sh f)
+  solves-of cl base v f k need = record {
+    fits = record {
+      crowd = λ o b xs h a q. subst (λ (z : ℕ). length xs ≤ z) (sym (p .caps-are o h)) (crowd-bound v j 6 (labelAt cl) (item rows) (item ms) (item ps) sh split-of f k o b xs h a q);
+      places = λ o xs h a q. subst (λ (z : ℕ). length xs ≤ z) (sym (p .spots-are o h)) (places-bound v j 6 (labelAt cl) (item rows) (item ms) (item ps) sh split-of f k o xs h a q);
+      needs = need;
+    };
+    small = λ x h. let z = and-le-r (f x) sh in let w = c .low in omega arith;
+  }
+
+-- ======== where the search starts
+-- no vertex has a code; vertex 0 may take code 0 only, the others any code over the shared cells
+pub record Start (sh : ℕ) (codes dom : List ℕ) : Type 0 where
+  pub none : (x : ℕ) → x < 32 → item codes x ≡ 64
+  pub first : item dom 0 ≡ 1
+  pub others : (x : ℕ) → x < 32 → (x ≡ 0 → ⊥) → Block (2 ^ 8 - 1 - sh) 0 (item dom x)
+
+abbrev pub copies : ℕ → ℕ → List ℕ
+copies zero x = []
+copies (suc n) x = x ∷ copies n x
+
+copies-at : (n x i : ℕ) → i < n → item (copies n x) i ≡ x
+copies-at zero x i h = absurd (omega arith)
+copies-at (suc n) x zero h = refl
+copies-at (suc n) x (suc i) h = copies-at n x i (omega arith)
+
+pub start-of : (sh s : ℕ) → Block (2 ^ 8 - 1 - sh) 0 s → Start sh (copies 32 64) (1 ∷ copies 31 s)
+start-of sh s b = record { none = λ x h. copies-at 32 64 x h; first = refl; others = others }
+  where
+    others : (x : ℕ) → x < 32 → (x ≡ 0 → ⊥) → Block (2 ^ 8 - 1 - sh) 0 (item (1 ∷ copies 31 s) x)
+    others zero h ne = absurd (ne refl)
+    others (suc x) h ne = subst (Block (2 ^ 8 - 1 - sh) 0) (sym (copies-at 31 s x (omega arith))) b
+
+pub start-extends : (sh : ℕ) (codes dom : List ℕ) (v : ℕ) (f : ℕ → ℕ) → sh < 64 → v ≤ 32 → f 0 ≡ 0 → Start sh codes dom → Extends codes dom v (sharedCode sh f)
+start-extends sh codes dom v f low few z s = record {
+  coded = λ x h l. absurd (let e = s .none x (omega arith) in omega arith);
+  within = λ x h. go x h (ℕ-discrete x 0);
+}
+  where
+    outside : (x : ℕ) → bitAnd (bitAnd (f x) sh) (2 ^ 8 - 1 - sh) ≡ bitAnd 0 (2 ^ 8 - 1 - sh)
+    outside x = equal-digits _ _ (λ i. on-and (bitAnd (f x) sh) (2 ^ 8 - 1 - sh) i ∙ both i (decLt i 8) ∙ sym (on-and 0 (2 ^ 8 - 1 - sh) i ∙ ap (λ (b : Bool). andb b (on (2 ^ 8 - 1 - sh) i)) (on-zero i)))
+      where
+        cross : (a b : Bool) → andb (andb a b) (not b) ≡ false
+        cross true true = refl
+        cross true false = refl
+        cross false b = refl
+
+        both : (i : ℕ) → Dec (i < 8) → andb (on (bitAnd (f x) sh) i) (on (2 ^ 8 - 1 - sh) i) ≡ false
+        both i (yes l) = ap₂ andb (on-and (f x) sh i) (on-complement 8 sh i (omega arith) l) ∙ cross (on (f x) i) (on sh i)
+        both i (no l) = ap (λ (b : Bool). andb b (on (2 ^ 8 - 1 - sh) i)) (on-above 6 (bitAnd (f x) sh) i (let w = and-le-r (f x) sh in omega arith) (omega arith))
+
+    zero-and : bitAnd 0 sh ≡ 0
+    zero-and = let w = and-le-l 0 sh in omega arith
+
+    go : (x : ℕ) → x < v → Dec (x ≡ 0) → on (item dom x) (bitAnd (f x) sh) ≡ true
+    go x h (yes e) = ap₂ on (ap (item dom) e ∙ s .first) (ap (λ (y : ℕ). bitAnd (f y) sh) e ∙ ap (λ (y : ℕ). bitAnd y sh) z ∙ zero-and) ∙ on-single 0
+    go x h (no e) = s .others x (omega arith) e (bitAnd (f x) sh) (let w = and-le-r (f x) sh in omega arith) ∙ eq-eqb _ _ (outside x)
+
+-- the answer: codes that tell the classes apart, or none with code 0 at vertex 0
+abbrev pub Decided : List ℕ → ℕ → ℕ → List ℕ → Bool → List ℕ → Type 0
+Decided cl v j rows true r = Coded v j (Differ (labelAt cl)) (item rows) (item r)
+Decided cl v j rows false r = (f : ℕ → ℕ) → Coded v j (Differ (labelAt cl)) (item rows) f → f 0 ≡ 0 → ⊥
+
+pub blocks-of : (ms bs : List ℕ) (j : ℕ) → j ≤ 8 → Table ms 512 bs → Blocks ms bs j
+blocks-of ms bs j h t = record {
+  long = t .long;
+  each = λ o c l k. subst (λ (z : ℕ). Block (item ms z) c (getD bs (o * 64 + c) 0)) (let e : (o * 64 + c) / 64 ≡ o = omega arith in e)
+      (subst (λ (z : ℕ). Block (item ms ((o * 64 + c) / 64)) z (getD bs (o * 64 + c) 0)) (let e : (o * 64 + c) % 64 ≡ c = omega arith in e) (t .filled (o * 64 + c) (omega arith)));
+}
+
+-- what base promises of every core
+pub record Bounds (cl base : List ℕ) (rows : List ℕ) (sh : ℕ) (ms : List ℕ) (v j : ℕ) : Type 0 where
+  pub needs : (f : ℕ → ℕ) → Coded v j (Differ (labelAt cl)) (item rows) f → (o l : ℕ) → o < j → (xs : List ℕ) × All (λ (x : ℕ). (x < v) × (labelAt cl o x ≡ l)) xs × Pairs (λ (x y : ℕ). bitAnd (sharedCode sh f x) (item ms o) ≡ bitAnd (sharedCode sh f y) (item ms o) → ⊥) xs × (labelAt base o l ≤ length xs)
+
+-- the search's answer is the answer
+pub decided-of : (cl base rows : List ℕ) (sh v j : ℕ) (ms ps caps spots codes dom : List ℕ) (ok : Bool) (r : List ℕ) → v ≤ 32 → Short rows j → Common rows j sh → Planned rows sh j ms ps caps spots → Start sh codes dom → Bounds cl base rows sh ms v j → Told cl base ms ps caps spots v j codes dom ok r → Decided cl v j rows ok r
+decided-of cl base rows sh v j ms ps caps spots codes dom true r few short c p s b t = coded-of rows sh j ms ps caps spots short c p cl v r t
+decided-of cl base rows sh v j ms ps caps spots codes dom false r few short c p s b t = λ f k z.
+    t .none (sharedCode sh f) (solves-of rows sh j ms ps caps spots short c p cl base v f k (b .needs f k)) (start-extends sh codes dom v f (c .low) few z s)
+
+pub no-bounds : (cl base rows : List ℕ) (sh : ℕ) (ms : List ℕ) (v j : ℕ) → ((i : ℕ) → item base i ≡ 0) → Bounds cl base rows sh ms v j
+no-bounds cl base rows sh ms v j z = record { needs = λ f k o l h. ([], tt, tt, let e = z (o * 32 + l) in omega arith) }

@@ -1,0 +1,2 @@
+// Serving.
+pub fn nothing() {}

@@ -1,0 +1,60 @@
+-- A further output: its name is new, so all names stay different, and each output stays right. Assumes nothing.
+use mathlib.Core.Path.{_≡_, refl, sym, ap, _∙_, subst}
+use mathlib.Core.Bool.{true, false, not}
+use mathlib.Core.List.{List, [], _∷_, _++_, map-append}
+use Prim.Native.Nat.{ℕ, _+_, _<_}
+use native.Mathlib.Omega.{arith}
+use native.Mathlib.Decide.{decLt}
+use lib.ListN.{length, length-append, List·getD-append}
+use lib.Seq.{getD-append-seam}
+use borrow.Author.Tests.{not-true}
+use Rattle.bits.specs.Logic.{true-false, and-left, and-right}
+use Rattle.text.specs.Limits.{maxOutputs}
+use Rattle.names.specs.Name.{Name, sameName, among, distinct}
+use Rattle.names.specs.LookupLaws.{neither-left, neither-right}
+use Rattle.names.specs.SameLaws.{same-name-equal, same-name-different}
+use Rattle.formula.specs.Tree.{constant}
+use Rattle.sheet.specs.Lines.{Output}
+use Rattle.sheet.specs.Examine.{outputNames}
+use Rattle.sheet.specs.WellFormed.{RightOutput, RightOutputs, outputAt}
+
+same-name-turned : (m n : Name) → sameName m n ≡ false → sameName n m ≡ false
+same-name-turned m n e = same-name-different n m (λ h. true-false (sym (same-name-equal m n (sym h)) ∙ e))
+
+among-more : (n m : Name) (ns : List Name) → among n ns ≡ false → sameName m n ≡ false → among n (ns ++ (m ∷ [])) ≡ false
+unfolding among
+among-more n m [] e h = rw h refl
+among-more n m (k ∷ ns) e h =
+    rw (neither-left (sameName k n) (among n ns) e, among-more n m ns (neither-right (sameName k n) (among n ns) e) h) refl
+
+pub distinct-more : (ns : List Name) (n : Name) → distinct ns ≡ true → among n ns ≡ false → distinct (ns ++ (n ∷ [])) ≡ true
+unfolding distinct among
+distinct-more [] n e h = refl
+distinct-more (m ∷ ns) n e h =
+    let a = not-true (among m ns) (and-left (not (among m ns)) (distinct ns) e) in
+    let b = same-name-turned m n (neither-left (sameName m n) (among n ns) h) in
+    rw (among-more m n ns a b) (distinct-more ns n (and-right (not (among m ns)) (distinct ns) e) (neither-right (sameName m n) (among n ns) h))
+
+last-or-before : (P : Output → Type 0) (os : List Output) (o : Output)
+    → ((i : ℕ) → i < length os → P (outputAt os i)) → P o
+    → (i : ℕ) → i < length (os ++ (o ∷ [])) → P (outputAt (os ++ (o ∷ [])) i)
+last-or-before P os o each last i h =
+    let none : Output = record { name = []; formula = constant false } in
+    let l : length (os ++ (o ∷ [])) ≡ length os + 1 = length-append os (o ∷ []) in
+    elim (decLt i (length os)) as (λ _. P (outputAt (os ++ (o ∷ [])) i)) [
+      | yes b ↦ subst P (sym (List·getD-append os (o ∷ []) none i b)) (each i b)
+      | no b ↦
+          let e : i ≡ length os = omega arith in
+          subst P (sym (ap (outputAt (os ++ (o ∷ []))) e ∙ getD-append-seam os o [] none)) last
+    ]
+
+pub outputs-more : (ns : List Name) (os : List Output) (o : Output) → RightOutputs ns os → RightOutput ns o
+    → length os < maxOutputs → among (o .name) (outputNames os) ≡ false
+    → RightOutputs ns (os ++ (o ∷ []))
+outputs-more ns os o r p h e =
+    let l : length (os ++ (o ∷ [])) ≡ length os + 1 = length-append os (o ∷ []) in
+    record {
+      few = omega arith;
+      once = ap distinct (map-append (λ (x : Output). x .name) os (o ∷ [])) ∙ distinct-more (outputNames os) (o .name) (r .once) e;
+      each = last-or-before (RightOutput ns) os o (r .each) p;
+    }
