@@ -3,6 +3,9 @@
 // Standard input holds blocks. A block is a line `NAME OUTPUT BUFFER LENGTH EXPECTED`, where EXPECTED is
 // `refused N line L` or `written K DIGITS`; then LENGTH bytes, the sheet; then 0x0A. Table is lent BUFFER bytes, each
 // of them a mark that it never writes, so a byte that it should have left alone shows.
+ghost use mathlib.Core.Path.{_≡_};
+ghost use Prim.Native.Nat.{_≤_, _<_};
+ghost use lib.ListN.{length};
 use design::Tabled;
 
 // The most bytes of standard input.
@@ -10,6 +13,9 @@ const MAX_TEXT: usize = 655360;
 
 // The most bytes that Table is lent.
 const MAX_BUFFER: usize = 2048;
+
+// The most bytes of an answer in words.
+const MAX_LINE: usize = 4096;
 
 // What stands in the buffer before the call.
 const MARK: u8 = b'.';
@@ -31,7 +37,9 @@ fn part(t: &[u8], a: usize, e: usize) -> &[u8] {
 }
 
 // The place of the space that ends word k of a line, counted from 0, or the line's end.
-fn word_end(l: &[u8], k: usize) -> usize {
+fn word_end(l: &[u8], k: usize) -> usize
+    ensures { λ r. ⌜ r ≤ length (now (l .entry)) ⌝ }
+{
     let mut left = k;
     let mut i = 0;
     while i < l.len() {
@@ -53,13 +61,17 @@ fn past(l: &[u8], k: usize) -> &[u8] {
 }
 
 // Word k of a line, for k above 0.
-fn word(l: &[u8], k: usize) -> &[u8] {
+fn word(l: &[u8], k: usize) -> &[u8]
+    requires { ⌜ 0 < k ⌝ }
+{
     let rest = past(l, k - 1);
     part(rest, 0, word_end(rest, 0))
 }
 
 // What a digit stands for.
-fn digit(b: u8) -> usize {
+fn digit(b: u8) -> usize
+    ensures { λ r. ⌜ r ≤ 9 ⌝ }
+{
     match b {
         b'0'..=b'9' => (b - b'0') as usize,
         _ => 0,
@@ -67,7 +79,9 @@ fn digit(b: u8) -> usize {
 }
 
 // Ten times a number and a digit more, or the largest number where that is too large.
-fn grown(n: usize, d: usize) -> usize {
+fn grown(n: usize, d: usize) -> usize
+    requires { ⌜ d ≤ 9 ⌝ }
+{
     if n <= (usize::MAX - d) / 10 {
         n * 10 + d
     } else {
@@ -90,7 +104,10 @@ fn number(w: &[u8]) -> usize {
 fn put(line: &mut [u8], at: usize, s: &[u8]) -> usize {
     let mut to = at;
     let mut i = 0;
-    while i < s.len() && to < line.len() {
+    while i < s.len() {
+        if line.len() <= to {
+            return to;
+        }
         line[to] = s[i];
         to += 1;
         i += 1;
@@ -160,6 +177,13 @@ fn report(name: &[u8], ok: bool, came: &[u8]) {
     }
 }
 
+// Asks Table, and lends it the first n bytes of space.
+fn ask(sheet: &[u8], output: usize, space: &mut [u8], n: usize) -> Tabled
+    requires { ⌜ n ≤ length (now space) ⌝ }
+{
+    design::table(sheet, output, &mut space[..n])
+}
+
 // Executes a sheet by the words of its block's first line.
 fn execute(head: &[u8], sheet: &[u8]) -> bool {
     let n = number(word(head, 2));
@@ -168,8 +192,8 @@ fn execute(head: &[u8], sheet: &[u8]) -> bool {
         return false;
     }
     let mut buffer = [MARK; MAX_BUFFER];
-    let answer = design::table(sheet, number(word(head, 1)), &mut buffer[..n]);
-    let mut line = [0u8; 4096];
+    let answer = ask(sheet, number(word(head, 1)), &mut buffer, n);
+    let mut line = [0u8; MAX_LINE];
     let k = put_answer(&mut line, answer, &buffer);
     let came = part(&line, 0, k);
     let ok = check::same(came, past(head, 3));
@@ -177,32 +201,43 @@ fn execute(head: &[u8], sheet: &[u8]) -> bool {
     ok
 }
 
-// The block that begins at a place.
-fn block(t: &[u8], at: usize) -> Ran {
+// What becomes of a block whose sheet is not there in full: it is the last one.
+fn broken_off(t: &[u8], head: &[u8]) -> Ran
+    ensures { λ r. ⌜ r .next ≡ length (now (t .entry)) ⌝ }
+{
+    report(head, false, b"the sheet breaks off");
+    Ran {
+        ok: false,
+        next: t.len(),
+    }
+}
+
+// Executes the block that begins at a place.
+fn block(t: &[u8], at: usize) -> Ran
+    requires { ⌜ at < length (now t) ⌝ }
+    ensures { λ r. ⌜ (at < r .next) × (r .next ≤ length (now (t .entry))) ⌝ }
+{
     let e = text::line_end(t, at);
     let head = part(t, at, e);
     let n = number(word(head, 3));
     let left = t.len() - e;
-    if left < 2 || left - 2 < n {
-        report(head, false, b"the sheet breaks off");
-        return Ran {
-            ok: false,
-            next: t.len(),
-        };
+    if left < 2 {
+        return broken_off(t, head);
+    }
+    if left - 2 < n {
+        return broken_off(t, head);
     }
     let sheet = e + 1;
     let end = sheet + n;
-    Ran {
-        ok: execute(head, part(t, sheet, end)),
-        next: end + 1,
-    }
+    let ok = execute(head, part(t, sheet, end));
+    Ran { ok, next: end + 1 }
 }
 
 // Executes all blocks, and says how many there were and how many went wrong.
 fn execute_all(t: &[u8]) {
     let mut at = 0;
-    let mut done: u64 = 0;
-    let mut wrong: u64 = 0;
+    let mut done = 0;
+    let mut wrong = 0;
     while at < t.len() {
         let r = block(t, at);
         if !r.ok {
@@ -211,6 +246,10 @@ fn execute_all(t: &[u8]) {
         done += 1;
         at = r.next;
     }
+    report_all(done, wrong);
+}
+
+fn report_all(done: u64, wrong: u64) {
     io::print_decimal(1, done);
     io::write_all(1, b" sheets, ");
     io::print_decimal(1, wrong);
