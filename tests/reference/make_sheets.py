@@ -47,10 +47,10 @@ def ones(row):
     return bin(row).count("1")
 
 
-def cases(name, sheets, expected):
-    """Several sheets with one answer, numbered from 1."""
-    for k, sheet in enumerate(sheets, 1):
-        case(f"{name}-{k}", sheet, expected)
+def cases(name, sheet_with, lines, expected):
+    """Several sheets with one answer, numbered from 1: each has one of the lines where sheet_with puts it."""
+    for k, line in enumerate(lines, 1):
+        case(f"{name}-{k}", sheet_with(line), expected)
 
 
 # ---- sheets with one line of interest
@@ -86,6 +86,10 @@ def sheet_of(inputs, bound, formula):
 
 def with_end(line):
     return f"(design 1)/(in a b)/(bound a)/(limit 1)/(out f (or a b))/{line}/"
+
+
+def with_more(line):
+    return GOOD + line + "/"
 
 
 GOOD = "(design 1)/(in a b)/(bound a)/(limit 1)/(out f (and a b))/(end)/"
@@ -156,34 +160,12 @@ def length_of_text():
 def design_line():
     cases(
         "design",
+        with_design,
         [
-            with_design(line)
-            for line in (
-                "",
-                "(design)",
-                "(design )",
-                "(design 0)",
-                "(design 2)",
-                "(design 11)",
-                "(design 01)",
-                "(design 1 )",
-                "( design 1)",
-                "(design  1)",
-                " (design 1)",
-                "(design 1) ",
-                "(design 1",
-                "design 1)",
-                "(design 1))",
-                "((design 1)",
-                "(Design 1)",
-                "(design1)",
-                "(design a)",
-                "(desig 1)",
-                "(designs 1)",
-                "(network 1)",
-                "(in a b)",
-                "(end)",
-            )
+            "", "(design)", "(design )", "(design 0)", "(design 2)", "(design 11)", "(design 01)",
+            "(design 1 )", "( design 1)", "(design  1)", " (design 1)", "(design 1) ", "(design 1", "design 1)",
+            "(design 1))", "((design 1)", "(Design 1)", "(design1)", "(design a)", "(desig 1)", "(designs 1)",
+            "(network 1)", "(in a b)", "(end)",
         ],
         no(2, 1),
     )
@@ -195,49 +177,18 @@ def design_line():
 def in_line():
     cases(
         "in-bad",
+        with_in,
         [
-            with_in(line)
-            for line in (
-                "",
-                "(in",
-                "in a",
-                "(in )",
-                "( in a)",
-                "(in a )",
-                "(in  a)",
-                "(in a  b)",
-                "(in ( a)",
-                " (in a)",
-                "(in a) ",
-                "(in a",
-                "(in a))",
-                "((in a)",
-                "(in (a))",
-                "(ina)",
-                "(inn a)",
-                "(i a)",
-                "(IN a)",
-                "(in A)",
-                "(in aB)",
-                "(in 1)",
-                "(in 1a)",
-                "(in 0)",
-                "(in a,b)",
-                "(in a-b)",
-                "(in a_b)",
-                "(in _0)",
-                "(in a.)",
-                "(in a 2)",
-                "(in a)(bound a)",
-                "(bound a)",
-                "(end)",
-            )
+            "", "(in", "in a", "(in )", "( in a)", "(in a )", "(in  a)", "(in a  b)", "(in ( a)", " (in a)",
+            "(in a) ", "(in a", "(in a))", "((in a)", "(in (a))", "(ina)", "(inn a)", "(i a)", "(IN a)",
+            "(in A)", "(in aB)", "(in 1)", "(in 1a)", "(in 0)", "(in a,b)", "(in a-b)", "(in a_b)", "(in _0)",
+            "(in a.)", "(in a 2)", "(in a)(bound a)", "(bound a)", "(end)",
         ],
         no(2, 2),
     )
     # The bytes on both sides of the letters and of the digits.
-    cases("in-bytes", [with_in(f"(in a{b})") for b in "`{:@["], no(2, 2))
-    cases("in-first", [with_in(f"(in {b}a)") for b in "`{09"], no(2, 2))
+    cases("in-bytes", with_in, [f"(in a{b})" for b in "`{:@["], no(2, 2))
+    cases("in-first", with_in, [f"(in {b}a)" for b in "`{09"], no(2, 2))
     case("in-a-z-0-9", with_in("(in az09)", "az09"), yes("01"))
     case("in-z", with_in("(in z)", "z"), yes("01"))
     case("in-digits", with_in("(in a0123456)", "a0123456"), yes("01"))
@@ -288,39 +239,13 @@ def in_line():
 def bound_line():
     cases(
         "bound-bad",
+        with_bound,
         [
-            with_bound(line)
-            for line in (
-                "",
-                "(bound",
-                "bound a",
-                "(bound )",
-                "( bound a)",
-                "(bound a )",
-                "(bound  a)",
-                "(bound a  b)",
-                " (bound a)",
-                "(bound a) ",
-                "(bound a",
-                "(bound a))",
-                "(bound (a))",
-                "(bounda)",
-                "(boun a)",
-                "(bounds a)",
-                "(BOUND a)",
-                "(bound A)",
-                "(bound 1)",
-                "(bound 0)",
-                "(bound a,b)",
-                "(bound abcdefghi)",
-                "(bound not)",
-                "(bound and)",
-                "(bound or)",
-                "(bound xor)",
-                "(in a)",
-                "(limit 1)",
-                "(end)",
-            )
+            "", "(bound", "bound a", "(bound )", "( bound a)", "(bound a )", "(bound  a)", "(bound a  b)",
+            " (bound a)", "(bound a) ", "(bound a", "(bound a))", "(bound (a))", "(bounda)", "(boun a)",
+            "(bounds a)", "(BOUND a)", "(bound A)", "(bound 1)", "(bound 0)", "(bound a,b)",
+            "(bound abcdefghi)", "(bound not)", "(bound and)", "(bound or)", "(bound xor)", "(in a)",
+            "(limit 1)", "(end)",
         ],
         no(2, 3),
     )
@@ -359,53 +284,19 @@ def limit_line():
         case(f"limit-{n}", with_limit(f"(limit {n})"), no(3, 4))
     cases(
         "limit-bad",
+        with_limit,
         [
-            with_limit(line)
-            for line in (
-                "",
-                "(limit",
-                "(limit)",
-                "(limit )",
-                "(limit 07)",
-                "(limit 00)",
-                "(limit 01)",
-                "(limit 000)",
-                "(limit 006)",
-                "(limit 099)",
-                "(limit 1000)",
-                "(limit 0000)",
-                "(limit 9999)",
-                "(limit 65536)",
-                "(limit 4294967296)",
-                "(limit 18446744073709551616)",
-                "(limit 1 )",
-                "(limit  1)",
-                "( limit 1)",
-                " (limit 1)",
-                "(limit 1) ",
-                "(limit 1",
-                "(limit 1))",
-                "(limit 1 2)",
-                "(limit 1a)",
-                "(limit a)",
-                "(limit -1)",
-                "(limit +1)",
-                "(limit 0x1)",
-                "(limit 1.)",
-                "(limit (1))",
-                "limit 1",
-                "(limit1)",
-                "(limits 1)",
-                "(Limit 1)",
-                "(count 1)",
-                "(out f a)",
-                "(end)",
-            )
+            "", "(limit", "(limit)", "(limit )", "(limit 07)", "(limit 00)", "(limit 01)", "(limit 000)",
+            "(limit 006)", "(limit 099)", "(limit 1000)", "(limit 0000)", "(limit 9999)", "(limit 65536)",
+            "(limit 4294967296)", "(limit 18446744073709551616)", "(limit 1 )", "(limit  1)", "( limit 1)",
+            " (limit 1)", "(limit 1) ", "(limit 1", "(limit 1))", "(limit 1 2)", "(limit 1a)", "(limit a)",
+            "(limit -1)", "(limit +1)", "(limit 0x1)", "(limit 1.)", "(limit (1))", "limit 1", "(limit1)",
+            "(limits 1)", "(Limit 1)", "(count 1)", "(out f a)", "(end)",
         ],
         no(2, 4),
     )
     # The bytes on both sides of the digits.
-    cases("limit-bytes", [with_limit(f"(limit {n})") for n in (":", "1:", "10:", "9:9", "!")], no(2, 4))
+    cases("limit-bytes", with_limit, [f"(limit {n})" for n in (":", "1:", "10:", "9:9", "!")], no(2, 4))
 
 
 # ---- the `out` lines
@@ -414,49 +305,14 @@ def limit_line():
 def out_line():
     cases(
         "out-bad",
+        with_out,
         [
-            with_out(line)
-            for line in (
-                "",
-                " ",
-                "(out)",
-                "(out )",
-                "(out f)",
-                "(out f )",
-                "(out  f a)",
-                "( out f a)",
-                "(out f  a)",
-                "(out f a )",
-                "(out f a",
-                "(out f a))",
-                "((out f a))",
-                " (out f a)",
-                "(out f a) ",
-                "out f a",
-                "(out f a b)",
-                "(out f a 1)",
-                "(out f (not a) b)",
-                "(out (f) a)",
-                "(out fa)",
-                "(outf a)",
-                "(output f a)",
-                "(ou f a)",
-                "(OUT f a)",
-                "(out F a)",
-                "(out 1 a)",
-                "(out 0f a)",
-                "(out f_ a)",
-                "(out not a)",
-                "(out and a)",
-                "(out or a)",
-                "(out xor a)",
-                "(out abcdefghi a)",
-                "(out f a)(out g b)",
-                "(in a b c)",
-                "(limit 1)",
-                "(node f (a) 01)",
-                "(design 1)",
-            )
+            "", " ", "(out)", "(out )", "(out f)", "(out f )", "(out  f a)", "( out f a)", "(out f  a)",
+            "(out f a )", "(out f a", "(out f a))", "((out f a))", " (out f a)", "(out f a) ", "out f a",
+            "(out f a b)", "(out f a 1)", "(out f (not a) b)", "(out (f) a)", "(out fa)", "(outf a)",
+            "(output f a)", "(ou f a)", "(OUT f a)", "(out F a)", "(out 1 a)", "(out 0f a)", "(out f_ a)",
+            "(out not a)", "(out and a)", "(out or a)", "(out xor a)", "(out abcdefghi a)",
+            "(out f a)(out g b)", "(in a b c)", "(limit 1)", "(node f (a) 01)", "(design 1)",
         ],
         no(2, 5),
     )
@@ -467,159 +323,44 @@ def out_line():
 def formula_spelling():
     cases(
         "formula-bad",
+        with_formula,
         [
-            with_formula(formula)
-            for formula in (
-                # atoms
-                "2",
-                "9",
-                "01",
-                "00",
-                "10",
-                "11",
-                "0a",
-                "1a",
-                "0(not a)",
-                "-",
-                "A",
-                "a-",
-                "a_",
-                "a0_",
-                "~a",
-                "and",
-                "or",
-                "not",
-                "xor",
-                "abcdefghi",
-                "a1234567890",
-                # brackets
-                "()",
-                "(",
-                ")",
-                "(a)",
-                "(0)",
-                "(1)",
-                "(a b)",
-                "(0 a)",
-                "((not a))",
-                "((a))",
-                "(() a)",
-                # too few and too many operands
-                "(not)",
-                "(and)",
-                "(or)",
-                "(xor)",
-                "(not )",
-                "(and )",
-                "(and a)",
-                "(or a)",
-                "(xor a)",
-                "(and (not a))",
-                "(or 0)",
-                "(xor (xor a b))",
-                "(not a b)",
-                "(not a b c)",
-                "(not (not a) b)",
-                # operators
-                "(nand a b)",
-                "(nor a b)",
-                "(no a)",
-                "(an a b)",
-                "(o a b)",
-                "(xo a b)",
-                "(nota b)",
-                "(and1 a b)",
-                "(orx a b)",
-                "(xors a b)",
-                "(nott a)",
-                "(AND a b)",
-                "(And a b)",
-                "(xnor a b)",
-                "(f a b)",
-                "(not not)",
-                "(not and)",
-                "(and a and)",
-                "(and or a)",
-                "(or a xor b)",
-                # spaces
-                "( and a b)",
-                "(and  a b)",
-                "(and a  b)",
-                "(and a b )",
-                "(and a b  c)",
-                "( not a)",
-                "(not  a)",
-                "(not a )",
-                "(and(not a) b)",
-                "(and (not a)b)",
-                "(and (not a)  b)",
-                "(and ( not a) b)",
-                "(and (not a) b )",
-                "(and (not a )b)",
-                "(and a(not b))",
-                "(and a,b)",
-                "(and a, b)",
-                "(not(a))",
-                "(not(not a))",
-                "(not 0 )",
-                "(or 0  1)",
-                "(or 01)",
-                "(or 0 1a)",
-                "(or ab c )",
-                # unbalanced
-                "(not a",
-                "(not a))",
-                "(and a b",
-                "(and a b))",
-                "(and (or a b)",
-                "(and (or a b) c",
-                "(and (or a b) c))",
-                "(and a b)c",
-                "(and a b)(or a b)",
-                "(not a)0",
-                "a)",
-                "(and a b) (or a b)",
-                "a b",
-                # a bad one far inside
-                "(and (or a b) (xor a (not 2)))",
-                "(and (or a b) (xor a (not B)))",
-                "(and (or a b) (xor a (and c)))",
-                "(and (or a b) (xor a (not c c)))",
-                "(and (or a b) (xor a (not abcdefghi)))",
-                "(and (or a b) (xor z (not 2)))",
-            )
+            # atoms
+            "2", "9", "01", "00", "10", "11", "0a", "1a", "0(not a)", "-", "A", "a-", "a_", "a0_", "~a", "and",
+            "or", "not", "xor", "abcdefghi", "a1234567890",
+            # brackets
+            "()", "(", ")", "(a)", "(0)", "(1)", "(a b)", "(0 a)", "((not a))", "((a))", "(() a)",
+            # too few and too many operands
+            "(not)", "(and)", "(or)", "(xor)", "(not )", "(and )", "(and a)", "(or a)", "(xor a)",
+            "(and (not a))", "(or 0)", "(xor (xor a b))", "(not a b)", "(not a b c)", "(not (not a) b)",
+            # operators
+            "(nand a b)", "(nor a b)", "(no a)", "(an a b)", "(o a b)", "(xo a b)", "(nota b)", "(and1 a b)",
+            "(orx a b)", "(xors a b)", "(nott a)", "(AND a b)", "(And a b)", "(xnor a b)", "(f a b)",
+            "(not not)", "(not and)", "(and a and)", "(and or a)", "(or a xor b)",
+            # spaces
+            "( and a b)", "(and  a b)", "(and a  b)", "(and a b )", "(and a b  c)", "( not a)", "(not  a)",
+            "(not a )", "(and(not a) b)", "(and (not a)b)", "(and (not a)  b)", "(and ( not a) b)",
+            "(and (not a) b )", "(and (not a )b)", "(and a(not b))", "(and a,b)", "(and a, b)", "(not(a))",
+            "(not(not a))", "(not 0 )", "(or 0  1)", "(or 01)", "(or 0 1a)", "(or ab c )",
+            # unbalanced
+            "(not a", "(not a))", "(and a b", "(and a b))", "(and (or a b)", "(and (or a b) c",
+            "(and (or a b) c))", "(and a b)c", "(and a b)(or a b)", "(not a)0", "a)", "(and a b) (or a b)",
+            "a b",
+            # a bad one far inside
+            "(and (or a b) (xor a (not 2)))", "(and (or a b) (xor a (not B)))",
+            "(and (or a b) (xor a (and c)))", "(and (or a b) (xor a (not c c)))",
+            "(and (or a b) (xor a (not abcdefghi)))", "(and (or a b) (xor z (not 2)))",
         ],
         no(2, 5),
     )
     # Spelled right, with a name that is no input.
     cases(
         "formula-unknown",
+        with_formula,
         [
-            with_formula(formula)
-            for formula in (
-                "z",
-                "aa",
-                "a0",
-                "a1",
-                "andy",
-                "nota",
-                "orx",
-                "and1",
-                "not0",
-                "xorxor",
-                "abcdefgh",
-                "f",
-                "in",
-                "end",
-                "(not z)",
-                "(and a z)",
-                "(and z a)",
-                "(or 1 z)",
-                "(and 0 z)",
-                "(xor a b c z)",
-                "(and nota b)",
-                "(and (or a b) (xor a (not z)))",
-            )
+            "z", "aa", "a0", "a1", "andy", "nota", "orx", "and1", "not0", "xorxor", "abcdefgh", "f", "in",
+            "end", "(not z)", "(and a z)", "(and z a)", "(or 1 z)", "(and 0 z)", "(xor a b c z)",
+            "(and nota b)", "(and (or a b) (xor a (not z)))",
         ],
         no(5, 5),
     )
@@ -723,11 +464,11 @@ def outputs():
 
 
 def end_line():
-    cases("end-bad", [with_end(line) for line in ("", " ", "()", "(end )", "( end)", " (end)", "(end) ")], no(2, 6))
-    cases("end-brackets", [with_end(line) for line in ("(end", "end)", "end", "(end))", "((end))")], no(2, 6))
-    cases("end-words", [with_end(line) for line in ("(End)", "(END)", "(end 1)", "(en)", "(ends)")], no(2, 6))
-    surplus = ("", " ", "(end)", "(out g a)", "(design 1)", "x", "/", "///", "(out g 2)/(end)")
-    cases("end-surplus", [GOOD + more + "/" for more in surplus], no(2, 7))
+    cases("end-bad", with_end, ["", " ", "()", "(end )", "( end)", " (end)", "(end) "], no(2, 6))
+    cases("end-brackets", with_end, ["(end", "end)", "end", "(end))", "((end))"], no(2, 6))
+    cases("end-words", with_end, ["(End)", "(END)", "(end 1)", "(en)", "(ends)"], no(2, 6))
+    surplus = ["", " ", "(end)", "(out g a)", "(design 1)", "x", "/", "///", "(out g 2)/(end)"]
+    cases("end-surplus", with_more, surplus, no(2, 7))
     case("end-then-whole-sheet", GOOD + GOOD, no(2, 7))
 
 
