@@ -1,5 +1,5 @@
--- All that questions 1 to 6 and 9 compute with, named once: `unfolding computing` lets a closed sheet be computed.
--- Assumes nothing.
+-- All that questions 1 to 6 and 9 compute with, named once: under `unfolding computing` the answer for a given sheet is
+-- computed. What stands here says nothing by itself. Assumes nothing.
 use Rattle.bits.specs.Digit.{on, digit}
 use Rattle.text.specs.Bytes.{same, eat}
 use Rattle.text.specs.Line.{lines}
@@ -16,6 +16,26 @@ use Rattle.sheet.specs.Examine.{plain, plainLines, sized, askIn, askBound, askL
 use Rattle.sheet.specs.Known.{outputOn}
 use Rattle.design.specs.Tabulate.{tableDigits, tableOf, tabulate}
 
+texts : Unit {0}
+unfolding same eat lines numeral numerals afterNumerals valueFrom isNumber readNumber
+texts = tt
+
+names : Unit {0}
+unfolding letter nameByte word afterWord operator isName readName sameName among distinct allAmong namesWithin readNames
+names = tt
+
+formulas : Unit {0}
+unfolding readOpening readWithin readFormula depth knows combine value onRow on digit
+formulas = tt
+
+questions : Unit {0}
+unfolding readIn readBound readLimit readOut plain plainLines sized askIn askBound askLimit askOut askEnd askLine askLines examine
+questions = tt
+
+tables : Unit {0}
+unfolding outputOn digitsUpto tableDigits tableOf tabulate
+tables = tt
+
 unfoldable pub computing : Unit {0}
-unfolding on digit same eat lines numeral numerals afterNumerals valueFrom isNumber readNumber letter nameByte word afterWord operator isName readName sameName among distinct allAmong namesWithin readNames digitsUpto readOpening depth knows readWithin readFormula combine value onRow readIn readBound readLimit readOut plain plainLines sized askIn askBound askLimit askOut askEnd askLine askLines examine outputOn tableDigits tableOf tabulate
+unfolding texts names formulas questions tables
 computing = tt

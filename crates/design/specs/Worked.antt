@@ -92,12 +92,17 @@ no-formulas : (readOut (bytes "(out f 2)") ≡ none) × (readOut (bytes "(out f 
 unfolding computing
 no-formulas = (refl, refl)
 
-longer-words : (isName (bytes "andy") ≡ true) × (isName (bytes "and1") ≡ true) × (isName (bytes "nota") ≡ true) × (isName (bytes "orx") ≡ true)
+longer-words : (isName (bytes "andy") ≡ true)
+    × (isName (bytes "and1") ≡ true)
+    × (isName (bytes "nota") ≡ true)
+    × (isName (bytes "orx") ≡ true)
 unfolding computing
 longer-words = (refl, refl, refl, refl)
 
 -- 4: how N is spelled
-limit-spelling : (examine (withLimit "07") ≡ refused 2 4) × (examine (withLimit "1000") ≡ refused 2 4) × (examine (withLimit "999") ≡ refused 3 4)
+limit-spelling : (examine (withLimit "07") ≡ refused 2 4)
+    × (examine (withLimit "1000") ≡ refused 2 4)
+    × (examine (withLimit "999") ≡ refused 3 4)
 unfolding computing
 limit-spelling = (refl, refl, refl)
 

@@ -11,14 +11,7 @@ pub mod FurtherOutputLaws
 pub mod LineRightLaws
 pub mod ExaminationLaws
 pub mod Known
-pub mod CloseLaws
 pub mod OnwardLaws
-pub mod LimitLaws
-pub mod OutLineLaws
-pub mod NewNameLaws
-pub mod OutputLaws
-pub mod AskOutLaws
-pub mod AskLineLaws
 pub mod StepLaws
 pub mod LineLaws
 pub mod DistinctLaws
@@ -27,3 +20,10 @@ pub mod ListLaws
 pub mod InLaws
 pub mod BoundLaws
 pub mod FitLaws
+pub mod CloseLaws
+pub mod LimitLaws
+pub mod OutLineLaws
+pub mod NewNameLaws
+pub mod OutputLaws
+pub mod AskOutLaws
+pub mod AskLineLaws

@@ -39,7 +39,9 @@ names-to-end =
     }
 
 pub names-line-inverse : (w : List ℕ)
-    → Inverse (λ ns. allNames ns ≡ true) (λ ns. w ++ (printNames ns ++ (closeBracket ∷ []))) (λ l. whole (after (eat w l) (λ _ s. readNames s)))
+    → Inverse (λ ns. allNames ns ≡ true)
+    (λ ns. w ++ (printNames ns ++ (closeBracket ∷ [])))
+    (λ l. whole (after (eat w l) (λ _ s. readNames s)))
 names-line-inverse w = head-inverse w readNames names-to-end
 
 pub in-inverse : Inverse (λ ns. allNames ns ≡ true) printIn readIn

@@ -1,13 +1,21 @@
 -- `ask_out`: the questions in turn, each on what the line and the sheet say. Assumes nothing.
 use mathlib.Core.Logic.{⊎-elim}
+use mathlib.Core.List.{List}
+use mathlib.Core.Option.{some}
 use mathlib.Core.Path.{sym, _∙_}
+use Prim.Native.Nat.{ℕ}
 use native.Mathlib.Omega.{arith}
 use lib.Seq.{length-take-le}
 use borrow.Author.Tests.{not-true, not-false, ltb-true, ltb-false}
 use borrow.Author.Needs.{needs}
 use Rattle.text.specs.Limits.{maxDepth}
 use Rattle.sheet.specs.AskOutLaws.{out-misspelled, out-spelled, out-fifth, out-deep, out-old-name, out-unknown, out-passes}
-use Rattle.sheet.specs.Lines.{readOut}
+use Rattle.sheet.specs.Lines.{Output, readOut}
+use Rattle.sheet.specs.Examine.{Design, askOut}
+use Rattle.sheet.specs.Known.{Holds, StepIs, OutGood}
+use Rattle.sheet.specs.declared.OutLine.{OutLine}
+use Rattle.sheet.specs.declared.Sheet.{Sheet}
+use Rattle.sheet.specs.declared.Asked.{Asked}
 use Rattle.sheet.proofs.Arrays.{names-sized}
 use Rattle.sheet.proofs.ask_out.Statement.{statement}
 use Rattle.sheet.proofs.ask_out.Tie as tie
@@ -31,19 +39,33 @@ returns c =
     let missing = not-true (w .result .ok) (c .before .if1 .taken) in
     λ d h. out-misspelled d k h (w .result) (c .refuse .result) (readOut (c .before .before .before .before .before .before .before .before .args .l .now)) (w .ensures) missing (c .refuse .ensures)
 
+-- past the test of the spelling: the sheet, the line's text, and what is read of it
+abbrev sheet-at : tie.Else1 → Sheet
+sheet-at c = c .before .before .before .before .before .before .before .args .k
+
+abbrev text-at : tie.Else1 → List ℕ
+text-at c = c .before .before .before .before .before .before .before .args .l .now
+
+abbrev read-at : tie.Else1 → OutLine
+read-at c = c .before .before .before .out-line .result
+
+spelled : (c : tie.Else1) (d : Design) → Holds d (sheet-at c) → (r : Asked)
+    → ((x : Output) → OutGood (d .inputs) x (read-at c) → StepIs (askOut d (some x)) r) → StepIs (askOut d (readOut (text-at c))) r
+spelled c d h r f =
+    out-spelled d (sheet-at c) h (read-at c) r (readOut (text-at c)) (c .before .before .before .out-line .ensures)
+    (not-false (read-at c .ok) (c .if1 .left)) f
+
 refuse-requires-2 : tie.Need-refuse-requires-2
 refuse-requires-2 c κs = search needs
 
 returns-2 : tie.Need-returns-2
 returns-2 c =
-    let k = c .before .before .before .before .before .before .before .before .before .before .args .k in
-    let w = c .before .before .before .before .before .before .out-line in
+    let p = c .before .before .before in
     let q = c .refuse2 in
-    let spelled = not-false (w .result .ok) (c .before .before .before .if1 .left) in
-    λ d h. out-spelled d k h (w .result) (q .result) (readOut (c .before .before .before .before .before .before .before .before .before .before .args .l .now)) (w .ensures) spelled (λ x g.
+    λ d h. spelled p d h (q .result) (λ x g.
     ⊎-elim
-    (λ v. out-fifth d k h (w .result) (q .result) x g (v .taken) (q .ensures))
-    (λ v. out-deep d k h (w .result) (q .result) x g (v .0 .left) (ltb-true maxDepth (w .result .depth) (v .2 .taken)) (q .ensures))
+    (λ v. out-fifth d (sheet-at p) h (read-at p) (q .result) x g (v .taken) (q .ensures))
+    (λ v. out-deep d (sheet-at p) h (read-at p) (q .result) x g (v .0 .left) (ltb-true maxDepth (read-at p .depth) (v .2 .taken)) (q .ensures))
     (c .before .if2 .came))
 
 is-new-requires : tie.Need-is-new-requires
@@ -54,29 +76,27 @@ refuse-requires-3 c κs = search needs
 
 returns-3 : tie.Need-returns-3
 returns-3 c =
-    let k = c .before .before .before .before .before .before .before .before .before .before .before .before .before .before .args .k in
-    let w = c .before .before .before .before .before .before .before .before .before .before .out-line in
+    let p = c .before .before .before .before .before .before .before in
     let q = c .refuse3 in
-    let spelled = not-false (w .result .ok) (c .before .before .before .before .before .before .before .if1 .left) in
-    let flat = ltb-false maxDepth (w .result .depth) (c .before .before .before .if3 .left) in
-    let old = sym (not-true (c .before .before .is-new .result) (c .before .if4 .taken)) in
-    λ d h. out-spelled d k h (w .result) (q .result) (readOut (c .before .before .before .before .before .before .before .before .before .before .before .before .before .before .args .l .now)) (w .ensures) spelled (λ x g.
-    out-old-name d k h (w .result) (q .result) x g (c .before .before .before .before .before .if2 .left) flat (old ∙ c .before .before .is-new .ensures d h) (q .ensures))
+    let n = c .before .before .is-new in
+    let flat = ltb-false maxDepth (read-at p .depth) (c .before .before .before .if3 .left) in
+    let old = sym (not-true (n .result) (c .before .if4 .taken)) in
+    λ d h. spelled p d h (q .result) (λ x g.
+    out-old-name d (sheet-at p) h (read-at p) (q .result) x g (c .before .before .before .before .before .if2 .left) flat (old ∙ n .ensures d h) (q .ensures))
 
 refuse-requires-4 : tie.Need-refuse-requires-4
 refuse-requires-4 c κs = search needs
 
 returns-4 : tie.Need-returns-4
 returns-4 c =
-    let k = c .before .before .before .before .before .before .before .before .before .before .before .before .before .before .before .before .args .k in
-    let w = c .before .before .before .before .before .before .before .before .before .before .before .before .out-line in
+    let p = c .before .before .before .before .before .before .before .before .before in
     let q = c .refuse4 in
-    let spelled = not-false (w .result .ok) (c .before .before .before .before .before .before .before .before .before .if1 .left) in
-    let flat = ltb-false maxDepth (w .result .depth) (c .before .before .before .before .before .if3 .left) in
-    let new = sym (not-false (c .before .before .before .before .is-new .result) (c .before .before .before .if4 .left)) in
-    let unknown = not-true (w .result .known) (c .before .if5 .taken) in
-    λ d h. out-spelled d k h (w .result) (q .result) (readOut (c .before .before .before .before .before .before .before .before .before .before .before .before .before .before .before .before .args .l .now)) (w .ensures) spelled (λ x g.
-    out-unknown d k h (w .result) (q .result) x g (c .before .before .before .before .before .before .before .if2 .left) flat (new ∙ c .before .before .before .before .is-new .ensures d h) unknown (q .ensures))
+    let n = c .before .before .before .before .is-new in
+    let flat = ltb-false maxDepth (read-at p .depth) (c .before .before .before .before .before .if3 .left) in
+    let new = sym (not-false (n .result) (c .before .before .before .if4 .left)) in
+    let unknown = not-true (read-at p .known) (c .before .if5 .taken) in
+    λ d h. spelled p d h (q .result) (λ x g.
+    out-unknown d (sheet-at p) h (read-at p) (q .result) x g (c .before .before .before .before .before .before .before .if2 .left) flat (new ∙ n .ensures d h) unknown (q .ensures))
 
 with-output-requires : tie.Need-with-output-requires
 with-output-requires c κs = search needs
@@ -86,15 +106,15 @@ onward-requires c κs = search needs
 
 returns-5 : tie.Need-returns-5
 returns-5 c =
-    let k = c .before .before .before .before .before .before .before .before .before .before .before .before .before .before .before .before .before .args .k in
-    let w = c .before .before .before .before .before .before .before .before .before .before .before .before .before .out-line in
+    let p = c .before .before .before .before .before .before .before .before .before .before in
     let q = c .onward in
-    let spelled = not-false (w .result .ok) (c .before .before .before .before .before .before .before .before .before .before .if1 .left) in
-    let flat = ltb-false maxDepth (w .result .depth) (c .before .before .before .before .before .before .if3 .left) in
-    let new = sym (not-false (c .before .before .before .before .before .is-new .result) (c .before .before .before .before .if4 .left)) in
-    let known = not-false (w .result .known) (c .before .before .if5 .left) in
-    λ d h. out-spelled d k h (w .result) (q .result) (readOut (c .before .before .before .before .before .before .before .before .before .before .before .before .before .before .before .before .before .args .l .now)) (w .ensures) spelled (λ x g.
-    out-passes d k h (w .result) (q .result) x g (c .before .before .before .before .before .before .before .before .if2 .left) flat (new ∙ c .before .before .before .before .before .is-new .ensures d h) (c .before .with-output .result) known (q .ensures) (c .before .with-output .ensures d x h))
+    let n = c .before .before .before .before .before .is-new in
+    let o = c .before .with-output in
+    let flat = ltb-false maxDepth (read-at p .depth) (c .before .before .before .before .before .before .if3 .left) in
+    let new = sym (not-false (n .result) (c .before .before .before .before .if4 .left)) in
+    let known = not-false (read-at p .known) (c .before .before .if5 .left) in
+    λ d h. spelled p d h (q .result) (λ x g.
+    out-passes d (sheet-at p) h (read-at p) (q .result) x g (c .before .before .before .before .before .before .before .before .if2 .left) flat (new ∙ n .ensures d h) (o .result) known (q .ensures) (o .ensures d x h))
 
 pub ask-out-spec : {M : Type 1} → statement M
 ask-out-spec =

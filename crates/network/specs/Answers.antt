@@ -1,0 +1,58 @@
+-- What the answers of Check say, in plain statements: question 11, "same", and "differs" with the lowest output that differs
+-- and its lowest row. Assumes nothing.
+use mathlib.Core.Path.{_≡_}
+use mathlib.Core.List.{List}
+use mathlib.Core.Option.{none}
+use Prim.Native.Nat.{ℕ, _+_, _^_, _≤_, _<_}
+use lib.ListN.{length}
+use Rattle.sheet.specs.Examine.{Design, valid, examine}
+use Rattle.sheet.specs.Known.{outputOn}
+use Rattle.classes.specs.Width.{budget}
+use Rattle.network.specs.Network.{Network}
+use Rattle.network.specs.Examine.{network, readNetwork, offending}
+use Rattle.network.specs.Value.{networkOn}
+use Rattle.network.specs.Check.{Checked, compareFrom}
+use Rattle.network.specs.Wellformed.{nodeAt}
+
+-- how many shared tables output o reads
+abbrev pub readCount : Network → ℕ → ℕ
+readCount w o = length (nodeAt (w .nodes) o .reads)
+
+-- "Are lut lines within N and does each node read at most its width?"
+pub record WithinLimits (d : Design) (w : Network) : Type 0 where
+  pub luts-within : length (w .luts) ≤ d .limit
+  pub reads-within : (o : ℕ) → o < length (w .nodes) → readCount w o ≤ budget d (d .bound) o
+
+-- the lines that offend: lut i stands on line i + 2, and the node of output o as far below the lut lines
+pub data Offends (d : Design) (w : Network) : ℕ → Type 0 where
+  lut-over : (i : ℕ) → d .limit ≤ i → i < length (w .luts) → Offends d w (i + 2)
+  node-over : (o : ℕ)
+      → o < length (w .nodes)
+      → budget d (d .bound) o < readCount w o
+      → Offends d w (length (w .luts) + 2 + o)
+
+pub record FirstOffending (d : Design) (w : Network) (l : ℕ) : Type 0 where
+  pub offends : Offends d w l
+  pub first : (m : ℕ) → Offends d w m → l ≤ m
+
+-- the comparison of all outputs
+abbrev pub compared : Design → Network → Checked
+compared d w = compareFrom d w (length (d .outputs)) 0
+
+-- the network has the design's value in every output on every row
+pub record Computes (d : Design) (w : Network) : Type 0 where
+  pub agrees : (o r : ℕ) → o < length (d .outputs) → r < 2 ^ length (d .inputs) → networkOn d w o r ≡ outputOn d o r
+
+-- output o is the lowest that differs, and r its lowest row
+pub record LowestDifference (d : Design) (w : Network) (o r : ℕ) : Type 0 where
+  pub is-output : o < length (d .outputs)
+  pub is-row : r < 2 ^ length (d .inputs)
+  pub apart : networkOn d w o r ≡ outputOn d o r → ⊥
+  pub rows-below : (q : ℕ) → q < r → networkOn d w o q ≡ outputOn d o q
+  pub outputs-below : (p q : ℕ) → p < o → q < 2 ^ length (d .inputs) → networkOn d w p q ≡ outputOn d p q
+
+-- the sheet s says a design, and t a network that passes 10 and 11 beside it
+pub record Drawn (s t : List ℕ) (d : Design) (w : Network) : Type 0 where
+  pub is-valid : examine s ≡ valid d
+  pub is-read : readNetwork d t ≡ network w
+  pub passes : offending d w ≡ none

@@ -1,0 +1,80 @@
+-- Which line of the print a shared table or a node stands on: lines count from 1, lut i stands on line i + 2, and the node
+-- of output o as far below the lut lines. Assumes nothing.
+use mathlib.Core.Path.{_≡_, refl, sym, ap, _∙_}
+use mathlib.Core.Bool.{Bool}
+use mathlib.Core.List.{List, [], _∷_, _++_}
+use Prim.Native.Nat.{ℕ, zero, suc, _+_, _-_, _<_}
+use native.Mathlib.Omega.{arith}
+use lib.ListN.{length, getD, List·getD-append}
+use lib.Seq.{getD-append-add}
+use Rattle.names.specs.Name.{Name}
+use Rattle.sheet.specs.Examine.{Design}
+use Rattle.network.specs.Network.{Network, Node}
+use Rattle.network.specs.Printer.{networkLine, printLut, printNode, lutLines, nodeLines, networkLines}
+use Rattle.network.specs.Wellformed.{nodeAt}
+use Rattle.network.specs.Parts.{freeOf, namesOf, lineAt, lastLines, linesFromNode}
+use Rattle.network.specs.PartLaws.{names-count}
+
+luts-count : (bs : List Name) (i : ℕ) (ts : List (List Bool)) → length (lutLines bs i ts) ≡ length ts
+unfolding lutLines
+luts-count bs i [] = refl
+luts-count bs i (t ∷ ts) = ap suc (luts-count bs (suc i) ts)
+
+lut-at : (bs : List Name) (i j k : ℕ) (ts : List (List Bool))
+    → i + j ≡ k
+    → j < length ts
+    → getD (lutLines bs i ts) j [] ≡ printLut bs k (getD ts j [])
+unfolding lutLines
+lut-at bs i j k [] q h = absurd (omega arith)
+lut-at bs i zero k (t ∷ ts) q h = ap (λ (n : ℕ). printLut bs n t) (omega arith)
+lut-at bs i (suc j) k (t ∷ ts) q h = lut-at bs (suc i) j k ts (omega arith) (omega arith)
+
+nodes-count : (fs ns : List Name) (xs : List Node) → length xs ≡ length ns → length (nodeLines fs ns xs) ≡ length xs
+unfolding nodeLines
+nodes-count fs [] [] e = refl
+nodes-count fs [] (x ∷ xs) e = absurd (omega arith)
+nodes-count fs (n ∷ ns) [] e = refl
+nodes-count fs (n ∷ ns) (x ∷ xs) e = ap suc (nodes-count fs ns xs (omega arith))
+
+node-at : (fs ns : List Name) (xs : List Node) (o : ℕ)
+    → length xs ≡ length ns
+    → o < length xs
+    → getD (nodeLines fs ns xs) o [] ≡ printNode (getD ns o []) fs (nodeAt xs o)
+unfolding nodeLines
+node-at fs [] xs o e h = absurd (omega arith)
+node-at fs (n ∷ ns) [] o e h = absurd (omega arith)
+node-at fs (n ∷ ns) (x ∷ xs) zero e h = refl
+node-at fs (n ∷ ns) (x ∷ xs) (suc o) e h = node-at fs ns xs o (omega arith) (omega arith)
+
+module _ (d : Design) (w : Network) where
+  pub lut-line : (i : ℕ)
+      → i < length (w .luts)
+      → lineAt (networkLines d w) (i + 2) ≡ printLut (d .bound) i (getD (w .luts) i [])
+  unfolding networkLines
+  lut-line i h =
+      let luts = lutLines (d .bound) 0 (w .luts) in
+      let rest = linesFromNode d (length (w .luts)) 0 (w .nodes) in
+      let c = luts-count (d .bound) 0 (w .luts) in
+      let n : i + 2 - 1 ≡ suc i = omega arith in
+      ap (λ (a : ℕ). getD (networkLine ∷ (luts ++ rest)) a []) n
+      ∙ List·getD-append luts rest [] i (omega arith)
+      ∙ lut-at (d .bound) 0 i i (w .luts) (omega arith) h
+
+  pub node-line-at : (o : ℕ)
+      → length (w .nodes) ≡ length (d .outputs)
+      → o < length (w .nodes)
+      → lineAt (networkLines d w) (length (w .luts) + 2 + o)
+      ≡ printNode (getD (namesOf d) o []) (freeOf d) (nodeAt (w .nodes) o)
+  unfolding networkLines
+  node-line-at o e h =
+      let luts = lutLines (d .bound) 0 (w .luts) in
+      let nodes = nodeLines (freeOf d) (namesOf d) (w .nodes) in
+      let last = lastLines (length (w .luts)) in
+      let c = luts-count (d .bound) 0 (w .luts) in
+      let k : length (w .nodes) ≡ length (namesOf d) = e ∙ sym (names-count d) in
+      let m = nodes-count (freeOf d) (namesOf d) (w .nodes) k in
+      let n : length (w .luts) + 2 + o - 1 ≡ suc (length luts + o) = omega arith in
+      ap (λ (a : ℕ). getD (networkLine ∷ (luts ++ (nodes ++ last))) a []) n
+      ∙ getD-append-add luts (nodes ++ last) o []
+      ∙ List·getD-append nodes last [] o (omega arith)
+      ∙ node-at (freeOf d) (namesOf d) (w .nodes) o k h

@@ -1,0 +1,43 @@
+-- The print of a well formed network within the limits passes questions 10 and 11, and Check says "same" of it where it has
+-- the design's values; and each network sheet that passes them is such a print. Assumes nothing.
+use mathlib.Core.Path.{_≡_}
+use mathlib.Core.List.{List}
+use Prim.Native.Nat.{ℕ, _≤_}
+use lib.ListN.{length}
+use Rattle.text.specs.Limits.{maxNetwork}
+use Rattle.sheet.specs.Examine.{Design, valid, examine}
+use Rattle.network.specs.Network.{Network}
+use Rattle.network.specs.Printer.{printNetwork}
+use Rattle.network.specs.Check.{same, check}
+use Rattle.network.specs.Wellformed.{Wellformed, Named}
+use Rattle.network.specs.Answers.{WithinLimits, Computes, Drawn}
+use Rattle.network.specs.SheetLaws.{network-read-of-print, network-print-of-read}
+use Rattle.network.specs.OffendingLaws.{offending-none, none-offending}
+use Rattle.network.specs.CheckLaws.{same-check}
+
+module _ (s : List ℕ) (d : Design) (w : Network) (named : Named d) where
+  pub printed-drawn : examine s ≡ valid d
+      → Wellformed d w
+      → WithinLimits d w
+      → length (printNetwork d w) ≤ maxNetwork
+      → Drawn s (printNetwork d w) d w
+  printed-drawn e f l k =
+      record { is-valid = e; is-read = network-read-of-print d w named f k; passes = none-offending d w l }
+
+  pub printed-same : examine s ≡ valid d
+      → Wellformed d w
+      → WithinLimits d w
+      → length (printNetwork d w) ≤ maxNetwork
+      → Computes d w
+      → check s (printNetwork d w) ≡ same
+  printed-same e f l k c = same-check s (printNetwork d w) d w (printed-drawn e f l k) c
+
+  -- what is drawn is well formed, within the limits, and its sheet is its print
+  pub drawn-wellformed : (t : List ℕ) → Drawn s t d w → Wellformed d w
+  drawn-wellformed t f = network-print-of-read d t w (f .is-read) named .0
+
+  pub drawn-within : (t : List ℕ) → Drawn s t d w → WithinLimits d w
+  drawn-within t f = offending-none d w (f .passes)
+
+  pub drawn-print : (t : List ℕ) → Drawn s t d w → t ≡ printNetwork d w
+  drawn-print t f = network-print-of-read d t w (f .is-read) named .1

@@ -1,0 +1,126 @@
+-- No line that is written has 0x0A in it: names, numbers, digits and the words between have none. Assumes nothing.
+use mathlib.Core.Path.{_≡_, refl, sym, ap, _∙_}
+use mathlib.Core.Bool.{Bool, true, false}
+use mathlib.Core.List.{List, [], _∷_, _++_, map}
+use Prim.Native.Nat.{ℕ, _≤_, _<_}
+use native.Mathlib.Omega.{arith}
+use lib.Dec.{eqb}
+use borrow.Author.Tests.{ne-eqb}
+use Rattle.bits.specs.Logic.{true-false, and-left, and-right, and-both}
+use Rattle.text.specs.Bytes.{newline, bytes, closeBracket}
+use Rattle.text.specs.Unbroken.{unbroken}
+use Rattle.text.specs.LineLaws.{unbroken-cons, unbroken-append}
+use Rattle.text.specs.Number.{numeral, printNumber}
+use Rattle.text.specs.NumberLaws.{print-unbroken}
+use Rattle.names.specs.Name.{Name, letter, nameByte, allNameBytes, isName}
+use Rattle.names.specs.Front.{allNames}
+use Rattle.names.specs.IsNameLaws.{name-bytes}
+use Rattle.sheet.specs.Lines.{endLine}
+use Rattle.network.specs.Network.{Node}
+use Rattle.network.specs.Printer.{led, ledAll, lutName, printDigits, networkLine, lutHead, printLut, nodeHead, printNode, printCount}
+use Rattle.network.specs.Reads.{Rising, rising-none, rising-more}
+use Rattle.network.specs.Unbroken.{allUnbroken}
+
+-- ---- names
+name-byte-unbroken : (b : ℕ) → nameByte b ≡ true → eqb b newline ≡ false
+unfolding nameByte letter numeral
+name-byte-unbroken b h = ne-eqb b newline (λ e. true-false (sym h ∙ ap nameByte e))
+
+bytes-unbroken : (n : List ℕ) → allNameBytes n ≡ true → unbroken n ≡ true
+unfolding unbroken
+bytes-unbroken [] h = refl
+bytes-unbroken (b ∷ n) h =
+    unbroken-cons b n
+    (name-byte-unbroken b (and-left (nameByte b) (allNameBytes n) h))
+    (bytes-unbroken n (and-right (nameByte b) (allNameBytes n) h))
+
+name-unbroken : (n : Name) → isName n ≡ true → unbroken n ≡ true
+name-unbroken n h = bytes-unbroken n (name-bytes n h)
+
+names-unbroken : (ns : List Name) → allNames ns ≡ true → allUnbroken ns ≡ true
+unfolding allNames allUnbroken
+names-unbroken [] h = refl
+names-unbroken (n ∷ ns) h =
+    and-both (unbroken n) (allUnbroken ns)
+    (name-unbroken n (and-left (isName n) (allNames ns) h))
+    (names-unbroken ns (and-right (isName n) (allNames ns) h))
+
+-- ---- lists of items
+pub all-append : (ls ms : List (List ℕ))
+    → allUnbroken ls ≡ true
+    → allUnbroken ms ≡ true
+    → allUnbroken (ls ++ ms) ≡ true
+unfolding allUnbroken
+all-append [] ms h k = k
+all-append (l ∷ ls) ms h k =
+    and-both (unbroken l) (allUnbroken (ls ++ ms))
+    (and-left (unbroken l) (allUnbroken ls) h)
+    (all-append ls ms (and-right (unbroken l) (allUnbroken ls) h) k)
+
+led-unbroken : (first : Bool) (l : List ℕ) → unbroken l ≡ true → unbroken (led first l) ≡ true
+unfolding unbroken
+led-unbroken true l h = h
+led-unbroken false l h = h
+
+led-all-unbroken : (first : Bool) (ls : List (List ℕ)) → allUnbroken ls ≡ true → unbroken (ledAll first ls) ≡ true
+unfolding ledAll allUnbroken unbroken
+led-all-unbroken first [] h = refl
+led-all-unbroken first (l ∷ ls) h =
+    unbroken-append (led first l) (ledAll false ls)
+    (led-unbroken first l (and-left (unbroken l) (allUnbroken ls) h))
+    (led-all-unbroken false ls (and-right (unbroken l) (allUnbroken ls) h))
+
+lut-name-unbroken : (i : ℕ) → i < 1000 → unbroken (lutName i) ≡ true
+unfolding lutName unbroken
+lut-name-unbroken i h = print-unbroken i h
+
+lut-names-unbroken : {i u : ℕ} {is : List ℕ} → u ≤ 1000 → Rising i u is → allUnbroken (map lutName is) ≡ true
+unfolding allUnbroken
+lut-names-unbroken h rising-none = refl
+lut-names-unbroken h (rising-more {j = j} {js = js} l m r) =
+    and-both (unbroken (lutName j)) (allUnbroken (map lutName js)) (lut-name-unbroken j (omega arith)) (lut-names-unbroken h r)
+
+digits-unbroken : (ds : List Bool) → unbroken (printDigits ds) ≡ true
+unfolding printDigits unbroken
+digits-unbroken [] = refl
+digits-unbroken (true ∷ ds) = digits-unbroken ds
+digits-unbroken (false ∷ ds) = digits-unbroken ds
+
+digits-closed-unbroken : (ds : List Bool) → unbroken (printDigits ds ++ (closeBracket ∷ [])) ≡ true
+unfolding unbroken
+digits-closed-unbroken ds = unbroken-append (printDigits ds) (closeBracket ∷ []) (digits-unbroken ds) refl
+
+-- ---- the lines
+pub lut-unbroken : (bs : List Name) (i : ℕ) (ds : List Bool)
+    → allNames bs ≡ true
+    → i < 1000
+    → unbroken (printLut bs i ds) ≡ true
+unfolding printLut lutHead unbroken
+lut-unbroken bs i ds h k =
+    unbroken-append (lutHead bs i) (printDigits ds ++ (closeBracket ∷ []))
+    (unbroken-append (lutName i) (bytes " (" ++ (ledAll true bs ++ bytes ") ")) (lut-name-unbroken i k)
+    (unbroken-append (ledAll true bs) (bytes ") ") (led-all-unbroken true bs (names-unbroken bs h)) refl))
+    (digits-closed-unbroken ds)
+
+pub node-unbroken : (n : Name) (fs : List Name) (u : ℕ) (x : Node)
+    → isName n ≡ true
+    → allNames fs ≡ true
+    → u ≤ 1000
+    → Rising 0 u (x .reads)
+    → unbroken (printNode n fs x) ≡ true
+unfolding printNode nodeHead unbroken
+node-unbroken n fs u x h k m r =
+    let is = map lutName (x .reads) in
+    unbroken-append (nodeHead n) (ledAll true (is ++ fs) ++ (bytes ") " ++ (printDigits (x .digits) ++ (closeBracket ∷ []))))
+    (unbroken-append n (bytes " (") (name-unbroken n h) refl)
+    (unbroken-append (ledAll true (is ++ fs)) (bytes ") " ++ (printDigits (x .digits) ++ (closeBracket ∷ [])))
+    (led-all-unbroken true (is ++ fs) (all-append is fs (lut-names-unbroken m r) (names-unbroken fs k)))
+    (digits-closed-unbroken (x .digits)))
+
+pub count-unbroken : (u : ℕ) → u < 1000 → unbroken (printCount u) ≡ true
+unfolding printCount unbroken
+count-unbroken u h = unbroken-append (printNumber u) (closeBracket ∷ []) (print-unbroken u h) refl
+
+pub fixed-unbroken : (unbroken networkLine ≡ true) × (unbroken endLine ≡ true)
+unfolding unbroken
+fixed-unbroken = (refl, refl)
