@@ -154,6 +154,21 @@ def length_of_text():
     case("q1-surplus-4097", GOOD_BYTES + b"\n" * (4097 - len(GOOD_BYTES)), no(1, 0))
 
 
+# ---- every place
+
+
+def each_byte():
+    """A comma, which no line has, in the place of each byte of a good sheet, and before each."""
+    outs = "(out f (and a (not b)))/(out g (xor a (or b 1)))/"
+    text = f"(design 1)/(in a b)/(bound a)/(limit 1)/{outs}(end)/".replace("/", "\n").encode("ascii")
+    case("comma-nowhere", text, yes("0010"))
+    for at in range(len(text)):
+        misspelled = no(2, text[:at].count(b"\n") + 1)
+        last = at == len(text) - 1
+        case(f"comma-for-{at}", text[:at] + b"," + text[at + 1 :], no(1, 0) if last else misspelled)
+        case(f"comma-before-{at}", text[:at] + b"," + text[at:], misspelled)
+
+
 # ---- the first line
 
 
@@ -406,6 +421,7 @@ def depth():
     case("depth-33-bad-inside", with_formula(nested(33, "2")), no(2, 5))
     case("depth-33-bad-after", with_formula(f"(and {nested(33, 'a')} 2)"), no(2, 5))
     case("depth-33-unended", with_formula(nested(33, "a")[:-1]), no(2, 5))
+    case("depth-32-unknown", with_formula(nested(32, "z")), no(5, 5))
     case("depth-33-unknown", with_formula(nested(33, "z")), no(3, 5))
     case("depth-33-old-name", with_out(f"(out a {nested(33, 'a')})"), no(3, 5))
     case("depth-33-misspelled-name", with_out(f"(out and {nested(33, 'a')})"), no(2, 5))
@@ -704,6 +720,7 @@ def main():
     for part in (
         question_1,
         length_of_text,
+        each_byte,
         design_line,
         in_line,
         bound_line,
