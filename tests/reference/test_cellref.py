@@ -1,0 +1,165 @@
+#!/usr/bin/env python3
+"""The reference on the papers' own sheets A to K, and its two searches for the fewest cells compared with each other."""
+
+import random
+import unittest
+
+import cellref
+import random_sheets
+
+
+def sheet(inputs, bound, limit, *outputs):
+    lines = ["(design 1)", f"(in {inputs})", f"(bound {bound})", f"(limit {limit})"]
+    lines += [f"(out {name} {formula})" for name, formula in zip("fghi", outputs)]
+    return "".join(line + "\n" for line in lines + ["(end)"]).encode("ascii")
+
+
+A = sheet("a b c d", "a b c", 2, "(xor a b c d)", "(and (xor a b c) d)")
+A_NETWORK = """(network 1)
+(lut _0 (a b c) 01101001)
+(node f (_0 d) 0110)
+(node g (_0 d) 0001)
+(count 1)
+(end)
+"""
+
+
+def refusal(function, *words):
+    try:
+        function(*words)
+    except cellref.Refusal as refused:
+        return refused.number, refused.line
+    return None
+
+
+def cells(text):
+    """The number of cells, where Check agrees that the network is the design's."""
+    count, network = cellref.map_sheet(text)
+    assert cellref.check(text, network.encode("ascii")) is None
+    assert network.count("(lut ") == count and f"(count {count})" in network
+    return count
+
+
+class Sheets(unittest.TestCase):
+    def test_a_and_b(self):
+        self.assertEqual(cellref.map_sheet(A), (1, A_NETWORK))
+        self.assertEqual(len(A_NETWORK), 96)
+        self.assertEqual(refusal(cellref.map_sheet, A, 95), (9, 0))
+        self.assertEqual(cellref.map_sheet(A, 96), (1, A_NETWORK))
+
+    def test_c_and_d(self):
+        two = ("(xor a c)", "(xor b c)")
+        three = two + ("(xor a b c)",)
+        self.assertEqual(refusal(cellref.map_sheet, sheet("a b c", "a b", 1, *two)), (8, 0))
+        self.assertEqual(cells(sheet("a b c", "a b", 2, *two)), 2)
+        self.assertEqual(refusal(cellref.map_sheet, sheet("a b c", "a b", 2, *three)), (8, 0))
+        self.assertEqual(cells(sheet("a b c", "a b", 3, *three)), 3)
+        self.assertEqual(cellref.Classes(cellref.examine(sheet("a b c", "a b", 3, *three))).global_count(), 4)
+
+    def test_e(self):
+        self.assertEqual(cells(sheet("a b c d", "a b", 2, "(or (and a c) (and b d))", "(xor a b c)")), 2)
+
+    def test_f(self):
+        count, network = cellref.map_sheet(sheet("a b c d", "a b", 0, "(or c d)"))
+        self.assertEqual(count, 0)
+        self.assertIn("(node f (c d) 0111)\n", network)
+
+    def test_g(self):
+        three_classes = "(or (and a b c) (and (xor a b) d))"
+        classes = cellref.Classes(cellref.examine(sheet("a b c d", "a b", 2, three_classes)))
+        self.assertEqual((max(classes.local[0]) + 1, classes.widths), (3, [2]))
+        self.assertEqual(refusal(cellref.map_sheet, sheet("a b c d", "a b", 1, three_classes)), (8, 0))
+
+    def test_h(self):
+        network = cellref.map_sheet(sheet("a b", "a b", 1, "(and a b)"))[1]
+        self.assertIn("(lut _0 (a b) 0001)\n(node f (_0) 01)\n", network)
+
+    def test_i(self):
+        three = ("(or (and a x) (and e y))", "(xor b x)", "(xor c x)")
+        inputs, bound = "a b c d e x y", "a b c d e"
+        self.assertEqual(cells(sheet(inputs, bound, 4, *three)), 4)
+        self.assertEqual(refusal(cellref.map_sheet, sheet(inputs, bound, 3, *three)), (8, 0))
+        self.assertEqual(refusal(cellref.map_sheet, sheet(inputs, bound, 0, *three, "(xor d x)")), (7, 0))
+
+    def test_j(self):
+        other = A_NETWORK.replace("0001)", "0011)")
+        self.assertEqual(cellref.check(A, other.encode("ascii")), (1, 2))
+        turned = A_NETWORK.replace("01101001", "10010110").replace(" 0110)", " 1001)").replace(" 0001)", " 0100)")
+        self.assertIsNone(cellref.check(A, turned.encode("ascii")))
+
+    def test_k(self):
+        self.assertEqual(refusal(cellref.map_sheet, b""), (1, 0))
+        self.assertEqual(refusal(cellref.map_sheet, A.replace(b"(limit 2)", b"(limit 7)")), (3, 4))
+
+
+class Networks(unittest.TestCase):
+    """Questions 10 and 11, each by a change of sheet A's network."""
+
+    def refused(self, old, new):
+        self.assertIn(old, A_NETWORK)
+        return refusal(cellref.check, A, A_NETWORK.replace(old, new, 1).encode("latin-1"))
+
+    def test_size(self):
+        self.assertEqual(refusal(cellref.check, A, b""), (10, 0))
+        self.assertEqual(refusal(cellref.check, A, A_NETWORK.encode("ascii") + b"\n" * 8192), (10, 0))
+        self.assertEqual(refusal(cellref.check, A, b"\n" * 8192), (10, 1))
+
+    def test_lines_in_order(self):
+        lines = A_NETWORK.split("\n")[:-1]
+        for n in range(1, len(lines) + 1):
+            part = "".join(line + "\n" for line in lines[:n])
+            self.assertEqual(refusal(cellref.check, A, part[:-1].encode("ascii")), (10, n))
+            if n < len(lines):
+                self.assertEqual(refusal(cellref.check, A, part.encode("ascii")), (10, n + 1))
+        for more in ("\n", "x", "(end)\n"):
+            self.assertEqual(refusal(cellref.check, A, (A_NETWORK + more).encode("ascii")), (10, 7))
+
+    def test_spelling(self):
+        self.assertEqual(self.refused("(network 1)", "(network 2)"), (10, 1))
+        self.assertEqual(self.refused("_0 (a b c)", "_1 (a b c)"), (10, 2))
+        self.assertEqual(self.refused("(a b c)", "(b a c)"), (10, 2))
+        self.assertEqual(self.refused("01101001", "0110100"), (10, 2))
+        self.assertEqual(self.refused("01101001", "01101002"), (10, 2))
+        self.assertEqual(self.refused("node f", "node g"), (10, 3))
+        self.assertEqual(self.refused("f (_0 d)", "f (_1 d)"), (10, 3))
+        self.assertEqual(self.refused("f (_0 d)", "f (d _0)"), (10, 3))
+        self.assertEqual(self.refused("f (_0 d)", "f (_0 _0 d)"), (10, 3))
+        self.assertEqual(self.refused("(_0 d) 0110", "(_0) 01"), (10, 3))
+        self.assertEqual(self.refused("(count 1)", "(count 2)"), (10, 5))
+        self.assertEqual(self.refused("(count 1)", "(count 01)"), (10, 5))
+        self.assertEqual(self.refused("(end)", "(end) "), (10, 6))
+        self.assertEqual(self.refused("(node g", "\x80(node g"), (10, 4))
+
+    def test_cells(self):
+        lut = "(lut _0 (a b c) 01101001)\n"
+        three = lut + lut.replace("_0", "_1") + lut.replace("_0", "_2")
+        network = A_NETWORK.replace(lut, three).replace("(count 1)", "(count 3)")
+        self.assertEqual(refusal(cellref.check, A, network.encode("ascii")), (11, 4))
+        self.assertIsNone(cellref.check(A.replace(b"limit 2", b"limit 3"), network.encode("ascii")))
+        seven = "".join(lut.replace("_0", f"_{k}") for k in range(7))
+        network = A_NETWORK.replace(lut, seven).replace("(count 1)", "(count 7)")
+        self.assertEqual(refusal(cellref.check, A, network.encode("ascii")), (10, 8))
+
+    def test_widths(self):
+        two = "(lut _0 (a b c) 01101001)\n(lut _1 (a b c) 00001111)\n"
+        network = A_NETWORK.replace("(lut _0 (a b c) 01101001)\n", two).replace("(count 1)", "(count 2)")
+        self.assertIsNone(cellref.check(A, network.encode("ascii")))
+        network = network.replace("g (_0 d) 0001", "g (_0 _1 d) 00010001")
+        self.assertEqual(refusal(cellref.check, A, network.encode("ascii")), (11, 5))
+
+
+class Searches(unittest.TestCase):
+    def test_both_searches_agree(self):
+        dice = random.Random(7)
+        for _ in range(60):
+            inputs = "abcde"[: dice.randrange(2, 6)]
+            bound = inputs[: dice.randrange(1, min(3, len(inputs)) + 1)]
+            outputs = [random_sheets.formula(dice, inputs, dice.randrange(4)) for _ in range(dice.randrange(1, 4))]
+            design = cellref.examine(sheet(" ".join(inputs), " ".join(bound), 6, *outputs))
+            found = cellref.fewest(design)
+            if found is not None and found[0] < 4:
+                self.assertEqual(found[0], cellref.fewest_by_brute_force(design))
+
+
+if __name__ == "__main__":
+    unittest.main()
