@@ -113,12 +113,3 @@ based-more cl rows v j n x base h e s = record {
       (less-or-equal i n (omega arith));
   rest = λ i k. getD-set-other base n i x 0 (λ q. let z : i ≡ n = q in omega arith) ∙ s .rest i (omega arith);
 }
-
-abbrev pub zeros : ℕ → List ℕ
-zeros zero = []
-zeros (suc n) = 0 ∷ zeros n
-
-pub zeros-are : (n i : ℕ) → getD (zeros n) i 0 ≡ 0
-zeros-are zero i = refl
-zeros-are (suc n) zero = refl
-zeros-are (suc n) (suc i) = zeros-are n i

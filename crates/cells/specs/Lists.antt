@@ -7,7 +7,8 @@ use mathlib.Core.Logic.{_⊎_, inl, inr, ⊎-elim}
 use Prim.Native.Nat.{ℕ, zero, suc, _+_, _*_, _≤_, _<_}
 use native.Mathlib.Decide.{decLt}
 use native.Mathlib.Omega.{arith}
-use lib.ListN.{length, length-append}
+use native.Mathlib.Numerals.{add-one}
+use lib.ListN.{length, getD, length-append}
 use Rattle.bits.specs.Logic.{true-false}
 use Rattle.cells.specs.Core.{bit}
 
@@ -133,6 +134,15 @@ unfolding count
 count-alike p q zero h = refl
 count-alike p q (suc n) h = rw (count-alike p q n (λ i l. h i (omega arith)), h n (omega arith)) refl
 
+-- one number more is looked at
+pub count-more : (p : ℕ → Bool) (n k : ℕ) → p n ≡ true → k ≡ count p n → k + 1 ≡ count p (n + 1)
+unfolding count
+count-more p n k e h = let z : bit (p n) ≡ 1 = ap bit e in let w : count p (n + 1) ≡ count p n + bit (p n) = ap (count p) (add-one n) in omega arith
+
+pub count-same : (p : ℕ → Bool) (n k : ℕ) → p n ≡ false → k ≡ count p n → k ≡ count p (n + 1)
+unfolding count
+count-same p n k e h = let z : bit (p n) ≡ 0 = ap bit e in let w : count p (n + 1) ≡ count p n + bit (p n) = ap (count p) (add-one n) in omega arith
+
 -- one number less has it
 pub count-drop : (p q : ℕ → Bool) (n x : ℕ) → x < n → p x ≡ true → q x ≡ false → ((i : ℕ) → (i ≡ x → ⊥) → q i ≡ p i) → count q n < count p n
 unfolding count
@@ -184,3 +194,13 @@ sum-more f g (suc n) x l h k = ⊎-elim
     (λ b. let r = sum-more f g n x b h (λ i l. k i (omega arith)) in let e = k n (omega arith) (λ z. omega arith) in omega arith)
     (λ e. let a = sum-le f g n (λ i b. k i (omega arith) (λ z. omega arith)) in let c : f n < g n = subst (λ (z : ℕ). f z < g z) e h in omega arith)
     (less-or-equal x n l)
+
+-- ---- a list of n zeros
+abbrev pub zeros : ℕ → List ℕ
+zeros zero = []
+zeros (suc n) = 0 ∷ zeros n
+
+pub zeros-are : (n i : ℕ) → getD (zeros n) i 0 ≡ 0
+zeros-are zero i = refl
+zeros-are (suc n) zero = refl
+zeros-are (suc n) (suc i) = zeros-are n i

@@ -41,18 +41,22 @@ same false true h = absurd (h (λ e. true-false (sym e)))
 
 module _ (v m n : ℕ) (care value : ℕ → ℕ → ℕ → Bool) (rows codes : ℕ → ℕ) where
   pub composes : Coded v m (Against n care value) rows codes → Composes v m n care value rows codes (composition v care value rows codes)
-  composes c = record { gives = λ o x r h a b e. entry-is (produces care rows codes o (seen rows codes o x) r) (λ (y : ℕ). value o y r) v x a
-      (ap₂ andb (eq-eqb (seen rows codes o x) (seen rows codes o x) refl) e)
-      (λ y l p. same (value o y r) (value o x r) (λ d. c .tells o y x h l a (r, b, and-right (eqb (seen rows codes o y) (seen rows codes o x)) (care o y r) p, e, d) (eqb-true (seen rows codes o y) (seen rows codes o x) (and-left (eqb (seen rows codes o y) (seen rows codes o x)) (care o y r) p)))) }
+  composes c = record {
+    gives = λ o x r h a b e. entry-is (produces care rows codes o (seen rows codes o x) r) (λ (y : ℕ). value o y r) v x a
+        (ap₂ andb (eq-eqb (seen rows codes o x) (seen rows codes o x) refl) e)
+        (λ y l p. same (value o y r) (value o x r) (λ d. c .tells o y x h l a (r, b, and-right (eqb (seen rows codes o y) (seen rows codes o x)) (care o y r) p, e, d) (eqb-true (seen rows codes o y) (seen rows codes o x) (and-left (eqb (seen rows codes o y) (seen rows codes o x)) (care o y r) p))));
+  }
 
   -- an entry whose code no vertex produces is 0
   pub unproduced : (o k r : ℕ) → ((x : ℕ) → x < v → seen rows codes o x ≡ k → ⊥) → composition v care value rows codes o k r ≡ false
   unproduced o k r h = entry-none (produces care rows codes o k r) (λ (y : ℕ). value o y r) v (λ y l. ap (λ (b : Bool). andb b (care o y r)) (ne-eqb (seen rows codes o y) k (h y l)))
 
   pub composed-tells : (comp : ℕ → ℕ → ℕ → Bool) → Composes v m n care value rows codes comp → Coded v m (Against n care value) rows codes
-  composed-tells comp c = record { tells = λ o x y h a b q e.
-      let r = q .0 in
-      q .4 (sym (c .gives o x r h a (q .1) (q .2)) ∙ ap (λ (k : ℕ). comp o k r) e ∙ c .gives o y r h b (q .1) (q .3)) }
+  composed-tells comp c = record {
+    tells = λ o x y h a b q e.
+        let r = q .0 in
+        q .4 (sym (c .gives o x r h a (q .1) (q .2)) ∙ ap (λ (k : ℕ). comp o k r) e ∙ c .gives o y r h b (q .1) (q .3));
+  }
 
 -- a core that serves tells apart in its codes
 cells-tell : (o x y n i : ℕ) (rows codes : ℕ → ℕ) → Apart o x y (cellsFrom n i rows codes) → bitAnd (codes x) (rows o) ≡ bitAnd (codes y) (rows o) → ⊥

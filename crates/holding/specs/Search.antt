@@ -16,10 +16,9 @@ use borrow.Author.Tests.{eq-eqb, ne-eqb, eqb-true, eqb-false, leb-true, leb-fals
 use Rattle.bits.specs.Logic.{andb, orb, true-false}
 use Rattle.bits.specs.Digit.{on, on-and, on-or, on-zero, on-complement}
 use Rattle.cells.specs.Core.{bit}
-use Rattle.cells.specs.Lists.{count, sum, count-drop, less-or-equal, never-both, false-where}
+use Rattle.cells.specs.Lists.{count, sum, count-drop, less-or-equal, never-both, false-where, count-more, count-same}
 use Rattle.cells.specs.Sets.{With, Without}
 use Rattle.numbering.specs.Given.{labelAt, item, Block, Labels, Solves, Extends, Kept, Hopeless, Told}
-use Rattle.numbering.specs.Number.{count-more, count-same}
 use Rattle.holding.specs.Hold.{held-start, held-skip, held-old, held-new, Held, Wanted, need, needed, holders, enough, keeps-to, keeps-out}
 
 -- ======== the block of a code
@@ -150,15 +149,6 @@ holders-same own c l n n' e f h = f ∙ count-same (λ (l : ℕ). on (getD own l
 pub sum-next : (f : ℕ → ℕ) (l t x : ℕ) → x ≡ f l → t ≡ sum f l → t + x ≡ sum f (l + 1)
 unfolding sum
 sum-next f l t x e h = ap₂ (λ (a b : ℕ). a + b) h e ∙ sym (ap (sum f) (add-one l))
-
-abbrev pub zeros : ℕ → List ℕ
-zeros zero = []
-zeros (suc n) = 0 ∷ zeros n
-
-pub zeros-are : (n i : ℕ) → getD (zeros n) i 0 ≡ 0
-zeros-are zero i = refl
-zeros-are (suc n) zero = refl
-zeros-are (suc n) (suc i) = zeros-are n i
 
 -- the scan of what is held, as the code says it: q is the class read
 module _ (cl codes : List ℕ) (o mask y : ℕ) (own owns own' owns' : List ℕ) where

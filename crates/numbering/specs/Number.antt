@@ -18,7 +18,7 @@ use lib.Seq.{getD-set-same, getD-set-other}
 use Rattle.bits.specs.Logic.{andb, orb, true-false}
 use Rattle.bits.specs.Digit.{on, on-and, on-or, on-zero, on-ones, on-above, on-complement, equal-digits}
 use Rattle.cells.specs.Core.{bit}
-use Rattle.cells.specs.Lists.{All, Pairs, count, all-map, less-or-equal, never-both}
+use Rattle.cells.specs.Lists.{All, Pairs, count, all-map, less-or-equal, never-both, count-more, count-same}
 use Rattle.cells.specs.Pigeon.{Agree, agree-and, and-agree}
 use Rattle.cells.specs.Shared.{Fits}
 use Rattle.numbering.specs.Given.{labelAt, item, Plan, Solves, Extends, Parted, Hopeless}
@@ -199,15 +199,6 @@ spread-one n p i r r' e f w s = record {
     all : (b : Bool) → orb b true ≡ true
     all true = refl
     all false = refl
-
--- the count of digits passed
-pub count-more : (p : ℕ → Bool) (i k : ℕ) → p i ≡ true → k ≡ count p i → k + 1 ≡ count p (i + 1)
-unfolding count
-count-more p i k e h = let z : bit (p i) ≡ 1 = ap bit e in let w : count p (i + 1) ≡ count p i + bit (p i) = ap (count p) (add-one i) in omega arith
-
-pub count-same : (p : ℕ → Bool) (i k : ℕ) → p i ≡ false → k ≡ count p i → k ≡ count p (i + 1)
-unfolding count
-count-same p i k e h = let z : bit (p i) ≡ 0 = ap bit e in let w : count p (i + 1) ≡ count p i + bit (p i) = ap (count p) (add-one i) in omega arith
 
 -- what is spread over six digits is below 64
 pub spread-low : (n p r : ℕ) → Spread n p 6 r → r % 256 ≡ r

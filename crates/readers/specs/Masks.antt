@@ -1,5 +1,6 @@
 -- The cells that two outputs read, and each output's cells split by them: the facts that the search for codes and the
 -- writing of private cells ask for. Assumes nothing.
+use Rattle.cells.specs.Lists.{zeros}
 use mathlib.Core.Path.{_≡_, refl, sym, ap, ap₂, _∙_, subst}
 use mathlib.Core.Bool.{Bool, true, false, not}
 use mathlib.Core.List.{List, [], _∷_}
@@ -21,7 +22,7 @@ use Rattle.cells.specs.Pigeon.{Agree, agree-and, and-agree}
 use Rattle.cells.specs.Codes.{Coded}
 use Rattle.cells.specs.Shared.{Split, Fits, sharedCode, crowd-bound, places-bound}
 use Rattle.numbering.specs.Given.{labelAt, item, Block, Blocks, Plan, Solves, Extends, Parted, Hopeless, Told}
-use Rattle.holding.specs.Search.{zeros, Table}
+use Rattle.holding.specs.Search.{Table}
 
 -- ======== definitions
 -- each output reads cells below 6
@@ -244,12 +245,3 @@ blocks-of ms bs j h t = record {
 -- what base promises of every core
 pub record Bounds (cl base : List ℕ) (rows : List ℕ) (sh : ℕ) (ms : List ℕ) (v j : ℕ) : Type 0 where
   pub needs : (f : ℕ → ℕ) → Coded v j (Differ (labelAt cl)) (item rows) f → (o l : ℕ) → o < j → l < 32 → (xs : List ℕ) × All (λ (x : ℕ). (x < v) × (labelAt cl o x ≡ l)) xs × Pairs (λ (x y : ℕ). bitAnd (sharedCode sh f x) (item ms o) ≡ bitAnd (sharedCode sh f y) (item ms o) → ⊥) xs × (labelAt base o l ≤ length xs)
-
--- the search's answer is the answer
-pub decided-of : (cl base rows : List ℕ) (sh v j : ℕ) (ms ps caps spots codes dom : List ℕ) (ok : Bool) (r : List ℕ) → v ≤ 32 → Short rows j → Common rows j sh → Planned rows sh j ms ps caps spots → Start sh codes dom → Bounds cl base rows sh ms v j → Told cl base ms ps caps spots v j codes dom ok r → Decided cl v j rows ok r
-decided-of cl base rows sh v j ms ps caps spots codes dom true r few short c p s b t = coded-of rows sh j ms ps caps spots short c p cl v r t
-decided-of cl base rows sh v j ms ps caps spots codes dom false r few short c p s b t = λ f k z.
-    t .none (sharedCode sh f) (solves-of rows sh j ms ps caps spots short c p cl base v f k (b .needs f k)) (start-extends sh codes dom v f (c .low) few z s)
-
-pub no-bounds : (cl base rows : List ℕ) (sh : ℕ) (ms : List ℕ) (v j : ℕ) → ((i : ℕ) → item base i ≡ 0) → Bounds cl base rows sh ms v j
-no-bounds cl base rows sh ms v j z = record { needs = λ f k o l h b. ([], tt, tt, let e = z (o * 32 + l) in omega arith) }

@@ -1,4 +1,5 @@
-use Rattle.bounds.specs.Reasons.{Based, based-more, zeros-are}
+use Rattle.cells.specs.Lists.{zeros-are}
+use Rattle.bounds.specs.Reasons.{Based, based-more}
 use lib.ListN.{length, getD, set}
 use native.Mathlib.Omega.{arith}
 use Prim.Native.Nat.{ℕ, _<_, _≤_, _+_, _-_, _*_, _^_, _/_, _%_}

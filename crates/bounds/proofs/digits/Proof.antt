@@ -1,4 +1,4 @@
-use Rattle.numbering.specs.Number.{count-more, count-same}
+use Rattle.cells.specs.Lists.{count-more, count-same}
 use Rattle.cells.specs.Lists.{count}
 use Rattle.bits.specs.Digit.{on}
 use lib.ListN.{length, getD, set}

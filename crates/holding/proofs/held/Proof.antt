@@ -1,4 +1,5 @@
-use Rattle.holding.specs.Search.{at-skip, at-old, at-new, zeros-are}
+use Rattle.cells.specs.Lists.{zeros-are}
+use Rattle.holding.specs.Search.{at-skip, at-old, at-new}
 use Rattle.holding.specs.Hold.{Held, held-start}
 use Rattle.numbering.specs.Given.{item, Block}
 use borrow.Author.Tests.{not-true, not-false}

@@ -1,5 +1,5 @@
+use Rattle.cells.specs.Lists.{zeros-are}
 use Rattle.joint.specs.Merge.{Merged, merged-start, at-new, at-old}
-use Rattle.bounds.specs.Reasons.{zeros-are}
 use lib.ListN.{length, getD, set}
 use native.Mathlib.Omega.{arith}
 use Prim.Native.Nat.{ℕ, _<_, _≤_, _+_, _-_, _*_, _/_, _%_}
