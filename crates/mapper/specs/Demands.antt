@@ -117,8 +117,10 @@ demand3-written s b d w e p h =
   where
     mapped-length : (u n v m : ℕ) → mapped u n ≡ mapped v m → n ≡ m
     mapped-length u n v m e = cc
+
     mapped-count : (u n v m : ℕ) → mapped u n ≡ mapped v m → u ≡ v
     mapped-count u n v m e = cc
+
     rival : (s : List ℕ) (d : Design) (w : Network) → examine s ≡ valid d → Permitted d w → (t : List ℕ) (v : Network) → Drawn s t d v → check s t ≡ same → length (w .luts) ≤ length (v .luts)
     rival s d w e p t v r g =
         let m = named-of d (valid-well-formed s d e) in

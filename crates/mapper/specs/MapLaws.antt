@@ -114,6 +114,7 @@ reading-count o rows codes (suc k) j =
   where
     plus-zero : (j : ℕ) → j + 0 ≡ j
     plus-zero j = omega arith
+
     shift : (j i : ℕ) → suc j + i ≡ j + suc i
     shift j i = omega arith
 
@@ -169,7 +170,7 @@ module _ (d : Design) (cl budgets : List ℕ) (v m limit : ℕ) (g : Given d cl 
   values-default : (p : ℕ → Bool) (n j : ℕ) → p j ≡ false → getD (valuesUpto p n) j false ≡ false
   values-default p n j e =
       elim (decLt j n) as (λ _. getD (valuesUpto p n) j false ≡ false) [
-        yes l ↦ values-at p n j l ∙ e
+        | yes l ↦ values-at p n j l ∙ e
         | no k ↦ (let q = values-length p n in List·getD-eq-default (valuesUpto p n) false {n = j} (past j n k q))
       ]
     where

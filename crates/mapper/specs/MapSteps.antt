@@ -46,7 +46,7 @@ map-refused s b e h f = refused-sheet (e .number) (e .line) (sym (refused-here (
 labels-low : (ls : List _) (cl : List ℕ) → LabelsAre ls cl → (i : ℕ) → getD cl i 0 < 32
 labels-low ls cl h i =
     elim (decLt i 128) as (λ _. getD cl i 0 < 32) [
-      yes l ↦ (let e = h .each i l in omega arith)
+      | yes l ↦ (let e = h .each i l in omega arith)
       | no n ↦ (let e = h .others i (past i n) in omega arith)
     ]
   where
@@ -103,11 +103,12 @@ module _ (s : List ℕ) (k : Sheet) (v : Valid (examine s) k) (c : Classes) (q :
       small n h = omega arith
 
   pub search-ready : (cl : List ℕ) → LabelsAre (c .locals) cl → Labels cl × (c .shape .vertices ≤ 32) × (k .outputs ≤ 8) × (k .limit % 8 ≤ 6)
-  search-ready cl h =
-      (record { long = h .long; low = λ i _. labels-low (c .locals) cl h i },
-      q .shaped .few-vertices,
-      (let a = v .holds .outputs-few in omega arith),
-      (let a = v .holds .limit-small in omega arith))
+  search-ready cl h = (
+    record { long = h .long; low = λ i _. labels-low (c .locals) cl h i },
+    q .shaped .few-vertices,
+    (let a = v .holds .outputs-few in omega arith),
+    (let a = v .holds .limit-small in omega arith),
+  )
 
   pub rows-inside : (x y : ℕ) → x < c .shape .vertices → y < c .shape .frees → getD (c .shape .vertex) x 0 + getD (c .shape .free) y 0 < 1024
   rows-inside x y a b =

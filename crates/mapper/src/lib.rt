@@ -3,7 +3,6 @@
 ghost use mathlib.Core.Path.{_≡_};
 ghost use Rattle.mapper.specs.Map.{Outcome};
 ghost use Rattle.mapper.specs.Answer.{mapAnswer, LabelsAre, BudgetsAre};
-
 use classes::Locals;
 
 // The most global classes.
@@ -66,7 +65,13 @@ pub fn map(sheet: &[u8], buffer: &mut [u8]) -> Mapped
     let ws = c.widths;
     let sh = c.shape;
     let cl = labels(ls);
-    let core = fewest::fewest(&cl, budgets(ws), sh.vertices, k.outputs, (k.limit % 8) as u8);
+    let core = fewest::fewest(
+        &cl,
+        budgets(ws),
+        sh.vertices,
+        k.outputs,
+        (k.limit % 8) as u8,
+    );
     if !core.found {
         return Mapped::Refused { number: 8, line: 0 };
     }
