@@ -1,11 +1,10 @@
 -- Check's answers, one for each way out of the code. Assumes nothing.
-use mathlib.Core.Path.{_≡_, refl, sym, ap, ap₂, _∙_, subst}
-use mathlib.Core.Bool.{Bool, true, false}
-use mathlib.Core.List.{List, []}
-use mathlib.Core.Option.{some, none}
+use mathlib.Core.Path.{_≡_, refl, sym, ap, ap₂, _∙_}
+use mathlib.Core.Bool.{true, false}
+use mathlib.Core.List.{List}
 use Prim.Native.Nat.{ℕ, _≤_, _<_}
 use native.Mathlib.Omega.{arith}
-use lib.ListN.{length, getD}
+use lib.ListN.{length}
 use Rattle.bits.specs.Logic.{true-false}
 use Rattle.sheet.specs.Examine as sheets
 use Rattle.sheet.specs.Examine.{Design, refused, valid}
@@ -14,7 +13,7 @@ use Rattle.sheet.specs.WellFormed.{WellFormed}
 use Rattle.sheet.specs.ExaminationLaws.{valid-well-formed}
 use Rattle.sheet.specs.declared.Sheet.{Sheet}
 use Rattle.design.specs.Answer.{ExaminedIs}
-use Rattle.design.specs.TableLaws.{Valid, valid-here}
+use Rattle.design.specs.TableLaws.{valid-here}
 use Rattle.design.specs.declared.Examined.{Examined}
 use Rattle.classes.specs.Proper.{Proper}
 use Rattle.classes.specs.Width.{budget}
@@ -22,9 +21,9 @@ use Rattle.classes.specs.Answer.{Counts, ClassesAre}
 use Rattle.classes.specs.ShapeLaws.{proper-counts}
 use Rattle.classes.specs.declared.Classes.{Classes}
 use Rattle.network.specs.Network.{Network}
-use Rattle.network.specs.Examine.{Answer, bad-line, network, readNetwork, offending}
+use Rattle.network.specs.Examine.{Answer, bad-line, network, readNetwork}
 use Rattle.network.specs.Check.{Checked, refused-by, check}
-use Rattle.network.specs.Answers.{compared, Drawn}
+use Rattle.network.specs.Answers.{compared}
 use Rattle.network.specs.CheckLaws.{check-refused, check-bad-line, check-offending, check-compares}
 use Rattle.netsheet.specs.Answer.{NetworkIs, ReadAs}
 use Rattle.netsheet.specs.Named.{Ranged}

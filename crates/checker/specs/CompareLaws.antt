@@ -1,14 +1,13 @@
 -- The comparison, output by output and row by row: what the code knows after some of them is that these agree, and so what
 -- it says at the end is the definition's answer. Assumes nothing.
-use mathlib.Core.Path.{_≡_, refl, sym, ap, ap₂, _∙_, subst}
-use mathlib.Core.Bool.{Bool, true, false, not}
+use mathlib.Core.Path.{_≡_, sym, ap, ap₂, _∙_}
+use mathlib.Core.Bool.{Bool, true, false}
 use mathlib.Core.List.{List}
 use Prim.Native.Nat.{ℕ, _+_, _^_, _≤_, _<_}
 use native.Mathlib.Omega.{arith}
 use borrow.Author.Count.{below-more}
 use borrow.Author.Tests.{not-false}
 use lib.ListN.{length, getD}
-use lib.Pow.{pow-mono}
 use Rattle.bits.specs.Logic.{xorb, true-false}
 use Rattle.rows.specs.Words.{rowOn}
 use Rattle.sheet.specs.Examine.{Design}
@@ -18,7 +17,7 @@ use Rattle.classes.specs.declared.Shape.{Shape}
 use Rattle.network.specs.Network.{Network}
 use Rattle.network.specs.Value.{networkOn}
 use Rattle.network.specs.Check.{same, differs}
-use Rattle.network.specs.Answers.{compared, Computes, LowestDifference}
+use Rattle.network.specs.Answers.{compared, LowestDifference}
 use Rattle.network.specs.CompareLaws.{same-compared, differs-compared}
 use Rattle.checker.specs.Code.{oneAt}
 use Rattle.checker.specs.Filling.{Ready, Filled}

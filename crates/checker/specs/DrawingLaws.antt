@@ -6,7 +6,7 @@ use mathlib.Core.List.{List, [], _∷_, _++_, map}
 use Prim.Native.Nat.{ℕ, _+_, _*_, _^_, _-_, _≤_, _<_}
 use native.Mathlib.Omega.{arith}
 use native.Mathlib.Nat.{add-assoc}
-use lib.ListN.{length, getD, take, drop, length-map, length-append, List·getD-map}
+use lib.ListN.{length, getD, drop, length-map, length-append, List·getD-map}
 use lib.Seq.{getD-take, getD-drop}
 use lib.Pow.{pow-mono, pow-pos}
 use Rattle.rows.specs.Row.{rowOf, valuesOf}
@@ -14,13 +14,12 @@ use Rattle.rows.specs.RowLaws.{row-lt, row-values, length-values}
 use Rattle.rows.specs.Digits.{digit}
 use Rattle.sheet.specs.Examine.{Design}
 use Rattle.sheet.specs.declared.Sheet.{Sheet}
-use Rattle.classes.specs.Columns.{free, joinRow, vertexOf, freeRowOf, vertexCount, freeCount}
+use Rattle.classes.specs.Columns.{joinRow, vertexOf, freeRowOf, vertexCount, freeCount}
 use Rattle.classes.specs.JoinLaws.{join-add, join-parts, join-lt, vertex-lt, free-row-lt}
 use Rattle.classes.specs.declared.Shape.{Shape}
 use Rattle.network.specs.Network.{Network}
-use Rattle.network.specs.Numbers.{numbersOf}
 use Rattle.network.specs.Printer.{printDigits}
-use Rattle.network.specs.LineAnswer.{Stands, NodeStands}
+use Rattle.network.specs.LineAnswer.{Stands}
 use Rattle.network.specs.Value.{networkOn}
 use Rattle.netsheet.specs.Answer.{frees}
 use Rattle.serving.specs.NetworkCore.{lutAt, nodeOf}
@@ -112,7 +111,6 @@ module _ {d : Design} {w : Network} {t : List ℕ} {k : Sheet} {n : Places} {sh 
           → getD (n .nodeat) o 0 + codeAt t (n .lutat) (getD (n .reads) o 0) x (n .luts) * sh .frees + sh .frees ≤ length t
       room o x l a s =
           let some : 0 < sh .frees = omega (arith, h .shaped .free-rows, pow-pos (frees d)) in
-          let last : ℕ = sh .frees - 1 in
           let p = place-lt o x (sh .frees - 1) l a (omega arith) in
           omega arith
 

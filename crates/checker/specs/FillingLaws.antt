@@ -1,8 +1,7 @@
 -- Setting digits in row order, digit by digit and vertex by vertex. Assumes nothing.
-use mathlib.Core.Path.{_≡_, refl, sym, ap, _∙_, subst}
+use mathlib.Core.Path.{_≡_, sym, ap, _∙_, subst}
 use mathlib.Core.Bool.{Bool}
 use mathlib.Core.List.{List}
-use mathlib.Core.Logic.{⊎-elim}
 use Prim.Native.Nat.{ℕ, _+_, _*_, _≤_, _<_}
 use native.Mathlib.Omega.{arith}
 use native.Mathlib.Decide.{ℕ-discrete}
@@ -11,7 +10,7 @@ use lib.ListN.{length, getD, set, length-set}
 use lib.Seq.{getD-set-same, getD-set-other}
 use Rattle.classes.specs.declared.Shape.{Shape}
 use Rattle.checker.specs.Code.{isOne, oneAt, codeAt}
-use Rattle.checker.specs.Filling.{Room, PutFor, Put, rowAt, placeAt, Ready, Filled}
+use Rattle.checker.specs.Filling.{Room, Put, rowAt, Ready, Filled}
 
 -- ---- one digit
 module _ (f : ℕ → Bool) (l : List ℕ) (p v : ℕ) (inside : p < length l) (e : isOne v ≡ f p) where

@@ -1,5 +1,5 @@
 -- Question 11, output by output: the line that the code finds is the first that offends. Assumes nothing.
-use mathlib.Core.Path.{_≡_, refl, sym, ap, _∙_}
+use mathlib.Core.Path.{_≡_, sym, ap}
 use mathlib.Core.List.{List}
 use Prim.Native.Nat.{ℕ, _+_, _≤_, _<_}
 use native.Mathlib.Omega.{arith}
@@ -10,7 +10,7 @@ use Rattle.sheet.specs.Examine.{Design}
 use Rattle.classes.specs.Width.{budget}
 use Rattle.network.specs.Network.{Network}
 use Rattle.network.specs.Numbers.{numbersOf}
-use Rattle.network.specs.Answers.{readCount, Offends, lut-over, node-over, FirstOffending}
+use Rattle.network.specs.Answers.{readCount, Offends, lut-over, node-over}
 use Rattle.network.specs.OffendingLaws.{some-offending, none-offending}
 use Rattle.checker.specs.Limits.{LimitsAre, Judged}
 

@@ -1,8 +1,7 @@
 // Check: a design sheet and a network sheet in, "same", "differs" or a refusal out. The network's digits are set in row order
 // beside the design's tables and compared row by row. Rests on design, netsheet and classes for what the sheets say.
 ghost use mathlib.Core.Path.{_≡_};
-ghost use mathlib.Core.Bool.{Bool};
-ghost use Prim.Native.Nat.{ℕ, _+_, _*_, _^_, _≤_, _<_};
+ghost use Prim.Native.Nat.{ℕ, _+_, _^_, _≤_, _<_};
 ghost use lib.ListN.{length, getD};
 ghost use Rattle.bits.specs.Logic.{xorb};
 ghost use Rattle.rows.specs.Row as row;

@@ -2,7 +2,6 @@
 use mathlib.Core.Path.{sym, ap}
 use borrow.Author.Tests.{eq-eqb, ne-eqb}
 use Rattle.rows.specs.Row.{bit}
-use borrow.Author.Needs.{needs}
 use Rattle.checker.proofs.one.Statement.{statement}
 use Rattle.checker.proofs.one.Tie as tie
 
