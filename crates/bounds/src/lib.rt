@@ -24,6 +24,7 @@ pub fn digits(x: u8) -> u8
     n
 }
 
+// 2 to the power k.
 pub fn power(k: u8) -> u8
     requires { ⌜ k ≤ 6 ⌝ }
     ensures { λ r. ⌜ (r ≡ 2 ^ k) × (0 < r) × (r ≤ 64) ⌝ }
