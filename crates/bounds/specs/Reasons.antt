@@ -16,7 +16,7 @@ use lib.Seq.{getD-set-same, getD-set-other}
 use borrow.Author.Tests.{eq-eqb}
 use Rattle.bits.specs.Logic.{orb, true-false}
 use Rattle.bits.specs.Digit.{on}
-use Rattle.cells.specs.Lists.{All, Pairs, count, all-map, less-or-equal, never-both}
+use Rattle.cells.specs.Lists.{All, Pairs, count, all-map, less-or-equal, never-both, or-on}
 use Rattle.cells.specs.Sets.{With}
 use Rattle.numbering.specs.Given.{labelAt, item}
 
@@ -60,7 +60,7 @@ module _ (cl : List ℕ) (o l q : ℕ) where
     found = (let r = s .found in (
       x ∷ r .0,
       (
-        ((omega arith), sym et ∙ el, subst (λ (z : ℕ). on w z ≡ true) ek (is k ∙ ap (λ (z : Bool). orb (on seen k) z) (eq-eqb k k refl) ∙ all (on seen k))),
+        ((omega arith), sym et ∙ el, subst (λ (z : ℕ). on w z ≡ true) ek (is k ∙ ap (λ (z : Bool). orb (on seen k) z) (eq-eqb k k refl) ∙ or-on (on seen k))),
         all-map (λ (y : ℕ). (y < x) × (labelAt cl o y ≡ l) × (on seen (labelAt cl q y) ≡ true)) (λ (y : ℕ). (y < x + 1) × (labelAt cl o y ≡ l) × (on w (labelAt cl q y) ≡ true)) (r .0) (λ y p. ((let z = p .0 in omega arith), p .1, is (labelAt cl q y) ∙ ap (λ (z : Bool). orb z (eqb (labelAt cl q y) k)) (p .2))) (r .1),
       ),
       (all-map (λ (y : ℕ). (y < x) × (labelAt cl o y ≡ l) × (on seen (labelAt cl q y) ≡ true)) (λ (y : ℕ). labelAt cl q x ≡ labelAt cl q y → ⊥) (r .0) (λ y p e. never-both (subst (λ (z : ℕ). on seen z ≡ true) (sym (ek ∙ e)) (p .2)) (sym off)) (r .1), r .2),
@@ -68,10 +68,6 @@ module _ (cl : List ℕ) (o l q : ℕ) where
     ));
     few = (let z = s .few in omega arith);
   }))
-    where
-      all : (b : Bool) → orb b true ≡ true
-      all true = refl
-      all false = refl
 
   pub counting-end : (v x seen g : ℕ) → v ≤ x → x ≤ v → Counting cl o l q x seen g → Kinds cl v o l q g
   counting-end v x seen g a b s = let r = s .found in (r .0, all-map (λ (y : ℕ). (y < x) × (labelAt cl o y ≡ l) × (on seen (labelAt cl q y) ≡ true)) (λ (y : ℕ). (y < v) × (labelAt cl o y ≡ l)) (r .0) (λ y p. ((let z = p .0 in omega arith), p .1)) (r .1), r .2, r .3)

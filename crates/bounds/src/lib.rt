@@ -24,6 +24,7 @@ pub fn digits(x: u8) -> u8
     n
 }
 
+// 2 to the power k.
 pub fn power(k: u8) -> u8
     requires { ⌜ k ≤ 6 ⌝ }
     ensures { λ r. ⌜ (r ≡ 2 ^ k) × (0 < r) × (r ≤ 64) ⌝ }
@@ -53,11 +54,15 @@ pub fn kinds(cl: &[u8], v: usize, o: usize, l: u8, q: usize) -> u8
     g
 }
 
-// How many blocks class l of o needs.
+// How many blocks class l of o needs; none where no vertex has the class.
 pub fn need(cl: &[u8], v: usize, j: usize, rows: [u8; 8], o: usize, l: u8) -> u8
     requires { ⌜ Labels (now cl) × (v ≤ 32) × (j ≤ 8) × (o < j) ⌝ }
     ensures { λ r. ⌜ Reason (now (cl .entry)) rows v j o l r ⌝ }
 {
+    let here = kinds(cl, v, o, l, o);
+    if here == 0 {
+        return 0;
+    }
     let mut n: u8 = 0;
     let mut q = 0;
     while q < j {

@@ -9,7 +9,7 @@ use native.Mathlib.Decide.{decLt}
 use native.Mathlib.Omega.{arith}
 use native.Mathlib.Numerals.{add-one}
 use lib.ListN.{length, getD, length-append}
-use Rattle.bits.specs.Logic.{true-false}
+use Rattle.bits.specs.Logic.{andb, orb, true-false}
 use Rattle.cells.specs.Core.{bit}
 
 -- ======== definitions
@@ -49,6 +49,22 @@ bit-le false = omega arith
 
 pub less-or-equal : (z n : ℕ) → z < suc n → (z < n) ⊎ (z ≡ n)
 less-or-equal z n h = elim (decLt z n) as (λ _. (z < n) ⊎ (z ≡ n)) [ yes l ↦ inl l | no g ↦ inr (omega arith) ]
+
+pub and-on : (b : Bool) → andb b true ≡ b
+and-on true = refl
+and-on false = refl
+
+pub and-off : (b : Bool) → andb b false ≡ false
+and-off true = refl
+and-off false = refl
+
+pub or-on : (b : Bool) → orb b true ≡ true
+or-on true = refl
+or-on false = refl
+
+pub or-off : (b : Bool) → orb b false ≡ b
+or-off true = refl
+or-off false = refl
 
 pub never-both : {b : Bool} → b ≡ true → b ≡ false → ⊥
 never-both e f = true-false (sym e ∙ f)

@@ -16,7 +16,7 @@ use borrow.Author.Tests.{eq-eqb, ne-eqb, eqb-true, eqb-false, not-true}
 use Rattle.bits.specs.Logic.{andb, true-false}
 use Rattle.bits.specs.Digit.{on, on-and, on-above, equal-digits}
 use Rattle.cells.specs.Core.{bit}
-use Rattle.cells.specs.Lists.{All, Pairs, keep, part, count, bit-le, less-or-equal, never-both, all-map, all-both, pairs-map, all-part, part-has, pairs-part, part-length}
+use Rattle.cells.specs.Lists.{All, Pairs, keep, part, count, bit-le, less-or-equal, never-both, all-map, all-both, pairs-map, all-part, part-has, pairs-part, part-length, and-off, and-on}
 
 -- a and b agree in the digits of mask below u
 abbrev pub Agree : ℕ → ℕ → ℕ → ℕ → Type 0
@@ -31,18 +31,10 @@ agree-and u mask a b h g = equal-digits (bitAnd a mask) (bitAnd b mask) (λ k. o
       where
         low : (k : ℕ) → on mask k ≡ true → k < u
         low k e = elim (decLt k u) as (λ _. k < u) [ yes l ↦ l | no l ↦ absurd (never-both e (on-above u mask k h (omega arith))) ]
-    go k false e = none (on a k) ∙ sym (none (on b k))
-      where
-        none : (x : Bool) → andb x false ≡ false
-        none true = refl
-        none false = refl
+    go k false e = and-off (on a k) ∙ sym (and-off (on b k))
 
 pub and-agree : (u mask a b : ℕ) → bitAnd a mask ≡ bitAnd b mask → Agree u mask a b
-and-agree u mask a b e i l m = sym (drop (on a i)) ∙ sym (ap (λ (x : Bool). andb (on a i) x) m) ∙ sym (on-and a mask i) ∙ ap (λ (x : ℕ). on x i) e ∙ on-and b mask i ∙ ap (λ (x : Bool). andb (on b i) x) m ∙ drop (on b i)
-  where
-    drop : (x : Bool) → andb x true ≡ x
-    drop true = refl
-    drop false = refl
+and-agree u mask a b e i l m = sym (and-on (on a i)) ∙ sym (ap (λ (x : Bool). andb (on a i) x) m) ∙ sym (on-and a mask i) ∙ ap (λ (x : ℕ). on x i) e ∙ on-and b mask i ∙ ap (λ (x : Bool). andb (on b i) x) m ∙ and-on (on b i)
 
 no-two : (R : ℕ → ℕ → Type 0) (xs : List ℕ) → ((x y : ℕ) → R x y → ⊥) → Pairs R xs → length xs ≤ 1
 no-two R [] h p = omega arith

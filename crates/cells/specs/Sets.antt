@@ -13,7 +13,7 @@ use lib.Pow.{pow-lt, pow-pos}
 use borrow.Author.Tests.{eq-eqb, ne-eqb}
 use Rattle.bits.specs.Logic.{andb, orb, true-false}
 use Rattle.bits.specs.Digit.{digit, on, on-and, on-or, on-zero, on-single, on-complement}
-use Rattle.cells.specs.Lists.{never-both}
+use Rattle.cells.specs.Lists.{never-both, and-off, and-on}
 use Rattle.cells.specs.Codes.{on-half}
 
 -- ======== definitions
@@ -46,23 +46,15 @@ with-power s k i = on-or s (2 ^ k) i ∙ ap (λ (b : Bool). orb (on s i) b) (go 
 
 pub without-power : (s k : ℕ) → k < 64 → Without s k (bitAnd s (2 ^ 64 - 1 - 2 ^ k))
 without-power s k h = record {
-  others = λ i l ne. digit-of i l ∙ ap (λ (b : Bool). andb (on s i) (not b)) (on-power-other k i ne) ∙ all (on s i);
+  others = λ i l ne. digit-of i l ∙ ap (λ (b : Bool). andb (on s i) (not b)) (on-power-other k i ne) ∙ and-on (on s i);
   less = λ t.
       let le : bitAnd s (2 ^ 64 - 1 - 2 ^ k) ≤ s = and-le-l s (2 ^ 64 - 1 - 2 ^ k) in
-      let ne : bitAnd s (2 ^ 64 - 1 - 2 ^ k) ≡ s → ⊥ = λ e. never-both (ap (λ (z : ℕ). on z k) e ∙ t) (digit-of k h ∙ ap (λ (b : Bool). andb (on s k) (not b)) (on-single k) ∙ off (on s k)) in
+      let ne : bitAnd s (2 ^ 64 - 1 - 2 ^ k) ≡ s → ⊥ = λ e. never-both (ap (λ (z : ℕ). on z k) e ∙ t) (digit-of k h ∙ ap (λ (b : Bool). andb (on s k) (not b)) (on-single k) ∙ and-off (on s k)) in
       elim (decLt (bitAnd s (2 ^ 64 - 1 - 2 ^ k)) s) as (λ _. bitAnd s (2 ^ 64 - 1 - 2 ^ k) < s) [ yes l ↦ l | no g ↦ absurd (ne (omega arith)) ];
 }
   where
     digit-of : (i : ℕ) → i < 64 → on (bitAnd s (2 ^ 64 - 1 - 2 ^ k)) i ≡ andb (on s i) (not (on (2 ^ k) i))
     digit-of i l = on-and s (2 ^ 64 - 1 - 2 ^ k) i ∙ ap (λ (b : Bool). andb (on s i) b) (on-complement 64 (2 ^ k) i (pow-lt h) l)
-
-    all : (b : Bool) → andb b true ≡ b
-    all true = refl
-    all false = refl
-
-    off : (b : Bool) → andb b false ≡ false
-    off true = refl
-    off false = refl
 
 -- the lowest element
 pub lowest-on : (d n : ℕ) → (n ≡ 0 → ⊥) → n < 2 ^ d → (trailingZeros d n < d) × (on n (trailingZeros d n) ≡ true)

@@ -19,7 +19,7 @@ use lib.Pow.{pow-mono}
 use Rattle.bits.specs.Logic.{andb, orb, xorb, true-false, and-left, and-right}
 use Rattle.bits.specs.Digit.{on, on-and, on-or, on-xor, on-zero, on-ones, on-above, on-complement, on-none, equal-digits}
 use Rattle.cells.specs.Core.{Cell, Differ, Serves, Least, Answer, coreOf, bit}
-use Rattle.cells.specs.Lists.{count, less-or-equal, never-both, false-where, true-where}
+use Rattle.cells.specs.Lists.{count, less-or-equal, never-both, false-where, true-where, and-off, and-on}
 use Rattle.cells.specs.Pigeon.{Agree, agree-and, and-agree}
 use Rattle.cells.specs.Codes.{Coded, Ordered, Normal, normal-of, core-serves, cells-length, cells-zero, on-half}
 use Rattle.numbering.specs.Given.{labelAt, item}
@@ -88,13 +88,9 @@ module _ (v m u : ℕ) (cl budgets : List ℕ) (R F : ℕ → ℕ) (few : u ≤ 
   pub normal-order : (o : ℕ) (rows : List ℕ) (same : ℕ) → o < m → Alike rows o same → ((p : ℕ) → p < o → R p ≡ item rows p) → disorder (R o) same ≡ 0
   normal-order o rows same h a e = on-none (disorder (R o) same) (λ i. on-and (bitAnd (R o / 2) (2 ^ 8 - 1 - R o)) same i ∙ ap (λ (b : Bool). andb b (on same i)) (on-and (R o / 2) (2 ^ 8 - 1 - R o) i) ∙ go i (on (R o / 2) i) refl (on same i) refl)
     where
-      and-false : (a : Bool) → andb a false ≡ false
-      and-false true = refl
-      and-false false = refl
-
       go : (i : ℕ) (a : Bool) → on (R o / 2) i ≡ a → (b : Bool) → on same i ≡ b → andb (andb a (on (2 ^ 8 - 1 - R o) i)) b ≡ false
       go i false p b q = refl
-      go i true p false q = and-false (on (2 ^ 8 - 1 - R o) i)
+      go i true p false q = and-off (on (2 ^ 8 - 1 - R o) i)
       go i true p true q =
           let t : on (R o) (suc i) ≡ true = on-half (R o) i ∙ p in
           let l : suc i < u = elim (decLt (suc i) u) as (λ _. suc i < u) [ yes k ↦ k | no k ↦ absurd (never-both t (on-above u (R o) (suc i) (N .short o) (omega arith))) ] in
@@ -147,12 +143,8 @@ alike-more rows n same r long h low s = record {
         low-digits : (x : ℕ) → ((i : ℕ) → 8 ≤ i → on x i ≡ false) → x < 2 ^ 8
         low-digits x z = let e : bitAnd x 255 ≡ x = equal-digits (bitAnd x 255) x (λ i. on-and x 255 i ∙ case i (decLt i 8)) in let w = and-le-r x 255 in omega arith
           where
-            keep : (b : Bool) → andb b true ≡ b
-            keep true = refl
-            keep false = refl
-
             case : (i : ℕ) → Dec (i < 8) → andb (on x i) (on 255 i) ≡ on x i
-            case i (yes l) = ap (λ (b : Bool). andb (on x i) b) (on-ones 8 i l) ∙ keep (on x i)
+            case i (yes l) = ap (λ (b : Bool). andb (on x i) b) (on-ones 8 i l) ∙ and-on (on x i)
             case i (no l) = ap (λ (b : Bool). andb b (on 255 i)) (z i (omega arith)) ∙ sym (z i (omega arith))
 
     same-of : (a b : Bool) → not (xorb a b) ≡ true → a ≡ b

@@ -11,6 +11,7 @@ ghost use Rattle.numbering.specs.Given.{Labels, labelAt, item};
 ghost use Rattle.readers.specs.Masks.{Short, Decided};
 ghost use Rattle.fewest.specs.Choice.{Rows, Alike, Chosen, Suits, Zeroed, Answered};
 
+// The smaller of two numbers.
 pub fn smaller(a: u8, b: u8) -> u8
     ensures { λ r. ⌜ r ≡ min a b ⌝ }
 {

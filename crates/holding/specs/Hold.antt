@@ -18,7 +18,7 @@ use lib.Seq.{getD-set-same, getD-set-other}
 use borrow.Author.Tests.{eq-eqb, ne-eqb, eqb-true, eqb-false}
 use Rattle.bits.specs.Logic.{andb, orb, pick, true-false}
 use Rattle.bits.specs.Digit.{on, on-and, on-or, on-zero}
-use Rattle.cells.specs.Lists.{All, Pairs, count, sum, all-map, all-both, pairs-map, less-or-equal, never-both, false-where, true-where, counted, sum-more}
+use Rattle.cells.specs.Lists.{All, Pairs, count, sum, all-map, all-both, pairs-map, less-or-equal, never-both, false-where, true-where, counted, sum-more, or-on}
 use Rattle.cells.specs.Shared.{Fits, block, Group, gather}
 use Rattle.numbering.specs.Given.{labelAt, item, Block, Solves, Extends}
 
@@ -115,10 +115,6 @@ module _ (cl codes : List ℕ) (o mask : ℕ) where
       other : (l : ℕ) → (l ≡ q → ⊥) → getD (set own q new) l 0 ≡ getD own l 0
       other l ne = getD-set-other own q l new 0 ne
 
-      or-right : (a : Bool) → orb a true ≡ true
-      or-right true = refl
-      or-right false = refl
-
       or-case : (a b : Bool) → orb a b ≡ true → (a ≡ true) ⊎ (b ≡ true)
       or-case true b e = inl refl
       or-case false b e = inr e
@@ -131,7 +127,7 @@ module _ (cl codes : List ℕ) (o mask : ℕ) where
           go (no p) = ap (λ (z : ℕ). on z c) (other l p) ∙ e
 
       hit : (c : ℕ) → c < 64 → bitAnd c mask ≡ bitAnd (item codes y) mask → on (getD (set own q new) q 0) c ≡ true
-      hit c d e = ap (λ (z : ℕ). on z c) same ∙ on-or (getD own q 0) bs c ∙ ap (λ (a : Bool). orb (on (getD own q 0) c) a) (is c d ∙ eq-eqb _ _ e) ∙ or-right (on (getD own q 0) c)
+      hit c d e = ap (λ (z : ℕ). on z c) same ∙ on-or (getD own q 0) bs c ∙ ap (λ (a : Bool). orb (on (getD own q 0) c) a) (is c d ∙ eq-eqb _ _ e) ∙ or-on (on (getD own q 0) c)
 
       Out : ℕ → ℕ → Type 0
       Out l c = (w : ℕ) × (w < y + 1) × (item codes w < 64) × (labelAt cl o w ≡ l) × (bitAnd (item codes w) mask ≡ bitAnd c mask)

@@ -1,3 +1,3 @@
--- Laws of the rules that the search for codes prunes by.
+-- Hold has the rules that prune, each with its law; Search has the steps of the search, which the contracts cite.
 pub mod Hold
 pub mod Search

@@ -16,7 +16,7 @@ use borrow.Author.Tests.{eq-eqb, ne-eqb, eqb-true, eqb-false, leb-true, leb-fals
 use Rattle.bits.specs.Logic.{andb, orb, true-false}
 use Rattle.bits.specs.Digit.{on, on-and, on-or, on-zero, on-complement}
 use Rattle.cells.specs.Core.{bit}
-use Rattle.cells.specs.Lists.{count, sum, count-drop, less-or-equal, never-both, false-where, count-more, count-same}
+use Rattle.cells.specs.Lists.{count, sum, count-drop, less-or-equal, never-both, false-where, count-more, count-same, or-off, or-on}
 use Rattle.cells.specs.Sets.{With, Without}
 use Rattle.numbering.specs.Given.{labelAt, item, Block, Labels, Solves, Extends, Kept, Hopeless, Told}
 use Rattle.holding.specs.Hold.{held-start, held-skip, held-old, held-new, Held, Wanted, need, needed, holders, enough, keeps-to, keeps-out}
@@ -30,20 +30,12 @@ pub record Blocked (mask c k r : ℕ) : Type 0 where
 pub blocked-start : (mask c : ℕ) → Blocked mask c 0 0
 blocked-start mask c = record { below = λ i h. absurd (omega arith); rest = λ i h. on-zero i }
 
-none-or : (b : Bool) → orb b false ≡ b
-none-or true = refl
-none-or false = refl
-
-all-or : (b : Bool) → orb b true ≡ true
-all-or true = refl
-all-or false = refl
-
 pub blocked-in : (mask c k r r' s : ℕ) → bitAnd k mask ≡ bitAnd c mask → With r k s → r' ≡ s → Blocked mask c k r → Blocked mask c (k + 1) r'
 blocked-in mask c k r r' s e w a b = subst (Blocked mask c (k + 1)) (sym a) (record {
-  below = λ i h. ⊎-elim (λ l. w i ∙ ap (λ (t : Bool). orb (on r i) t) (ne-eqb i k (λ q. omega arith)) ∙ none-or (on r i) ∙ b .below i l)
-      (λ q. subst (λ (z : ℕ). on s z ≡ eqb (bitAnd z mask) (bitAnd c mask)) (sym q) (w k ∙ ap (λ (t : Bool). orb (on r k) t) (eq-eqb k k refl) ∙ all-or (on r k) ∙ sym (eq-eqb _ _ e)))
+  below = λ i h. ⊎-elim (λ l. w i ∙ ap (λ (t : Bool). orb (on r i) t) (ne-eqb i k (λ q. omega arith)) ∙ or-off (on r i) ∙ b .below i l)
+      (λ q. subst (λ (z : ℕ). on s z ≡ eqb (bitAnd z mask) (bitAnd c mask)) (sym q) (w k ∙ ap (λ (t : Bool). orb (on r k) t) (eq-eqb k k refl) ∙ or-on (on r k) ∙ sym (eq-eqb _ _ e)))
       (less-or-equal i k (omega arith));
-  rest = λ i h. w i ∙ ap (λ (t : Bool). orb (on r i) t) (ne-eqb i k (λ q. omega arith)) ∙ none-or (on r i) ∙ b .rest i (omega arith);
+  rest = λ i h. w i ∙ ap (λ (t : Bool). orb (on r i) t) (ne-eqb i k (λ q. omega arith)) ∙ or-off (on r i) ∙ b .rest i (omega arith);
 })
 
 pub blocked-out : (mask c k r r' : ℕ) → (bitAnd k mask ≡ bitAnd c mask → ⊥) → r' ≡ r → Blocked mask c k r → Blocked mask c (k + 1) r'

@@ -98,6 +98,7 @@ pub fn wanted(
     r
 }
 
+// The larger of two numbers.
 pub fn larger(a: u8, b: u8) -> u8
     ensures { λ r. ⌜ (r ≡ max a b) × (r ≤ 255) ⌝ }
 {

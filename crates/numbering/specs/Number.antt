@@ -18,7 +18,7 @@ use lib.Seq.{getD-set-same, getD-set-other}
 use Rattle.bits.specs.Logic.{andb, orb, true-false}
 use Rattle.bits.specs.Digit.{on, on-and, on-or, on-zero, on-ones, on-above, on-complement, equal-digits}
 use Rattle.cells.specs.Core.{bit}
-use Rattle.cells.specs.Lists.{All, Pairs, count, all-map, less-or-equal, never-both, count-more, count-same}
+use Rattle.cells.specs.Lists.{All, Pairs, count, all-map, less-or-equal, never-both, count-more, count-same, and-off, and-on, or-off, or-on}
 use Rattle.cells.specs.Pigeon.{Agree, agree-and, and-agree}
 use Rattle.cells.specs.Shared.{Fits}
 use Rattle.numbering.specs.Given.{labelAt, item, Plan, Solves, Extends, Parted, Hopeless}
@@ -186,19 +186,11 @@ spread-zero n p i r e f s = record {
 -- or 1
 pub spread-one : (n p i r r' : ℕ) → on p i ≡ true → on n (count (on p) i) ≡ true → With r i r' → Spread n p i r → Spread n p (i + 1) r'
 spread-one n p i r r' e f w s = record {
-  digits = λ k h. ⊎-elim (λ l. w k ∙ ap (λ (b : Bool). orb (on r k) b) (ne-eqb k i (λ q. omega arith)) ∙ none (on r k) ∙ s .digits k l)
-      (λ q. subst (λ (z : ℕ). on r' z ≡ andb (on p z) (on n (count (on p) z))) (sym q) (w i ∙ ap (λ (b : Bool). orb (on r i) b) (eq-eqb i i refl) ∙ all (on r i) ∙ sym (ap₂ andb e f)))
+  digits = λ k h. ⊎-elim (λ l. w k ∙ ap (λ (b : Bool). orb (on r k) b) (ne-eqb k i (λ q. omega arith)) ∙ or-off (on r k) ∙ s .digits k l)
+      (λ q. subst (λ (z : ℕ). on r' z ≡ andb (on p z) (on n (count (on p) z))) (sym q) (w i ∙ ap (λ (b : Bool). orb (on r i) b) (eq-eqb i i refl) ∙ or-on (on r i) ∙ sym (ap₂ andb e f)))
       (less-or-equal k i (omega arith));
-  rest = λ k h. w k ∙ ap (λ (b : Bool). orb (on r k) b) (ne-eqb k i (λ q. omega arith)) ∙ none (on r k) ∙ s .rest k (omega arith);
+  rest = λ k h. w k ∙ ap (λ (b : Bool). orb (on r k) b) (ne-eqb k i (λ q. omega arith)) ∙ or-off (on r k) ∙ s .rest k (omega arith);
 }
-  where
-    none : (b : Bool) → orb b false ≡ b
-    none true = refl
-    none false = refl
-
-    all : (b : Bool) → orb b true ≡ true
-    all true = refl
-    all false = refl
 
 -- what is spread over six digits is below 64
 pub spread-low : (n p r : ℕ) → Spread n p 6 r → r % 256 ≡ r
@@ -207,12 +199,8 @@ spread-low n p r s = mod-eq-of-lt (low-of r (equal-digits (bitAnd r 255) r (λ k
     low-of : (r : ℕ) → bitAnd r 255 ≡ r → r < 256
     low-of r e = let h = and-le-r r 255 in omega arith
 
-    keep : (b : Bool) → andb b true ≡ b
-    keep true = refl
-    keep false = refl
-
     go : (k : ℕ) → Dec (k < 8) → andb (on r k) (on 255 k) ≡ on r k
-    go k (yes l) = ap (λ (b : Bool). andb (on r k) b) (on-ones 8 k l) ∙ keep (on r k)
+    go k (yes l) = ap (λ (b : Bool). andb (on r k) b) (on-ones 8 k l) ∙ and-on (on r k)
     go k (no l) = ap (λ (b : Bool). andb b (on 255 k)) (s .rest k (omega arith)) ∙ sym (s .rest k (omega arith))
 
 -- the loop's state: r is spread so far, and k digits of p are passed
@@ -285,16 +273,12 @@ wrote-more nums p cap x codes r s b q h sp w = record {
     digit : (i : ℕ) → i < 6 → on n i ≡ orb (andb (on (item r x) i) (not (on p i))) (andb (on p i) (on (item nums x) (count (on p) i)))
     digit i l = on-or (bitAnd (item r x) (2 ^ 8 - 1 - p)) s i ∙ ap₂ orb (on-and (item r x) (2 ^ 8 - 1 - p) i ∙ ap (λ (t : Bool). andb (on (item r x) i) t) (on-complement 8 p i q (omega arith))) (sp .digits i l)
 
-    off : (a : Bool) → andb a false ≡ false
-    off true = refl
-    off false = refl
-
     all : (a : Bool) → orb (andb a true) false ≡ a
     all true = refl
     all false = refl
 
     in-p : (i : ℕ) → i < 6 → on p i ≡ true → on n i ≡ on (item nums x) (count (on p) i)
-    in-p i l m = digit i l ∙ ap (λ (t : Bool). orb (andb (on (item r x) i) (not t)) (andb t (on (item nums x) (count (on p) i)))) m ∙ ap (λ (t : Bool). orb t (on (item nums x) (count (on p) i))) (off (on (item r x) i))
+    in-p i l m = digit i l ∙ ap (λ (t : Bool). orb (andb (on (item r x) i) (not t)) (andb t (on (item nums x) (count (on p) i)))) m ∙ ap (λ (t : Bool). orb t (on (item nums x) (count (on p) i))) (and-off (on (item r x) i))
 
     out-p : (i : ℕ) → i < 6 → on p i ≡ false → on n i ≡ on (item codes x) i
     out-p i l m = digit i l ∙ ap (λ (t : Bool). orb (andb (on (item r x) i) (not t)) (andb t (on (item nums x) (count (on p) i)))) m ∙ all (on (item r x) i) ∙ ap (λ (z : ℕ). on z i) (w .rest x (omega arith))

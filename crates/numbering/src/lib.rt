@@ -75,6 +75,7 @@ pub fn spread(n: u8, p: u8) -> u8
     (r % 256) as u8
 }
 
+// Codes of the vertices, and whether they are right.
 pub struct Codes {
     pub ok: bool,
     pub codes: [u8; 32],

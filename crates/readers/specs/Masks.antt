@@ -1,6 +1,6 @@
 -- The cells that two outputs read, and each output's cells split by them: the facts that the search for codes and the
 -- writing of private cells ask for. Assumes nothing.
-use Rattle.cells.specs.Lists.{zeros}
+use Rattle.cells.specs.Lists.{zeros, and-off}
 use mathlib.Core.Path.{_≡_, refl, sym, ap, ap₂, _∙_, subst}
 use mathlib.Core.Bool.{Bool, true, false, not}
 use mathlib.Core.List.{List, [], _∷_}
@@ -131,13 +131,9 @@ module _ (rows : List ℕ) (sh j : ℕ) (ms ps caps spots : List ℕ) (short : S
       go true true e = absurd (true-false (sym e))
       go false b e = absurd (true-false (sym e))
 
-  and-false : (a : Bool) → andb a false ≡ false
-  and-false true = refl
-  and-false false = refl
-
   pub plan-of : Plan ms ps caps j
   plan-of = record {
-    private = λ o q i h k e. shared-on q i k ∙ ap (λ (b : Bool). andb (on (item rows q) i) b) (private-read o i h e .1) ∙ and-false (on (item rows q) i);
+    private = λ o q i h k e. shared-on q i k ∙ ap (λ (b : Bool). andb (on (item rows q) i) b) (private-read o i h e .1) ∙ and-off (on (item rows q) i);
     single = λ o q i h k ne e. false-where _ (λ f. never-both (c .two o q i h k ne (private-read o i h e .0) (private-read q i k f .0)) (private-read o i h e .1));
     room = p .caps-are;
     short = private-low;

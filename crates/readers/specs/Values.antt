@@ -17,7 +17,7 @@ use borrow.Author.Tests.{eq-eqb, ne-eqb, eqb-true}
 use Rattle.bits.specs.Logic.{andb, orb, pick, true-false, and-left, and-right}
 use Rattle.bits.specs.Digit.{on, on-and, on-or, on-zero, on-none, on-above, on-complement}
 use Rattle.cells.specs.Core.{Differ}
-use Rattle.cells.specs.Lists.{less-or-equal, never-both, false-where, true-where}
+use Rattle.cells.specs.Lists.{less-or-equal, never-both, false-where, true-where, and-off, and-on, or-off}
 use Rattle.cells.specs.Pigeon.{Agree, agree-and, and-agree}
 use Rattle.cells.specs.Codes.{Coded}
 use Rattle.cells.specs.Shared.{sharedCode}
@@ -78,34 +78,22 @@ other-same a b p q e = go (ℕ-discrete p a) (ℕ-discrete p b) (ℕ-discrete q 
 abbrev renamed : ℕ → ℕ → ℕ → ℕ
 renamed g t c = bitOr (bitAnd c (2 ^ 8 - 1 - g)) (bitAnd t g)
 
-or-false : (b : Bool) → orb b false ≡ b
-or-false true = refl
-or-false false = refl
-
-and-true : (b : Bool) → andb b true ≡ b
-and-true true = refl
-and-true false = refl
-
-and-false : (b : Bool) → andb b false ≡ false
-and-false true = refl
-and-false false = refl
-
 module _ (g : ℕ) (low : g < 64) where
   renamed-on : (t c i : ℕ) → i < 8 → on (renamed g t c) i ≡ orb (andb (on c i) (not (on g i))) (andb (on t i) (on g i))
   renamed-on t c i l = on-or (bitAnd c (2 ^ 8 - 1 - g)) (bitAnd t g) i ∙ ap₂ orb (on-and c (2 ^ 8 - 1 - g) i ∙ ap (λ (b : Bool). andb (on c i) b) (on-complement 8 g i (omega arith) l)) (on-and t g i)
 
   renamed-in : (t c i : ℕ) → i < 6 → on g i ≡ true → on (renamed g t c) i ≡ on t i
-  renamed-in t c i l e = renamed-on t c i (omega arith) ∙ ap (λ (b : Bool). orb (andb (on c i) (not b)) (andb (on t i) b)) e ∙ ap₂ orb (and-false (on c i)) (and-true (on t i))
+  renamed-in t c i l e = renamed-on t c i (omega arith) ∙ ap (λ (b : Bool). orb (andb (on c i) (not b)) (andb (on t i) b)) e ∙ ap₂ orb (and-off (on c i)) (and-on (on t i))
 
   renamed-out : (t c i : ℕ) → i < 6 → on g i ≡ false → on (renamed g t c) i ≡ on c i
-  renamed-out t c i l e = renamed-on t c i (omega arith) ∙ ap (λ (b : Bool). orb (andb (on c i) (not b)) (andb (on t i) b)) e ∙ ap₂ orb (and-true (on c i)) (and-false (on t i)) ∙ or-false (on c i)
+  renamed-out t c i l e = renamed-on t c i (omega arith) ∙ ap (λ (b : Bool). orb (andb (on c i) (not b)) (andb (on t i) b)) e ∙ ap₂ orb (and-on (on c i)) (and-off (on t i)) ∙ or-off (on c i)
 
   -- the code c with values a and b of the group exchanged
   abbrev swap : ℕ → ℕ → ℕ → ℕ
   swap a b c = renamed g (other (bitAnd a g) (bitAnd b g) (bitAnd c g)) c
 
   value-of : (t : ℕ) → bitAnd (bitAnd t g) g ≡ bitAnd t g
-  value-of t = agree-and 6 g (bitAnd t g) t low (λ i l e. on-and t g i ∙ ap (λ (b : Bool). andb (on t i) b) e ∙ and-true (on t i))
+  value-of t = agree-and 6 g (bitAnd t g) t low (λ i l e. on-and t g i ∙ ap (λ (b : Bool). andb (on t i) b) e ∙ and-on (on t i))
 
   other-value : (a b c : ℕ) → bitAnd (other (bitAnd a g) (bitAnd b g) (bitAnd c g)) g ≡ other (bitAnd a g) (bitAnd b g) (bitAnd c g)
   other-value a b c = go (eqb (bitAnd c g) (bitAnd a g)) (eqb (bitAnd c g) (bitAnd b g))
@@ -123,7 +111,7 @@ module _ (g : ℕ) (low : g < 64) where
   swap-kept a b c i l na nb = go (on g i) refl
     where
       go : (t : Bool) → on g i ≡ t → on (swap a b c) i ≡ on c i
-      go true e = renamed-in (other (bitAnd a g) (bitAnd b g) (bitAnd c g)) c i l e ∙ ap (λ (z : ℕ). on z i) (other-c (bitAnd a g) (bitAnd b g) (bitAnd c g) na nb) ∙ on-and c g i ∙ ap (λ (t : Bool). andb (on c i) t) e ∙ and-true (on c i)
+      go true e = renamed-in (other (bitAnd a g) (bitAnd b g) (bitAnd c g)) c i l e ∙ ap (λ (z : ℕ). on z i) (other-c (bitAnd a g) (bitAnd b g) (bitAnd c g) na nb) ∙ on-and c g i ∙ ap (λ (t : Bool). andb (on c i) t) e ∙ and-on (on c i)
       go false e = renamed-out (other (bitAnd a g) (bitAnd b g) (bitAnd c g)) c i l e
 
   -- code 0 stays 0 where its value is neither
@@ -160,7 +148,7 @@ module _ (cl rows : List ℕ) (sh v j g : ℕ) (dom : List ℕ) (short : Short r
 
   -- the group's value shows in the shared code
   shared-value : (f : ℕ → ℕ) (x : ℕ) → bitAnd (sharedCode sh f x) g ≡ bitAnd (f x) g
-  shared-value f x = agree-and 6 g (sharedCode sh f x) (f x) (k .low) (λ i l e. on-and (f x) sh i ∙ ap (λ (b : Bool). andb (on (f x) i) b) (and-right (on g i) (on sh i) (sym (on-and g sh i) ∙ ap (λ (n : ℕ). on n i) (k .among) ∙ e)) ∙ and-true (on (f x) i))
+  shared-value f x = agree-and 6 g (sharedCode sh f x) (f x) (k .low) (λ i l e. on-and (f x) sh i ∙ ap (λ (b : Bool). andb (on (f x) i) b) (and-right (on g i) (on sh i) (sym (on-and g sh i) ∙ ap (λ (n : ℕ). on n i) (k .among) ∙ e)) ∙ and-on (on (f x) i))
 
   pub reach-start : (a : ℕ) → length dom ≡ 32 → Block g 0 a → Reach cl rows sh v j g dom 1 a dom
   reach-start a e b = record {
