@@ -15,6 +15,7 @@ use Rattle.sheet.specs.declared.Sheet.{Sheet}
 use Rattle.design.specs.Answer.{ExaminedIs}
 use Rattle.design.specs.TableLaws.{valid-here}
 use Rattle.design.specs.declared.Examined.{Examined}
+use Rattle.classes.specs.ProperLaws.{proper-of}
 use Rattle.classes.specs.Proper.{Proper}
 use Rattle.classes.specs.Width.{budget}
 use Rattle.classes.specs.Answer.{Counts, ClassesAre}
@@ -31,22 +32,6 @@ use Rattle.netsheet.specs.NamedLaws.{holds-ranged}
 use Rattle.netsheet.specs.declared.NetworkSheet.{NetworkSheet}
 use Rattle.checker.specs.Limits.{Small, LimitsAre, Judged}
 use Rattle.checker.specs.Drawing.{placesOf, Drawing, SomeDrawing}
-
--- a valid design is proper
-pub proper-of : (d : Design) → WellFormed d → Proper d
-proper-of d w =
-    record {
-      some-inputs = w .inputs-right .filled;
-      few-inputs = w .inputs-right .few;
-      some-bound = w .bound-right .filled;
-      few-bound = w .bound-right .few;
-      parted =
-          record {
-            inputs-distinct = w .inputs-right .once;
-            bound-distinct = w .bound-right .once;
-            bound-inputs = w .bound-right .known;
-          };
-    }
 
 -- ---- the design sheet
 refused-by-flag : (y : sheets.Examined) (e : Examined) → ExaminedIs y e → e .ok ≡ false → y ≡ refused (e .number) (e .line)

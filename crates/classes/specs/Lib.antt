@@ -3,6 +3,7 @@ pub mod Columns
 pub mod Classes
 pub mod Width
 pub mod Proper
+pub mod ProperLaws
 pub mod Seen
 pub mod Answer
 pub mod Cases

@@ -1,27 +1,22 @@
 -- The examination line after line. Assumes nothing.
 use mathlib.Core.Path.{_≡_, refl, sym, ap, _∙_, subst}
-use mathlib.Core.Bool.{Bool, true, false, _&&_}
+use mathlib.Core.Bool.{Bool, true, false}
 use mathlib.Core.List.{List, [], _∷_}
-use Prim.Native.Nat.{ℕ, zero, suc, _+_, _-_, _*_, _%_, _^_, _≤_, _<_}
+use Prim.Native.Nat.{ℕ, suc, _+_, _-_, _*_, _%_, _^_, _≤_, _<_}
 use native.Mathlib.Omega.{arith}
 use native.Mathlib.Nat.{mod-eq-of-lt, one-mul}
 use native.Mathlib.Numerals.{add-one}
-use lib.Dec.{leb, ltb}
 use lib.ListN.{length, getD, drop, take}
 use lib.Pow.{pow-mono}
 use Rattle.bits.specs.Logic.{pick, true-false}
-use mathlib.Core.Option.{Option, some, none}
-use Rattle.text.specs.Bytes.{newline, same}
-use Rattle.names.specs.Name.{Name, distinct, allAmong}
+use Rattle.text.specs.Bytes.{newline}
 use Rattle.text.specs.Line.{lines}
 use Rattle.text.specs.LineEnd.{LineEnd}
 use Rattle.text.specs.LineEndLaws.{line-end-inside}
 use Rattle.text.specs.LineCountLaws.{lines-past}
 use Rattle.sheet.specs.Examine as spec
-use Rattle.sheet.specs.Examine.{Design, Step, no-to, next, askLine, askLines, atEnd, sized, nothing, follow, at-design, ask, within}
-use Rattle.text.specs.Limits.{maxInputs, maxBound, maxLimit, maxOutputs, maxDepth}
-use Rattle.formula.specs.Tree.{depth, knows}
-use Rattle.sheet.specs.Lines.{Output, designLine, endLine, readIn, readBound, readLimit, readOut}
+use Rattle.sheet.specs.Examine.{Design, Step, no-to, next, askLine, askLines, atEnd, sized, nothing, follow, at-design}
+use Rattle.sheet.specs.FitLaws.{line-fits}
 use Rattle.sheet.specs.Known.{Holds, Fits, StepIs, StepFits, placeOf}
 use Rattle.sheet.specs.declared.Place.{Place}
 use Rattle.sheet.specs.declared.Sheet.{Sheet}
@@ -60,64 +55,6 @@ pub record Along (s : List ℕ) (p : Place) (k : Sheet) (at n : ℕ) : Type 0 wh
   pub few : n ≤ at + 1
   pub here : spec.examine s ≡ askLines (placeOf p) known n (lines (drop at s))
   pub last : getD s (length s - 1) 0 ≡ newline
-
--- ---- each line leaves a design that fits the next place
-ask-fits : (qs : List (ℕ × Bool)) (onward : Step) → StepFits onward → StepFits (ask qs onward)
-ask-fits [] onward h = h
-ask-fits (q ∷ qs) onward h = go (q .1) (ask-fits qs onward h)
-  where
-    go : (b : Bool) → StepFits (ask qs onward) → StepFits (pick b (ask qs onward) (no-to (q .0)))
-    go true f = f
-    go false f = tt
-
-in-fits : (d : Design) (x : Option (List Name)) → StepFits (spec.askIn d x)
-unfolding spec.askIn
-in-fits d none = tt
-in-fits d (some ns) =
-    ask-fits ((3, within 1 maxInputs (length ns)) ∷ (4, distinct ns) ∷ [])
-    (next spec.at-bound (record { inputs = ns; bound = d .bound; limit = d .limit; outputs = d .outputs })) tt
-
-bound-fits : (d : Design) (x : Option (List Name)) → StepFits (spec.askBound d x)
-unfolding spec.askBound
-bound-fits d none = tt
-bound-fits d (some ns) =
-    ask-fits ((3, within 1 maxBound (length ns)) ∷ (4, distinct ns) ∷ (5, allAmong ns (d .inputs)) ∷ [])
-    (next spec.at-limit (record { inputs = d .inputs; bound = ns; limit = d .limit; outputs = d .outputs })) tt
-
-limit-fits : (d : Design) (x : Option ℕ) → StepFits (spec.askLimit d x)
-unfolding spec.askLimit
-limit-fits d none = tt
-limit-fits d (some n) =
-    ask-fits ((3, leb n maxLimit) ∷ [])
-    (next spec.at-out (record { inputs = d .inputs; bound = d .bound; limit = n; outputs = d .outputs })) tt
-
-out-fits : (d : Design) (x : Option Output) → StepFits (spec.askOut d x)
-unfolding spec.askOut
-out-fits d none = tt
-out-fits d (some o) =
-    ask-fits
-    ((3, ltb (length (d .outputs)) maxOutputs && leb (depth (o .formula)) maxDepth)
-    ∷ (4, spec.newName d (o .name))
-    ∷ (5, knows (d .inputs) (o .formula))
-    ∷ [])
-    (next spec.at-out (spec.withOutput d o)) tt
-
-end-fits : (d : Design) → StepFits (spec.askEnd d)
-unfolding spec.askEnd
-end-fits d = ask-fits ((3, leb 1 (length (d .outputs))) ∷ []) (next spec.over d) tt
-
-pick-fits : (b : Bool) (t u : Step) → StepFits t → StepFits u → StepFits (pick b t u)
-pick-fits true t u h k = h
-pick-fits false t u h k = k
-
-line-fits : (p : spec.Place) (d : Design) (l : List ℕ) → Fits p d → StepFits (askLine p d l)
-unfolding askLine
-line-fits spec.at-design d l h = pick-fits (same l designLine) (next spec.at-in d) (no-to 2) h tt
-line-fits spec.at-in d l h = in-fits d (readIn l)
-line-fits spec.at-bound d l h = bound-fits d (readBound l)
-line-fits spec.at-limit d l h = limit-fits d (readLimit l)
-line-fits spec.at-out d l h = pick-fits (same l endLine) (spec.askEnd d) (spec.askOut d (readOut l)) (end-fits d) (out-fits d (readOut l))
-line-fits spec.over d l h = tt
 
 -- ---- a line: refused there, or on to the next
 line-here : (s : List ℕ) (at e : ℕ) → at < length s → getD s (length s - 1) 0 ≡ newline → LineEnd s at e → lines (drop at s) ≡ take (e - at) (drop at s) ∷ lines (drop (e + 1) s)

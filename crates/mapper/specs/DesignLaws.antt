@@ -1,4 +1,4 @@
--- A valid design is proper, and its names are names. Assumes nothing.
+-- The names of a valid design are names. Assumes nothing.
 use mathlib.Core.Path.{_≡_, refl, sym, ap, ap₂, _∙_, subst}
 use mathlib.Core.Bool.{Bool, true, false, _&&_, _||_}
 use mathlib.Core.List.{List, [], _∷_, map}
@@ -13,19 +13,8 @@ use Rattle.sheet.specs.Lines.{Output}
 use Rattle.sheet.specs.Examine.{Design, examine, valid, outputNames}
 use Rattle.sheet.specs.WellFormed.{WellFormed, RightOutput, outputAt}
 use Rattle.sheet.specs.ExaminationLaws.{valid-well-formed}
-use Rattle.classes.specs.Proper.{Proper, Parted}
 use Rattle.classes.specs.FreeLaws.{among-cases}
 use Rattle.network.specs.Wellformed.{Named}
-
-pub proper-of : (d : Design) → WellFormed d → Proper d
-proper-of d w =
-    record {
-      some-inputs = w .inputs-right .filled;
-      few-inputs = w .inputs-right .few;
-      some-bound = w .bound-right .filled;
-      few-bound = w .bound-right .few;
-      parted = record { inputs-distinct = w .inputs-right .once; bound-distinct = w .bound-right .once; bound-inputs = w .bound-right .known };
-    }
 
 pub and-left : (a b : Bool) → (a && b) ≡ true → a ≡ true
 and-left true b e = refl

@@ -17,6 +17,7 @@ use Rattle.text.specs.Limits.{maxCells}
 use Rattle.rows.specs.Row.{rowOf}
 use Rattle.sheet.specs.Examine.{Design}
 use Rattle.sheet.specs.WellFormed.{WellFormed}
+use Rattle.classes.specs.ProperLaws.{proper-of}
 use Rattle.classes.specs.Columns.{free, vertexCount, freeCount, conflict, valuesUpto}
 use Rattle.classes.specs.Classes.{localClass}
 use Rattle.classes.specs.Width.{budget}
@@ -37,7 +38,6 @@ use Rattle.serving.specs.Build.{numbers, codeIn, entryAt, entry, nodeBuilt, bui
 use Rattle.serving.specs.Compose.{values-length, values-at, lut-built, tables-at}
 use Rattle.serving.specs.TheoremA.{drawn-serves, built-luts, built-node, built-wellformed, built-reads, built-within, built-computes, parts-of, columns-of}
 use Rattle.mapper.specs.Map.{Permitted, codeAt}
-use Rattle.mapper.specs.DesignLaws.{proper-of}
 
 -- the problem that was given to the search is the design's
 pub record Given (d : Design) (cl budgets : List ℕ) (v m limit : ℕ) : Type 0 where

@@ -19,6 +19,7 @@ use Rattle.sheet.specs.declared.Sheet.{Sheet}
 use Rattle.design.specs.Answer.{ExaminedIs}
 use Rattle.design.specs.TableLaws.{Valid, valid-here, refused-here}
 use Rattle.design.specs.declared.Examined.{Examined}
+use Rattle.classes.specs.ProperLaws.{proper-of}
 use Rattle.classes.specs.Columns.{vertexCount, freeCount, joinRow}
 use Rattle.classes.specs.Classes.{globalCount, localClass, localCount}
 use Rattle.classes.specs.Width.{budget, width}
@@ -35,7 +36,6 @@ use Rattle.fewest.specs.Choice.{Answered}
 use Rattle.serving.specs.Build.{built}
 use Rattle.serving.specs.TheoremA.{built-luts}
 use Rattle.mapper.specs.Map.{Permitted, MapAnswer, refused-by, mapped, Outcome, refused-sheet, too-many-classes, no-network, buffer-short, written}
-use Rattle.mapper.specs.DesignLaws.{proper-of}
 use Rattle.mapper.specs.MapLaws.{Given, none-found, found-permitted}
 use Rattle.mapper.specs.Answer.{LabelsAre, BudgetsAre, labelOf}
 

@@ -19,6 +19,7 @@ use Rattle.rows.specs.Digits.{digit}
 use Rattle.sheet.specs.Lines.{endLine, Output}
 use Rattle.sheet.specs.Examine.{Design, outputNames}
 use Rattle.sheet.specs.WellFormed.{WellFormed}
+use Rattle.classes.specs.ProperLaws.{proper-of}
 use Rattle.classes.specs.Columns.{free}
 use Rattle.classes.specs.Width.{budget, width}
 use Rattle.classes.specs.VertexLaws.{width-most}
@@ -28,7 +29,7 @@ use Rattle.network.specs.Printer.{led, ledAll, lutName, printDigits, networkLin
 use Rattle.network.specs.Wellformed.{Wellformed, Named, nodeAt}
 use Rattle.network.specs.PartLaws.{free-named}
 use Rattle.network.specs.Answers.{WithinLimits}
-use Rattle.mapper.specs.DesignLaws.{proper-of, named-of, and-left, and-right}
+use Rattle.mapper.specs.DesignLaws.{named-of, and-left, and-right}
 
 -- ---- items of at most eight bytes
 data Short : List (List ℕ) → Type 0 where
