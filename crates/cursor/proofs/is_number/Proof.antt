@@ -1,0 +1,27 @@
+-- `is_number`: by the number of digits and the first of them. Assumes nothing.
+use native.Mathlib.Omega.{arith}
+use Rattle.cursor.specs.NumberLaws.{no-digits, one-digit, many-digits, some-digits}
+use Rattle.cursor.proofs.is_number.Statement.{statement}
+use Rattle.cursor.proofs.is_number.Tie as tie
+
+sub-n : tie.Need-sub-n
+sub-n c = omega arith
+
+returns : tie.Need-returns
+returns c = no-digits _ _ _ (c .before .pre .0) (c .before .pre .1) (c .if1 .taken)
+
+returns-2 : tie.Need-returns-2
+returns-2 c = one-digit _ _ _ (c .before .before .pre .0) (c .before .before .pre .1) (c .if2 .taken)
+
+returns-3 : tie.Need-returns-3
+returns-3 c = many-digits _ _ _ (c .before .before .before .pre .0) (c .before .before .before .pre .1) (c .if3 .taken)
+
+shared-slice-read-result : tie.Need-shared-slice-read-result
+shared-slice-read-result c = omega arith
+
+returns-4 : tie.Need-returns-4
+returns-4 c = some-digits _ _ _ (c .before .before .before .before .pre .0) (c .before .before .before .before .pre .1) (omega arith) (c .before .if3 .left)
+
+pub is-number-spec : {M : Type 1} → statement M
+is-number-spec =
+    tie.close (tie.spec sub-n returns returns-2 returns-3 shared-slice-read-result returns-4)

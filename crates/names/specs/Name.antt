@@ -1,0 +1,86 @@
+-- "A name is 1 to 8 characters, first a to z, then a to z or 0 to 9; the four operator words are no names."
+-- Assumes nothing.
+use mathlib.Core.Bool.{Bool, true, false, not, _&&_, _||_}
+use mathlib.Core.List.{List, [], _∷_}
+use Prim.Native.Nat.{ℕ}
+use lib.Dec.{leb}
+use lib.ListN.{length}
+use Rattle.bits.specs.Logic.{pick}
+use Rattle.text.specs.Bytes.{bytes, same, Read, found, bad}
+use Rattle.text.specs.Number.{numeral}
+use Rattle.text.specs.Limits.{maxName}
+
+abbrev pub Name : Type 0
+Name = List ℕ
+
+unfoldable pub letter : ℕ → Bool
+letter b = leb 0x61 b && leb b 0x7A
+
+unfoldable pub nameByte : ℕ → Bool
+nameByte b = letter b || numeral b
+
+-- the longest part of such bytes at the front of a text, and what follows it
+unfoldable pub word : List ℕ → List ℕ
+word [] = []
+word (b ∷ s) =
+    let rest = word s in
+    pick (nameByte b) (b ∷ rest) []
+
+unfoldable pub afterWord : List ℕ → List ℕ
+afterWord [] = []
+afterWord (b ∷ s) =
+    let rest = afterWord s in
+    pick (nameByte b) rest (b ∷ s)
+
+-- the operators
+pub data Operator : Type 0 where
+  not-op and-op or-op xor-op none-op : Operator
+
+-- the operator that a word is
+unfoldable pub operator : List ℕ → Operator
+operator w =
+    pick (same w (bytes "not")) not-op
+    (pick (same w (bytes "and")) and-op
+    (pick (same w (bytes "or")) or-op
+    (pick (same w (bytes "xor")) xor-op none-op)))
+
+abbrev pub isOperator : Operator → Bool
+isOperator not-op = true
+isOperator and-op = true
+isOperator or-op = true
+isOperator xor-op = true
+isOperator none-op = false
+
+abbrev pub allNameBytes : List ℕ → Bool
+allNameBytes [] = true
+allNameBytes (b ∷ s) = nameByte b && allNameBytes s
+
+abbrev pub startsWithLetter : List ℕ → Bool
+startsWithLetter [] = false
+startsWithLetter (b ∷ s) = letter b
+
+unfoldable pub isName : List ℕ → Bool
+isName n = startsWithLetter n && allNameBytes n && leb (length n) maxName && not (isOperator (operator n))
+
+-- the name at the front of a text
+unfoldable pub readName : List ℕ → Read Name
+readName s = pick (isName (word s)) (found (word s) (afterWord s)) bad
+
+-- whether two names are the same: the one place where names are compared
+unfoldable pub sameName : Name → Name → Bool
+sameName m n = same m n
+
+-- whether a name is among some
+unfoldable pub among : Name → List Name → Bool
+among n [] = false
+among n (m ∷ ms) = sameName m n || among n ms
+
+-- whether no name stands twice
+unfoldable pub distinct : List Name → Bool
+distinct [] = true
+distinct (n ∷ ns) = not (among n ns) && distinct ns
+
+-- whether every name of a list is among others
+unfoldable pub allAmong : List Name → List Name → Bool
+allAmong [] ms = true
+allAmong (n ∷ ns) ms = among n ms && allAmong ns ms

@@ -1,0 +1,122 @@
+-- Names and their numbers: every number below 2 ^ 64 is the number of the name that it holds, and every list of at most 8
+-- bytes, none of them 0, is the name that its number holds. So numbers are equal where names are. Assumes nothing.
+use mathlib.Core.Path.{_≡_, refl, sym, ap, ap₂, subst, _∙_}
+use mathlib.Core.Logic.{_⊎_, inl, inr, ⊎-elim}
+use mathlib.Core.Bool.{Bool, true, false, _||_}
+use mathlib.Core.List.{List, [], _∷_}
+use Prim.Native.Nat.{ℕ, zero, suc, _+_, _*_, _/_, _%_, _^_, _≤_, _<_}
+use native.Mathlib.Omega.{arith}
+use native.Mathlib.Nat.{pow-suc}
+use native.Mathlib.Decide.{ℕ-discrete}
+use lib.Dec.{eqb, leb}
+use lib.ListN.{length}
+use borrow.Author.Tests.{eq-eqb, ne-eqb, leb-true}
+use Rattle.bits.specs.Logic.{pick, and-left, and-right}
+use Rattle.text.specs.Bytes.{same}
+use Rattle.text.specs.BytesLaws.{differ-same}
+use Rattle.text.specs.Number.{numeral}
+use Rattle.text.specs.NumeralLaws.{numeral-low, numeral-high}
+use Rattle.names.specs.Name.{Name, letter, nameByte, allNameBytes, isName, sameName}
+use Rattle.names.specs.Pack.{pack, unpackWithin, nameOf}
+use Rattle.names.specs.IsNameLaws.{name-bytes, name-short}
+use Rattle.names.specs.SameLaws.{same-name-equal, same-name-different}
+
+-- ---- a number, unpacked and packed
+below-step : (p v : ℕ) → v < p * 256 → v / 256 < p
+below-step p v h = omega arith
+
+pack-unpacked : (k v : ℕ) → v < 256 ^ k → pack (unpackWithin k v) ≡ v
+unfolding pack unpackWithin
+pack-unpacked zero v h = omega arith
+pack-unpacked (suc k) v h =
+    let less : v / 256 < 256 ^ k = below-step (256 ^ k) v (subst (λ (m : ℕ). v < m) (pow-suc 256 k) h) in
+    let rest : pack (unpackWithin k (v / 256)) ≡ v / 256 = pack-unpacked k (v / 256) less in
+    let split : v % 256 + 256 * (v / 256) ≡ v = omega arith in
+    elim (ℕ-discrete v 0) as (λ _. pack (pick (eqb v 0) [] (v % 256 ∷ unpackWithin k (v / 256))) ≡ v) [
+      | yes e ↦ ap (λ (t : Bool). pack (pick t [] (v % 256 ∷ unpackWithin k (v / 256)))) (eq-eqb v 0 e) ∙ sym e
+      | no d ↦ ap (λ (t : Bool). pack (pick t [] (v % 256 ∷ unpackWithin k (v / 256)))) (ne-eqb v 0 d)
+          ∙ ap (λ (m : ℕ). v % 256 + 256 * m) rest ∙ split
+    ]
+
+pub pack-name-of : (v : ℕ) → v < 2 ^ 64 → pack (nameOf v) ≡ v
+unfolding nameOf
+pack-name-of v h = pack-unpacked 8 v h
+
+-- ---- bytes, packed and unpacked
+-- a list of bytes, none of them 0
+abbrev pub NoZero : List ℕ → Type 0
+NoZero [] = Unit {0}
+NoZero (b ∷ s) = (0 < b) × (b < 256) × NoZero s
+
+low-byte : (b m : ℕ) → b < 256 → (b + 256 * m) % 256 ≡ b
+low-byte b m h = omega arith
+
+high-bytes : (b m : ℕ) → b < 256 → (b + 256 * m) / 256 ≡ m
+high-bytes b m h = omega arith
+
+unpack-none : (k : ℕ) → unpackWithin k 0 ≡ []
+unfolding unpackWithin
+unpack-none zero = refl
+unpack-none (suc k) = refl
+
+unpack-byte : (k b m : ℕ) → 0 < b → b < 256 → unpackWithin (suc k) (b + 256 * m) ≡ b ∷ unpackWithin k m
+unfolding unpackWithin
+unpack-byte k b m p h =
+    ap (λ (t : Bool). pick t [] ((b + 256 * m) % 256 ∷ unpackWithin k ((b + 256 * m) / 256))) (ne-eqb (b + 256 * m) 0 (λ e. omega arith))
+    ∙ ap₂ (λ (x y : ℕ). x ∷ unpackWithin k y) (low-byte b m h) (high-bytes b m h)
+
+unpack-packed : (k : ℕ) (n : List ℕ) → length n ≤ k → NoZero n → unpackWithin k (pack n) ≡ n
+unfolding pack
+unpack-packed k [] h z = unpack-none k
+unpack-packed zero (b ∷ s) h z = absurd (omega arith)
+unpack-packed (suc k) (b ∷ s) h z =
+    unpack-byte k b (pack s) (z .0) (z .1) ∙ ap (λ (x : List ℕ). b ∷ x) (unpack-packed k s (omega arith) (z .2))
+
+pub name-of-pack : (n : Name) → length n ≤ 8 → NoZero n → nameOf (pack n) ≡ n
+unfolding nameOf
+name-of-pack n h z = unpack-packed 8 n h z
+
+-- ---- the bytes of a name are none of them 0
+either-true : (a b : Bool) → a || b ≡ true → (a ≡ true) ⊎ (b ≡ true)
+either-true true b e = inl refl
+either-true false b e = inr e
+
+letter-bounds : (b : ℕ) → letter b ≡ true → (0x61 ≤ b) × (b ≤ 0x7A)
+unfolding letter
+letter-bounds b e =
+    (leb-true 0x61 b (and-left (leb 0x61 b) (leb b 0x7A) e), leb-true b 0x7A (and-right (leb 0x61 b) (leb b 0x7A) e))
+
+name-byte-bounds : (b : ℕ) → nameByte b ≡ true → (0 < b) × (b < 256)
+unfolding nameByte
+name-byte-bounds b e =
+    ⊎-elim
+    (λ l. omega (arith, letter-bounds b l))
+    (λ d. omega (arith, numeral-low b d, numeral-high b d))
+    (either-true (letter b) (numeral b) e)
+
+name-bytes-no-zero : (n : List ℕ) → allNameBytes n ≡ true → NoZero n
+name-bytes-no-zero [] e = tt
+name-bytes-no-zero (b ∷ s) e =
+    let h = name-byte-bounds b (and-left (nameByte b) (allNameBytes s) e) in
+    (h .0, h .1, name-bytes-no-zero s (and-right (nameByte b) (allNameBytes s) e))
+
+pub name-bytes-back : (n : Name) → allNameBytes n ≡ true → length n ≤ 8 → nameOf (pack n) ≡ n
+name-bytes-back n e h = name-of-pack n h (name-bytes-no-zero n e)
+
+pub name-back : (n : Name) → isName n ≡ true → nameOf (pack n) ≡ n
+name-back n e = name-bytes-back n (name-bytes n e) (name-short n e)
+
+-- ---- names are the same where their numbers are
+pub name-of-one : (a b : ℕ) → a < 2 ^ 64 → b < 2 ^ 64 → nameOf a ≡ nameOf b → a ≡ b
+name-of-one a b h g e = sym (pack-name-of a h) ∙ ap pack e ∙ pack-name-of b g
+
+pub same-name-numbers : (a b : ℕ) → a < 2 ^ 64 → b < 2 ^ 64 → sameName (nameOf a) (nameOf b) ≡ eqb a b
+same-name-numbers a b h g =
+    elim (ℕ-discrete a b) as (λ _. sameName (nameOf a) (nameOf b) ≡ eqb a b) [
+      | yes e ↦ same-name-equal (nameOf a) (nameOf b) (ap nameOf e) ∙ sym (eq-eqb a b e)
+      | no d ↦ same-name-different (nameOf a) (nameOf b) (λ e. d (name-of-one a b h g e)) ∙ sym (ne-eqb a b d)
+    ]
+
+-- a number other than that of a text holds another text
+pub other-text : (v : ℕ) (t : List ℕ) → v < 2 ^ 64 → (v ≡ pack t → ⊥) → same (nameOf v) t ≡ false
+other-text v t h d = differ-same (nameOf v) t (λ e. d (sym (pack-name-of v h) ∙ ap pack e))

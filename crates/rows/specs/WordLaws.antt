@@ -1,0 +1,76 @@
+-- Tables in sixteen words, as laws: what holds word by word holds row by row, an operation that goes digit by digit goes
+-- row by row, and a table is decided by its rows. Assumes nothing.
+use mathlib.Core.Path.{_≡_, refl, sym, ap, ap₂, _∙_}
+use mathlib.Core.Bool.{Bool}
+use mathlib.Core.List.{List}
+use Prim.Native.Nat.{ℕ, _+_, _*_, _/_, _%_, _^_, _<_}
+use native.Mathlib.Decide.{decLt}
+use native.Mathlib.Omega.{arith}
+use lib.Arith.{digits-div, digits-mod}
+use lib.ListN.{length, getD, replicate, getD-replicate}
+use lib.Seq.{ext-getD}
+use Rattle.bits.specs.Digit.{on, on-above, equal-digits}
+use Rattle.rows.specs.Words.{rowOn, Rowwise, WordOf, Sized}
+
+pub row-word : (ws : List ℕ) (w k : ℕ) → k < 64 → rowOn ws (w * 64 + k) ≡ on (getD ws w 0) k
+unfolding rowOn
+row-word ws w k h = ap₂ (λ (i j : ℕ). on (getD ws i 0) j) (digits-div w h) (digits-mod w h)
+
+pub rowwise : (f : ℕ → Bool) (ws : List ℕ) → ((w : ℕ) → w < 16 → WordOf f w (getD ws w 0)) → Rowwise f ws
+unfolding rowOn
+rowwise f ws h =
+    record {
+      each = λ r b.
+          let e : r / 64 * 64 + r % 64 ≡ r = omega arith in
+          h (r / 64) (omega arith) .each (r % 64) (omega arith) ∙ ap f e;
+    }
+
+-- the same table said in another way
+pub rowwise-same : {f g : ℕ → Bool} {ws : List ℕ} → Rowwise f ws → ((r : ℕ) → r < 1024 → f r ≡ g r) → Rowwise g ws
+rowwise-same t h = record { each = λ r l. t .each r l ∙ h r l }
+
+pub rowwise-self : {ws : List ℕ} → Rowwise (rowOn ws) ws
+rowwise-self = record { each = λ r l. refl }
+
+-- a table made row by row of tables whose rows are known
+pub rowwise-one : (p : Bool → Bool) {f : ℕ → Bool} {a ws : List ℕ}
+    → Rowwise (λ r. p (rowOn a r)) ws → Rowwise f a → Rowwise (λ r. p (f r)) ws
+rowwise-one p t s = rowwise-same t (λ r l. ap p (s .each r l))
+
+pub rowwise-two : (p : Bool → Bool → Bool) {f g : ℕ → Bool} {a b ws : List ℕ}
+    → Rowwise (λ r. p (rowOn a r) (rowOn b r)) ws → Rowwise f a → Rowwise g b → Rowwise (λ r. p (f r) (g r)) ws
+rowwise-two p t s u = rowwise-same t (λ r l. ap₂ p (s .each r l) (u .each r l))
+
+-- sixteen times a word whose digits are all alike
+pub repeated : (x : ℕ) (b : Bool) → ((k : ℕ) → k < 64 → on x k ≡ b) → Rowwise (λ r. b) (replicate 16 x)
+repeated x b h =
+    rowwise (λ r. b) (replicate 16 x)
+    (λ w l. record { each = λ k g. ap (λ (y : ℕ). on y k) (getD-replicate 16 w x 0 l) ∙ h k g })
+
+-- op on words does to each digit what p does to truth values; so it does to each row of a word
+pub word-of-two : (op : ℕ → ℕ → ℕ) (p : Bool → Bool → Bool) → ((x y k : ℕ) → on (op x y) k ≡ p (on x k) (on y k))
+    → (a b : List ℕ) (w : ℕ) → WordOf (λ r. p (rowOn a r) (rowOn b r)) w (op (getD a w 0) (getD b w 0))
+word-of-two op p law a b w =
+    record {
+      each = λ k h. law (getD a w 0) (getD b w 0) k ∙ ap₂ p (sym (row-word a w k h)) (sym (row-word b w k h));
+    }
+
+-- ---- a table is decided by its rows
+word-equal : (x y : ℕ) → x < 2 ^ 64 → y < 2 ^ 64 → ((k : ℕ) → k < 64 → on x k ≡ on y k) → x ≡ y
+word-equal x y bx by h =
+    equal-digits x y
+    (λ k.
+    elim (decLt k 64) as (λ _. on x k ≡ on y k) [
+      | yes l ↦ h k l
+      | no g ↦ on-above 64 x k bx (omega arith) ∙ sym (on-above 64 y k by (omega arith))
+    ])
+
+pub equal-rows : {a b : List ℕ} → Sized a → Sized b
+    → ((r : ℕ) → r < 1024 → rowOn a r ≡ rowOn b r) → a ≡ b
+equal-rows {a} {b} sa sb h =
+    ext-getD 0 a b (sa .size ∙ sym (sb .size))
+    (λ w l.
+    let s : length a ≡ 16 = sa .size in
+    let m : w < 16 = omega arith in
+    word-equal (getD a w 0) (getD b w 0) (sa .fits w m) (sb .fits w m)
+    (λ k g. sym (row-word a w k g) ∙ h (w * 64 + k) (omega arith) ∙ row-word b w k g))

@@ -1,0 +1,136 @@
+// Truth tables of up to ten inputs: all 1,024 rows in sixteen words, row r as digit r % 64 of word r / 64. Each function says
+// what its table holds on every row.
+ghost use mathlib.Core.Path.{_≡_};
+ghost use mathlib.Core.Bool.{not};
+ghost use Prim.Native.Nat.{ℕ, _<_, _≤_};
+ghost use lib.ListN.{length};
+ghost use lib.Seq.{sets};
+ghost use Rattle.bits.specs.Digit.{on};
+ghost use Rattle.bits.specs.Logic.{andb, orb, xorb};
+ghost use Rattle.rows.specs.Words.{rowOn, Rowwise, WordOf};
+ghost use Rattle.rows.specs.Digits.{digit, digitsUpto};
+
+const ALL: u64 = 0xFFFF_FFFF_FFFF_FFFF;
+
+// Entry p has the digits k below 64 whose number has digit p.
+const MASKS: [u64; 6] = [
+    0xAAAA_AAAA_AAAA_AAAA,
+    0xCCCC_CCCC_CCCC_CCCC,
+    0xF0F0_F0F0_F0F0_F0F0,
+    0xFF00_FF00_FF00_FF00,
+    0xFFFF_0000_FFFF_0000,
+    0xFFFF_FFFF_0000_0000,
+];
+
+// The same value on every row.
+pub fn constant(b: bool) -> [u64; 16]
+    ensures { λ t. ⌜ Rowwise (λ (r : ℕ). b) t ⌝ }
+{
+    if b {
+        return [ALL; 16];
+    }
+    [0; 16]
+}
+
+// Word w of the table of digit p. The lowest six digits are the same in every word; the next four are the word's number.
+fn input_word(p: usize, w: usize) -> u64
+    requires { ⌜ w < 16 ⌝ }
+    ensures { λ x. ⌜ WordOf (λ (r : ℕ). on r p) w x ⌝ }
+{
+    if p < 6 {
+        return MASKS[p];
+    }
+    if 10 <= p {
+        return 0;
+    }
+    if bits::has(w as u64, (p - 6) as u32) {
+        return ALL;
+    }
+    0
+}
+
+// On each row digit p of the row's number.
+pub fn input(p: usize) -> [u64; 16]
+    ensures { λ t. ⌜ Rowwise (λ (r : ℕ). on r p) t ⌝ }
+{
+    let mut t = [0u64; 16];
+    let mut i = 0;
+    while i < 16 {
+        t[i] = input_word(p, i);
+        i += 1;
+    }
+    t
+}
+
+// Where both hold.
+pub fn both(a: [u64; 16], b: [u64; 16]) -> [u64; 16]
+    ensures { λ t. ⌜ Rowwise (λ (r : ℕ). andb (rowOn a r) (rowOn b r)) t ⌝ }
+{
+    let mut t = [0u64; 16];
+    let mut i = 0;
+    while i < 16 {
+        t[i] = a[i] & b[i];
+        i += 1;
+    }
+    t
+}
+
+// Where at least one of the two holds.
+pub fn either(a: [u64; 16], b: [u64; 16]) -> [u64; 16]
+    ensures { λ t. ⌜ Rowwise (λ (r : ℕ). orb (rowOn a r) (rowOn b r)) t ⌝ }
+{
+    let mut t = [0u64; 16];
+    let mut i = 0;
+    while i < 16 {
+        t[i] = a[i] | b[i];
+        i += 1;
+    }
+    t
+}
+
+// Where just one of the two holds.
+pub fn differ(a: [u64; 16], b: [u64; 16]) -> [u64; 16]
+    ensures { λ t. ⌜ Rowwise (λ (r : ℕ). xorb (rowOn a r) (rowOn b r)) t ⌝ }
+{
+    let mut t = [0u64; 16];
+    let mut i = 0;
+    while i < 16 {
+        t[i] = a[i] ^ b[i];
+        i += 1;
+    }
+    t
+}
+
+// Where it does not hold.
+pub fn complement(a: [u64; 16]) -> [u64; 16]
+    ensures { λ t. ⌜ Rowwise (λ (r : ℕ). not (rowOn a r)) t ⌝ }
+{
+    differ(constant(true), a)
+}
+
+// The value on row r.
+pub fn row(a: [u64; 16], r: usize) -> bool
+    requires { ⌜ r < 1024 ⌝ }
+    ensures { λ v. ⌜ v ≡ rowOn a r ⌝ }
+{
+    bits::has(a[r / 64], (r % 64) as u32)
+}
+
+// The byte of a value.
+fn digit_of(b: bool) -> u8
+    ensures { λ d. ⌜ d ≡ digit b ⌝ }
+{
+    if b { b'1' } else { b'0' }
+}
+
+// Writes the digits of rows 0 to n - 1 at the buffer's start, and leaves its later bytes.
+pub fn put_digits(buf: &mut [u8], a: [u64; 16], n: usize)
+    requires { ⌜ (n ≤ 1024) × (n ≤ length (now buf)) ⌝ }
+    ensures { λ _. ⌜ now (buf .exit) ≡ sets (now (buf .entry)) 0 (digitsUpto (rowOn a) n) ⌝ }
+{
+    let mut i = 0;
+    while i < n {
+        buf[i] = digit_of(row(a, i));
+        i += 1;
+    }
+}

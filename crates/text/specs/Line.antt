@@ -1,0 +1,19 @@
+-- "One form a line, each line ended by byte 0x0A". Assumes nothing.
+use mathlib.Core.Bool.{Bool, true, false}
+use mathlib.Core.List.{List, [], _∷_}
+use Prim.Native.Nat.{ℕ}
+use lib.Dec.{eqb}
+use Rattle.bits.specs.Logic.{pick}
+use Rattle.text.specs.Bytes.{newline}
+
+-- a byte put before the first of some lines; a text's last bytes are a line too where no 0x0A ends them
+abbrev pub onto : ℕ → List (List ℕ) → List (List ℕ)
+onto b [] = (b ∷ []) ∷ []
+onto b (l ∷ ls) = (b ∷ l) ∷ ls
+
+-- the lines of a text, without their 0x0A
+unfoldable pub lines : List ℕ → List (List ℕ)
+lines [] = []
+lines (b ∷ s) =
+    let rest = lines s in
+    pick (eqb b newline) ([] ∷ rest) (onto b rest)

@@ -1,0 +1,52 @@
+-- "N is one to three digits, without a leading zero unless it is the single digit 0." Assumes nothing.
+use mathlib.Core.Bool.{Bool, true, false, not, _&&_, _||_}
+use mathlib.Core.List.{List, [], _∷_}
+use Prim.Native.Nat.{ℕ, _+_, _-_, _*_, _/_, _%_}
+use lib.Dec.{eqb, leb, ltb}
+use lib.ListN.{length}
+use Rattle.bits.specs.Logic.{pick}
+use Rattle.text.specs.Bytes.{Read, found, bad}
+use Rattle.text.specs.Limits.{maxDigits}
+
+unfoldable pub numeral : ℕ → Bool
+numeral b = leb 0x30 b && leb b 0x39
+
+-- the digits at the front of a text, and what follows them
+unfoldable pub numerals : List ℕ → List ℕ
+numerals [] = []
+numerals (b ∷ s) =
+    let rest = numerals s in
+    pick (numeral b) (b ∷ rest) []
+
+unfoldable pub afterNumerals : List ℕ → List ℕ
+afterNumerals [] = []
+afterNumerals (b ∷ s) =
+    let rest = afterNumerals s in
+    pick (numeral b) rest (b ∷ s)
+
+-- the value of digits that follow a number already read
+unfoldable pub valueFrom : ℕ → List ℕ → ℕ
+valueFrom n [] = n
+valueFrom n (d ∷ ds) = valueFrom (n * 10 + (d - 0x30)) ds
+
+abbrev pub noLeadingZero : List ℕ → Bool
+noLeadingZero [] = false
+noLeadingZero (d ∷ []) = true
+noLeadingZero (d ∷ e ∷ ds) = not (eqb d 0x30)
+
+unfoldable pub isNumber : List ℕ → Bool
+isNumber ds = noLeadingZero ds && leb (length ds) maxDigits
+
+-- the number at the front of a text
+unfoldable pub readNumber : List ℕ → Read ℕ
+readNumber s = pick (isNumber (numerals s)) (found (valueFrom 0 (numerals s)) (afterNumerals s)) bad
+
+-- the print of a number of at most three digits
+abbrev numeralOf : ℕ → ℕ
+numeralOf d = 0x30 + d % 10
+
+unfoldable pub printNumber : ℕ → List ℕ
+printNumber n =
+    pick (ltb n 10) (numeralOf n ∷ [])
+    (pick (ltb n 100) (numeralOf (n / 10) ∷ numeralOf n ∷ [])
+    (numeralOf (n / 100) ∷ numeralOf (n / 10) ∷ numeralOf n ∷ []))
