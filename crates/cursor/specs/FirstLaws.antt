@@ -1,4 +1,5 @@
--- What a byte opens, by the ranges of letters and digits, and what a letter first says of the word. Assumes nothing.
+-- What a byte opens: one kind for each range of bytes, and what each kind says of the byte and of the word. Assumes
+-- nothing.
 use mathlib.Core.Path.{_≡_, refl, ap, _∙_}
 use mathlib.Core.Bool.{Bool, true, false}
 use mathlib.Core.List.{List, [], _∷_}
@@ -12,46 +13,27 @@ use borrow.Author.Tests.{eq-eqb, ne-eqb}
 use Rattle.bits.specs.Logic.{pick, true-false}
 use Rattle.text.specs.Bytes.{openBracket}
 use Rattle.text.specs.Number.{numeral}
+use Rattle.text.specs.NumeralLaws.{numeral-between}
 use Rattle.names.specs.Name.{letter, word, startsWithLetter}
 use Rattle.names.specs.NameLaws.{word-starts}
 use Rattle.names.specs.WordLaws.{word-empty}
 use Rattle.cursor.specs.declared.First.{First}
 use Rattle.cursor.specs.declared.First.the-variants.{Letter, Digit, Bracket, Other}
 use Rattle.cursor.specs.First.{firstOf, firstAt}
-use Rattle.cursor.specs.RangeLaws.{in-range, below-range, above-range}
+use Rattle.cursor.specs.ByteLaws.{letter-between, letter-below, numeral-below}
 
 module _ (b : ℕ) where
-  pub letter-inside : 0x61 ≤ b → b ≤ 0x7A → letter b ≡ true
-  unfolding letter
-  letter-inside h g = in-range 0x61 0x7A b h g
-
-  pub letter-below : b < 0x61 → letter b ≡ false
-  unfolding letter
-  letter-below h = below-range 0x61 0x7A b h
-
-  pub letter-above : 0x7A < b → letter b ≡ false
-  unfolding letter
-  letter-above h = above-range 0x61 0x7A b (omega arith) h
-
-  pub numeral-below : b < 0x30 → numeral b ≡ false
-  unfolding numeral
-  numeral-below h = below-range 0x30 0x39 b h
-
-  pub numeral-above : 0x39 < b → numeral b ≡ false
-  unfolding numeral
-  numeral-above h = above-range 0x30 0x39 b (omega arith) h
-
   pub first-letter : 0x61 ≤ b → b ≤ 0x7A → Letter ≡ firstOf b
   unfolding firstOf
-  first-letter h g = rw (letter-inside h g) refl
+  first-letter h g = rw (letter-between b h g) refl
 
   pub first-digit : 0x30 ≤ b → b ≤ 0x39 → Digit ≡ firstOf b
-  unfolding firstOf numeral
-  first-digit h g = rw (letter-below (omega arith), in-range 0x30 0x39 b h g) refl
+  unfolding firstOf
+  first-digit h g = rw (letter-below b (omega arith), numeral-between b h g) refl
 
   pub first-bracket : b ≡ 0x28 → Bracket ≡ firstOf b
   unfolding firstOf
-  first-bracket e = rw (letter-below (omega arith), numeral-below (omega arith), eq-eqb b 0x28 e) refl
+  first-bracket e = rw (letter-below b (omega arith), numeral-below b (omega arith), eq-eqb b 0x28 e) refl
 
   pub first-other : letter b ≡ false → numeral b ≡ false → (b ≡ 0x28 → ⊥) → Other ≡ firstOf b
   unfolding firstOf
@@ -104,6 +86,8 @@ unfolding firstAt firstOf
 no-letter-starts [] e = rw word-empty refl
 no-letter-starts (b ∷ s) e = word-starts b s ∙ not-first (letter b) e
   where
-    not-first : (l : Bool) → (pick l Letter (pick (numeral b) Digit (pick (eqb b openBracket) Bracket Other)) ≡ Letter → ⊥) → l ≡ false
+    not-first : (l : Bool)
+        → (pick l Letter (pick (numeral b) Digit (pick (eqb b openBracket) Bracket Other)) ≡ Letter → ⊥)
+        → l ≡ false
     not-first true e = absurd (e refl)
     not-first false e = refl

@@ -46,11 +46,13 @@ gathered-none s at kept h e =
     }
 
 -- ---- one name more
-before-one : (ns : List Name) (n : Name) (r : Read (List Name)) → before ns (after r (λ ms t. found (n ∷ ms) t)) ≡ before (ns ++ (n ∷ [])) r
+before-one : (ns : List Name) (n : Name) (r : Read (List Name))
+    → before ns (after r (λ ms t. found (n ∷ ms) t)) ≡ before (ns ++ (n ∷ [])) r
 before-one ns n (found ms t) = ap (λ (l : List Name). found l t) (sym (append-assoc ns (n ∷ []) ms))
 before-one ns n bad = refl
 
-kept-more : (ns : List Name) (count v : ℕ) (kept : List ℕ) → Kept ns count kept → length kept ≡ 10 → Kept (ns ++ (nameOf v ∷ [])) (count + 1) (set kept count v)
+kept-more : (ns : List Name) (count v : ℕ) (kept : List ℕ)
+    → Kept ns count kept → length kept ≡ 10 → Kept (ns ++ (nameOf v ∷ [])) (count + 1) (set kept count v)
 kept-more ns count v kept k e =
     let size : length (ns ++ (nameOf v ∷ [])) ≡ length ns + 1 = length-append ns (nameOf v ∷ []) in
     record {
@@ -60,7 +62,9 @@ kept-more ns count v kept k e =
           rw (add-one, take-suc-set kept count v i, map-append, k .held (omega arith)) refl;
     }
 
-pub gathered-more : (s : List ℕ) (start at count v : ℕ) (c : Cursor) (kept more : List ℕ) → Gathered s start at count kept → NameNext s at (nameOf v) c → more ≡ set kept count v → Gathered s start (c .at) (count + 1) more
+pub gathered-more : (s : List ℕ) (start at count v : ℕ) (c : Cursor) (kept more : List ℕ)
+    → Gathered s start at count kept → NameNext s at (nameOf v) c
+    → more ≡ set kept count v → Gathered s start (c .at) (count + 1) more
 gathered-more s start at count v c kept more g n e =
     rw e
     (record {
@@ -73,10 +77,14 @@ gathered-more s start at count v c kept more g n e =
     })
 
 -- ---- the end
-pub gathered-all : (s : List ℕ) (start at : ℕ) (l : NameList) → Gathered s start at (l .count) (l .names) → NamesEnd s at (l .next) → l .ok ≡ true → NamesAre s l (readNames (drop start s))
+pub gathered-all : (s : List ℕ) (start at : ℕ) (l : NameList)
+    → Gathered s start at (l .count) (l .names) → NamesEnd s at (l .next)
+    → l .ok ≡ true → NamesAre s l (readNames (drop start s))
 gathered-all s start at l g e k =
     rw (g .is ∙ ap (before (g .passed)) (e .is) ∙ ap (λ (ns : List Name). found ns (drop (l .next .at) s)) (append-nil (g .passed)))
     (record { good = k; inside = e .inside; rest = refl; kept = g .held })
 
-pub gathered-bad : (s : List ℕ) (start at count : ℕ) (l : NameList) (kept : List ℕ) → Gathered s start at count kept → readNames (drop at s) ≡ bad → l .ok ≡ false → NamesAre s l (readNames (drop start s))
+pub gathered-bad : (s : List ℕ) (start at count : ℕ) (l : NameList) (kept : List ℕ)
+    → Gathered s start at count kept → readNames (drop at s) ≡ bad
+    → l .ok ≡ false → NamesAre s l (readNames (drop start s))
 gathered-bad s start at count l kept g e k = rw (g .is ∙ ap (before (g .passed)) e) k

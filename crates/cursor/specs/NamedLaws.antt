@@ -40,15 +40,20 @@ module _ (s : List ℕ) (at e : ℕ) (w : WordEnd s at e) where
     pub operator-held : (o : Operator) → operatorOf o ≡ operator (nameOf v) → operatorOf o ≡ operator (word (drop at s))
     operator-held o q = q ∙ ap operator word-held
 
-    pub named-there : (c : Cursor) → firstAt (drop at s) ≡ Letter → spec.none-op ≡ operator (nameOf v) → c .at ≡ e → At s (nameOf v) c (readName (drop at s))
+    pub named-there : (c : Cursor)
+        → firstAt (drop at s) ≡ Letter → spec.none-op ≡ operator (nameOf v)
+        → c .at ≡ e → At s (nameOf v) c (readName (drop at s))
     named-there c f q k =
-        let n = is-name (word (drop at s)) (letter-starts (drop at s) f) (word-name-bytes (drop at s)) (rw word-length h) (sym (q ∙ ap operator word-held)) in
+        let t = drop at s in
+        let n = is-name (word t) (letter-starts t f) (word-name-bytes t) (rw word-length h) (sym (q ∙ ap operator word-held)) in
         record {
           inside = omega (arith, w .inside);
           is = rw (word-held, k, w .is-rest) (sym (read-name-found (drop at s) n));
         }
 
-    pub operator-bad : (o : Operator) → operatorOf o ≡ operator (nameOf v) → (o ≡ Nothing → ⊥) → bad ≡ readName (drop at s)
+    pub operator-bad : (o : Operator)
+        → operatorOf o ≡ operator (nameOf v) → (o ≡ Nothing → ⊥)
+        → bad ≡ readName (drop at s)
     operator-bad o q k =
         sym (read-name-bad (drop at s) (operator-no-name (word (drop at s)) (sym (ap isOperator (operator-held o q)) ∙ some o k)))
       where

@@ -27,10 +27,13 @@ module _ (s : List ℕ) (at : ℕ) (l : at < length s) where
   bracket-ends c e k =
       record { inside = omega arith; is = ap readNames (next-byte closeBracket e) ∙ rw k (names-end (drop (at + 1) s)) }
 
-  others : getD s at 0 ≡ space → readNames (drop at s) ≡ after (readName (drop (at + 1) s)) (λ n u. after (readNames u) (λ ns t. found (n ∷ ns) t))
+  others : getD s at 0 ≡ space
+      → readNames (drop at s) ≡ after (readName (drop (at + 1) s)) (λ n u. after (readNames u) (λ ns t. found (n ∷ ns) t))
   others e = ap readNames (next-byte space e) ∙ names-more (drop (at + 1) s)
 
-  pub name-next : (n : Name) (c : Cursor) → getD s at 0 ≡ space → At s n c (readName (drop (at + 1) s)) → NameNext s at n c
+  pub name-next : (n : Name) (c : Cursor)
+      → getD s at 0 ≡ space → At s n c (readName (drop (at + 1) s))
+      → NameNext s at n c
   name-next n c e h =
       let d : length (drop (c .at) s) < length (drop (at + 1) s) = read-name-shorter (drop (at + 1) s) (sym (h .is)) in
       record {

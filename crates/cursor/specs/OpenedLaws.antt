@@ -31,7 +31,8 @@ use Rattle.cursor.specs.Opening.{name-opens, digit-opens, not-opens, gat
 use Rattle.cursor.specs.Opening as spec
 
 -- an item found there, as an item of another kind
-item-as : {A B : Type 0} (s : List ℕ) (a : A) (c : Cursor) (r : Read A) (f : A → B) → At s a c r → At s (f a) c (after r (λ x t. found (f x) t))
+item-as : {A B : Type 0} (s : List ℕ) (a : A) (c : Cursor) (r : Read A) (f : A → B)
+    → At s a c r → At s (f a) c (after r (λ x t. found (f x) t))
 item-as s a c r f h =
     record { inside = h .inside; is = ap (λ q. after q (λ x t. found (f x) t)) (h .is) }
 
@@ -41,7 +42,8 @@ unfolding readOpening firstAt
 opening-name [] e = let z : _≡_ {A = ℕ} 0 1 = cc in absurd (omega arith)
 opening-name (b ∷ s) e = rw (byte-opens b Letter e) refl
 
-pub name-opened : (s t : List ℕ) (n : names.Name) (c : Cursor) → firstAt t ≡ Letter → At s n c (readName t) → At s (name-opens n) c (readOpening t)
+pub name-opened : (s t : List ℕ) (n : names.Name) (c : Cursor)
+    → firstAt t ≡ Letter → At s n c (readName t) → At s (name-opens n) c (readOpening t)
 name-opened s t n c e h = rw (← opening-name t e) (item-as s n c (readName t) name-opens h)
 
 pub name-bad : (t : List ℕ) → firstAt t ≡ Letter → bad ≡ readName t → bad ≡ readOpening t
@@ -51,7 +53,9 @@ name-bad t e h = ap (λ (q : Read names.Name). after q (λ n u. found (name-open
 no-digit : (b d : ℕ) → 0x30 ≤ d → d ≤ 0x39 → numeral b ≡ false → eqb b d ≡ false
 no-digit b d h g n = ne-eqb b d (λ q. true-false (sym (numeral-between d h g) ∙ rw q at n))
 
-opening-digit : (b : ℕ) (s : List ℕ) → firstAt (b ∷ s) ≡ Digit → pick (eqb b 0x30) (found (digit-opens false) s) (pick (eqb b 0x31) (found (digit-opens true) s) bad) ≡ readOpening (b ∷ s)
+opening-digit : (b : ℕ) (s : List ℕ)
+    → firstAt (b ∷ s) ≡ Digit
+    → pick (eqb b 0x30) (found (digit-opens false) s) (pick (eqb b 0x31) (found (digit-opens true) s) bad) ≡ readOpening (b ∷ s)
 unfolding readOpening firstAt
 opening-digit b s e =
     let k = byte-opens b Digit e in
@@ -59,13 +63,17 @@ opening-digit b s e =
     rw (k .0, g) refl
 
 module _ (s : List ℕ) (at : ℕ) (l : at < length s) (e : firstAt (drop at s) ≡ Digit) where
-  digit-here : pick (eqb (getD s at 0) 0x30) (found (digit-opens false) (drop (suc at) s)) (pick (eqb (getD s at 0) 0x31) (found (digit-opens true) (drop (suc at) s)) bad) ≡ readOpening (drop at s)
+  digit-here : pick (eqb (getD s at 0) 0x30) (found (digit-opens false) (drop (suc at) s))
+      (pick (eqb (getD s at 0) 0x31) (found (digit-opens true) (drop (suc at) s)) bad)
+      ≡ readOpening (drop at s)
   digit-here = rw (drop-cons s at 0 l) (opening-digit (getD s at 0) (drop (suc at) s) (rw (drop-cons s at 0 l) at e))
 
-  pub zero-opened : (c : Cursor) → c .at ≡ at + 1 → getD s at 0 ≡ 0x30 → At s (digit-opens false) c (readOpening (drop at s))
+  pub zero-opened : (c : Cursor)
+      → c .at ≡ at + 1 → getD s at 0 ≡ 0x30 → At s (digit-opens false) c (readOpening (drop at s))
   zero-opened c k q = record { inside = omega arith; is = rw (k, add-one) (rw (eq-eqb _ _ q) at digit-here) }
 
-  pub one-opened : (c : Cursor) → c .at ≡ at + 1 → getD s at 0 ≡ 0x31 → At s (digit-opens true) c (readOpening (drop at s))
+  pub one-opened : (c : Cursor)
+      → c .at ≡ at + 1 → getD s at 0 ≡ 0x31 → At s (digit-opens true) c (readOpening (drop at s))
   one-opened c k q =
       let z : eqb (getD s at 0) 0x30 ≡ false = ne-eqb (getD s at 0) 0x30 (λ p. omega arith) in
       record { inside = omega arith; is = rw (k, add-one) (rw (z, eq-eqb _ _ q) at digit-here) }
@@ -74,7 +82,8 @@ module _ (s : List ℕ) (at : ℕ) (l : at < length s) (e : firstAt (drop at s) 
   digit-bad z o = rw (ne-eqb _ _ z, ne-eqb _ _ o) at digit-here
 
 -- ---- a bracket
-opening-bracket : (b : ℕ) (s : List ℕ) → firstAt (b ∷ s) ≡ Bracket → spaced (operator (word s)) (afterWord s) ≡ readOpening (b ∷ s)
+opening-bracket : (b : ℕ) (s : List ℕ)
+    → firstAt (b ∷ s) ≡ Bracket → spaced (operator (word s)) (afterWord s) ≡ readOpening (b ∷ s)
 unfolding readOpening firstAt
 opening-bracket b s e =
     let k = byte-opens b Bracket e in
@@ -86,17 +95,22 @@ longer-differs w t h = differ-same w t (λ e. omega (arith, ap length e))
 pub long-no-operator : (w : List ℕ) → 8 < length w → names.none-op ≡ operator w
 unfolding operator
 long-no-operator w h =
-    rw (longer-differs w (bytes "not") (omega arith), longer-differs w (bytes "and") (omega arith), longer-differs w (bytes "or") (omega arith), longer-differs w (bytes "xor") (omega arith))
-    refl
+    let n = longer-differs w (bytes "not") (omega arith) in
+    let a = longer-differs w (bytes "and") (omega arith) in
+    let o = longer-differs w (bytes "or") (omega arith) in
+    let x = longer-differs w (bytes "xor") (omega arith) in
+    rw (n, a, o, x) refl
 
-abbrev operatorOpens : Operator → Cursor → Opening
+-- what the code answers where a space follows the operator
+abbrev pub operatorOpens : Operator → Cursor → Opening
 operatorOpens Not c = Opening.Not c
 operatorOpens And c = Opening.Gate Gate.And c
 operatorOpens Or c = Opening.Gate Gate.Or c
 operatorOpens Xor c = Opening.Gate Gate.Xor c
 operatorOpens Nothing c = Opening.Bad
 
-spaced-opens : (s u : List ℕ) (o : Operator) (c : Cursor) → At s tt c (eat (space ∷ []) u) → OpeningIs s (operatorOpens o c) (spaced (operatorOf o) u)
+spaced-opens : (s u : List ℕ) (o : Operator) (c : Cursor)
+    → At s tt c (eat (space ∷ []) u) → OpeningIs s (operatorOpens o c) (spaced (operatorOf o) u)
 spaced-opens s u Not c h = item-as s tt c (eat (space ∷ []) u) (λ _. not-opens) h
 spaced-opens s u And c h = item-as s tt c (eat (space ∷ []) u) (λ _. gate-opens spec.and-gate) h
 spaced-opens s u Or c h = item-as s tt c (eat (space ∷ []) u) (λ _. gate-opens spec.or-gate) h
@@ -110,13 +124,15 @@ no-space-bad u names.or-op h = rw (← h) refl
 no-space-bad u names.xor-op h = rw (← h) refl
 no-space-bad u names.none-op h = refl
 
-module _ (s : List ℕ) (at e : ℕ) (l : at < length s) (f : firstAt (drop at s) ≡ Bracket) (w : WordEnd s (at + 1) e) (o : Operator) (q : operatorOf o ≡ operator (word (drop (at + 1) s))) where
+module _ (s : List ℕ) (at e : ℕ) (l : at < length s) (f : firstAt (drop at s) ≡ Bracket) (w : WordEnd s (at + 1) e)
+    (o : Operator) (q : operatorOf o ≡ operator (word (drop (at + 1) s))) where
   bracket-here : spaced (operatorOf o) (drop e s) ≡ readOpening (drop at s)
   bracket-here =
       rw (q, w .is-rest, add-one, drop-cons s at 0 l)
       (opening-bracket (getD s at 0) (drop (suc at) s) (rw (drop-cons s at 0 l) at f))
 
-  pub operator-opened : (c : Cursor) → At s tt c (eat (space ∷ []) (drop e s)) → OpeningIs s (operatorOpens o c) (readOpening (drop at s))
+  pub operator-opened : (c : Cursor)
+      → At s tt c (eat (space ∷ []) (drop e s)) → OpeningIs s (operatorOpens o c) (readOpening (drop at s))
   operator-opened c h = rw (← bracket-here) (spaced-opens s (drop e s) o c h)
 
   pub unspaced-bad : bad ≡ eat (space ∷ []) (drop e s) → bad ≡ readOpening (drop at s)

@@ -60,6 +60,11 @@ pub struct NameList {
     pub names: [u64; 10],
 }
 
+// The most bytes of a name, and the most digits of a number.
+const MAX_NAME: usize = 8;
+
+const MAX_DIGITS: usize = 3;
+
 // Whether a byte is a digit.
 fn is_numeral(b: u8) -> bool
     ensures { λ r. ⌜ r ≡ numeral b ⌝ }
@@ -97,12 +102,13 @@ fn is_number(s: &[u8], a: usize, e: usize) -> bool
     if n == 1 {
         return true;
     }
-    if 3 < n {
+    if MAX_DIGITS < n {
         return false;
     }
     s[a] != b'0'
 }
 
+// What a digit counts.
 fn digit_value(b: u8) -> usize
     requires { ⌜ numeral b ≡ true ⌝ }
     ensures { λ r. ⌜ (r ≡ b - 0x30) × (r < 10) ⌝ }
@@ -124,7 +130,7 @@ fn value(s: &[u8], a: usize, e: usize) -> usize
     n
 }
 
-// What a byte opens.
+// The kinds of items, by the byte that opens them.
 enum First {
     Letter,
     Digit,
@@ -143,6 +149,7 @@ fn first_of(b: u8) -> First
     }
 }
 
+// The kind of the item at a place; none past the end.
 fn first_at(s: &[u8], at: usize) -> First
     requires { ⌜ at ≤ length (now s) ⌝ }
     ensures { λ r. ⌜ r ≡ firstAt (drop at (now (s .entry))) ⌝ }
@@ -154,13 +161,13 @@ fn first_at(s: &[u8], at: usize) -> First
     }
 }
 
-// The name that a word with a letter first is: at most 8 bytes, and no operator.
+// The name that a word with a letter first is.
 fn named(s: &[u8], at: usize) -> NameRead
     requires { ⌜ (at ≤ length (now s)) × (firstAt (drop at (now s)) ≡ First.Letter) ⌝ }
     ensures { λ r. ⌜ NameIs (now (s .entry)) r (readName (drop at (now (s .entry)))) ⌝ }
 {
     let e = names::word_end(s, at);
-    if 8 < e - at {
+    if MAX_NAME < e - at {
         return NameRead::Bad;
     }
     let v = names::packed(s, at, e);
@@ -203,7 +210,7 @@ fn operator_word(s: &[u8], a: usize, e: usize) -> Operator
     requires { ⌜ WordEnd (now s) a e ⌝ }
     ensures { λ r. ⌜ operatorOf r ≡ operator (word (drop a (now (s .entry)))) ⌝ }
 {
-    if 8 < e - a {
+    if MAX_NAME < e - a {
         return Operator::Nothing;
     }
     names::as_operator(names::packed(s, a, e))
@@ -303,6 +310,7 @@ impl Cursor {
         }
     }
 
+    // A name: a word of at most 8 bytes with a letter first, and no operator.
     pub fn name(self, s: &[u8]) -> NameRead
         requires { ⌜ self .at ≤ length (now s) ⌝ }
         ensures { λ r. ⌜ NameIs (now (s .entry)) r (readName (drop (self .at) (now (s .entry)))) ⌝ }
@@ -331,7 +339,7 @@ impl Cursor {
         }
     }
 
-    // The names, each after a space, up to the closing bracket.
+    // The names, each after a space, up to the closing bracket: all are counted, and the first ten are kept.
     pub fn names(self, s: &[u8]) -> NameList
         requires { ⌜ self .at ≤ length (now s) ⌝ }
         ensures { λ r. ⌜ NamesAre (now (s .entry)) r (readNames (drop (self .at) (now (s .entry)))) ⌝ }

@@ -27,3 +27,13 @@ maxDigits = 3
 -- question 1: bytes of a design sheet
 abbrev pub maxSheet : ℕ
 maxSheet = 4096
+
+-- "Cells and the network sheet": lut lines; question 7: global classes; question 10: bytes of a network sheet
+abbrev pub maxCells : ℕ
+maxCells = 6
+
+abbrev pub maxClasses : ℕ
+maxClasses = 16
+
+abbrev pub maxNetwork : ℕ
+maxNetwork = 8192

@@ -1,6 +1,6 @@
 -- `is_number`: by the number of digits and the first of them. Assumes nothing.
 use native.Mathlib.Omega.{arith}
-use Rattle.cursor.specs.NumberLaws.{no-digits, one-digit, many-digits, some-digits}
+use Rattle.cursor.specs.ReadNumberLaws.{no-digits, one-digit, many-digits, some-digits}
 use Rattle.cursor.proofs.is_number.Statement.{statement}
 use Rattle.cursor.proofs.is_number.Tie as tie
 
@@ -20,7 +20,9 @@ shared-slice-read-result : tie.Need-shared-slice-read-result
 shared-slice-read-result c = omega arith
 
 returns-4 : tie.Need-returns-4
-returns-4 c = some-digits _ _ _ (c .before .before .before .before .pre .0) (c .before .before .before .before .pre .1) (omega arith) (c .before .if3 .left)
+returns-4 c =
+    some-digits _ _ _ (c .before .before .before .before .pre .0) (c .before .before .before .before .pre .1)
+    (omega arith) (c .before .if3 .left)
 
 pub is-number-spec : {M : Type 1} → statement M
 is-number-spec =

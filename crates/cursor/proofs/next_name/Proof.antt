@@ -27,10 +27,15 @@ returns-2 : tie.Need-returns-2
 returns-2 c = bracket-ends _ _ (c .before .before .if1 .left) _ (c .match .keys1) refl
 
 returns-3 : tie.Need-returns-3
-returns-3 c = name-next _ _ (c .before .before .before .before .before .before .if1 .left) _ _ (c .before .before .before .before .match .keys2) (rw (c .before .r .given .1) at (c .before .before .before .name .ensures))
+returns-3 c =
+    name-next _ _ (c .before .before .before .before .before .before .if1 .left) _ _
+    (c .before .before .before .before .match .keys2)
+    (rw (c .before .r .given .1) at (c .before .before .before .name .ensures))
 
 returns-4 : tie.Need-returns-4
-returns-4 c = no-name-bad _ _ (c .before .before .before .before .before .if1 .left) (c .before .before .before .match .keys2) (rw (c .enum-told .given .1) at (c .before .before .name .ensures))
+returns-4 c =
+    no-name-bad _ _ (c .before .before .before .before .before .if1 .left) (c .before .before .before .match .keys2)
+    (rw (c .enum-told .given .1) at (c .before .before .name .ensures))
 
 returns-5 : tie.Need-returns-5
 returns-5 c = other-bad _ _ (c .before .before .if1 .left) (c .match .rest .0 .1) (c .match .rest .1)

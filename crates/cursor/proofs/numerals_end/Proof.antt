@@ -5,7 +5,7 @@ use native.Mathlib.Omega.{arith}
 use lib.ListN.{length}
 use borrow.Author.Tests.{not-true, not-false}
 use borrow.Author.Needs.{needs}
-use Rattle.cursor.specs.NumberLaws.{numerals-none, numerals-more}
+use Rattle.cursor.specs.ReadNumberLaws.{numerals-none, numerals-more}
 use Rattle.cursor.specs.NumeralsEnd.{Numerals}
 use Rattle.cursor.proofs.numerals_end.Statement.{statement}
 use Rattle.cursor.proofs.numerals_end.Tie as tie
@@ -35,7 +35,9 @@ loop-less : tie.Need-loop-less Inv-loop μ-loop
 loop-less c = omega arith
 
 loop-again : tie.Need-loop-again Inv-loop μ-loop
-loop-again c = numerals-more _ _ _ (c .before .before .before .before .loop .inv) (c .before .before .before .loop-test .taken) (sym (c .before .is-numeral .ensures) ∙ not-false _ (c .if1 .left))
+loop-again c =
+    numerals-more _ _ _ (c .before .before .before .before .loop .inv) (c .before .before .before .loop-test .taken)
+    (sym (c .before .is-numeral .ensures) ∙ not-false _ (c .if1 .left))
 
 returns-2 : tie.Need-returns-2 Inv-loop μ-loop
 returns-2 c = record { numerals = c .before .loop .inv; stops = λ h. absurd (omega arith) }

@@ -14,7 +14,9 @@ enum-told : tie.Need-enum-told
 enum-told c = search needs
 
 returns : tie.Need-returns
-returns c = name-opened _ _ _ _ (c .before .before .before .before .before .pre .1) (rw (c .before .r .given .1) at (c .before .before .before .named .ensures))
+returns c =
+    name-opened _ _ _ _ (c .before .before .before .before .before .pre .1)
+    (rw (c .before .r .given .1) at (c .before .before .before .named .ensures))
 
 returns-2 : tie.Need-returns-2
 returns-2 c = name-bad _ (c .before .before .before .before .pre .1) (rw (c .enum-told .given .1) at (c .before .before .named .ensures))

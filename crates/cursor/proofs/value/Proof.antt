@@ -1,7 +1,7 @@
 -- `value`: the digits passed have the value n, and three digits stay small. Assumes nothing.
 use Prim.Native.Nat.{_-_}
 use native.Mathlib.Omega.{arith}
-use Rattle.cursor.specs.NumberLaws.{Valued, valued-none, valued-small, valued-more, valued-all}
+use Rattle.cursor.specs.ReadNumberLaws.{Valued, valued-none, valued-small, valued-more, valued-all}
 use Rattle.cursor.proofs.value.Statement.{statement}
 use Rattle.cursor.proofs.value.Tie as tie
 
@@ -21,7 +21,9 @@ shared-slice-read-digit-value : tie.Need-shared-slice-read-digit-value Inv-loop 
 shared-slice-read-digit-value c = omega arith
 
 digit-value-requires : tie.Need-digit-value-requires Inv-loop μ-loop
-digit-value-requires c κs = c .before .before .before .before .pre .0 .each _ (c .before .loop-test .taken) (c .before .before .loop .inv .after-start)
+digit-value-requires c κs =
+    c .before .before .before .before .pre .0 .each _ (c .before .loop-test .taken)
+    (c .before .before .loop .inv .after-start)
 
 add-n : tie.Need-add-n Inv-loop μ-loop
 add-n c = omega (arith, valued-small _ _ _ _ _ (c .before .before .before .loop .inv) (omega arith))
@@ -33,7 +35,9 @@ loop-less : tie.Need-loop-less Inv-loop μ-loop
 loop-less c = omega arith
 
 loop-again : tie.Need-loop-again Inv-loop μ-loop
-loop-again c = valued-more _ _ _ _ _ _ (c .before .before .before .loop .inv) (c .before .before .loop-test .taken) (omega arith) (c .digit-value .ensures .0) (c .digit-value .ensures .1)
+loop-again c =
+    valued-more _ _ _ _ _ _ (c .before .before .before .loop .inv) (c .before .before .loop-test .taken)
+    (omega arith) (c .digit-value .ensures .0) (c .digit-value .ensures .1)
 
 returns : tie.Need-returns Inv-loop μ-loop
 returns c = valued-all _ _ _ _ _ (c .before .loop .inv) (c .loop-test .left)

@@ -2,7 +2,7 @@
 use mathlib.Core.Path.{refl, sym, _∙_}
 use native.Mathlib.Omega.{arith}
 use borrow.Author.Needs.{needs}
-use Rattle.cursor.specs.NumberLaws.{number-short, number-there, no-number}
+use Rattle.cursor.specs.ReadNumberLaws.{number-short, number-there, no-number}
 use Rattle.cursor.proofs.Cursor.number.Statement.{statement}
 use Rattle.cursor.proofs.Cursor.number.Tie as tie
 
@@ -13,10 +13,13 @@ is-number-requires : tie.Need-is-number-requires
 is-number-requires c κs = search needs
 
 value-requires : tie.Need-value-requires
-value-requires c κs = (c .before .before .numerals-end .ensures .numerals, number-short _ _ _ (omega arith) (omega arith) (sym (c .before .is-number .ensures) ∙ c .if1 .taken))
+value-requires c κs =
+    (c .before .before .numerals-end .ensures .numerals, number-short _ _ _ (omega arith) (omega arith) (sym (c .before .is-number .ensures) ∙ c .if1 .taken))
 
 returns : tie.Need-returns
-returns c = number-there _ _ _ _ _ (c .before .before .before .numerals-end .ensures) (sym (c .before .before .is-number .ensures) ∙ c .before .if1 .taken) (c .value .ensures) refl
+returns c =
+    number-there _ _ _ _ _ (c .before .before .before .numerals-end .ensures)
+    (sym (c .before .before .is-number .ensures) ∙ c .before .if1 .taken) (c .value .ensures) refl
 
 returns-2 : tie.Need-returns-2
 returns-2 c = no-number _ _ _ (c .before .before .numerals-end .ensures) (sym (c .before .is-number .ensures) ∙ c .if1 .left)

@@ -19,13 +19,17 @@ enum-told-2 : tie.Need-enum-told-2
 enum-told-2 c = search needs
 
 opens-digit-requires : tie.Need-opens-digit-requires
-opens-digit-requires c κs = (own-kind-inside _ _ _ (sym (c .before .before .first-at .ensures) ∙ c .enum-told2 .given .1) refl, sym (c .before .before .first-at .ensures) ∙ c .enum-told2 .given .1)
+opens-digit-requires c κs =
+    let e = sym (c .before .before .first-at .ensures) ∙ c .enum-told2 .given .1 in
+    (own-kind-inside _ _ _ e refl, e)
 
 enum-told-3 : tie.Need-enum-told-3
 enum-told-3 c = search needs
 
 opens-bracket-requires : tie.Need-opens-bracket-requires
-opens-bracket-requires c κs = (own-kind-inside _ _ _ (sym (c .before .before .first-at .ensures) ∙ c .enum-told3 .given .1) refl, sym (c .before .before .first-at .ensures) ∙ c .enum-told3 .given .1)
+opens-bracket-requires c κs =
+    let e = sym (c .before .before .first-at .ensures) ∙ c .enum-told3 .given .1 in
+    (own-kind-inside _ _ _ e refl, e)
 
 enum-told-4 : tie.Need-enum-told-4
 enum-told-4 c = search needs

@@ -1,9 +1,9 @@
--- `Cursor::text`: the loop keeps how much of the text agrees; its laws are those of EatLaws. Assumes nothing.
+-- `Cursor::text`: the loop keeps how much of the text agrees; its laws are those of EatingLaws. Assumes nothing.
 use mathlib.Core.Path.{refl}
 use Prim.Native.Nat.{_-_}
 use native.Mathlib.Omega.{arith}
 use lib.ListN.{length}
-use Rattle.cursor.specs.EatLaws.{Eating, too-short, eating-none, eating-more, eating-differs, eating-whole}
+use Rattle.cursor.specs.EatingLaws.{Eating, too-short, eating-none, eating-more, eating-differs, eating-whole}
 use Rattle.cursor.proofs.Cursor.text.Statement.{statement}
 use Rattle.cursor.proofs.Cursor.text.Tie as tie
 
@@ -32,7 +32,9 @@ shared-slice-read-if2-2 : tie.Need-shared-slice-read-if2-2 Inv-loop μ-loop
 shared-slice-read-if2-2 c = omega arith
 
 returns-2 : tie.Need-returns-2 Inv-loop μ-loop
-returns-2 c = eating-differs _ _ _ _ (c .before .before .before .before .loop .inv) (c .before .before .before .loop-test .taken) (c .if2 .taken)
+returns-2 c =
+    eating-differs _ _ _ _ (c .before .before .before .before .loop .inv)
+    (c .before .before .before .loop-test .taken) (c .if2 .taken)
 
 add-i : tie.Need-add-i Inv-loop μ-loop
 add-i c = omega arith
@@ -41,7 +43,9 @@ loop-less : tie.Need-loop-less Inv-loop μ-loop
 loop-less c = omega arith
 
 loop-again : tie.Need-loop-again Inv-loop μ-loop
-loop-again c = eating-more _ _ _ _ (c .before .before .before .before .loop .inv) (c .before .before .before .loop-test .taken) (c .if2 .left)
+loop-again c =
+    eating-more _ _ _ _ (c .before .before .before .before .loop .inv) (c .before .before .before .loop-test .taken)
+    (c .if2 .left)
 
 add-t6 : tie.Need-add-t6 Inv-loop μ-loop
 add-t6 c = omega arith

@@ -51,7 +51,8 @@ module _ (w s : List ℕ) (at i : ℕ) (e : Eating w s at i) (more : i < length 
   pub eating-differs : (getD s (at + i) 0 ≡ getD w i 0 → ⊥) → bad ≡ eat w (drop at s)
   eating-differs h = sym (step ∙ rw (ne-eqb _ _ (λ q. h (sym q))) refl)
 
-pub eating-whole : (w s : List ℕ) (at i : ℕ) (c : Cursor) → Eating w s at i → length w ≤ i → c .at ≡ at + i → At s tt c (eat w (drop at s))
+pub eating-whole : (w s : List ℕ) (at i : ℕ) (c : Cursor)
+    → Eating w s at i → length w ≤ i → c .at ≡ at + i → At s tt c (eat w (drop at s))
 unfolding eat
 eating-whole w s at i c e h p =
     record { inside = omega arith; is = sym (e .left ∙ rw (drop-of-length-le w h, p) refl) }

@@ -22,7 +22,9 @@ use Rattle.cursor.specs.PartLaws.{part-length, part-cons}
 use Rattle.cursor.specs.NumeralsEnd.{Numerals, NumeralsEnd}
 
 -- ---- the digits at the front of a text
-longest : (t : List ℕ) (k : ℕ) → k ≤ length t → ((j : ℕ) → j < k → numeral (getD t j 0) ≡ true) → (k < length t → numeral (getD t k 0) ≡ false) → (take k t ≡ numerals t) × (drop k t ≡ afterNumerals t)
+longest : (t : List ℕ) (k : ℕ)
+    → k ≤ length t → ((j : ℕ) → j < k → numeral (getD t j 0) ≡ true)
+    → (k < length t → numeral (getD t k 0) ≡ false) → (take k t ≡ numerals t) × (drop k t ≡ afterNumerals t)
 unfolding numerals afterNumerals
 longest [] zero h all stop = (refl, refl)
 longest [] (suc k) h all stop = absurd (omega arith)
@@ -35,7 +37,9 @@ longest (b ∷ t) (suc k) h all stop =
 pub numerals-none : (s : List ℕ) (at : ℕ) → at ≤ length s → Numerals s at at
 numerals-none s at h = record { after-start = omega arith; inside = h; each = λ k l g. absurd (omega arith) }
 
-pub numerals-more : (s : List ℕ) (at e : ℕ) → Numerals s at e → e < length s → numeral (getD s e 0) ≡ true → Numerals s at (e + 1)
+pub numerals-more : (s : List ℕ) (at e : ℕ)
+    → Numerals s at e → e < length s → numeral (getD s e 0) ≡ true
+    → Numerals s at (e + 1)
 numerals-more s at e n h b =
     record { after-start = omega arith; inside = omega arith; each = below-more _ e (n .each) (λ g. b) }
 
@@ -75,7 +79,9 @@ valued-small s a e i n v h =
     let p : 10 ^ (i - a) ≤ 10 ^ 3 = pow-le-pow-right (omega arith) few in
     omega arith
 
-pub valued-more : (s : List ℕ) (a e i n d : ℕ) → Valued s a e i n → i < e → e ≤ length s → d ≡ getD s i 0 - 0x30 → d < 10 → Valued s a e (i + 1) (n * 10 + d)
+pub valued-more : (s : List ℕ) (a e i n d : ℕ)
+    → Valued s a e i n → i < e → e ≤ length s → d ≡ getD s i 0 - 0x30
+    → d < 10 → Valued s a e (i + 1) (n * 10 + d)
 unfolding valueFrom
 valued-more s a e i n d v h g b l =
     let k : i + 1 - a ≡ suc (i - a) = omega arith in
@@ -137,7 +143,10 @@ module _ (s : List ℕ) (a e : ℕ) (h : a ≤ e) (g : e ≤ length s) where
       rw f at (by-first ds (omega (arith, part-length s a e h g)) (omega (arith, part-length s a e h g)))
 
 -- ---- the number
-pub number-there : (s : List ℕ) (at e n : ℕ) (c : Cursor) → NumeralsEnd s at e → isNumber (take (e - at) (drop at s)) ≡ true → n ≡ valueFrom 0 (take (e - at) (drop at s)) → c .at ≡ e → At s n c (readNumber (drop at s))
+pub number-there : (s : List ℕ) (at e n : ℕ) (c : Cursor)
+    → NumeralsEnd s at e → isNumber (take (e - at) (drop at s)) ≡ true
+    → n ≡ valueFrom 0 (take (e - at) (drop at s)) → c .at ≡ e
+    → At s n c (readNumber (drop at s))
 unfolding readNumber
 number-there s at e n c d t v p =
     record {
@@ -145,6 +154,8 @@ number-there s at e n c d t v p =
       is = rw (← numerals-are s at e d, t, v, p, ← numerals-rest s at e d) refl;
     }
 
-pub no-number : (s : List ℕ) (at e : ℕ) → NumeralsEnd s at e → isNumber (take (e - at) (drop at s)) ≡ false → bad ≡ readNumber (drop at s)
+pub no-number : (s : List ℕ) (at e : ℕ)
+    → NumeralsEnd s at e → isNumber (take (e - at) (drop at s)) ≡ false
+    → bad ≡ readNumber (drop at s)
 unfolding readNumber
 no-number s at e d t = rw (← numerals-are s at e d, t) refl

@@ -1,0 +1,28 @@
+use mathlib.Core.Path.{refl}
+use native.Mathlib.Omega.{arith}
+use borrow.Author.Needs.{needs}
+use Rattle.design.proofs.blank.Statement.{statement}
+use Rattle.design.proofs.blank.Tie as tie
+use Rattle.design.proofs.blank.Reads as reads
+use Rattle.design.proofs.blank.Lts as lts
+
+-- src/lib.rt:64:1
+returns : tie.Need-returns
+returns c =
+    record {
+      inputs-counted = refl;
+      inputs-few = omega arith;
+      inputs-named = refl;
+      bound-counted = refl;
+      bound-few = omega arith;
+      bound-placed = refl;
+      limit-is = refl;
+      limit-small = omega arith;
+      outputs-counted = refl;
+      outputs-few = omega arith;
+      outputs-named = refl;
+      tabled = λ o h. absurd (omega arith);
+    }
+
+pub blank-spec : {M : Type 1} → statement M
+blank-spec = tie.close (tie.spec returns)

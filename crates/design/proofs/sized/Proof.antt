@@ -1,0 +1,81 @@
+use Rattle.design.specs.SizeLaws.{sized-empty, sized-long, sized-rest, walk-on, walk-stopped, walk-last}
+use Rattle.sheet.specs.Examine.{plainLines}
+use borrow.Author.Tests.{not-true, not-false}
+use lib.ListN.{length, drop}
+use Prim.Native.Nat.{_≤_, _-_}
+use mathlib.Core.Path.{_≡_, sym, refl, ap, _∙_}
+use native.Mathlib.Omega.{arith}
+use borrow.Author.Needs.{needs}
+use Rattle.design.proofs.sized.Statement.{statement}
+use Rattle.design.proofs.sized.Tie as tie
+use Rattle.design.proofs.sized.Reads as reads
+use Rattle.design.proofs.sized.Lts as lts
+use Rattle.design.proofs.plain.Reads as plain-reads
+
+abbrev Inv-loop : tie.InvT-loop
+Inv-loop s n i₀ i = (i ≤ n - 1) × (plainLines s ≡ plainLines (drop i s))
+
+abbrev μ-loop : tie.MeasureT-loop
+μ-loop s n i₀ i = n - i
+
+-- src/lib.rt:48:9
+returns : tie.Need-returns Inv-loop μ-loop
+returns c = sized-empty (c .before .before .args .s .now) (c .if1 .taken)
+
+-- src/lib.rt:51:9
+returns-2 : tie.Need-returns-2 Inv-loop μ-loop
+returns-2 c = sized-long (c .before .before .before .args .s .now) (c .if2 .taken)
+
+-- src/lib.rt:54:5
+loop-holds : tie.Need-loop-holds Inv-loop μ-loop
+loop-holds c = (omega arith, refl)
+
+-- src/lib.rt:55:19
+shared-slice-read-plain : tie.Need-shared-slice-read-plain Inv-loop μ-loop
+shared-slice-read-plain c = search needs
+
+-- src/lib.rt:55:13
+plain-requires : tie.Need-plain-requires Inv-loop μ-loop
+plain-requires c κs = search needs
+
+-- src/lib.rt:56:13
+returns-3 : tie.Need-returns-3 Inv-loop μ-loop
+returns-3 c = walk-stopped (c .before .before .before .before .before .before .before .before .args .s .now) (c .before .before .before .before .loop .i) (c .before .before .before .loop-test .taken) (sym (not-true _ (c .if3 .taken)) ∙ c .before .plain .ensures) ∙ sym (c .before .before .before .before .loop .inv .1) ∙ sym (sized-rest (c .before .before .before .before .before .before .before .before .args .s .now) (c .before .before .before .before .before .before .if1 .left) (c .before .before .before .before .before .if2 .left))
+
+-- src/lib.rt:58:9
+add-i : tie.Need-add-i Inv-loop μ-loop
+add-i c = search needs
+
+-- src/lib.rt:54:5
+loop-less : tie.Need-loop-less Inv-loop μ-loop
+loop-less c = search needs
+
+-- src/lib.rt:54:5
+loop-again : tie.Need-loop-again Inv-loop μ-loop
+loop-again c = (omega arith, c .before .before .before .before .loop .inv .1 ∙ walk-on (c .before .before .before .before .before .before .before .before .args .s .now) (c .before .before .before .before .loop .i) (c .before .before .before .loop-test .taken) (sym (not-false _ (c .if3 .left)) ∙ c .before .plain .ensures))
+
+-- src/lib.rt:60:5
+shared-slice-read-result : tie.Need-shared-slice-read-result Inv-loop μ-loop
+shared-slice-read-result c = search needs
+
+-- src/lib.rt:43:1
+returns-4 : tie.Need-returns-4 Inv-loop μ-loop
+returns-4 c = sym (sized-rest (c .before .before .before .before .before .before .args .s .now) (c .before .before .before .before .if1 .left) (c .before .before .before .if2 .left) ∙ c .before .before .loop .inv .1 ∙ walk-last (c .before .before .before .before .before .before .args .s .now) (c .before .before .loop .i) (c .before .before .before .before .if1 .left) (omega arith))
+
+pub sized-spec : {M : Type 1} → statement M
+sized-spec =
+    tie.close
+    (tie.spec
+    Inv-loop
+    μ-loop
+    returns
+    returns-2
+    loop-holds
+    shared-slice-read-plain
+    plain-requires
+    returns-3
+    add-i
+    loop-less
+    loop-again
+    shared-slice-read-result
+    returns-4)

@@ -1,0 +1,28 @@
+-- What the code's answers say, by the definitions. Assumes nothing.
+use mathlib.Core.Path.{_≡_}
+use mathlib.Core.Bool.{Bool, true, false}
+use Prim.Native.Nat.{ℕ}
+use Rattle.sheet.specs.Examine as spec
+use Rattle.sheet.specs.Examine.{Design, refused, valid}
+use Rattle.sheet.specs.Known.{Holds}
+use Rattle.design.specs.Tabulate.{TableAnswer, refused-by, written}
+use Rattle.design.specs.declared.Examined.{Examined}
+use Rattle.design.specs.declared.Tabled.{Tabled}
+
+pub record RefusedAs (q l : ℕ) (e : Examined) : Type 0 where
+  pub not-ok : e .ok ≡ false
+  pub number : e .number ≡ q
+  pub line : e .line ≡ l
+
+pub record ValidAs (d : Design) (e : Examined) : Type 0 where
+  pub all-ok : e .ok ≡ true
+  pub holds : Holds d (e .sheet)
+
+abbrev pub ExaminedIs : spec.Examined → Examined → Type 0
+ExaminedIs (refused q l) e = RefusedAs q l e
+ExaminedIs (valid d) e = ValidAs d e
+
+-- document 01's number and line, or its count of digits, for each case of the code's answer
+abbrev pub tableAnswer : Tabled → TableAnswer
+tableAnswer (Tabled.Refused q l) = refused-by q l
+tableAnswer (Tabled.Written n) = written n

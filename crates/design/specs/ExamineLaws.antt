@@ -1,0 +1,179 @@
+-- The examination line after line. Assumes nothing.
+use mathlib.Core.Path.{_≡_, refl, sym, ap, _∙_, subst}
+use mathlib.Core.Bool.{Bool, true, false, _&&_}
+use mathlib.Core.List.{List, [], _∷_}
+use Prim.Native.Nat.{ℕ, zero, suc, _+_, _-_, _*_, _%_, _^_, _≤_, _<_}
+use native.Mathlib.Omega.{arith}
+use native.Mathlib.Nat.{mod-eq-of-lt, one-mul}
+use native.Mathlib.Numerals.{add-one}
+use lib.Dec.{leb, ltb}
+use lib.ListN.{length, getD, drop, take}
+use lib.Pow.{pow-mono}
+use Rattle.bits.specs.Logic.{pick, true-false}
+use mathlib.Core.Option.{Option, some, none}
+use Rattle.text.specs.Bytes.{newline, same}
+use Rattle.names.specs.Name.{Name, distinct, allAmong}
+use Rattle.text.specs.Line.{lines}
+use Rattle.text.specs.LineEnd.{LineEnd}
+use Rattle.text.specs.LineEndLaws.{line-end-inside}
+use Rattle.text.specs.LineCountLaws.{lines-past}
+use Rattle.sheet.specs.Examine as spec
+use Rattle.sheet.specs.Examine.{Design, Step, no-to, next, askLine, askLines, atEnd, sized, nothing, follow, at-design, ask, within}
+use Rattle.text.specs.Limits.{maxInputs, maxBound, maxLimit, maxOutputs, maxDepth}
+use Rattle.formula.specs.Tree.{depth, knows}
+use Rattle.sheet.specs.Lines.{Output, designLine, endLine, readIn, readBound, readLimit, readOut}
+use Rattle.sheet.specs.Known.{Holds, Fits, StepIs, StepFits, placeOf}
+use Rattle.sheet.specs.declared.Place.{Place}
+use Rattle.sheet.specs.declared.Sheet.{Sheet}
+use Rattle.sheet.specs.declared.Asked.{Asked}
+use Rattle.design.specs.SizeLaws.{sized-last}
+use Rattle.design.specs.Answer.{ExaminedIs, RefusedAs, ValidAs}
+use Rattle.design.specs.declared.Examined.{Examined}
+
+-- a power of two as the code shifts it
+pub shifted : (n : ℕ) → n ≤ 10 → ((1 * 2 ^ n) % 18446744073709551616 ≡ 2 ^ n) × ((1 * 2 ^ n) % 18446744073709551616 ≤ 1024)
+shifted n h =
+    let a : 2 ^ n ≤ 1024 = pow-mono h in
+    let b : (1 * 2 ^ n) % 18446744073709551616 ≡ 2 ^ n = ap (λ (x : ℕ). x % 18446744073709551616) (one-mul (2 ^ n)) ∙ mod-eq-of-lt (omega arith) in
+    (b, omega arith)
+
+-- ---- after the last line
+pub at-place : (p q : Place) (d : Design) (n : ℕ) (e : Examined) → p ≡ q → ExaminedIs (atEnd (placeOf q) d n) e → ExaminedIs (atEnd (placeOf p) d n) e
+at-place p q d n e t h = subst (λ (x : Place). ExaminedIs (atEnd (placeOf x) d n) e) (sym t) h
+
+-- ---- question 1
+pub not-sized : (s : List ℕ) (e : Examined) → false ≡ sized s → RefusedAs 1 0 e → ExaminedIs (spec.examine s) e
+unfolding spec.examine
+not-sized s e f h = subst (λ (b : Bool). ExaminedIs (pick b (askLines at-design nothing 1 (lines s)) (spec.refused 1 0)) e) f h
+
+pub is-sized : (s : List ℕ) → true ≡ sized s → spec.examine s ≡ askLines at-design nothing 1 (lines s)
+unfolding spec.examine
+is-sized s f = ap (λ (b : Bool). pick b (askLines at-design nothing 1 (lines s)) (spec.refused 1 0)) (sym f)
+
+-- ---- the walk over the lines
+-- the lines from the place at on are asked as the whole sheet is
+pub record Along (s : List ℕ) (p : Place) (k : Sheet) (at n : ℕ) : Type 0 where
+  pub known : Design
+  pub holds : Holds known k
+  pub fitting : Fits (placeOf p) known
+  pub inside : at ≤ length s
+  pub few : n ≤ at + 1
+  pub here : spec.examine s ≡ askLines (placeOf p) known n (lines (drop at s))
+  pub last : getD s (length s - 1) 0 ≡ newline
+
+-- ---- each line leaves a design that fits the next place
+ask-fits : (qs : List (ℕ × Bool)) (onward : Step) → StepFits onward → StepFits (ask qs onward)
+ask-fits [] onward h = h
+ask-fits (q ∷ qs) onward h = go (q .1) (ask-fits qs onward h)
+  where
+    go : (b : Bool) → StepFits (ask qs onward) → StepFits (pick b (ask qs onward) (no-to (q .0)))
+    go true f = f
+    go false f = tt
+
+in-fits : (d : Design) (x : Option (List Name)) → StepFits (spec.askIn d x)
+unfolding spec.askIn
+in-fits d none = tt
+in-fits d (some ns) =
+    ask-fits ((3, within 1 maxInputs (length ns)) ∷ (4, distinct ns) ∷ [])
+    (next spec.at-bound (record { inputs = ns; bound = d .bound; limit = d .limit; outputs = d .outputs })) tt
+
+bound-fits : (d : Design) (x : Option (List Name)) → StepFits (spec.askBound d x)
+unfolding spec.askBound
+bound-fits d none = tt
+bound-fits d (some ns) =
+    ask-fits ((3, within 1 maxBound (length ns)) ∷ (4, distinct ns) ∷ (5, allAmong ns (d .inputs)) ∷ [])
+    (next spec.at-limit (record { inputs = d .inputs; bound = ns; limit = d .limit; outputs = d .outputs })) tt
+
+limit-fits : (d : Design) (x : Option ℕ) → StepFits (spec.askLimit d x)
+unfolding spec.askLimit
+limit-fits d none = tt
+limit-fits d (some n) =
+    ask-fits ((3, leb n maxLimit) ∷ [])
+    (next spec.at-out (record { inputs = d .inputs; bound = d .bound; limit = n; outputs = d .outputs })) tt
+
+out-fits : (d : Design) (x : Option Output) → StepFits (spec.askOut d x)
+unfolding spec.askOut
+out-fits d none = tt
+out-fits d (some o) =
+    ask-fits
+    ((3, ltb (length (d .outputs)) maxOutputs && leb (depth (o .formula)) maxDepth)
+    ∷ (4, spec.newName d (o .name))
+    ∷ (5, knows (d .inputs) (o .formula))
+    ∷ [])
+    (next spec.at-out (spec.withOutput d o)) tt
+
+end-fits : (d : Design) → StepFits (spec.askEnd d)
+unfolding spec.askEnd
+end-fits d = ask-fits ((3, leb 1 (length (d .outputs))) ∷ []) (next spec.over d) tt
+
+pick-fits : (b : Bool) (t u : Step) → StepFits t → StepFits u → StepFits (pick b t u)
+pick-fits true t u h k = h
+pick-fits false t u h k = k
+
+line-fits : (p : spec.Place) (d : Design) (l : List ℕ) → Fits p d → StepFits (askLine p d l)
+unfolding askLine
+line-fits spec.at-design d l h = pick-fits (same l designLine) (next spec.at-in d) (no-to 2) h tt
+line-fits spec.at-in d l h = in-fits d (readIn l)
+line-fits spec.at-bound d l h = bound-fits d (readBound l)
+line-fits spec.at-limit d l h = limit-fits d (readLimit l)
+line-fits spec.at-out d l h = pick-fits (same l endLine) (spec.askEnd d) (spec.askOut d (readOut l)) (end-fits d) (out-fits d (readOut l))
+line-fits spec.over d l h = tt
+
+-- ---- a line: refused there, or on to the next
+line-here : (s : List ℕ) (at e : ℕ) → at < length s → getD s (length s - 1) 0 ≡ newline → LineEnd s at e → lines (drop at s) ≡ take (e - at) (drop at s) ∷ lines (drop (e + 1) s)
+line-here s at e h l x = x .ended (line-end-inside s at e h l x) .1
+
+module _ (s : List ℕ) (p : Place) (k : Sheet) (at n e : ℕ) (a : Asked) (w : Along s p k at n) (h : at < length s) (x : LineEnd s at e) where
+  asked-here : spec.examine s ≡ follow (askLine (placeOf p) (w .known) (take (e - at) (drop at s))) n (λ p′ d′. askLines p′ d′ (suc n) (lines (drop (e + 1) s)))
+  unfolding askLines
+  asked-here = w .here ∙ ap (askLines (placeOf p) (w .known) n) (line-here s at e h (w .last) x)
+
+  stopped : (t : Step) → askLine (placeOf p) (w .known) (take (e - at) (drop at s)) ≡ t → StepIs t a → a .ok ≡ false → (r : Examined) → RefusedAs (a .number) n r → ExaminedIs (spec.examine s) r
+  stopped (no-to q) u f g r o =
+      subst (λ (y : spec.Examined). ExaminedIs y r)
+      (sym (asked-here ∙ ap (λ (z : Step). follow z n (λ p′ d′. askLines p′ d′ (suc n) (lines (drop (e + 1) s)))) u))
+      (record { not-ok = o .not-ok; number = o .number ∙ f .number; line = o .line })
+  stopped (next q d) u f g r o = absurd (true-false (sym (f .all-ok) ∙ g))
+
+  pub line-refused : StepIs (askLine (placeOf p) (w .known) (take (e - at) (drop at s))) a → a .ok ≡ false → (r : Examined) → RefusedAs (a .number) n r → ExaminedIs (spec.examine s) r
+  line-refused f = stopped (askLine (placeOf p) (w .known) (take (e - at) (drop at s))) refl f
+
+  passed : (t : Step) → askLine (placeOf p) (w .known) (take (e - at) (drop at s)) ≡ t → StepFits t → StepIs t a → a .ok ≡ true → Along s (a .place) (a .sheet) (e + 1) (n + 1)
+  passed (no-to q) u y f g = absurd (true-false (sym g ∙ f .not-ok))
+  passed (next q d) u y f g =
+      let l = line-end-inside s at e h (w .last) x in
+      let i = w .few in
+      let j = x .after-start in
+      record {
+        known = d;
+        holds = f .holds;
+        fitting = subst (λ (z : spec.Place). Fits z d) (sym (f .placed)) y;
+        inside = omega arith;
+        few = omega arith;
+        here =
+            asked-here ∙ ap (λ (z : Step). follow z n (λ p′ d′. askLines p′ d′ (suc n) (lines (drop (e + 1) s)))) u
+            ∙ ap (λ (z : spec.Place). askLines z d (suc n) (lines (drop (e + 1) s))) (sym (f .placed))
+            ∙ ap (λ (i : ℕ). askLines (placeOf (a .place)) d i (lines (drop (e + 1) s))) (sym (add-one n));
+        last = w .last;
+      }
+
+  pub line-passed : StepIs (askLine (placeOf p) (w .known) (take (e - at) (drop at s))) a → a .ok ≡ true → Along s (a .place) (a .sheet) (e + 1) (n + 1)
+  line-passed f = passed (askLine (placeOf p) (w .known) (take (e - at) (drop at s))) refl (line-fits (placeOf p) (w .known) (take (e - at) (drop at s)) (w .fitting)) f
+
+-- ---- the first line, and after the last
+pub along-start : (s : List ℕ) (k : Sheet) → true ≡ sized s → Holds nothing k → Along s Place.Design k 0 1
+along-start s k f h =
+    record {
+      known = nothing;
+      holds = h;
+      fitting = record { no-bound = refl; no-outputs = refl };
+      inside = omega arith;
+      few = omega arith;
+      here = is-sized s f;
+      last = sized-last s (sym f);
+    }
+
+pub along-end : (s : List ℕ) (p : Place) (k : Sheet) (at n : ℕ) (r : Examined) (w : Along s p k at n) → length s ≤ at → ExaminedIs (atEnd (placeOf p) (w .known) n) r → ExaminedIs (spec.examine s) r
+unfolding askLines
+along-end s p k at n r w h f =
+    subst (λ (y : spec.Examined). ExaminedIs y r) (sym (w .here ∙ ap (askLines (placeOf p) (w .known) n) (lines-past s at h))) f

@@ -1,0 +1,65 @@
+-- Table's answers, one for each way out of the code. Assumes nothing.
+use mathlib.Core.Path.{_≡_, refl, sym, ap, ap₂, _∙_, subst}
+use mathlib.Core.Bool.{Bool, true, false}
+use mathlib.Core.List.{List, []}
+use Prim.Native.Nat.{ℕ, _^_, _≤_, _<_}
+use native.Mathlib.Omega.{arith}
+use lib.Dec.{leb, ltb}
+use lib.ListN.{length}
+use lib.Seq.{sets}
+use borrow.Author.Tests.{le-leb, lt-leb, lt-ltb, le-ltb}
+use Rattle.bits.specs.Logic.{pick, true-false}
+use Rattle.rows.specs.Words.{rowOn}
+use Rattle.rows.specs.Digits.{digitsUpto}
+use Rattle.rows.specs.DigitLaws.{digits-rowwise}
+use Rattle.sheet.specs.Examine as spec
+use Rattle.sheet.specs.Examine.{Design, refused, valid}
+use Rattle.sheet.specs.Known.{Holds, tableAt, outputOn}
+use Rattle.sheet.specs.declared.Sheet.{Sheet}
+use Rattle.design.specs.Tabulate.{Tabulated, TableAnswer, refused-by, written, untouched, tableOf, tabulate, tableDigits, rowCount}
+use Rattle.design.specs.Answer.{ExaminedIs, RefusedAs, ValidAs}
+use Rattle.design.specs.declared.Examined.{Examined}
+
+-- a sheet that the code answers for, by its flag
+refused-here : (y : spec.Examined) (e : Examined) → ExaminedIs y e → e .ok ≡ false → refused (e .number) (e .line) ≡ y
+refused-here (refused q l) e h f = ap₂ refused (h .number) (h .line)
+refused-here (valid d) e h f = absurd (true-false (sym (h .all-ok) ∙ f))
+
+pub record Valid (y : spec.Examined) (k : Sheet) : Type 0 where
+  pub design : Design
+  pub answered : valid design ≡ y
+  pub holds : Holds design k
+
+pub valid-here : (y : spec.Examined) (e : Examined) → ExaminedIs y e → e .ok ≡ true → Valid y (e .sheet)
+valid-here (refused q l) e h f = absurd (true-false (sym f ∙ h .not-ok))
+valid-here (valid d) e h f = record { design = d; answered = refl; holds = h .holds }
+
+pub table-refused : (s : List ℕ) (o : ℕ) (b : List ℕ) (e : Examined) → ExaminedIs (spec.examine s) e → e .ok ≡ false → untouched (e .number) (e .line) b ≡ tabulate s o b
+unfolding tabulate tableOf
+table-refused s o b e h f = ap (λ (y : spec.Examined). tableOf y o b) (refused-here (spec.examine s) e h f)
+
+module _ (s : List ℕ) (o : ℕ) (b : List ℕ) (k : Sheet) (v : Valid (spec.examine s) k) where
+  pub table-no-output : k .outputs ≤ o → untouched 6 0 b ≡ tabulate s o b
+  unfolding tabulate tableOf
+  table-no-output h =
+      let m = v .holds .outputs-counted in
+      sym (rw (le-ltb o (length (v .design .outputs)) (omega arith)) refl)
+      ∙ ap (λ (y : spec.Examined). tableOf y o b) (v .answered)
+
+  pub table-short : (n : ℕ) → n ≡ 2 ^ k .inputs → o < k .outputs → length b < n → untouched 9 0 b ≡ tabulate s o b
+  unfolding tabulate tableOf
+  table-short n e h l =
+      let m = v .holds .outputs-counted in
+      let c : n ≡ 2 ^ length (v .design .inputs) = e ∙ ap (λ (i : ℕ). 2 ^ i) (v .holds .inputs-counted) in
+      sym (rw (lt-ltb o (length (v .design .outputs)) (omega arith), lt-leb (2 ^ length (v .design .inputs)) (length b) (omega arith)) refl)
+      ∙ ap (λ (y : spec.Examined). tableOf y o b) (v .answered)
+
+  pub table-written : (n : ℕ) → n ≡ 2 ^ k .inputs → n ≤ 1024 → o < k .outputs → n ≤ length b → record { answer = written n; buffer = sets b 0 (digitsUpto (rowOn (tableAt (k .tables) o)) n) } ≡ tabulate s o b
+  unfolding tabulate tableOf tableDigits
+  table-written n e q h l =
+      let m = v .holds .outputs-counted in
+      let c : n ≡ 2 ^ length (v .design .inputs) = e ∙ ap (λ (i : ℕ). 2 ^ i) (v .holds .inputs-counted) in
+      ap (λ (ds : List ℕ). record { answer = written n; buffer = sets b 0 ds }) (digits-rowwise (v .holds .tabled o h) n q)
+      ∙ ap (λ (i : ℕ). record { answer = written i; buffer = sets b 0 (digitsUpto (outputOn (v .design) o) i) }) c
+      ∙ sym (rw (lt-ltb o (length (v .design .outputs)) (omega arith), le-leb (2 ^ length (v .design .inputs)) (length b) (omega arith)) refl)
+      ∙ ap (λ (y : spec.Examined). tableOf y o b) (v .answered)

@@ -1,0 +1,117 @@
+-- `ask_out`: the questions in turn, each on what the line and the sheet say. Assumes nothing.
+use mathlib.Core.Logic.{⊎-elim}
+use mathlib.Core.Path.{sym, _∙_}
+use native.Mathlib.Omega.{arith}
+use lib.Seq.{length-take-le}
+use borrow.Author.Tests.{not-true, not-false, ltb-true, ltb-false}
+use borrow.Author.Needs.{needs}
+use Rattle.text.specs.Limits.{maxDepth}
+use Rattle.sheet.specs.AskOutLaws.{out-misspelled, out-spelled, out-fifth, out-deep, out-old-name, out-unknown, out-passes}
+use Rattle.sheet.specs.Lines.{readOut}
+use Rattle.sheet.proofs.Arrays.{names-sized}
+use Rattle.sheet.proofs.ask_out.Statement.{statement}
+use Rattle.sheet.proofs.ask_out.Tie as tie
+
+array-share-prefix-inputs : tie.Need-array-share-prefix-inputs
+array-share-prefix-inputs c = omega (arith, names-sized (c .before .before .args .k) (c .before .before .good .0))
+
+slice-aggregate-out-line : tie.Need-slice-aggregate-out-line
+slice-aggregate-out-line c = sym (length-take-le (c .before .before .before .args .k .inputs) (c .before .before .before .args .k .names) (omega (arith, names-sized (c .before .before .before .args .k) (c .before .before .before .good .0))))
+
+out-line-requires : tie.Need-out-line-requires
+out-line-requires c κs = search needs
+
+refuse-requires : tie.Need-refuse-requires
+refuse-requires c κs = search needs
+
+returns : tie.Need-returns
+returns c =
+    let k = c .before .before .before .before .before .before .before .before .args .k in
+    let w = c .before .before .before .before .out-line in
+    let missing = not-true (w .result .ok) (c .before .if1 .taken) in
+    λ d h. out-misspelled d k h (w .result) (c .refuse .result) (readOut (c .before .before .before .before .before .before .before .before .args .l .now)) (w .ensures) missing (c .refuse .ensures)
+
+refuse-requires-2 : tie.Need-refuse-requires-2
+refuse-requires-2 c κs = search needs
+
+returns-2 : tie.Need-returns-2
+returns-2 c =
+    let k = c .before .before .before .before .before .before .before .before .before .before .args .k in
+    let w = c .before .before .before .before .before .before .out-line in
+    let q = c .refuse2 in
+    let spelled = not-false (w .result .ok) (c .before .before .before .if1 .left) in
+    λ d h. out-spelled d k h (w .result) (q .result) (readOut (c .before .before .before .before .before .before .before .before .before .before .args .l .now)) (w .ensures) spelled (λ x g.
+    ⊎-elim
+    (λ v. out-fifth d k h (w .result) (q .result) x g (v .taken) (q .ensures))
+    (λ v. out-deep d k h (w .result) (q .result) x g (v .0 .left) (ltb-true maxDepth (w .result .depth) (v .2 .taken)) (q .ensures))
+    (c .before .if2 .came))
+
+is-new-requires : tie.Need-is-new-requires
+is-new-requires c κs = search needs
+
+refuse-requires-3 : tie.Need-refuse-requires-3
+refuse-requires-3 c κs = search needs
+
+returns-3 : tie.Need-returns-3
+returns-3 c =
+    let k = c .before .before .before .before .before .before .before .before .before .before .before .before .before .before .args .k in
+    let w = c .before .before .before .before .before .before .before .before .before .before .out-line in
+    let q = c .refuse3 in
+    let spelled = not-false (w .result .ok) (c .before .before .before .before .before .before .before .if1 .left) in
+    let flat = ltb-false maxDepth (w .result .depth) (c .before .before .before .if3 .left) in
+    let old = sym (not-true (c .before .before .is-new .result) (c .before .if4 .taken)) in
+    λ d h. out-spelled d k h (w .result) (q .result) (readOut (c .before .before .before .before .before .before .before .before .before .before .before .before .before .before .args .l .now)) (w .ensures) spelled (λ x g.
+    out-old-name d k h (w .result) (q .result) x g (c .before .before .before .before .before .if2 .left) flat (old ∙ c .before .before .is-new .ensures d h) (q .ensures))
+
+refuse-requires-4 : tie.Need-refuse-requires-4
+refuse-requires-4 c κs = search needs
+
+returns-4 : tie.Need-returns-4
+returns-4 c =
+    let k = c .before .before .before .before .before .before .before .before .before .before .before .before .before .before .before .before .args .k in
+    let w = c .before .before .before .before .before .before .before .before .before .before .before .before .out-line in
+    let q = c .refuse4 in
+    let spelled = not-false (w .result .ok) (c .before .before .before .before .before .before .before .before .before .if1 .left) in
+    let flat = ltb-false maxDepth (w .result .depth) (c .before .before .before .before .before .if3 .left) in
+    let new = sym (not-false (c .before .before .before .before .is-new .result) (c .before .before .before .if4 .left)) in
+    let unknown = not-true (w .result .known) (c .before .if5 .taken) in
+    λ d h. out-spelled d k h (w .result) (q .result) (readOut (c .before .before .before .before .before .before .before .before .before .before .before .before .before .before .before .before .args .l .now)) (w .ensures) spelled (λ x g.
+    out-unknown d k h (w .result) (q .result) x g (c .before .before .before .before .before .before .before .if2 .left) flat (new ∙ c .before .before .before .before .is-new .ensures d h) unknown (q .ensures))
+
+with-output-requires : tie.Need-with-output-requires
+with-output-requires c κs = search needs
+
+onward-requires : tie.Need-onward-requires
+onward-requires c κs = search needs
+
+returns-5 : tie.Need-returns-5
+returns-5 c =
+    let k = c .before .before .before .before .before .before .before .before .before .before .before .before .before .before .before .before .before .args .k in
+    let w = c .before .before .before .before .before .before .before .before .before .before .before .before .before .out-line in
+    let q = c .onward in
+    let spelled = not-false (w .result .ok) (c .before .before .before .before .before .before .before .before .before .before .if1 .left) in
+    let flat = ltb-false maxDepth (w .result .depth) (c .before .before .before .before .before .before .if3 .left) in
+    let new = sym (not-false (c .before .before .before .before .before .is-new .result) (c .before .before .before .before .if4 .left)) in
+    let known = not-false (w .result .known) (c .before .before .if5 .left) in
+    λ d h. out-spelled d k h (w .result) (q .result) (readOut (c .before .before .before .before .before .before .before .before .before .before .before .before .before .before .before .before .before .args .l .now)) (w .ensures) spelled (λ x g.
+    out-passes d k h (w .result) (q .result) x g (c .before .before .before .before .before .before .before .before .if2 .left) flat (new ∙ c .before .before .before .before .before .is-new .ensures d h) (c .before .with-output .result) known (q .ensures) (c .before .with-output .ensures d x h))
+
+pub ask-out-spec : {M : Type 1} → statement M
+ask-out-spec =
+    tie.close
+    (tie.spec
+    array-share-prefix-inputs
+    slice-aggregate-out-line
+    out-line-requires
+    refuse-requires
+    returns
+    refuse-requires-2
+    returns-2
+    is-new-requires
+    refuse-requires-3
+    returns-3
+    refuse-requires-4
+    returns-4
+    with-output-requires
+    onward-requires
+    returns-5)

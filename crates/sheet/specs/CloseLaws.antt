@@ -1,0 +1,63 @@
+-- The closing bracket at the end of a line: what stands after an item is the bracket and nothing besides just where the
+-- item is the whole line. Assumes nothing.
+use mathlib.Core.Path.{_≡_, refl, sym, ap, _∙_}
+use mathlib.Core.Bool.{Bool, true, false}
+use mathlib.Core.List.{List, [], _∷_}
+use mathlib.Core.Option.{some, none}
+use Prim.Native.Nat.{ℕ, _+_, _-_}
+use native.Mathlib.Omega.{arith}
+use lib.Dec.{eqb}
+use lib.ListN.{length, getD, drop, length-drop}
+use lib.Seq.{getD-drop}
+use borrow.Author.Tests.{eq-eqb, ne-eqb, eqb-true, eqb-false}
+use Rattle.bits.specs.Logic.{pick}
+use Rattle.text.specs.Bytes.{found, bad, after, eat, whole, closeBracket}
+use Rattle.sheet.specs.Lines.{closed}
+use Rattle.sheet.specs.Known.{closesAt}
+
+-- ---- by the number of bytes
+not-one-byte : (s : List ℕ) → (length s ≡ 1 → ⊥) → closesAt s ≡ false
+not-one-byte [] h = refl
+not-one-byte (b ∷ []) h = absurd (h refl)
+not-one-byte (b ∷ c ∷ s) h = refl
+
+one-byte : (s : List ℕ) → length s ≡ 1 → closesAt s ≡ eqb (getD s 0 0) closeBracket
+one-byte [] e = absurd (omega arith)
+one-byte (b ∷ []) e = refl
+one-byte (b ∷ c ∷ s) e = absurd (omega arith)
+
+module _ (l : List ℕ) (at : ℕ) where
+  left : length (drop at l) ≡ length l - at
+  left = length-drop at l
+
+  pub not-one-left : (length l - at ≡ 1 → ⊥) → false ≡ closesAt (drop at l)
+  not-one-left h = sym (not-one-byte (drop at l) (λ e. h (sym left ∙ e)))
+
+  pub one-left : length l - at ≡ 1 → eqb (getD l at 0) closeBracket ≡ closesAt (drop at l)
+  one-left e =
+      let here : at + 0 ≡ at = omega arith in
+      sym (one-byte (drop at l) (left ∙ e) ∙ ap (λ (b : ℕ). eqb b closeBracket) (getD-drop at l 0 0 ∙ ap (λ (i : ℕ). getD l i 0) here))
+
+-- ---- a line that is an item and the bracket
+eqb-turned : (a b : ℕ) (t : Bool) → eqb a b ≡ t → eqb b a ≡ t
+eqb-turned a b true e = eq-eqb b a (sym (eqb-true a b e))
+eqb-turned a b false e = ne-eqb b a (λ q. eqb-false a b e (sym q))
+
+-- a test of the next byte and an item, where the rest of the line is empty, and where it is not
+closed-then-empty : {A : Type 0} (a : A) (t : Bool)
+    → whole (after (pick t (found (tt {0}) []) bad) (λ _ u. found a u)) ≡ pick t (some a) none
+closed-then-empty a true = refl
+closed-then-empty a false = refl
+
+closed-then-more : {A : Type 0} (a : A) (t : Bool) (b : ℕ) (s : List ℕ)
+    → whole (after (pick t (found (tt {0}) (b ∷ s)) bad) (λ _ u. found a u)) ≡ none
+closed-then-more a true b s = refl
+closed-then-more a false b s = refl
+
+pub closed-whole : {A : Type 0} (a : A) (s : List ℕ) → whole (closed (found a s)) ≡ pick (closesAt s) (some a) none
+unfolding eat
+closed-whole a [] = refl
+closed-whole a (b ∷ []) =
+    closed-then-empty a (eqb closeBracket b)
+    ∙ ap (λ (t : Bool). pick t (some a) none) (sym (eqb-turned closeBracket b (eqb closeBracket b) refl))
+closed-whole a (b ∷ c ∷ s) = closed-then-more a (eqb closeBracket b) c s
