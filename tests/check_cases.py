@@ -1,0 +1,147 @@
+#!/usr/bin/env python3
+"""check_cases.py [COUNT]: Check and Map on the programs target/bin/cellcheck and target/bin/cellmap. First cases by hand at
+each boundary of questions 10 and 11, with what each must answer beside it, which the reference must answer too; then COUNT
+random sheets (300 unless given): Map's network must be "same", and damaged networks must be answered as the reference says.
+Shows progress; the last line counts."""
+import pathlib
+import random
+import subprocess
+import sys
+
+root = pathlib.Path(__file__).resolve().parent.parent
+sys.path.insert(0, str(root / "tests/reference"))
+import cellref  # noqa: E402
+import random_sheets  # noqa: E402
+
+A = b"(design 1)\n(in a b c d)\n(bound a b c)\n(limit 2)\n(out f (xor a b c d))\n(out g (and (xor a b c) d))\n(end)\n"
+NET = b"(network 1)\n(lut _0 (a b c) 01101001)\n(node f (_0 d) 0110)\n(node g (_0 d) 0001)\n(count 1)\n(end)\n"
+LUT = b"(lut _%d (a b c) 01101001)\n"
+WIDE = A.replace(b"(limit 2)", b"(limit 6)")
+OPEN = b"(design 1)\n(in c d)\n(bound c)\n(limit 1)\n(out f d)\n(end)\n"  # width 0, a free input
+SHUT = b"(design 1)\n(in a b)\n(bound a b)\n(limit 1)\n(out f (and a b))\n(end)\n"  # no free inputs
+FLAT = b"(design 1)\n(in a)\n(bound a)\n(limit 0)\n(out f 1)\n(end)\n"  # width 0, no free inputs
+
+
+def luts(count, tail):
+    return b"(network 1)\n" + b"".join(LUT % i for i in range(count)) + tail
+
+
+def tail(count):
+    return b"(node f (_0 d) 0110)\n(node g (_0 d) 0001)\n(count %d)\n(end)\n" % count
+
+
+LINES = NET.splitlines(keepends=True)
+CASES = [
+    ("sheet J: g's digits", A, NET.replace(b"0001", b"0011"), "differs output 1 row 2"),
+    ("sheet J: complemented", A, NET.replace(b"d) 0110", b"d) 1001").replace(b"01101001", b"10010110").replace(b"0001", b"0100"), "same"),
+    ("own network", A, NET, "same"),
+    ("six luts", WIDE, luts(6, tail(6)), "same"),
+    ("seven luts", WIDE, luts(7, tail(7)), "refused 10 line 8"),
+    ("no luts, tables named", A, luts(0, tail(0)), "refused 10 line 2"),
+    ("no luts", OPEN, b"(network 1)\n(node f (d) 01)\n(count 0)\n(end)\n", "same"),
+    ("U wrong", A, NET.replace(b"(count 1)", b"(count 2)"), "refused 10 line 5"),
+    ("U with a leading zero", A, NET.replace(b"(count 1)", b"(count 01)"), "refused 10 line 5"),
+    ("lut out of order", A, NET.replace(b"lut _0", b"lut _1"), "refused 10 line 2"),
+    ("lut twice", A, NET.replace(LUT % 0, LUT % 0 + LUT % 0), "refused 10 line 3"),
+    ("lut after a node", A, NET.replace(b"(count", LUT % 1 + b"(count"), "refused 10 line 5"),
+    ("lut of other inputs", A, NET.replace(b"(a b c)", b"(a c b)"), "refused 10 line 2"),
+    ("node of another output", A, NET.replace(b"node f", b"node g"), "refused 10 line 3"),
+    ("a lut that is not there", A, NET.replace(b"f (_0 d)", b"f (_1 d)"), "refused 10 line 3"),
+    ("two luts falling", WIDE, luts(2, tail(2)).replace(b"f (_0 d) 0110", b"f (_1 _0 d) 01100110"), "refused 10 line 4"),
+    ("two luts equal", WIDE, luts(2, tail(2)).replace(b"f (_0 d) 0110", b"f (_0 _0 d) 01100110"), "refused 10 line 4"),
+    ("two luts rising, over the width", WIDE, luts(2, tail(2)).replace(b"f (_0 d) 0110", b"f (_0 _1 d) 01100110"), "refused 11 line 4"),
+    ("free input missing", A, NET.replace(b"f (_0 d) 0110", b"f (_0) 01"), "refused 10 line 3"),
+    ("free input first", A, NET.replace(b"f (_0 d)", b"f (d _0)"), "refused 10 line 3"),
+    ("a bound input read", A, NET.replace(b"f (_0 d)", b"f (a d)"), "refused 10 line 3"),
+    ("a digit too many", A, NET.replace(b"0110)", b"01100)"), "refused 10 line 3"),
+    ("a digit too few", A, NET.replace(b"0110)", b"011)"), "refused 10 line 3"),
+    ("a digit 2", A, NET.replace(b"0110)", b"0112)"), "refused 10 line 3"),
+    ("lut digit too many", A, NET.replace(b"01101001", b"011010010"), "refused 10 line 2"),
+    ("width 0 with a free input", OPEN, b"(network 1)\n(node f (d) 01)\n(count 0)\n(end)\n", "same"),
+    ("width 0, a table read", OPEN, b"(network 1)\n(lut _0 (c) 01)\n(node f (_0 d) 0101)\n(count 1)\n(end)\n", "refused 11 line 3"),
+    ("width 0, a table unread", OPEN, b"(network 1)\n(lut _0 (c) 01)\n(node f (d) 01)\n(count 1)\n(end)\n", "same"),
+    ("width 0, no free inputs", FLAT, b"(network 1)\n(node f () 1)\n(count 0)\n(end)\n", "same"),
+    ("width 0, no free inputs, wrong", FLAT, b"(network 1)\n(node f () 0)\n(count 0)\n(end)\n", "differs output 0 row 0"),
+    ("no free inputs", SHUT, b"(network 1)\n(lut _0 (a b) 0001)\n(node f (_0) 01)\n(count 1)\n(end)\n", "same"),
+    ("no free inputs, turned", SHUT, b"(network 1)\n(lut _0 (a b) 0001)\n(node f (_0) 10)\n(count 1)\n(end)\n", "differs output 0 row 0"),
+    ("luts above N", A, luts(3, tail(3)), "refused 11 line 4"),
+    ("luts above N, and a node over its width", A, luts(3, tail(3)).replace(b"f (_0 d) 0110", b"f (_0 _1 d) 01100110"), "refused 11 line 4"),
+    ("8,192 bytes, bad line 2", A, b"(network 1)\n" + b"x" * 8179 + b"\n", "refused 10 line 2"),
+    ("8,193 bytes", A, b"(network 1)\n" + b"x" * 8180 + b"\n", "refused 10 line 0"),
+    ("no bytes", A, b"", "refused 10 line 0"),
+    ("no final 0x0A", A, NET[:-1], "refused 10 line 6"),
+    ("no final 0x0A, an earlier bad line", A, NET.replace(b"0110)", b"011)")[:-1], "refused 10 line 3"),
+    ("a surplus line", A, NET + b"(end)\n", "refused 10 line 7"),
+    ("a surplus empty line", A, NET + b"\n", "refused 10 line 7"),
+    ("byte 0x80", A, NET.replace(b"(end)", b"(end\x80"), "refused 10 line 6"),
+    ("a bad design sheet", A.replace(b"(limit 2)", b"(limit 7)"), NET, "refused 3 line 4"),
+]
+for number in range(len(LINES)):
+    CASES.append((f"line {number + 1} missing", A, b"".join(LINES[:number] + LINES[number + 1 :]), f"refused 10 line {number + 1}"))
+
+
+def program(name, text):
+    return subprocess.run([root / "target/bin" / name], input=text, capture_output=True, check=False).stdout
+
+
+def reference(design, network):
+    try:
+        found = cellref.check(design, network)
+    except cellref.Refusal as refusal:
+        return str(refusal)
+    return "same" if found is None else f"differs output {found[0]} row {found[1]}"
+
+
+def damage(dice, network):
+    body = bytearray(network)
+    for _ in range(dice.randrange(1, 3)):
+        place = dice.randrange(len(body))
+        kind = dice.randrange(4)
+        if kind == 0:
+            body[place] = dice.choice(b"01()_ \nab")
+        elif kind == 1:
+            del body[place]
+        elif kind == 2:
+            body.insert(place, dice.choice(b"01()_ \nab"))
+        else:
+            digits = [i for i, b in enumerate(body) if b in b"01"]
+            body[dice.choice(digits)] ^= 1
+    return bytes(body) or b"\n"
+
+
+ran = wrong = 0
+
+
+def compare(name, design, network, wanted):
+    global ran, wrong
+    got = program("cellcheck", design + b"\0" + network).decode().strip()
+    ran += 1
+    if got != wanted:
+        wrong += 1
+        print(f"WRONG {name}: got {got}, wanted {wanted}")
+
+
+for name, design, network, wanted in CASES:
+    if reference(design, network) != wanted:
+        print(f"the reference says {reference(design, network)} of {name}, the list {wanted}")
+        wrong += 1
+    compare(name, design, network, wanted)
+print(f"{ran} cases by hand", flush=True)
+dice = random.Random(20261115)
+count = int(sys.argv[1]) if len(sys.argv) > 1 else 300
+mapped = 0
+for turn in range(count):
+    design = random_sheets.text_of(random_sheets.valid(dice))
+    network = program("cellmap", design)
+    if network.startswith(b"refused"):
+        continue
+    mapped += 1
+    compare("Map's own network", design, network, "same")
+    for _ in range(5):
+        other = damage(dice, network)
+        if b"\0" not in other:
+            compare("damaged", design, other, reference(design, other))
+    if turn % 50 == 49:
+        print(f"{turn + 1} random sheets, {mapped} mapped", flush=True)
+print(f"{ran - wrong} passed, {wrong} failed")
+sys.exit(wrong != 0)
