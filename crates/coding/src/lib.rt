@@ -1,13 +1,15 @@
-// Codes over the shared cells for fixed reading sets: a depth-first search that takes the vertex with the fewest codes left
-// and narrows the sets of the others. Its contract says that the answer is right: codes that tell the classes apart, or no
-// solution goes on from what was given. The order of vertices and codes is free.
+// Codes over the shared cells for fixed reading sets: a depth-first search that takes the vertex with the fewest codes left,
+// gives it a value of each group of cells that is in use or one new one, and narrows the sets of the others. Its contract
+// says that the answer is right: codes that tell the classes apart, or no solution goes on from what was given. The order of
+// vertices and codes is free.
 ghost use mathlib.Core.Path.{_≡_};
 ghost use mathlib.Core.Bool.{Bool, true, false};
 ghost use mathlib.Core.List.{List};
 ghost use Prim.Native.Nat.{ℕ, _+_, _*_, _<_, _≤_};
 ghost use lib.ListN.{length, getD};
-ghost use Rattle.numbering.specs.Given.{Labels, Blocks, Plan, Kept, Told};
+ghost use Rattle.numbering.specs.Given.{Labels, Blocks, Plan, Kept, Told, item};
 ghost use Rattle.holding.specs.Search.{Seeking, Empty};
+ghost use Rattle.coding.specs.Values.{Groups, Marks, Over, Fresh, Canon, Marked, Valued, Covers};
 
 // Whether some vertex has no code left.
 pub fn empty(dom: [u64; 32], v: usize) -> bool
@@ -61,8 +63,8 @@ pub fn better(best: usize, least: u32, n: u32) -> bool
     if best == 32 { true } else { n < least }
 }
 
-// A vertex without a code that has the fewest codes left, or 32 where all have a code.
-pub fn pick(dom: [u64; 32], codes: [u8; 32], v: usize) -> usize
+// A vertex without a code that has the fewest codes left in can, or 32 where all have a code.
+pub fn pick(dom: [u64; 32], codes: [u8; 32], v: usize, can: u64) -> usize
     requires { ⌜ v ≤ 32 ⌝ }
     ensures { λ r. ⌜ Seeking codes v r ⌝ }
 {
@@ -71,7 +73,7 @@ pub fn pick(dom: [u64; 32], codes: [u8; 32], v: usize) -> usize
     let mut y = 0;
     while y < v {
         if codes[y] >= 64 {
-            let n = u64::count_ones(dom[y]);
+            let n = u64::count_ones(dom[y] & can);
             if better(best, least, n) {
                 best = y;
                 least = n;
@@ -82,11 +84,57 @@ pub fn pick(dom: [u64; 32], codes: [u8; 32], v: usize) -> usize
     best
 }
 
-// Codes for all v vertices that go on from those given and keep to dom.
+// The codes with one value of group k that a does not have, for the groups whose blocks gb has.
+pub fn fresh(gb: &[u64], k: usize, a: u64) -> u64
+    requires { ⌜ (length (now gb) ≡ 512) × (k < 3) ⌝ }
+    ensures { λ r. ⌜ ((gs : List ℕ) → Blocks gs (now (gb .entry)) 3 → Fresh (item gs k) a r) ⌝ }
+{
+    let rest = !a;
+    if rest == 0 {
+        return 0;
+    }
+    let c = cells::lowest(rest);
+    gb[k * 64 + c as usize]
+}
+
+// The codes of all that the next vertex may be asked to take: of each group a value in use, or one new one.
+pub fn allowed(gb: &[u64], all: u64, used: [u64; 3]) -> u64
+    requires { ⌜ length (now gb) ≡ 512 ⌝ }
+    ensures { λ r. ⌜ ((gs : List ℕ) (sh : ℕ) → Over sh all → Blocks gs (now (gb .entry)) 3 → Groups gs sh → Marks gs used → Canon gs used sh 3 r) ⌝ }
+{
+    let mut can = all;
+    let mut k = 0;
+    while k < 3 {
+        let a = used[k];
+        let b = fresh(gb, k, a);
+        can = can & (a | b);
+        k += 1;
+    }
+    can
+}
+
+// The values in use once some vertex has code c.
+pub fn mark(gb: &[u64], used: [u64; 3], c: u8) -> [u64; 3]
+    requires { ⌜ (length (now gb) ≡ 512) × (c < 64) ⌝ }
+    ensures { λ r. ⌜ ((gs : List ℕ) → Blocks gs (now (gb .entry)) 3 → Marked gs used c 3 r) ⌝ }
+{
+    let mut r = used;
+    let mut k = 0;
+    while k < 3 {
+        r[k] = r[k] | gb[k * 64 + c as usize];
+        k += 1;
+    }
+    r
+}
+
+// Codes for all v vertices that go on from those given. dom has room for every solution that does; all has the codes over the
+// cells that two outputs read, gb the blocks of some groups of these, and used their values in use.
 pub fn find(
     cl: &[u8],
     base: &[u8],
     bs: &[u64],
+    gb: &[u64],
+    all: u64,
     ms: [u8; 8],
     ps: [u8; 8],
     caps: [u8; 8],
@@ -95,15 +143,17 @@ pub fn find(
     j: usize,
     codes: [u8; 32],
     dom: [u64; 32],
+    used: [u64; 3],
 ) -> numbering::Codes
-    requires { ⌜ Labels (now cl) × (length (now base) ≡ 256) × Blocks ms (now bs) j × (v ≤ 32) × (j ≤ 8) × Plan ms ps caps j ⌝ }
+    requires { ⌜ Labels (now cl) × (length (now base) ≡ 256) × Blocks ms (now bs) j × (v ≤ 32) × (j ≤ 8) × Plan ms ps caps j × Valued ms (now gb) all j codes v used × Covers (now cl) (now base) ms caps spots v j codes dom ⌝ }
     ensures { λ r. ⌜ Told (now (cl .entry)) (now (base .entry)) ms ps caps spots v j codes dom (r .ok) (r .codes) ⌝ }
 {
-    let x = pick(dom, codes, v);
+    let can = allowed(gb, all, used);
+    let x = pick(dom, codes, v, can);
     if x == 32 {
         return numbering::finish(cl, j, ms, ps, caps, v, codes);
     }
-    let mut left = dom[x];
+    let mut left = dom[x] & can;
     while left != 0 {
         let c = cells::lowest(left);
         left = cells::without(left, c);
@@ -111,7 +161,8 @@ pub fn find(
         next[x] = c;
         let d = settle_all(cl, base, bs, ms, caps, spots, v, j, next, dom, c);
         if !empty(d, v) {
-            let r = find(cl, base, bs, ms, ps, caps, spots, v, j, next, d);
+            let m = mark(gb, used, c);
+            let r = find(cl, base, bs, gb, all, ms, ps, caps, spots, v, j, next, d, m);
             if r.ok {
                 return r;
             }

@@ -8,13 +8,13 @@ use Prim.Native.Nat.{ℕ, zero, suc, _+_, _-_, _*_, _/_, _%_, _^_, _≤_, _<_, m
 use native.Mathlib.Decide.{ℕ-discrete, decLt}
 use native.Mathlib.Omega.{arith}
 use native.Mathlib.Numerals.{add-one}
-use lib.Bits.{bitAnd, bitOr}
+use lib.Bits.{bitAnd, bitOr, and-le-l}
 use lib.Dec.{eqb, leb}
 use lib.ListN.{length, getD, set, length-set}
 use lib.Seq.{getD-set-same, getD-set-other}
 use borrow.Author.Tests.{eq-eqb, ne-eqb, eqb-true, eqb-false, leb-true, leb-false, le-leb}
 use Rattle.bits.specs.Logic.{andb, orb, true-false}
-use Rattle.bits.specs.Digit.{on, on-and, on-or, on-zero, on-complement}
+use Rattle.bits.specs.Digit.{on, on-and, on-or, on-zero, on-complement, equal-digits}
 use Rattle.cells.specs.Core.{bit}
 use Rattle.cells.specs.Lists.{count, sum, count-drop, less-or-equal, never-both, false-where, count-more, count-same, or-off, or-on}
 use Rattle.cells.specs.Sets.{With, Without}
@@ -57,6 +57,33 @@ table-more ms n bs b h e t = record {
       (λ q. subst (λ (i : ℕ). Block (item ms (i / 64)) (i % 64) (getD (set bs n b) i 0)) (sym q) (subst (Block (item ms (n / 64)) (n % 64)) (sym (getD-set-same bs n b 0 (let z = t .long in omega arith))) e))
       (less-or-equal i n (omega arith));
 }
+
+-- the codes of one block have one entry: that of the code with the digits of the mask alone
+pub entry-again : (ms : List ℕ) (n : ℕ) (bs : List ℕ) (m f : ℕ) → m ≡ item ms (n / 64) → f ≡ bitAnd (n % 64) m → (f ≡ n % 64 → ⊥) → Table ms n bs → Block (item ms (n / 64)) (n % 64) (getD bs (n / 64 * 64 + f) 0)
+entry-again ms n bs m f e d ne t = λ k h. first .0 k h ∙ ap (λ (z : ℕ). eqb (bitAnd k (item ms (n / 64))) z) (ap (λ (z : ℕ). bitAnd z (item ms (n / 64))) (d ∙ ap (bitAnd (n % 64)) e) ∙ twice (n % 64) (item ms (n / 64)))
+  where
+    low : f < n % 64
+    low = let z = and-le-l (n % 64) m in let w : f ≡ bitAnd (n % 64) m = d in elim (ℕ-discrete f (n % 64)) as (λ _. f < n % 64) [ yes q ↦ absurd (ne q) | no q ↦ omega arith ]
+
+    at : (n / 64 * 64 + f) / 64 ≡ n / 64
+    at = let z = low in omega arith
+
+    code : (n / 64 * 64 + f) % 64 ≡ f
+    code = let z = low in omega arith
+
+    first : Block (item ms (n / 64)) f (getD bs (n / 64 * 64 + f) 0) × (f < 64)
+    first = (
+      subst (λ (z : ℕ). Block (item ms (n / 64)) z (getD bs (n / 64 * 64 + f) 0)) code (subst (λ (z : ℕ). Block (item ms z) ((n / 64 * 64 + f) % 64) (getD bs (n / 64 * 64 + f) 0)) at (t .filled (n / 64 * 64 + f) (let z = low in omega arith))),
+      (let z = low in omega arith),
+    )
+
+    twice : (a b : ℕ) → bitAnd (bitAnd a b) b ≡ bitAnd a b
+    twice a b = equal-digits (bitAnd (bitAnd a b) b) (bitAnd a b) (λ i. on-and (bitAnd a b) b i ∙ ap (λ (x : Bool). andb x (on b i)) (on-and a b i) ∙ same (on a i) (on b i) ∙ sym (on-and a b i))
+      where
+        same : (x y : Bool) → andb (andb x y) y ≡ andb x y
+        same true true = refl
+        same true false = refl
+        same false y = refl
 
 -- ======== sets of codes narrowed by one output
 -- what a code k at y has to meet to stay
@@ -206,11 +233,7 @@ seeking-worse codes y best best' ne e s = subst (Seeking codes (y + 1)) (sym e) 
   some = λ ne. let r = s .some ne in ((let z = r .0 in omega arith), r .1);
 })
 
--- ======== its codes, one after another
--- each solution has a code of left at x
-pub record Trying (cl base ms caps spots : List ℕ) (v j : ℕ) (codes dom : List ℕ) (x left : ℕ) : Type 0 where
-  pub tried : (g : ℕ → ℕ) → Solves cl base ms caps spots v j g → Extends codes dom v g → on left (g x) ≡ true
-
+-- ======== codes given
 -- how many vertices have no code
 abbrev pub uncoded : List ℕ → ℕ → ℕ
 uncoded codes v = count (λ (y : ℕ). leb 64 (item codes y)) v
@@ -219,28 +242,6 @@ pub uncoded-less : (codes : List ℕ) (v x c : ℕ) → length codes ≡ 32 → 
 uncoded-less codes v x c e w h k l = count-drop (λ (y : ℕ). leb 64 (item codes y)) (λ (y : ℕ). leb 64 (item (set codes x c) y)) v x h (le-leb 64 (item codes x) k)
     (false-where _ (λ t. let z = leb-true 64 (item (set codes x c) x) t in let y = getD-set-same codes x c 0 (omega arith) in omega arith))
     (λ i ne. ap (leb 64) (getD-set-other codes x i c 0 ne))
-
-module _ (cl base ms caps spots : List ℕ) (v j : ℕ) (codes dom : List ℕ) (x : ℕ) (h : x < v) where
-  pub trying-start : Trying cl base ms caps spots v j codes dom x (item dom x)
-  trying-start = record { tried = λ g f e. e .within x h }
-
-  -- code c led to nothing
-  pub trying-more : (left c left' : ℕ) (d : List ℕ) → length codes ≡ 32 → v ≤ 32 → 64 ≤ item codes x → Without left c left' → Kept cl base ms caps spots v j (set codes x c) dom d → Hopeless cl base ms caps spots v j (set codes x c) d → Trying cl base ms caps spots v j codes dom x left → Trying cl base ms caps spots v j codes dom x left'
-  trying-more left c left' d long few u w k bad t = record { tried = λ g f e. go g f e (ℕ-discrete (g x) c) }
-    where
-      go : (g : ℕ → ℕ) → Solves cl base ms caps spots v j g → Extends codes dom v g → Dec (g x ≡ c) → on left' (g x) ≡ true
-      go g f e (no ne) = w .others (g x) (f .small x h) ne ∙ t .tried g f e
-      go g f e (yes q) = absurd (bad .none g f (k .keeps g f (record { coded = coded; within = e .within })))
-        where
-          coded : (y : ℕ) → y < v → item (set codes x c) y < 64 → g y ≡ item (set codes x c) y
-          coded y l b = here (ℕ-discrete y x)
-            where
-              here : Dec (y ≡ x) → g y ≡ item (set codes x c) y
-              here (yes p) = ap g p ∙ q ∙ sym (ap (item (set codes x c)) p ∙ getD-set-same codes x c 0 (omega arith))
-              here (no p) = let r = getD-set-other codes x y c 0 p in e .coded y l (subst (λ (z : ℕ). z < 64) r b) ∙ sym r
-
-  pub trying-end : (left : ℕ) → left ≡ 0 → Trying cl base ms caps spots v j codes dom x left → Hopeless cl base ms caps spots v j codes dom
-  trying-end left z t = record { none = λ g f e. never-both (t .tried g f e) (ap (λ (n : ℕ). on n (g x)) z ∙ on-zero (g x)) }
 
 -- some vertex has no code left
 abbrev pub Empty : List ℕ → ℕ → Type 0

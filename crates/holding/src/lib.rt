@@ -25,15 +25,21 @@ pub fn block(mask: u8, c: u8) -> u64
     r
 }
 
-// The block of each code c for each output o, at o * 64 + c.
+// The block of each code c for each output o, at o * 64 + c. It is made once for the codes of a block.
 pub fn blocks(ms: [u8; 8]) -> [u64; 512]
     ensures { λ r. ⌜ Table ms 512 r ⌝ }
 {
     let mut r = [0u64; 512];
     let mut i: usize = 0;
     while i < 512 {
-        let o = i / 64;
-        r[i] = block(ms[o], (i % 64) as u8);
+        let m = ms[i / 64];
+        let c = (i % 64) as u8;
+        let first = c & m;
+        if first == c {
+            r[i] = block(m, c);
+        } else {
+            r[i] = r[i / 64 * 64 + first as usize];
+        }
         i += 1;
     }
     r

@@ -21,7 +21,8 @@ use Rattle.cells.specs.Lists.{All, Pairs, count, less-or-equal, never-both, fal
 use Rattle.cells.specs.Pigeon.{Agree, agree-and, and-agree}
 use Rattle.cells.specs.Codes.{Coded}
 use Rattle.cells.specs.Shared.{Split, Fits, sharedCode, crowd-bound, places-bound}
-use Rattle.numbering.specs.Given.{labelAt, item, Block, Blocks, Plan, Solves, Extends, Parted, Hopeless, Told}
+use Rattle.numbering.specs.Given.{labelAt, item, Block, Blocks, Plan, Solves, Extends, Kept, Parted, Hopeless, Told}
+use Rattle.coding.specs.Values.{Agrees, Covers}
 use Rattle.holding.specs.Search.{Table}
 
 -- ======== definitions
@@ -140,10 +141,13 @@ module _ (rows : List ℕ) (sh j : ℕ) (ms ps caps spots : List ℕ) (short : S
     short-shared = shared-low;
   }
 
+  pub shared-among : (o i : ℕ) → o < j → on (item ms o) i ≡ true → on sh i ≡ true
+  shared-among o i h e = and-right (on (item rows o) i) (on sh i) (sym (shared-on o i h) ∙ e)
+
   pub split-of : Split j 6 (item rows) (item ms) (item ps) sh
   split-of = record {
     whole = λ o i h. whole o i h (decLt i 6);
-    among = λ o i h e. and-right (on (item rows o) i) (on sh i) (sym (shared-on o i h) ∙ e);
+    among = shared-among;
     outside = λ o i h e. private-read o i h e .1;
     own = λ o q i h k ne e. false-where _ (λ f. never-both (c .two o q i h k ne (private-read o i h e .0) f) (private-read o i h e .1));
     short = short;
@@ -179,11 +183,11 @@ module _ (rows : List ℕ) (sh j : ℕ) (ms ps caps spots : List ℕ) (short : S
   }
 
 -- ======== where the search starts
--- no vertex has a code; vertex 0 may take code 0 only, the others any code over the shared cells
-pub record Start (sh : ℕ) (codes dom : List ℕ) : Type 0 where
-  pub none : (x : ℕ) → x < 32 → item codes x ≡ 64
-  pub first : item dom 0 ≡ 1
-  pub others : (x : ℕ) → x < 32 → (x ≡ 0 → ⊥) → Block (2 ^ 8 - 1 - sh) 0 (item dom x)
+-- vertex 0 has code 0, no other has a code, and any code may be taken
+pub record Start (codes dom : List ℕ) : Type 0 where
+  pub first : item codes 0 ≡ 0
+  pub others : (x : ℕ) → x < 32 → (x ≡ 0 → ⊥) → item codes x ≡ 64
+  pub any : (x : ℕ) → x < 32 → item dom x ≡ 2 ^ 64 - 1
 
 abbrev pub copies : ℕ → ℕ → List ℕ
 copies zero x = []
@@ -194,37 +198,22 @@ copies-at zero x i h = absurd (omega arith)
 copies-at (suc n) x zero h = refl
 copies-at (suc n) x (suc i) h = copies-at n x i (omega arith)
 
-pub start-of : (sh s : ℕ) → Block (2 ^ 8 - 1 - sh) 0 s → Start sh (copies 32 64) (1 ∷ copies 31 s)
-start-of sh s b = record { none = λ x h. copies-at 32 64 x h; first = refl; others = others }
+pub start-of : Start (0 ∷ copies 31 64) (copies 32 (2 ^ 64 - 1))
+start-of = record { first = refl; others = others; any = λ x h. copies-at 32 (2 ^ 64 - 1) x h }
   where
-    others : (x : ℕ) → x < 32 → (x ≡ 0 → ⊥) → Block (2 ^ 8 - 1 - sh) 0 (item (1 ∷ copies 31 s) x)
+    others : (x : ℕ) → x < 32 → (x ≡ 0 → ⊥) → item (0 ∷ copies 31 64) x ≡ 64
     others zero h ne = absurd (ne refl)
-    others (suc x) h ne = subst (Block (2 ^ 8 - 1 - sh) 0) (sym (copies-at 31 s x (omega arith))) b
+    others (suc x) h ne = copies-at 31 64 x (omega arith)
 
-pub start-extends : (sh : ℕ) (codes dom : List ℕ) (v : ℕ) (f : ℕ → ℕ) → sh < 64 → v ≤ 32 → f 0 ≡ 0 → Start sh codes dom → Extends codes dom v (sharedCode sh f)
-start-extends sh codes dom v f low few z s = record {
-  coded = λ x h l. absurd (let e = s .none x (omega arith) in omega arith);
-  within = λ x h. go x h (ℕ-discrete x 0);
-}
+pub start-agrees : (sh : ℕ) (codes dom : List ℕ) (v : ℕ) (f : ℕ → ℕ) → v ≤ 32 → f 0 ≡ 0 → Start codes dom → Agrees codes v (sharedCode sh f)
+start-agrees sh codes dom v f few z s x h l = go (ℕ-discrete x 0)
   where
-    outside : (x : ℕ) → bitAnd (bitAnd (f x) sh) (2 ^ 8 - 1 - sh) ≡ bitAnd 0 (2 ^ 8 - 1 - sh)
-    outside x = equal-digits _ _ (λ i. on-and (bitAnd (f x) sh) (2 ^ 8 - 1 - sh) i ∙ both i (decLt i 8) ∙ sym (on-and 0 (2 ^ 8 - 1 - sh) i ∙ ap (λ (b : Bool). andb b (on (2 ^ 8 - 1 - sh) i)) (on-zero i)))
-      where
-        cross : (a b : Bool) → andb (andb a b) (not b) ≡ false
-        cross true true = refl
-        cross true false = refl
-        cross false b = refl
+    go : Dec (x ≡ 0) → sharedCode sh f x ≡ item codes x
+    go (yes e) = ap (λ (y : ℕ). bitAnd (f y) sh) e ∙ ap (λ (y : ℕ). bitAnd y sh) z ∙ (let w = and-le-l 0 sh in let r : bitAnd 0 sh ≡ 0 = omega arith in r) ∙ sym (s .first) ∙ ap (item codes) (sym e)
+    go (no ne) = absurd (let e = s .others x (omega arith) ne in omega arith)
 
-        both : (i : ℕ) → Dec (i < 8) → andb (on (bitAnd (f x) sh) i) (on (2 ^ 8 - 1 - sh) i) ≡ false
-        both i (yes l) = ap₂ andb (on-and (f x) sh i) (on-complement 8 sh i (omega arith) l) ∙ cross (on (f x) i) (on sh i)
-        both i (no l) = ap (λ (b : Bool). andb b (on (2 ^ 8 - 1 - sh) i)) (on-above 6 (bitAnd (f x) sh) i (let w = and-le-r (f x) sh in omega arith) (omega arith))
-
-    zero-and : bitAnd 0 sh ≡ 0
-    zero-and = let w = and-le-l 0 sh in omega arith
-
-    go : (x : ℕ) → x < v → Dec (x ≡ 0) → on (item dom x) (bitAnd (f x) sh) ≡ true
-    go x h (yes e) = ap₂ on (ap (item dom) e ∙ s .first) (ap (λ (y : ℕ). bitAnd (f y) sh) e ∙ ap (λ (y : ℕ). bitAnd y sh) z ∙ zero-and) ∙ on-single 0
-    go x h (no e) = s .others x (omega arith) e (bitAnd (f x) sh) (let w = and-le-r (f x) sh in omega arith) ∙ eq-eqb _ _ (outside x)
+pub start-covers : (cl base ms caps spots : List ℕ) (v j : ℕ) (codes dom d : List ℕ) → v ≤ 32 → Start codes dom → Kept cl base ms caps spots v j codes dom d → Covers cl base ms caps spots v j codes d
+start-covers cl base ms caps spots v j codes dom d few s k = record { covers = λ g f a. k .keeps g f (record { coded = a; within = λ x h. ap (λ (z : ℕ). on z (g x)) (s .any x (omega arith)) ∙ on-ones 64 (g x) (f .small x h) }) .within }
 
 -- the answer: codes that tell the classes apart, or none with code 0 at vertex 0
 abbrev pub Decided : List ℕ → ℕ → ℕ → List ℕ → Bool → List ℕ → Type 0

@@ -1,6 +1,6 @@
-// Codes for given reading sets: the cells are split into shared and private ones, and the search for codes is started with
-// vertex 0 at code 0 and with the values of one group of cells renamed. The answer is right: codes that tell the classes
-// apart, or there are none with code 0 at vertex 0.
+// Codes for given reading sets: the cells are split into shared and private ones, cells with the same readers are put into
+// groups, and the search for codes is started with code 0 at vertex 0. The answer is right: codes that tell the classes apart,
+// or there are none with code 0 at vertex 0.
 ghost use mathlib.Core.Path.{_≡_};
 ghost use mathlib.Core.Bool.{Bool, true, false};
 ghost use mathlib.Core.List.{List};
@@ -8,11 +8,11 @@ ghost use Prim.Native.Nat.{ℕ, _+_, _*_, _<_, _≤_, _^_};
 ghost use lib.ListN.{length, getD};
 ghost use Rattle.bits.specs.Digit.{on};
 ghost use Rattle.cells.specs.Lists.{count};
-ghost use Rattle.numbering.specs.Given.{Labels};
+ghost use Rattle.numbering.specs.Given.{Labels, item};
+ghost use Rattle.coding.specs.Exchange.{Uniform};
 ghost use lib.Bits.{bitAnd};
-ghost use mathlib.Core.Logic.{_⊎_};
 ghost use Rattle.readers.specs.Masks.{Short, Common, Planned, Start, Decided};
-ghost use Rattle.readers.specs.Values.{Group, Outside, Reached};
+ghost use Rattle.readers.specs.Groups.{Grouping};
 
 // The cells that two of the first j outputs read.
 pub fn shared(rows: [u8; 8], j: usize) -> u8
@@ -68,24 +68,6 @@ pub fn plan(rows: [u8; 8], j: usize, sh: u8) -> Sets
     }
 }
 
-// Where the search starts: no codes, and the set of codes that each vertex may take.
-pub struct State {
-    pub codes: [u8; 32],
-    pub dom: [u64; 32],
-}
-
-pub fn begin(sh: u8) -> State
-    ensures { λ r. ⌜ Start sh (r .codes) (r .dom) ⌝ }
-{
-    let s = holding::block(!sh, 0);
-    let mut dom = [s; 32];
-    dom[0] = 1;
-    State {
-        codes: [64u8; 32],
-        dom,
-    }
-}
-
 // Which of the first j outputs read cell i, as a set.
 pub fn read_by(rows: [u8; 8], j: usize, i: u8) -> u8
     requires { ⌜ (j ≤ 8) × (i < 6) ⌝ }
@@ -119,29 +101,10 @@ pub fn twins(rows: [u8; 8], j: usize, i: u8) -> u8
     r
 }
 
-// A largest set of cells of sh with the same readers.
-pub fn largest(rows: [u8; 8], j: usize, sh: u8) -> u8
-    requires { ⌜ j ≤ 8 ⌝ }
-{
-    let mut best: u8 = 0;
-    let mut most: u8 = 1;
-    let mut i: u8 = 0;
-    while i < 6 {
-        let g = twins(rows, j, i) & sh;
-        let n = bounds::digits(g);
-        if most < n {
-            best = g;
-            most = n;
-        }
-        i += 1;
-    }
-    best
-}
-
 // Whether each of the first j outputs reads all cells of g or none.
 pub fn uniform(rows: [u8; 8], j: usize, g: u8) -> bool
     requires { ⌜ j ≤ 8 ⌝ }
-    ensures { λ r. ⌜ (r ≡ true → (o : ℕ) → o < j → (bitAnd (getD rows o 0) g ≡ g) ⊎ (bitAnd (getD rows o 0) g ≡ 0)) ⌝ }
+    ensures { λ r. ⌜ (r ≡ true → (o : ℕ) → o < j → Uniform (item rows o) g) ⌝ }
 {
     let mut o = 0;
     while o < j {
@@ -156,43 +119,79 @@ pub fn uniform(rows: [u8; 8], j: usize, g: u8) -> bool
     true
 }
 
-// A group of shared cells with the same readers; the empty group where none is found.
-pub fn group(rows: [u8; 8], j: usize, sh: u8) -> u8
+// Whether g is a group of two cells or more of which none is in done.
+pub fn useful(rows: [u8; 8], j: usize, g: u8, done: u8) -> bool
+    requires { ⌜ j ≤ 8 ⌝ }
+    ensures { λ r. ⌜ (r ≡ true → (bitAnd g done ≡ 0) × ((o : ℕ) → o < j → Uniform (item rows o) g)) ⌝ }
+{
+    if g & done != 0 {
+        return false;
+    }
+    if bounds::digits(g) < 2 {
+        return false;
+    }
+    uniform(rows, j, g)
+}
+
+// The groups of two or more cells of sh with the same readers; the others are empty.
+pub fn groups(rows: [u8; 8], j: usize, sh: u8) -> [u8; 8]
     requires { ⌜ (j ≤ 8) × (sh < 64) ⌝ }
-    ensures { λ r. ⌜ Group rows sh j r ⌝ }
+    ensures { λ r. ⌜ ((done : ℕ) × Grouping rows r sh j done) ⌝ }
 {
-    let g = largest(rows, j, sh) & sh;
-    if uniform(rows, j, g) {
-        return g;
-    }
-    0
-}
-
-// The codes that are not in a.
-pub fn outside(a: u64) -> u64
-    ensures { λ r. ⌜ Outside a r ⌝ }
-{
-    !a
-}
-
-// The sets with the values of g renamed: vertex x has a value of an earlier vertex, or the lowest other one.
-pub fn restrict(dom: [u64; 32], g: u8) -> [u64; 32]
-    ensures { λ r. ⌜ ((cl rows : List ℕ) (sh v j : ℕ) → Short rows j → sh < 64 → Group rows sh j g → Reached cl rows sh v j dom r) ⌝ }
-{
-    let mut r = dom;
-    let mut a = holding::block(g, 0);
-    let mut x: usize = 1;
-    while x < 32 {
-        let rest = outside(a);
-        if rest == 0 {
-            return r;
+    let mut gs = [0u8; 8];
+    let mut done: u8 = 0;
+    let mut n: usize = 0;
+    let mut i: u8 = 0;
+    while i < 6 {
+        let g = twins(rows, j, i) & sh;
+        if n < 3 {
+            if useful(rows, j, g, done) {
+                gs[n] = g;
+                done = done | g;
+                n += 1;
+            }
         }
-        let c = cells::lowest(rest);
-        a = a | holding::block(g, c);
-        r[x] = r[x] & a;
-        x += 1;
+        i += 1;
     }
-    r
+    gs
+}
+
+// Where the search starts: vertex 0 has code 0, and any code may be taken.
+pub struct State {
+    pub codes: [u8; 32],
+    pub dom: [u64; 32],
+}
+
+pub fn begin() -> State
+    ensures { λ r. ⌜ Start (r .codes) (r .dom) ⌝ }
+{
+    let mut codes = [64u8; 32];
+    codes[0] = 0;
+    State {
+        codes,
+        dom: [18446744073709551615u64; 32],
+    }
+}
+
+// Whether the classes of the first j outputs may do with the blocks that there are: class after class needs so many of them
+// that there are too few, or the question stays open.
+pub fn possible(cl: &[u8], v: usize, j: usize, rows: [u8; 8]) -> bool
+    requires { ⌜ Labels (now cl) × (v ≤ 32) × (j ≤ 8) × Short rows j ⌝ }
+    ensures { λ r. ⌜ (r ≡ false → Decided (now (cl .entry)) v j rows false rows) ⌝ }
+{
+    let sh = shared(rows, j);
+    let p = plan(rows, j, sh);
+    let spots = p.spots;
+    let base = bounds::bases(cl, v, j, rows);
+    let mut o = 0;
+    while o < j {
+        let t = holding::total(&base, o, [0u8; 32]);
+        if (spots[o] as usize) < t {
+            return false;
+        }
+        o += 1;
+    }
+    true
 }
 
 // Codes for v vertices that tell the classes of the first j outputs apart, each reading its row of cells.
@@ -208,10 +207,30 @@ pub fn codes_for(cl: &[u8], v: usize, j: usize, rows: [u8; 8]) -> numbering::Cod
     let spots = p.spots;
     let bs = holding::blocks(ms);
     let base = bounds::bases(cl, v, j, rows);
-    let b = begin(sh);
+    let b = begin();
     let codes = b.codes;
     let dom = b.dom;
-    let g = group(rows, j, sh);
-    let kept = restrict(dom, g);
-    coding::find(cl, &base, &bs, ms, ps, caps, spots, v, j, codes, kept)
+    let d = coding::settle_all(cl, &base, &bs, ms, caps, spots, v, j, codes, dom, 0);
+    if coding::empty(d, v) {
+        return numbering::Codes { ok: false, codes };
+    }
+    let gb = holding::blocks(groups(ms, j, sh));
+    let used = coding::mark(&gb, [0u64; 3], 0);
+    let all = holding::block(!sh, 0);
+    coding::find(
+        cl,
+        &base,
+        &bs,
+        &gb,
+        all,
+        ms,
+        ps,
+        caps,
+        spots,
+        v,
+        j,
+        codes,
+        d,
+        used,
+    )
 }

@@ -15,10 +15,10 @@ use Rattle.coding.proofs.pick.Lts as lts
 use Rattle.coding.proofs.better.Reads as better-reads
 
 abbrev Inv-loop : tie.InvT-loop
-Inv-loop v dom codes best₀ least₀ y₀ best least y = (y ≤ v) × Seeking codes y best
+Inv-loop v can dom codes best₀ least₀ y₀ best least y = (y ≤ v) × Seeking codes y best
 
 abbrev μ-loop : tie.MeasureT-loop
-μ-loop v dom codes best₀ least₀ y₀ best least y = v - y
+μ-loop v can dom codes best₀ least₀ y₀ best least y = v - y
 
 -- src/lib.rt:198:5
 loop-holds : tie.Need-loop-holds Inv-loop μ-loop

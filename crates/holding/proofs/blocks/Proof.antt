@@ -1,12 +1,11 @@
-use Rattle.holding.specs.Search.{Table, table-more}
-use borrow.Author.Tests.{not-true, not-false, leb-true, eqb-true}
-use Rattle.bits.specs.Logic.{true-false}
-use lib.ListN.{length, getD, set}
-use native.Mathlib.Omega.{arith}
-use Prim.Native.Nat.{ℕ, _<_, _≤_, _+_, _-_, _*_}
-use mathlib.Core.Logic.{⊎-elim}
-use mathlib.Core.Bool.{Bool, true, false}
 use mathlib.Core.Path.{_≡_, refl, sym, ap, _∙_, subst}
+use mathlib.Core.Logic.{⊎-elim}
+use Prim.Native.Nat.{ℕ, _<_, _≤_, _+_, _-_, _*_, _/_, _%_}
+use native.Mathlib.Omega.{arith}
+use lib.ListN.{length, getD, set}
+use lib.Bits.{bitAnd, and-le-l}
+use Rattle.numbering.specs.Given.{item}
+use Rattle.holding.specs.Search.{Table, table-more, entry-again}
 use borrow.Author.Needs.{needs}
 use Rattle.holding.proofs.blocks.Statement.{statement}
 use Rattle.holding.proofs.blocks.Tie as tie
@@ -20,43 +19,78 @@ Inv-loop ms r₀ i₀ r i = (i ≤ 512) × Table ms i r
 abbrev μ-loop : tie.MeasureT-loop
 μ-loop ms r₀ i₀ r i = 512 - i
 
--- src/lib.rt:35:5
+-- src/lib.rt:34:5
 loop-holds : tie.Need-loop-holds Inv-loop μ-loop
 loop-holds c = (omega arith, record { long = refl; filled = λ k h. absurd (omega arith) })
 
--- src/lib.rt:37:22
-array-read-block : tie.Need-array-read-block Inv-loop μ-loop
-array-read-block c = search needs
+-- src/lib.rt:35:17
+array-read-m : tie.Need-array-read-m Inv-loop μ-loop
+array-read-m c = search needs
 
--- src/lib.rt:37:29
-cast-block : tie.Need-cast-block Inv-loop μ-loop
-cast-block c = search needs
+-- src/lib.rt:36:17
+cast-c : tie.Need-cast-c Inv-loop μ-loop
+cast-c c = search needs
 
--- src/lib.rt:37:16
+-- src/lib.rt:39:20
 block-requires : tie.Need-block-requires Inv-loop μ-loop
 block-requires c κs = search needs
 
--- src/lib.rt:37:9
+-- src/lib.rt:39:13
 mul-r : tie.Need-mul-r Inv-loop μ-loop
 mul-r c = search needs
 
--- src/lib.rt:37:9
+-- src/lib.rt:39:13
 array-write-r : tie.Need-array-write-r Inv-loop μ-loop
 array-write-r c = search needs
 
--- src/lib.rt:38:9
+-- src/lib.rt:41:22
+mul-r-2 : tie.Need-mul-r-2 Inv-loop μ-loop
+mul-r-2 c = search needs
+
+-- src/lib.rt:41:36
+cast-r : tie.Need-cast-r Inv-loop μ-loop
+cast-r c = let z = and-le-l (c .before .before .loop .i % 64) (item (c .before .before .before .args .t1) (c .before .before .loop .i / 64)) in search needs
+
+-- src/lib.rt:41:22
+add-r : tie.Need-add-r Inv-loop μ-loop
+add-r c = let z = and-le-l (c .before .before .loop .i % 64) (item (c .before .before .before .args .t1) (c .before .before .loop .i / 64)) in let h = c .before .loop-test .taken in search needs
+
+-- src/lib.rt:41:20
+mul-r-3 : tie.Need-mul-r-3 Inv-loop μ-loop
+mul-r-3 c = let z = and-le-l (c .before .before .loop .i % 64) (item (c .before .before .before .args .t1) (c .before .before .loop .i / 64)) in let h = c .before .loop-test .taken in search needs
+
+-- src/lib.rt:41:20
+array-read-r : tie.Need-array-read-r Inv-loop μ-loop
+array-read-r c = let z = and-le-l (c .before .before .loop .i % 64) (item (c .before .before .before .args .t1) (c .before .before .loop .i / 64)) in let h = c .before .loop-test .taken in search needs
+
+-- src/lib.rt:41:13
+mul-r-4 : tie.Need-mul-r-4 Inv-loop μ-loop
+mul-r-4 c = search needs
+
+-- src/lib.rt:41:13
+array-write-r-2 : tie.Need-array-write-r-2 Inv-loop μ-loop
+array-write-r-2 c = search needs
+
+-- src/lib.rt:43:9
 add-i : tie.Need-add-i Inv-loop μ-loop
 add-i c = search needs
 
--- src/lib.rt:35:5
+-- src/lib.rt:34:5
 loop-less : tie.Need-loop-less Inv-loop μ-loop
 loop-less c = search needs
 
--- src/lib.rt:35:5
+-- src/lib.rt:34:5
 loop-again : tie.Need-loop-again Inv-loop μ-loop
-loop-again c = let h = c .before .loop-test .taken in (omega arith, table-more (c .before .before .before .args .t1) (c .before .before .loop .i) (c .before .before .loop .r) (c .block .result) h (c .block .ensures) (c .before .before .loop .inv .1))
+loop-again c =
+    let h = c .before .loop-test .taken in (
+      omega arith,
+      ⊎-elim
+          (λ w. subst (λ (z : _). Table (c .before .before .before .args .t1) (c .before .before .loop .i + 1) z) (sym (w .2)) (table-more (c .before .before .before .args .t1) (c .before .before .loop .i) (c .before .before .loop .r) _ h (w .1 .ensures) (c .before .before .loop .inv .1)))
+          (λ w. subst (λ (z : _). Table (c .before .before .before .args .t1) (c .before .before .loop .i + 1) z) (sym (w .1)) (table-more (c .before .before .before .args .t1) (c .before .before .loop .i) (c .before .before .loop .r) _ h (entry-again (c .before .before .before .args .t1) (c .before .before .loop .i) (c .before .before .loop .r) _ _ refl refl (w .0 .left) (c .before .before .loop .inv .1)) (c .before .before .loop .inv .1)))
+          (c .if1 .came),
+    )
 
--- src/lib.rt:30:1
+-- src/lib.rt:29:1
 returns : tie.Need-returns Inv-loop μ-loop
 returns c = subst (λ (z : ℕ). Table (c .before .before .args .t1) z (c .before .loop .r)) (let h = c .loop-test .left in let z = c .before .loop .inv .0 in omega arith) (c .before .loop .inv .1)
 
@@ -67,11 +101,18 @@ blocks-spec =
     Inv-loop
     μ-loop
     loop-holds
-    array-read-block
-    cast-block
+    array-read-m
+    cast-c
     block-requires
     mul-r
     array-write-r
+    mul-r-2
+    cast-r
+    add-r
+    mul-r-3
+    array-read-r
+    mul-r-4
+    array-write-r-2
     add-i
     loop-less
     loop-again

@@ -4,19 +4,14 @@ use Rattle.readers.proofs.begin.Statement.{statement}
 use Rattle.readers.proofs.begin.Tie as tie
 use Rattle.readers.proofs.begin.Reads as reads
 use Rattle.readers.proofs.begin.Lts as lts
-use Rattle.holding.proofs.block.Reads as block-reads
 
--- src/lib.rt:98:9
-block-requires : tie.Need-block-requires
-block-requires c κs = search needs
+-- src/lib.rt:169:5
+array-write-codes : tie.Need-array-write-codes
+array-write-codes c = search needs
 
--- src/lib.rt:100:5
-array-write-dom : tie.Need-array-write-dom
-array-write-dom c = search needs
-
--- src/lib.rt:95:1
+-- src/lib.rt:165:1
 returns : tie.Need-returns
-returns c = start-of (c .before .args .sh) (c .block .result) (c .block .ensures)
+returns c = start-of
 
 pub begin-spec : {M : Type 1} → statement M
-begin-spec = tie.close (tie.spec block-requires array-write-dom returns)
+begin-spec = tie.close (tie.spec array-write-codes returns)

@@ -1,24 +1,27 @@
-use Rattle.readers.specs.Needs.{bounds-of}
-use Rattle.readers.specs.Answer.{decided-of}
-use Rattle.readers.specs.Masks.{plan-of, blocks-of}
-use lib.ListN.{length, getD, set}
-use native.Mathlib.Omega.{arith}
-use Prim.Native.Nat.{ℕ, _<_, _≤_, _+_, _-_, _*_}
-use mathlib.Core.Logic.{⊎-elim}
-use mathlib.Core.Bool.{Bool, true, false}
 use mathlib.Core.Path.{_≡_, refl, sym, ap, _∙_, subst}
+use mathlib.Core.Bool.{Bool, true, false}
+use Prim.Native.Nat.{ℕ, _<_, _≤_, _+_, _-_, _*_}
+use native.Mathlib.Omega.{arith}
+use Rattle.holding.specs.Search.{empty-hopeless}
+use Rattle.readers.specs.Groups.{start-valued}
+use Rattle.readers.specs.Masks.{plan-of, blocks-of, shared-low, shared-among, start-covers}
+use Rattle.readers.specs.Answer.{decided-of, decided-lost}
+use Rattle.readers.specs.Needs.{bounds-of}
 use borrow.Author.Needs.{needs}
 use Rattle.readers.proofs.codes_for.Statement.{statement}
 use Rattle.readers.proofs.codes_for.Tie as tie
 use Rattle.readers.proofs.codes_for.Reads as reads
 use Rattle.readers.proofs.codes_for.Lts as lts
 use Rattle.bounds.proofs.bases.Reads as bases-reads
+use Rattle.coding.proofs.empty.Reads as empty-reads
 use Rattle.coding.proofs.find.Reads as find-reads
+use Rattle.coding.proofs.mark.Reads as mark-reads
+use Rattle.coding.proofs.settle_all.Reads as settle-all-reads
+use Rattle.holding.proofs.block.Reads as block-reads
 use Rattle.holding.proofs.blocks.Reads as blocks-reads
 use Rattle.readers.proofs.begin.Reads as begin-reads
-use Rattle.readers.proofs.group.Reads as group-reads
+use Rattle.readers.proofs.groups.Reads as groups-reads
 use Rattle.readers.proofs.plan.Reads as plan-reads
-use Rattle.readers.proofs.restrict.Reads as restrict-reads
 use Rattle.readers.proofs.shared.Reads as shared-reads
 
 -- src/lib.rt:202:9
@@ -41,35 +44,80 @@ bases-requires c κs = (c .before .before .before .before .before .before .befor
 begin-requires : tie.Need-begin-requires
 begin-requires c κs = search needs
 
+-- src/lib.rt:213:36
+slice-aggregate-settle-all : tie.Need-slice-aggregate-settle-all
+slice-aggregate-settle-all c = search needs
+
+-- src/lib.rt:213:43
+slice-aggregate-settle-all-2 : tie.Need-slice-aggregate-settle-all-2
+slice-aggregate-settle-all-2 c = search needs
+
 -- src/lib.rt:213:9
-group-requires : tie.Need-group-requires
-group-requires c κs = (c .before .before .before .before .before .before .before .before .before .before .before .before .pre .2, c .before .before .before .before .before .before .before .before .before .before .shared .ensures .low)
+settle-all-requires : tie.Need-settle-all-requires
+settle-all-requires c κs = (c .before .before .before .before .before .before .before .before .before .before .before .before .before .before .pre .0, c .before .before .before .before .before .bases .ensures .long, blocks-of _ _ (c .before .before .before .before .before .before .before .before .before .before .before .before .before .before .args .j) (c .before .before .before .before .before .before .before .before .before .before .before .before .before .before .pre .2) (c .before .before .before .before .before .before .blocks2 .ensures), c .before .before .before .before .before .before .before .before .before .before .before .before .before .before .pre .1, c .before .before .before .before .before .before .before .before .before .before .before .before .before .before .pre .2, omega arith)
 
--- src/lib.rt:214:9
-restrict-requires : tie.Need-restrict-requires
-restrict-requires c κs = search needs
+-- src/lib.rt:214:8
+empty-requires : tie.Need-empty-requires
+empty-requires c κs = c .before .before .before .before .before .before .before .before .before .before .before .before .before .before .before .pre .1
 
--- src/lib.rt:215:22
+-- src/lib.rt:215:9
+returns : tie.Need-returns
+returns c =
+    decided-lost (c .before .before .before .before .before .before .before .before .before .before .before .before .before .before .before .before .before .args .cl .now) (c .before .before .before .before .before .before .before .before .bases .result) (c .before .before .before .before .before .before .before .before .before .before .before .before .before .before .before .before .before .args .rows) (c .before .before .before .before .before .before .before .before .before .before .before .before .before .before .before .shared .result) (c .before .before .before .before .before .before .before .before .before .before .before .before .before .before .before .before .before .args .v) (c .before .before .before .before .before .before .before .before .before .before .before .before .before .before .before .before .before .args .j) _ _ _ _ (c .before .before .before .before .before .before .before .before .before .before .before .before .before .before .before .before .before .pre .1) (c .before .before .before .before .before .before .before .before .before .before .before .before .before .before .before .before .before .pre .3) (c .before .before .before .before .before .before .before .before .before .before .before .before .before .before .before .shared .ensures) (c .before .before .before .before .before .before .before .before .before .before .before .before .before .before .plan .ensures) (bounds-of (c .before .before .before .before .before .before .before .before .before .before .before .before .before .before .before .before .before .args .cl .now) (c .before .before .before .before .before .before .before .before .before .before .before .before .before .before .before .before .before .args .rows) (c .before .before .before .before .before .before .before .before .before .before .before .before .before .before .before .shared .result) (c .before .before .before .before .before .before .before .before .before .before .before .before .before .before .before .before .before .args .v) (c .before .before .before .before .before .before .before .before .before .before .before .before .before .before .before .before .before .args .j) _ _ _ _ (c .before .before .before .before .before .before .before .before .bases .result) (c .before .before .before .before .before .before .before .before .before .before .before .before .before .before .before .before .before .pre .3) (c .before .before .before .before .before .before .before .before .before .before .before .before .before .before .before .shared .ensures) (c .before .before .before .before .before .before .before .before .before .before .before .before .before .before .plan .ensures) (c .before .before .before .before .before .before .before .before .bases .ensures)) (c .before .before .before .before .before .before .before .begin .result .codes) (c .before .before .before .before .before .before .before .begin .result .dom) (c .before .before .settle-all .result) (c .before .before .before .before .before .before .before .before .before .before .before .before .before .before .before .before .before .args .rows) (c .before .before .before .before .before .before .before .begin .ensures)
+    (start-covers (c .before .before .before .before .before .before .before .before .before .before .before .before .before .before .before .before .before .args .cl .now) (c .before .before .before .before .before .before .before .before .bases .result) _ _ _ (c .before .before .before .before .before .before .before .before .before .before .before .before .before .before .before .before .before .args .v) (c .before .before .before .before .before .before .before .before .before .before .before .before .before .before .before .before .before .args .j) (c .before .before .before .before .before .before .before .begin .result .codes) (c .before .before .before .before .before .before .before .begin .result .dom) (c .before .before .settle-all .result) (c .before .before .before .before .before .before .before .before .before .before .before .before .before .before .before .before .before .pre .1) (c .before .before .before .before .before .before .before .begin .ensures) (c .before .before .settle-all .ensures))
+    (empty-hopeless (c .before .before .before .before .before .before .before .before .before .before .before .before .before .before .before .before .before .args .cl .now) (c .before .before .before .before .before .before .before .before .bases .result) _ _ _ (c .before .before .before .before .before .before .before .before .before .before .before .before .before .before .before .before .before .args .v) (c .before .before .before .before .before .before .before .before .before .before .before .before .before .before .before .before .before .args .j) (c .before .before .before .before .before .before .before .begin .result .codes) (c .before .before .settle-all .result) (c .before .empty .ensures (c .if1 .taken)))
+
+-- src/lib.rt:217:30
+groups-requires : tie.Need-groups-requires
+groups-requires c κs = (c .before .before .before .before .before .before .before .before .before .before .before .before .before .before .before .before .before .pre .2, c .before .before .before .before .before .before .before .before .before .before .before .before .before .before .before .shared .ensures .low)
+
+-- src/lib.rt:217:14
+blocks-requires-2 : tie.Need-blocks-requires-2
+blocks-requires-2 c κs = search needs
+
+-- src/lib.rt:218:29
+slice-aggregate-mark : tie.Need-slice-aggregate-mark
+slice-aggregate-mark c = search needs
+
+-- src/lib.rt:218:9
+mark-requires : tie.Need-mark-requires
+mark-requires c κs = (c .before .blocks3 .ensures .long, omega arith)
+
+-- src/lib.rt:219:9
+block-requires : tie.Need-block-requires
+block-requires c κs = search needs
+
+-- src/lib.rt:221:13
 slice-aggregate-find : tie.Need-slice-aggregate-find
 slice-aggregate-find c = search needs
 
--- src/lib.rt:215:29
+-- src/lib.rt:221:20
 slice-aggregate-find-2 : tie.Need-slice-aggregate-find-2
 slice-aggregate-find-2 c = search needs
 
--- src/lib.rt:215:5
+-- src/lib.rt:221:25
+slice-aggregate-find-3 : tie.Need-slice-aggregate-find-3
+slice-aggregate-find-3 c = search needs
+
+-- src/lib.rt:220:5
 find-requires : tie.Need-find-requires
-find-requires c κs =
-    let p = c .before .before .before .before .before .before .before .before .before .before .before .before .before .before .before .before .pre in
-    (p .0, c .before .before .before .before .before .before .before .bases .ensures .long, blocks-of _ _ (c .before .before .before .before .before .before .before .before .before .before .before .before .before .before .before .before .args .j) (p .2) (c .before .before .before .before .before .before .before .before .blocks2 .ensures), p .1, p .2, plan-of (c .before .before .before .before .before .before .before .before .before .before .before .before .before .before .before .before .args .rows) (c .before .before .before .before .before .before .before .before .before .before .before .before .before .before .shared .result) (c .before .before .before .before .before .before .before .before .before .before .before .before .before .before .before .before .args .j) _ _ _ _ (p .3) (c .before .before .before .before .before .before .before .before .before .before .before .before .before .before .shared .ensures) (c .before .before .before .before .before .before .before .before .before .before .before .before .before .plan .ensures))
+find-requires c κs = (
+  c .before .before .before .before .before .before .before .before .before .before .before .before .before .before .before .before .before .before .before .before .before .before .before .before .before .pre .0,
+  c .before .before .before .before .before .before .before .before .before .before .before .before .before .before .before .before .bases .ensures .long,
+  blocks-of _ _ (c .before .before .before .before .before .before .before .before .before .before .before .before .before .before .before .before .before .before .before .before .before .before .before .before .before .args .j) (c .before .before .before .before .before .before .before .before .before .before .before .before .before .before .before .before .before .before .before .before .before .before .before .before .before .pre .2) (c .before .before .before .before .before .before .before .before .before .before .before .before .before .before .before .before .before .blocks2 .ensures),
+  c .before .before .before .before .before .before .before .before .before .before .before .before .before .before .before .before .before .before .before .before .before .before .before .before .before .pre .1,
+  c .before .before .before .before .before .before .before .before .before .before .before .before .before .before .before .before .before .before .before .before .before .before .before .before .before .pre .2,
+  plan-of (c .before .before .before .before .before .before .before .before .before .before .before .before .before .before .before .before .before .before .before .before .before .before .before .before .before .args .rows) (c .before .before .before .before .before .before .before .before .before .before .before .before .before .before .before .before .before .before .before .before .before .before .before .shared .result) (c .before .before .before .before .before .before .before .before .before .before .before .before .before .before .before .before .before .before .before .before .before .before .before .before .before .args .j) _ _ _ _ (c .before .before .before .before .before .before .before .before .before .before .before .before .before .before .before .before .before .before .before .before .before .before .before .before .before .pre .3) (c .before .before .before .before .before .before .before .before .before .before .before .before .before .before .before .before .before .before .before .before .before .before .before .shared .ensures) (c .before .before .before .before .before .before .before .before .before .before .before .before .before .before .before .before .before .before .before .before .before .before .plan .ensures),
+  start-valued _ _ (c .before .before .before .before .before .before .blocks3 .result) (c .before .before .before .before .mark .result) (c .before .before .before .before .before .before .before .before .before .before .before .before .before .before .before .begin .result .codes) (c .before .before .before .before .before .before .before .before .before .before .before .before .before .before .before .begin .result .dom) (c .before .before .before .before .before .before .before .before .before .before .before .before .before .before .before .before .before .before .before .before .before .before .before .shared .result) (c .before .before .before .block .result) (c .before .before .before .before .before .before .before .before .before .before .before .before .before .before .before .before .before .before .before .before .before .before .before .before .before .args .j) (c .before .before .before .before .before .before .before .before .before .before .before .before .before .before .before .before .before .before .before .before .before .before .before .before .before .args .v) (c .before .before .before .before .before .before .before .groups .ensures .0) (c .before .before .before .before .before .before .before .before .before .before .before .before .before .before .before .before .before .before .before .before .before .before .before .before .before .pre .1) (shared-low (c .before .before .before .before .before .before .before .before .before .before .before .before .before .before .before .before .before .before .before .before .before .before .before .before .before .args .rows) (c .before .before .before .before .before .before .before .before .before .before .before .before .before .before .before .before .before .before .before .before .before .before .before .shared .result) (c .before .before .before .before .before .before .before .before .before .before .before .before .before .before .before .before .before .before .before .before .before .before .before .before .before .args .j) _ _ _ _ (c .before .before .before .before .before .before .before .before .before .before .before .before .before .before .before .before .before .before .before .before .before .before .before .before .before .pre .3) (c .before .before .before .before .before .before .before .before .before .before .before .before .before .before .before .before .before .before .before .before .before .before .before .shared .ensures) (c .before .before .before .before .before .before .before .before .before .before .before .before .before .before .before .before .before .before .before .before .before .before .plan .ensures)) (shared-among (c .before .before .before .before .before .before .before .before .before .before .before .before .before .before .before .before .before .before .before .before .before .before .before .before .before .args .rows) (c .before .before .before .before .before .before .before .before .before .before .before .before .before .before .before .before .before .before .before .before .before .before .before .shared .result) (c .before .before .before .before .before .before .before .before .before .before .before .before .before .before .before .before .before .before .before .before .before .before .before .before .before .args .j) _ _ _ _ (c .before .before .before .before .before .before .before .before .before .before .before .before .before .before .before .before .before .before .before .before .before .before .before .before .before .pre .3) (c .before .before .before .before .before .before .before .before .before .before .before .before .before .before .before .before .before .before .before .before .before .before .before .shared .ensures) (c .before .before .before .before .before .before .before .before .before .before .before .before .before .before .before .before .before .before .before .before .before .before .plan .ensures)) (record { low = c .before .before .before .before .before .before .before .before .before .before .before .before .before .before .before .before .before .before .before .before .before .before .before .shared .ensures .low; is = c .before .before .before .block .ensures }) (blocks-of _ _ 3 (omega arith) (c .before .before .before .before .before .before .blocks3 .ensures)) (c .before .before .before .before .before .before .before .groups .ensures .1) (c .before .before .before .before .before .before .before .before .before .before .before .before .before .before .before .begin .ensures) (c .before .before .before .before .mark .ensures _ (blocks-of _ _ 3 (omega arith) (c .before .before .before .before .before .before .blocks3 .ensures))),
+  start-covers (c .before .before .before .before .before .before .before .before .before .before .before .before .before .before .before .before .before .before .before .before .before .before .before .before .before .args .cl .now) (c .before .before .before .before .before .before .before .before .before .before .before .before .before .before .before .before .bases .result) _ _ _ (c .before .before .before .before .before .before .before .before .before .before .before .before .before .before .before .before .before .before .before .before .before .before .before .before .before .args .v) (c .before .before .before .before .before .before .before .before .before .before .before .before .before .before .before .before .before .before .before .before .before .before .before .before .before .args .j) (c .before .before .before .before .before .before .before .before .before .before .before .before .before .before .before .begin .result .codes) (c .before .before .before .before .before .before .before .before .before .before .before .before .before .before .before .begin .result .dom) (c .before .before .before .before .before .before .before .before .before .before .settle-all .result) (c .before .before .before .before .before .before .before .before .before .before .before .before .before .before .before .before .before .before .before .before .before .before .before .before .before .pre .1) (c .before .before .before .before .before .before .before .before .before .before .before .before .before .before .before .begin .ensures) (c .before .before .before .before .before .before .before .before .before .before .settle-all .ensures),
+)
 
 -- src/lib.rt:198:1
-returns : tie.Need-returns
-returns c =
-    let p = c .before .before .before .before .before .before .before .before .before .before .before .before .before .before .before .before .before .pre in
-    decided-of (c .before .before .before .before .before .before .before .before .before .before .before .before .before .before .before .before .before .args .cl .now) (c .before .before .before .before .before .before .before .before .bases .result) (c .before .before .before .before .before .before .before .before .before .before .before .before .before .before .before .before .before .args .rows) (c .before .before .before .before .before .before .before .before .before .before .before .before .before .before .before .shared .result) (c .before .before .before .before .before .before .before .before .before .before .before .before .before .before .before .before .before .args .v) (c .before .before .before .before .before .before .before .before .before .before .before .before .before .before .before .before .before .args .j) _ _ _ _ (c .before .before .before .before .before .before .before .begin .result .codes) (c .before .before .before .before .before .before .before .begin .result .dom) (c .before .before .before .restrict .result) (c .find .result .ok) (c .find .result .codes) (p .1) (p .3) (c .before .before .before .before .before .before .before .before .before .before .before .before .before .before .before .shared .ensures) (c .before .before .before .before .before .before .before .before .before .before .before .before .before .before .plan .ensures) (c .before .before .before .before .before .before .before .begin .ensures)
-    (c .before .before .before .restrict .ensures (c .before .before .before .before .before .before .before .before .before .before .before .before .before .before .before .before .before .args .cl .now) (c .before .before .before .before .before .before .before .before .before .before .before .before .before .before .before .before .before .args .rows) (c .before .before .before .before .before .before .before .before .before .before .before .before .before .before .before .shared .result) (c .before .before .before .before .before .before .before .before .before .before .before .before .before .before .before .before .before .args .v) (c .before .before .before .before .before .before .before .before .before .before .before .before .before .before .before .before .before .args .j) (p .3) (c .before .before .before .before .before .before .before .before .before .before .before .before .before .before .before .shared .ensures .low) (c .before .before .before .before .group .ensures))
-    (bounds-of (c .before .before .before .before .before .before .before .before .before .before .before .before .before .before .before .before .before .args .cl .now) (c .before .before .before .before .before .before .before .before .before .before .before .before .before .before .before .before .before .args .rows) (c .before .before .before .before .before .before .before .before .before .before .before .before .before .before .before .shared .result) (c .before .before .before .before .before .before .before .before .before .before .before .before .before .before .before .before .before .args .v) (c .before .before .before .before .before .before .before .before .before .before .before .before .before .before .before .before .before .args .j) _ _ _ _ (c .before .before .before .before .before .before .before .before .bases .result) (p .3) (c .before .before .before .before .before .before .before .before .before .before .before .before .before .before .before .shared .ensures) (c .before .before .before .before .before .before .before .before .before .before .before .before .before .before .plan .ensures) (c .before .before .before .before .before .before .before .before .bases .ensures)) (c .find .ensures)
+returns-2 : tie.Need-returns-2
+returns-2 c =
+    decided-of (c .before .before .before .before .before .before .before .before .before .before .before .before .before .before .before .before .before .before .before .before .before .before .before .before .before .before .args .cl .now) (c .before .before .before .before .before .before .before .before .before .before .before .before .before .before .before .before .before .bases .result) (c .before .before .before .before .before .before .before .before .before .before .before .before .before .before .before .before .before .before .before .before .before .before .before .before .before .before .args .rows) (c .before .before .before .before .before .before .before .before .before .before .before .before .before .before .before .before .before .before .before .before .before .before .before .before .shared .result) (c .before .before .before .before .before .before .before .before .before .before .before .before .before .before .before .before .before .before .before .before .before .before .before .before .before .before .args .v) (c .before .before .before .before .before .before .before .before .before .before .before .before .before .before .before .before .before .before .before .before .before .before .before .before .before .before .args .j) _ _ _ _ (c .before .before .before .before .before .before .before .before .before .before .before .before .before .before .before .before .before .before .before .before .before .before .before .before .before .before .pre .1) (c .before .before .before .before .before .before .before .before .before .before .before .before .before .before .before .before .before .before .before .before .before .before .before .before .before .before .pre .3) (c .before .before .before .before .before .before .before .before .before .before .before .before .before .before .before .before .before .before .before .before .before .before .before .before .shared .ensures) (c .before .before .before .before .before .before .before .before .before .before .before .before .before .before .before .before .before .before .before .before .before .before .before .plan .ensures) (bounds-of (c .before .before .before .before .before .before .before .before .before .before .before .before .before .before .before .before .before .before .before .before .before .before .before .before .before .before .args .cl .now) (c .before .before .before .before .before .before .before .before .before .before .before .before .before .before .before .before .before .before .before .before .before .before .before .before .before .before .args .rows) (c .before .before .before .before .before .before .before .before .before .before .before .before .before .before .before .before .before .before .before .before .before .before .before .before .shared .result) (c .before .before .before .before .before .before .before .before .before .before .before .before .before .before .before .before .before .before .before .before .before .before .before .before .before .before .args .v) (c .before .before .before .before .before .before .before .before .before .before .before .before .before .before .before .before .before .before .before .before .before .before .before .before .before .before .args .j) _ _ _ _ (c .before .before .before .before .before .before .before .before .before .before .before .before .before .before .before .before .before .bases .result) (c .before .before .before .before .before .before .before .before .before .before .before .before .before .before .before .before .before .before .before .before .before .before .before .before .before .before .pre .3) (c .before .before .before .before .before .before .before .before .before .before .before .before .before .before .before .before .before .before .before .before .before .before .before .before .shared .ensures) (c .before .before .before .before .before .before .before .before .before .before .before .before .before .before .before .before .before .before .before .before .before .before .before .plan .ensures) (c .before .before .before .before .before .before .before .before .before .before .before .before .before .before .before .before .before .bases .ensures)) (c .before .before .before .before .before .before .before .before .before .before .before .before .before .before .before .before .begin .result .codes) (c .before .before .before .before .before .before .before .before .before .before .before .before .before .before .before .before .begin .result .dom) (c .before .before .before .before .before .before .before .before .before .before .before .settle-all .result) (c .find .result .ok) (c .find .result .codes) (c .before .before .before .before .before .before .before .before .before .before .before .before .before .before .before .before .begin .ensures)
+    (start-covers (c .before .before .before .before .before .before .before .before .before .before .before .before .before .before .before .before .before .before .before .before .before .before .before .before .before .before .args .cl .now) (c .before .before .before .before .before .before .before .before .before .before .before .before .before .before .before .before .before .bases .result) _ _ _ (c .before .before .before .before .before .before .before .before .before .before .before .before .before .before .before .before .before .before .before .before .before .before .before .before .before .before .args .v) (c .before .before .before .before .before .before .before .before .before .before .before .before .before .before .before .before .before .before .before .before .before .before .before .before .before .before .args .j) (c .before .before .before .before .before .before .before .before .before .before .before .before .before .before .before .before .begin .result .codes) (c .before .before .before .before .before .before .before .before .before .before .before .before .before .before .before .before .begin .result .dom) (c .before .before .before .before .before .before .before .before .before .before .before .settle-all .result) (c .before .before .before .before .before .before .before .before .before .before .before .before .before .before .before .before .before .before .before .before .before .before .before .before .before .before .pre .1) (c .before .before .before .before .before .before .before .before .before .before .before .before .before .before .before .before .begin .ensures) (c .before .before .before .before .before .before .before .before .before .before .before .settle-all .ensures))
+    (c .find .ensures)
 
 pub codes-for-spec : {M : Type 1} → statement M
 codes-for-spec =
@@ -80,9 +128,18 @@ codes-for-spec =
     blocks-requires
     bases-requires
     begin-requires
-    group-requires
-    restrict-requires
+    slice-aggregate-settle-all
+    slice-aggregate-settle-all-2
+    settle-all-requires
+    empty-requires
+    returns
+    groups-requires
+    blocks-requires-2
+    slice-aggregate-mark
+    mark-requires
+    block-requires
     slice-aggregate-find
     slice-aggregate-find-2
+    slice-aggregate-find-3
     find-requires
-    returns)
+    returns-2)

@@ -1,4 +1,5 @@
-use Rattle.readers.specs.Values.{uniform-more}
+use Rattle.readers.specs.Groups.{uniform-more}
+use Rattle.coding.specs.Exchange.{Uniform}
 use Rattle.numbering.specs.Given.{item}
 use Rattle.bits.specs.Logic.{true-false}
 use lib.Bits.{bitAnd, bitOr}
@@ -16,7 +17,7 @@ use Rattle.readers.proofs.uniform.Reads as reads
 use Rattle.readers.proofs.uniform.Lts as lts
 
 abbrev Inv-loop : tie.InvT-loop
-Inv-loop j g rows o₀ o = (o ≤ j) × ((q : ℕ) → q < o → (bitAnd (item rows q) g ≡ g) ⊎ (bitAnd (item rows q) g ≡ 0))
+Inv-loop j g rows o₀ o = (o ≤ j) × ((q : ℕ) → q < o → Uniform (item rows q) g)
 
 abbrev μ-loop : tie.MeasureT-loop
 μ-loop j g rows o₀ o = j - o

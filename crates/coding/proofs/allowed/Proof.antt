@@ -1,0 +1,65 @@
+use mathlib.Core.Path.{_≡_, refl, subst}
+use mathlib.Core.List.{List}
+use Prim.Native.Nat.{ℕ, _<_, _≤_, _+_, _-_, _*_}
+use native.Mathlib.Omega.{arith}
+use Rattle.numbering.specs.Given.{item, Blocks}
+use Rattle.coding.specs.Values.{Groups, Marks, Over, Canon, canon-start, canon-more}
+use borrow.Author.Needs.{needs}
+use Rattle.coding.proofs.allowed.Statement.{statement}
+use Rattle.coding.proofs.allowed.Tie as tie
+use Rattle.coding.proofs.allowed.Reads as reads
+use Rattle.coding.proofs.allowed.Lts as lts
+use Rattle.coding.proofs.fresh.Reads as fresh-reads
+
+abbrev Inv-loop : tie.InvT-loop
+Inv-loop gb all used can₀ k₀ can k = (k ≤ 3) × ((gs : List ℕ) (sh : ℕ) → Over sh all → Blocks gs gb 3 → Groups gs sh → Marks gs used → Canon gs used sh k can)
+
+abbrev μ-loop : tie.MeasureT-loop
+μ-loop gb all used can₀ k₀ can k = 3 - k
+
+-- src/lib.rt:107:5
+loop-holds : tie.Need-loop-holds Inv-loop μ-loop
+loop-holds c = (omega arith, λ gs sh o b g m. canon-start gs (c .before .args .t3) sh (c .before .args .all) o g)
+
+-- src/lib.rt:108:17
+mul-a : tie.Need-mul-a Inv-loop μ-loop
+mul-a c = search needs
+
+-- src/lib.rt:108:17
+array-read-a : tie.Need-array-read-a Inv-loop μ-loop
+array-read-a c = search needs
+
+-- src/lib.rt:109:13
+fresh-requires : tie.Need-fresh-requires Inv-loop μ-loop
+fresh-requires c κs = search needs
+
+-- src/lib.rt:111:9
+add-k : tie.Need-add-k Inv-loop μ-loop
+add-k c = search needs
+
+-- src/lib.rt:107:5
+loop-less : tie.Need-loop-less Inv-loop μ-loop
+loop-less c = search needs
+
+-- src/lib.rt:107:5
+loop-again : tie.Need-loop-again Inv-loop μ-loop
+loop-again c = let h = c .before .loop-test .taken in (omega arith, λ gs sh o b g m. canon-more gs (c .before .before .before .before .args .t3) sh (c .before .before .loop .k) (c .before .before .loop .can) (c .fresh .result) h g m (c .fresh .ensures gs b) (c .before .before .loop .inv .1 gs sh o b g m))
+
+-- src/lib.rt:101:1
+returns : tie.Need-returns Inv-loop μ-loop
+returns c = let h = c .loop-test .left in let z = c .before .loop .inv .0 in let e : c .before .loop .k ≡ 3 = omega arith in λ gs sh o b g m. subst (λ (n : ℕ). Canon gs (c .before .before .before .args .t3) sh n (c .before .loop .can)) e (c .before .loop .inv .1 gs sh o b g m)
+
+pub allowed-spec : {M : Type 1} → statement M
+allowed-spec =
+    tie.close
+    (tie.spec
+    Inv-loop
+    μ-loop
+    loop-holds
+    mul-a
+    array-read-a
+    fresh-requires
+    add-k
+    loop-less
+    loop-again
+    returns)

@@ -1,0 +1,353 @@
+-- Which values of a group of cells a search may ask of a vertex: those that vertices with codes have, and one more, for the
+-- values that no vertex with a code has may be exchanged; and cells that no two outputs read are 0. Three groups are enough, for a group of one cell has no value to
+-- spare once vertex 0 has a code. And the codes of a vertex tried one after another. Assumes nothing.
+use mathlib.Core.Path.{_≡_, refl, sym, ap, ap₂, _∙_, subst}
+use mathlib.Core.Bool.{Bool, true, false, not}
+use mathlib.Core.List.{List, [], _∷_}
+use mathlib.Core.Logic.{_⊎_, inl, inr, ⊎-elim}
+use Prim.Native.Nat.{ℕ, zero, suc, _+_, _-_, _*_, _^_, _≤_, _<_}
+use native.Mathlib.Decide.{ℕ-discrete, decLt}
+use native.Mathlib.Omega.{arith}
+use lib.Bits.{bitAnd, bitOr, and-le-l}
+use lib.Dec.{eqb}
+use lib.ListN.{length, getD, set, length-set}
+use lib.Seq.{getD-set-same, getD-set-other}
+use borrow.Author.Tests.{eq-eqb, ne-eqb, eqb-true}
+use Rattle.bits.specs.Logic.{andb, orb, pick, true-false, and-left, and-right}
+use Rattle.bits.specs.Digit.{on, on-and, on-or, on-zero, on-above, on-complement, equal-digits}
+use Rattle.cells.specs.Lists.{less-or-equal, never-both, false-where, and-off, and-on}
+use Rattle.cells.specs.Pigeon.{agree-and}
+use Rattle.cells.specs.Sets.{Without}
+use Rattle.numbering.specs.Given.{labelAt, item, Block, Blocks, Solves, Extends, Kept, Hopeless}
+use Rattle.holding.specs.Search.{on-both}
+use Rattle.coding.specs.Exchange.{Uniform, SameBlocks, swap, swap-blocks, swap-small, swap-stays, swap-first, swap-outside, solves-alike}
+
+-- ======== definitions
+-- three groups of cells of sh, none in two of them
+pub record Groups (gs : List ℕ) (sh : ℕ) : Type 0 where
+  pub low : (k : ℕ) → k < 3 → item gs k < 64
+  pub among : (k i : ℕ) → k < 3 → on (item gs k) i ≡ true → on sh i ≡ true
+  pub disjoint : (k l i : ℕ) → k < 3 → l < 3 → (k ≡ l → ⊥) → on (item gs k) i ≡ true → on (item gs l) i ≡ false
+
+-- each of j outputs, which read the cells of ms, reads cells of sh, and all cells of a group or none
+pub record Alike (ms gs : List ℕ) (sh j : ℕ) : Type 0 where
+  pub short : (o : ℕ) → o < j → item ms o < 64
+  pub masked : (o i : ℕ) → o < j → on (item ms o) i ≡ true → on sh i ≡ true
+  pub uniform : (k o : ℕ) → k < 3 → o < j → Uniform (item ms o) (item gs k)
+
+-- all has the codes over the cells of sh
+pub record Over (sh all : ℕ) : Type 0 where
+  pub low : sh < 64
+  pub is : Block (2 ^ 8 - 1 - sh) 0 all
+
+-- a has with a code all codes of one value of the group
+abbrev pub Closed : ℕ → ℕ → Type 0
+Closed g a = (c d : ℕ) → c < 64 → d < 64 → bitAnd c g ≡ bitAnd d g → on a c ≡ true → on a d ≡ true
+
+-- for each group a set of codes that is closed
+pub record Marks (gs used : List ℕ) : Type 0 where
+  pub long : length used ≡ 3
+  pub closed : (k : ℕ) → k < 3 → Closed (item gs k) (item used k)
+
+-- for each group the codes whose value some vertex with a code has
+pub record Used (gs codes : List ℕ) (v : ℕ) (used : List ℕ) : Type 0 where
+  pub marks : Marks gs used
+  pub has : (k y : ℕ) → k < 3 → y < v → item codes y < 64 → on (item used k) (item codes y) ≡ true
+
+-- all has the codes over the cells that two outputs read, gb the blocks of three groups of these cells, and used their values
+-- in use
+pub record Valued (ms gb : List ℕ) (all j : ℕ) (codes : List ℕ) (v : ℕ) (used : List ℕ) : Type 0 where
+  pub gs : List ℕ
+  pub sh : ℕ
+  pub over : Over sh all
+  pub blocks : Blocks gs gb 3
+  pub groups : Groups gs sh
+  pub alike : Alike ms gs sh j
+  pub values : Used gs codes v used
+
+-- b is the codes with the value of a code that is not in a, unless a has every code
+abbrev pub Fresh : ℕ → ℕ → ℕ → Type 0
+Fresh g a b = ((c : ℕ) × (c < 64) × (on a c ≡ false) × Block g c b) ⊎ ((c : ℕ) → c < 64 → on a c ≡ true)
+
+-- g has the codes given so far
+abbrev pub Agrees : List ℕ → ℕ → (ℕ → ℕ) → Type 0
+Agrees codes v g = (x : ℕ) → x < v → item codes x < 64 → g x ≡ item codes x
+
+-- where a solution goes on from the codes given, there is one whose code at a vertex without a code is in can; the first n
+-- groups have narrowed it, and it does not look at the others
+pub record Canon (gs used : List ℕ) (sh n can : ℕ) : Type 0 where
+  pub reach : (cl base ms caps spots codes : List ℕ) (v j x : ℕ) → 64 ≤ item codes x → Alike ms gs sh j → ((k y : ℕ) → k < 3 → y < v → item codes y < 64 → on (item used k) (item codes y) ≡ true) → (g : ℕ → ℕ) → Solves cl base ms caps spots v j g → Agrees codes v g → x < v → (g' : ℕ → ℕ) × Solves cl base ms caps spots v j g' × Agrees codes v g' × (on can (g' x) ≡ true)
+  pub blind : (k c d : ℕ) → n ≤ k → k < 3 → c < 64 → d < 64 → ((i : ℕ) → i < 6 → on (item gs k) i ≡ false → on c i ≡ on d i) → on can c ≡ true → on can d ≡ true
+
+-- the sets with the value of c in each of the first n groups
+pub record Marked (gs used : List ℕ) (c n : ℕ) (r : List ℕ) : Type 0 where
+  pub long : length r ≡ 3
+  pub done : (k : ℕ) → k < n → (b : ℕ) × Block (item gs k) c b × (item r k ≡ bitOr (item used k) b)
+  pub rest : (k : ℕ) → n ≤ k → item r k ≡ item used k
+
+-- the sets of codes have room for every solution that goes on from the codes given
+pub record Covers (cl base ms caps spots : List ℕ) (v j : ℕ) (codes dom : List ℕ) : Type 0 where
+  pub covers : (g : ℕ → ℕ) → Solves cl base ms caps spots v j g → Agrees codes v g → (x : ℕ) → x < v → on (item dom x) (g x) ≡ true
+
+-- each solution whose code at x is in can has it in left
+pub record Trying (cl base ms caps spots : List ℕ) (v j : ℕ) (codes dom : List ℕ) (x can left : ℕ) : Type 0 where
+  pub tried : (g : ℕ → ℕ) → Solves cl base ms caps spots v j g → Extends codes dom v g → on can (g x) ≡ true → on left (g x) ≡ true
+
+-- ======== laws
+or-l : (a b : Bool) → a ≡ true → orb a b ≡ true
+or-l a b e = ap (λ (x : Bool). orb x b) e
+
+or-r : (a b : Bool) → b ≡ true → orb a b ≡ true
+or-r true b e = refl
+or-r false b e = e
+
+or-case : (a b : Bool) → orb a b ≡ true → (a ≡ true) ⊎ (b ≡ true)
+or-case true b e = inl refl
+or-case false b e = inr e
+
+in-l : (a b c : ℕ) → on a c ≡ true → on (bitOr a b) c ≡ true
+in-l a b c e = on-or a b c ∙ or-l (on a c) (on b c) e
+
+in-r : (a b c : ℕ) → on b c ≡ true → on (bitOr a b) c ≡ true
+in-r a b c e = on-or a b c ∙ or-r (on a c) (on b c) e
+
+block-closed : (g c b : ℕ) → Block g c b → Closed g b
+block-closed g c b is x y p q e t = is y q ∙ eq-eqb _ _ (sym e ∙ eqb-true (bitAnd x g) (bitAnd c g) (sym (is x p) ∙ t))
+
+or-closed : (g a b : ℕ) → Closed g a → Closed g b → Closed g (bitOr a b)
+or-closed g a b f h x y p q e t = ⊎-elim (λ w. in-l a b y (f x y p q e w)) (λ w. in-r a b y (h x y p q e w)) (or-case (on a x) (on b x) (sym (on-or a b x) ∙ t))
+
+-- ---- a value that is free
+pub fresh-some : (g a r c b : ℕ) → a < 2 ^ 64 → r ≡ 2 ^ 64 - 1 - a → c < 64 → on r c ≡ true → Block g c b → Fresh g a b
+fresh-some g a r c b h e l t is = inl (c, l, go (on a c) (sym (on-complement 64 a c h l) ∙ ap (λ (z : ℕ). on z c) (sym e) ∙ t), is)
+  where
+    go : (b : Bool) → not b ≡ true → b ≡ false
+    go false e = refl
+    go true e = absurd (true-false (sym e))
+
+pub fresh-none : (g a r b : ℕ) → a < 2 ^ 64 → r ≡ 2 ^ 64 - 1 - a → r ≡ 0 → Fresh g a b
+fresh-none g a r b h e z = inr (λ c l. go (on a c) (sym (on-complement 64 a c h l) ∙ ap (λ (n : ℕ). on n c) (sym e ∙ z) ∙ on-zero c))
+  where
+    go : (b : Bool) → not b ≡ false → b ≡ true
+    go true e = refl
+    go false e = absurd (true-false e)
+
+-- ---- group after group
+-- the cells that no two outputs read may be 0 at x
+module _ (gs used : List ℕ) (sh all : ℕ) (o : Over sh all) where
+  abbrev rest : ℕ
+  rest = 2 ^ 8 - 1 - sh
+
+  -- over the cells of sh, digit by digit
+  over-of : (c : ℕ) → c < 64 → ((i : ℕ) → i < 6 → on sh i ≡ false → on c i ≡ false) → on all c ≡ true
+  over-of c l z = o .is c l ∙ eq-eqb (bitAnd c rest) (bitAnd 0 rest) (equal-digits (bitAnd c rest) (bitAnd 0 rest) (λ i. on-and c rest i ∙ none i (decLt i 6) ∙ sym (on-and 0 rest i ∙ ap (λ (b : Bool). andb b (on rest i)) (on-zero i))))
+    where
+      none : (i : ℕ) → Dec (i < 6) → andb (on c i) (on rest i) ≡ false
+      none i (no n) = ap (λ (b : Bool). andb b (on rest i)) (on-above 6 c i l (omega arith))
+      none i (yes y) = case (on sh i) refl
+        where
+          case : (b : Bool) → on sh i ≡ b → andb (on c i) (on rest i) ≡ false
+          case true e = ap (λ (b : Bool). andb (on c i) b) (on-complement 8 sh i (let w = o .low in omega arith) (omega arith) ∙ ap not e) ∙ and-off (on c i)
+          case false e = ap (λ (b : Bool). andb b (on rest i)) (z i y e)
+
+  of-over : (c i : ℕ) → c < 64 → i < 6 → on all c ≡ true → on sh i ≡ false → on c i ≡ false
+  of-over c i l h t e = go (on c i) (sym (ap (λ (b : Bool). andb (on c i) b) (on-complement 8 sh i (let w = o .low in omega arith) (omega arith) ∙ ap not e)) ∙ sym (on-and c rest i) ∙ ap (λ (n : ℕ). on n i) (eqb-true (bitAnd c rest) (bitAnd 0 rest) (sym (o .is c l) ∙ t)) ∙ on-and 0 rest i ∙ ap (λ (b : Bool). andb b (on rest i)) (on-zero i))
+    where
+      go : (b : Bool) → andb b true ≡ false → b ≡ false
+      go false e = refl
+      go true e = absurd (true-false e)
+
+  pub canon-start : Groups gs sh → Canon gs used sh 0 all
+  canon-start groups = record { reach = reach; blind = blind }
+    where
+      blind : (k c d : ℕ) → 0 ≤ k → k < 3 → c < 64 → d < 64 → ((i : ℕ) → i < 6 → on (item gs k) i ≡ false → on c i ≡ on d i) → on all c ≡ true → on all d ≡ true
+      blind k c d n l p q e t = over-of d q (λ i h z. sym (e i h (false-where (on (item gs k) i) (λ w. never-both (groups .among k i l w) z))) ∙ of-over c i p h t z)
+
+      reach : (cl base ms caps spots codes : List ℕ) (v j x : ℕ) → 64 ≤ item codes x → Alike ms gs sh j → ((k y : ℕ) → k < 3 → y < v → item codes y < 64 → on (item used k) (item codes y) ≡ true) → (g : ℕ → ℕ) → Solves cl base ms caps spots v j g → Agrees codes v g → x < v → (g' : ℕ → ℕ) × Solves cl base ms caps spots v j g' × Agrees codes v g' × (on all (g' x) ≡ true)
+      reach cl base ms caps spots codes v j x u a has g f e h = (
+        G,
+        solves-alike cl base ms caps spots v j g G (record { there = λ q y z l b c r. same q y l ∙ r ∙ sym (same q z l); back = λ q y z l b c r. sym (same q y l) ∙ r ∙ same q z l }) small f,
+        (λ y l t. at-other y (λ q. let z = subst (λ (n : ℕ). item codes n < 64) q t in omega arith) ∙ e y l t),
+        ap (on all) at-x ∙ over-of (bitAnd (g x) sh) (let w = and-le-l (g x) sh in let z = f .small x h in omega arith) (λ i l z. on-and (g x) sh i ∙ ap (λ (b : Bool). andb (on (g x) i) b) z ∙ and-off (on (g x) i)),
+      )
+        where
+          G : ℕ → ℕ
+          G y = pick (eqb y x) (bitAnd (g x) sh) (g y)
+
+          at-x : G x ≡ bitAnd (g x) sh
+          at-x = ap (λ (b : Bool). pick b (bitAnd (g x) sh) (g x)) (eq-eqb x x refl)
+
+          at-other : (y : ℕ) → (y ≡ x → ⊥) → G y ≡ g y
+          at-other y ne = ap (λ (b : Bool). pick b (bitAnd (g x) sh) (g y)) (ne-eqb y x ne)
+
+          same : (q y : ℕ) → q < j → bitAnd (G y) (item ms q) ≡ bitAnd (g y) (item ms q)
+          same q y l = go (ℕ-discrete y x)
+            where
+              go : Dec (y ≡ x) → bitAnd (G y) (item ms q) ≡ bitAnd (g y) (item ms q)
+              go (no ne) = ap (λ (n : ℕ). bitAnd n (item ms q)) (at-other y ne)
+              go (yes r) = ap (λ (n : ℕ). bitAnd (G n) (item ms q)) r ∙ ap (λ (n : ℕ). bitAnd n (item ms q)) at-x ∙ agree-and 6 (item ms q) (bitAnd (g x) sh) (g x) (a .short q l) (λ i b t. on-and (g x) sh i ∙ ap (λ (b : Bool). andb (on (g x) i) b) (a .masked q i l t) ∙ and-on (on (g x) i)) ∙ ap (λ (n : ℕ). bitAnd (g n) (item ms q)) (sym r)
+
+          small : (y : ℕ) → y < v → G y < 64
+          small y l = go (ℕ-discrete y x)
+            where
+              go : Dec (y ≡ x) → G y < 64
+              go (no ne) = subst (λ (n : ℕ). n < 64) (sym (at-other y ne)) (f .small y l)
+              go (yes r) = subst (λ (n : ℕ). G n < 64) (sym r) (subst (λ (n : ℕ). n < 64) (sym at-x) (let w = and-le-l (g x) sh in let z = f .small x h in omega arith))
+
+module _ (gs used : List ℕ) (sh n can b : ℕ) (h : n < 3) (groups : Groups gs sh) (marks : Marks gs used) (fresh : Fresh (item gs n) (item used n) b) (s : Canon gs used sh n can) where
+  abbrev g₀ : ℕ
+  g₀ = item gs n
+
+  abbrev a₀ : ℕ
+  a₀ = item used n
+
+  -- what the group lets pass depends on its value alone
+  passes : Closed g₀ (bitOr a₀ b)
+  passes = go fresh
+    where
+      go : Fresh g₀ a₀ b → Closed g₀ (bitOr a₀ b)
+      go (inl r) = or-closed g₀ a₀ b (marks .closed n h) (block-closed g₀ (r .0) b (r .3))
+      go (inr all) = λ x y p q e t. in-l a₀ b y (all y q)
+
+  pub canon-more : Canon gs used sh (n + 1) (bitAnd can (bitOr a₀ b))
+  canon-more = record { reach = reach; blind = blind }
+    where
+      blind : (k c d : ℕ) → n + 1 ≤ k → k < 3 → c < 64 → d < 64 → ((i : ℕ) → i < 6 → on (item gs k) i ≡ false → on c i ≡ on d i) → on (bitAnd can (bitOr a₀ b)) c ≡ true → on (bitAnd can (bitOr a₀ b)) d ≡ true
+      blind k c d m l p q e t =
+          let w : andb (on can c) (on (bitOr a₀ b) c) ≡ true = sym (on-and can (bitOr a₀ b) c) ∙ t in
+          on-both can (bitOr a₀ b) d
+          (s .blind k c d (omega arith) l p q e (and-left (on can c) _ w))
+          (passes c d p q (agree-and 6 g₀ c d (groups .low n h) (λ i z y. e i z (groups .disjoint n k i h l (λ r. omega arith) y))) (and-right (on can c) _ w))
+
+      reach : (cl base ms caps spots codes : List ℕ) (v j x : ℕ) → 64 ≤ item codes x → Alike ms gs sh j → ((k y : ℕ) → k < 3 → y < v → item codes y < 64 → on (item used k) (item codes y) ≡ true) → (g : ℕ → ℕ) → Solves cl base ms caps spots v j g → Agrees codes v g → x < v → (g' : ℕ → ℕ) × Solves cl base ms caps spots v j g' × Agrees codes v g' × (on (bitAnd can (bitOr a₀ b)) (g' x) ≡ true)
+      reach cl base ms caps spots codes v j x u alike has g f e l = go (s .reach cl base ms caps spots codes v j x u alike has g f e l)
+        where
+          Out : Type 0
+          Out = (g' : ℕ → ℕ) × Solves cl base ms caps spots v j g' × Agrees codes v g' × (on (bitAnd can (bitOr a₀ b)) (g' x) ≡ true)
+
+          In : Type 0
+          In = (g' : ℕ → ℕ) × Solves cl base ms caps spots v j g' × Agrees codes v g' × (on can (g' x) ≡ true)
+
+          -- the value at x and a free one exchanged, which no vertex with a code has
+          exchange : (i : In) (c : ℕ) → c < 64 → on a₀ c ≡ false → Block g₀ c b → on a₀ (i .0 x) ≡ false → Out
+          exchange i c lc off is out = (
+            F,
+            solves-alike cl base ms caps spots v j (i .0) F (swap-blocks g₀ low ms v j (i .0 x) c (i .0) (alike .short) (λ o k. alike .uniform n o h k)) (λ y k. swap-small g₀ low (i .0 x) c (i .0 y) (i .1 .small y k)) (i .1),
+            (λ y k t. stays y k t ∙ i .2 y k t),
+            on-both can (bitOr a₀ b) (F x)
+                (s .blind n (i .0 x) (F x) (omega arith) h (i .1 .small x l) small (λ d z t. sym (swap-outside g₀ low (i .0 x) c (i .0 x) d z t)) (i .3))
+                (in-r a₀ b (F x) (is (F x) small ∙ eq-eqb _ _ (swap-first g₀ low (i .0 x) c))),
+          )
+            where
+              low : g₀ < 64
+              low = groups .low n h
+
+              F : ℕ → ℕ
+              F y = swap g₀ low (i .0 x) c (i .0 y)
+
+              small : F x < 64
+              small = swap-small g₀ low (i .0 x) c (i .0 x) (i .1 .small x l)
+
+              marked : (y : ℕ) → y < v → item codes y < 64 → on a₀ (i .0 y) ≡ true
+              marked y k t = ap (on a₀) (i .2 y k t) ∙ has n y h k t
+
+              stays : (y : ℕ) → y < v → item codes y < 64 → F y ≡ i .0 y
+              stays y k t = swap-stays g₀ low (i .0 x) c (i .0 y) (i .1 .small y k)
+                  (λ q. never-both (marks .closed n h (i .0 y) (i .0 x) (i .1 .small y k) (i .1 .small x l) q (marked y k t)) out)
+                  (λ q. never-both (marks .closed n h (i .0 y) c (i .1 .small y k) lc q (marked y k t)) off)
+
+          free : (i : In) → Fresh g₀ a₀ b → on a₀ (i .0 x) ≡ false → Out
+          free i (inl r) out = exchange i (r .0) (r .1) (r .2) (r .3) out
+          free i (inr all) out = absurd (never-both (all (i .0 x) (i .1 .small x l)) out)
+
+          go : In → Out
+          go i = case (on a₀ (i .0 x)) refl
+            where
+              case : (t : Bool) → on a₀ (i .0 x) ≡ t → Out
+              case true q = (i .0, i .1, i .2, on-both can (bitOr a₀ b) (i .0 x) (i .3) (in-l a₀ b (i .0 x) q))
+              case false q = free i fresh q
+
+-- ---- a vertex takes a code
+pub marked-start : (gs used : List ℕ) (c : ℕ) → length used ≡ 3 → Marked gs used c 0 used
+marked-start gs used c e = record { long = e; done = λ k h. absurd (omega arith); rest = λ k h. refl }
+
+pub marked-more : (gs used : List ℕ) (c n b : ℕ) (r : List ℕ) → n < 3 → Block (item gs n) c b → Marked gs used c n r → Marked gs used c (n + 1) (set r n (bitOr (item r n) b))
+marked-more gs used c n b r h is s = record {
+  long = length-set r n _ ∙ s .long;
+  done = λ k l. ⊎-elim
+      (λ a. let q = s .done k a in (q .0, q .1, getD-set-other r n k _ 0 (λ z. let y : k ≡ n = z in omega arith) ∙ q .2))
+      (λ e. subst (λ (k : ℕ). (b' : ℕ) × Block (item gs k) c b' × (item (set r n (bitOr (item r n) b)) k ≡ bitOr (item used k) b')) (sym e) (b, is, getD-set-same r n _ 0 (let z = s .long in omega arith) ∙ ap (λ (z : ℕ). bitOr z b) (s .rest n (omega arith))))
+      (less-or-equal k n (omega arith));
+  rest = λ k l. getD-set-other r n k _ 0 (λ z. let y : k ≡ n = z in omega arith) ∙ s .rest k (omega arith);
+}
+
+-- the code c at x, and what other vertices have
+module _ (codes : List ℕ) (v x c : ℕ) (long : length codes ≡ 32) (few : v ≤ 32) (h : x < v) where
+  here : item (set codes x c) x ≡ c
+  here = getD-set-same codes x c 0 (omega arith)
+
+  there : (y : ℕ) → (y ≡ x → ⊥) → item (set codes x c) y ≡ item codes y
+  there y ne = getD-set-other codes x y c 0 ne
+
+  pub used-more : (gs used r : List ℕ) → c < 64 → Marked gs used c 3 r → Used gs codes v used → Used gs (set codes x c) v r
+  used-more gs used r l m u = record {
+    marks = record {
+      long = m .long;
+      closed = λ k a. let q = m .done k a in subst (Closed (item gs k)) (sym (q .2)) (or-closed (item gs k) (item used k) (q .0) (u .marks .closed k a) (block-closed (item gs k) c (q .0) (q .1)));
+    };
+    has = λ k y a b t. has k y a b t (ℕ-discrete y x);
+  }
+    where
+      has : (k y : ℕ) → k < 3 → y < v → item (set codes x c) y < 64 → Dec (y ≡ x) → on (item r k) (item (set codes x c) y) ≡ true
+      has k y a b t (yes e) = let q = m .done k a in ap₂ on (q .2) (ap (item (set codes x c)) e ∙ here) ∙ in-r (item used k) (q .0) c (q .1 c l ∙ eq-eqb (bitAnd c (item gs k)) (bitAnd c (item gs k)) refl)
+      has k y a b t (no ne) = let q = m .done k a in ap₂ on (q .2) (there y ne) ∙ in-l (item used k) (q .0) (item codes y) (u .has k y a b (subst (λ (z : ℕ). z < 64) (there y ne) t))
+
+  pub valued-more : (ms gb : List ℕ) (all j : ℕ) (used r : List ℕ) → c < 64 → ((gs : List ℕ) → Blocks gs gb 3 → Marked gs used c 3 r) → Valued ms gb all j codes v used → Valued ms gb all j (set codes x c) v r
+  valued-more ms gb all j used r l m w = record {
+    gs = w .gs;
+    sh = w .sh;
+    over = w .over;
+    blocks = w .blocks;
+    groups = w .groups;
+    alike = w .alike;
+    values = used-more (w .gs) used r l (m (w .gs) (w .blocks)) (w .values);
+  }
+
+  -- a solution with the new code has the old ones
+  pub agrees-less : (g : ℕ → ℕ) → 64 ≤ item codes x → Agrees (set codes x c) v g → Agrees codes v g
+  agrees-less g u a y b t = go (ℕ-discrete y x)
+    where
+      go : Dec (y ≡ x) → g y ≡ item codes y
+      go (yes e) = absurd (let z = subst (λ (z : ℕ). item codes z < 64) e t in omega arith)
+      go (no ne) = a y b (subst (λ (z : ℕ). z < 64) (sym (there y ne)) t) ∙ there y ne
+
+  pub agrees-more : (g : ℕ → ℕ) → g x ≡ c → Agrees codes v g → Agrees (set codes x c) v g
+  agrees-more g q a y b t = go (ℕ-discrete y x)
+    where
+      go : Dec (y ≡ x) → g y ≡ item (set codes x c) y
+      go (yes e) = ap g e ∙ q ∙ sym (ap (item (set codes x c)) e ∙ here)
+      go (no ne) = a y b (subst (λ (z : ℕ). z < 64) (there y ne) t) ∙ sym (there y ne)
+
+  pub covers-more : (cl base ms caps spots : List ℕ) (j : ℕ) (dom d : List ℕ) → 64 ≤ item codes x → Kept cl base ms caps spots v j (set codes x c) dom d → Covers cl base ms caps spots v j codes dom → Covers cl base ms caps spots v j (set codes x c) d
+  covers-more cl base ms caps spots j dom d u k s = record { covers = λ g f a. k .keeps g f (record { coded = a; within = s .covers g f (agrees-less g u a) }) .within }
+
+-- ======== the codes of a vertex, one after another
+module _ (cl base ms caps spots : List ℕ) (v j : ℕ) (codes dom : List ℕ) (x can : ℕ) (h : x < v) where
+  pub trying-start : Trying cl base ms caps spots v j codes dom x can (bitAnd (item dom x) can)
+  trying-start = record { tried = λ g f e t. on-both (item dom x) can (g x) (e .within x h) t }
+
+  -- code c led to nothing
+  pub trying-more : (left c left' : ℕ) (d : List ℕ) → length codes ≡ 32 → v ≤ 32 → Without left c left' → Kept cl base ms caps spots v j (set codes x c) dom d → Hopeless cl base ms caps spots v j (set codes x c) d → Trying cl base ms caps spots v j codes dom x can left → Trying cl base ms caps spots v j codes dom x can left'
+  trying-more left c left' d long few w k bad t = record { tried = λ g f e i. go g f e i (ℕ-discrete (g x) c) }
+    where
+      go : (g : ℕ → ℕ) → Solves cl base ms caps spots v j g → Extends codes dom v g → on can (g x) ≡ true → Dec (g x ≡ c) → on left' (g x) ≡ true
+      go g f e i (no ne) = w .others (g x) (f .small x h) ne ∙ t .tried g f e i
+      go g f e i (yes q) = absurd (bad .none g f (k .keeps g f (record { coded = agrees-more codes v x c long few h g q (e .coded); within = e .within })))
+
+  -- no code is left: a solution would have led to one with a code in can
+  pub trying-end : (gb used : List ℕ) (all left : ℕ) → 64 ≤ item codes x → left ≡ 0 → Valued ms gb all j codes v used → ((gs : List ℕ) (sh : ℕ) → Over sh all → Blocks gs gb 3 → Groups gs sh → Marks gs used → Canon gs used sh 3 can) → Covers cl base ms caps spots v j codes dom → Trying cl base ms caps spots v j codes dom x can left → Hopeless cl base ms caps spots v j codes dom
+  trying-end gb used all left u z w n s t = record {
+    none = λ g f e.
+        let r = n (w .gs) (w .sh) (w .over) (w .blocks) (w .groups) (w .values .marks) .reach cl base ms caps spots codes v j x u (w .alike) (w .values .has) g f (e .coded) h in
+        never-both (t .tried (r .0) (r .1) (record { coded = r .2; within = s .covers (r .0) (r .1) (r .2) }) (r .3)) (ap (λ (m : ℕ). on m (r .0 x)) z ∙ on-zero (r .0 x));
+  }
