@@ -127,6 +127,13 @@ pub fn mark(gb: &[u64], used: [u64; 3], c: u8) -> [u64; 3]
     r
 }
 
+// Codes of the vertices, whether they are right, and how often a vertex was given a code to find out.
+pub struct Search {
+    pub ok: bool,
+    pub codes: [u8; 32],
+    pub nodes: u64,
+}
+
 // Codes for all v vertices that go on from those given. dom has room for every solution that does; all has the codes over the
 // cells that two outputs read, gb the blocks of some groups of these, and used their values in use.
 pub fn find(
@@ -144,29 +151,47 @@ pub fn find(
     codes: [u8; 32],
     dom: [u64; 32],
     used: [u64; 3],
-) -> numbering::Codes
+) -> Search
     requires { ⌜ Labels (now cl) × (length (now base) ≡ 256) × Blocks ms (now bs) j × (v ≤ 32) × (j ≤ 8) × Plan ms ps caps j × Valued ms (now gb) all j codes v used × Covers (now cl) (now base) ms caps spots v j codes dom ⌝ }
     ensures { λ r. ⌜ Told (now (cl .entry)) (now (base .entry)) ms ps caps spots v j codes dom (r .ok) (r .codes) ⌝ }
 {
     let can = allowed(gb, all, used);
     let x = pick(dom, codes, v, can);
     if x == 32 {
-        return numbering::finish(cl, j, ms, ps, caps, v, codes);
+        let f = numbering::finish(cl, j, ms, ps, caps, v, codes);
+        let all_codes = f.codes;
+        return Search {
+            ok: f.ok,
+            codes: all_codes,
+            nodes: 0,
+        };
     }
+    let mut nodes: u64 = 0;
     let mut left = dom[x] & can;
     while left != 0 {
         let c = cells::lowest(left);
         left = cells::without(left, c);
+        nodes = std::num::wrapping_add_u64(nodes, 1);
         let mut next = codes;
         next[x] = c;
         let d = settle_all(cl, base, bs, ms, caps, spots, v, j, next, dom, c);
         if !empty(d, v) {
             let m = mark(gb, used, c);
             let r = find(cl, base, bs, gb, all, ms, ps, caps, spots, v, j, next, d, m);
+            nodes = std::num::wrapping_add_u64(nodes, r.nodes);
             if r.ok {
-                return r;
+                let found = r.codes;
+                return Search {
+                    ok: r.ok,
+                    codes: found,
+                    nodes,
+                };
             }
         }
     }
-    numbering::Codes { ok: false, codes }
+    Search {
+        ok: false,
+        codes,
+        nodes,
+    }
 }

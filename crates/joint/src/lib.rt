@@ -103,7 +103,7 @@ pub fn expand(codes: [u8; 32], place: [u8; 32], v: usize) -> [u8; 32]
 }
 
 // Codes for v vertices that tell the classes of the first j outputs apart, each reading its row of cells.
-pub fn codes_for(cl: &[u8], v: usize, j: usize, rows: [u8; 8]) -> numbering::Codes
+pub fn codes_for(cl: &[u8], v: usize, j: usize, rows: [u8; 8]) -> coding::Search
     requires { ⌜ Labels (now cl) × (v ≤ 32) × (j ≤ 8) × Short rows j ⌝ }
     ensures { λ r. ⌜ Decided (now (cl .entry)) v j rows (r .ok) (r .codes) ⌝ }
 {
@@ -115,5 +115,9 @@ pub fn codes_for(cl: &[u8], v: usize, j: usize, rows: [u8; 8]) -> numbering::Cod
     let c = readers::codes_for(&labels, n, j, rows);
     let small = c.codes;
     let codes = expand(small, place, v);
-    numbering::Codes { ok: c.ok, codes }
+    coding::Search {
+        ok: c.ok,
+        codes,
+        nodes: c.nodes,
+    }
 }

@@ -195,7 +195,7 @@ pub fn possible(cl: &[u8], v: usize, j: usize, rows: [u8; 8]) -> bool
 }
 
 // Codes for v vertices that tell the classes of the first j outputs apart, each reading its row of cells.
-pub fn codes_for(cl: &[u8], v: usize, j: usize, rows: [u8; 8]) -> numbering::Codes
+pub fn codes_for(cl: &[u8], v: usize, j: usize, rows: [u8; 8]) -> coding::Search
     requires { ⌜ Labels (now cl) × (v ≤ 32) × (j ≤ 8) × Short rows j ⌝ }
     ensures { λ r. ⌜ Decided (now (cl .entry)) v j rows (r .ok) (r .codes) ⌝ }
 {
@@ -212,7 +212,11 @@ pub fn codes_for(cl: &[u8], v: usize, j: usize, rows: [u8; 8]) -> numbering::Cod
     let dom = b.dom;
     let d = coding::settle_all(cl, &base, &bs, ms, caps, spots, v, j, codes, dom, 0);
     if coding::empty(d, v) {
-        return numbering::Codes { ok: false, codes };
+        return coding::Search {
+            ok: false,
+            codes,
+            nodes: 0,
+        };
     }
     let gb = holding::blocks(groups(ms, j, sh));
     let used = coding::mark(&gb, [0u64; 3], 0);

@@ -22,6 +22,7 @@ use Rattle.coding.proofs.mark.Reads as mark-reads
 use Rattle.coding.proofs.pick.Reads as pick-reads
 use Rattle.coding.proofs.settle_all.Reads as settle-all-reads
 use Rattle.numbering.proofs.finish.Reads as finish-reads
+use Rattle.std.proofs.num.wrapping_add_u64.Reads as wrapping-add-u64-reads
 use Rattle.coding.proofs.+find.{statement}
 use Rattle.coding.proofs.+find.Tie.{close}
 
@@ -35,12 +36,13 @@ abbrev find-below : ℕ → In 4 find-kinds.ps
 find-below t = and 4 find-kinds.ps (falls 4 find-kinds.ps _<_ μ-find t) find.Pre
 
 abbrev find-Inv-loop : find-lts.InvT-loop
-find-Inv-loop cl base bs gb all ms ps caps spots v j codes used dom can x left₀ left = (length codes ≡ 32) × (x < v) × (64 ≤ item codes x) × Trying cl base ms caps spots v j codes dom x can left
+find-Inv-loop cl base bs gb all ms ps caps spots v j codes used dom can x nodes₀ left₀ nodes left =
+    (length codes ≡ 32) × (x < v) × (64 ≤ item codes x) × Trying cl base ms caps spots v j codes dom x can left
 
 abbrev find-μ-loop : find-lts.MeasureT-loop
-find-μ-loop cl base bs gb all ms ps caps spots v j codes used dom can x left₀ left = left
+find-μ-loop cl base bs gb all ms ps caps spots v j codes used dom can x nodes₀ left₀ nodes left = left
 
--- src/lib.rt:151:9
+-- src/lib.rt:158:9
 find-allowed-requires : (t : ℕ) → find-lts.Need-allowed-requires (
   allowed-reads.Asked,
   allowed-reads.Learnt,
@@ -52,6 +54,8 @@ find-allowed-requires : (t : ℕ) → find-lts.Need-allowed-requires (
   lowest-reads.Learnt,
   without-reads.Asked,
   without-reads.Learnt,
+  wrapping-add-u64-reads.Asked,
+  wrapping-add-u64-reads.Learnt,
   settle-all-reads.Asked,
   settle-all-reads.Learnt,
   empty-reads.Asked,
@@ -63,7 +67,7 @@ find-allowed-requires : (t : ℕ) → find-lts.Need-allowed-requires (
 ) (find-at t) find.Post find-Inv-loop find-μ-loop
 find-allowed-requires t c κs = c .before .before .before .before .pre .1 .6 .blocks .long
 
--- src/lib.rt:152:9
+-- src/lib.rt:159:9
 find-pick-requires : (t : ℕ) → find-lts.Need-pick-requires (
   allowed-reads.Asked,
   allowed-reads.Learnt,
@@ -75,6 +79,8 @@ find-pick-requires : (t : ℕ) → find-lts.Need-pick-requires (
   lowest-reads.Learnt,
   without-reads.Asked,
   without-reads.Learnt,
+  wrapping-add-u64-reads.Asked,
+  wrapping-add-u64-reads.Learnt,
   settle-all-reads.Asked,
   settle-all-reads.Learnt,
   empty-reads.Asked,
@@ -86,7 +92,7 @@ find-pick-requires : (t : ℕ) → find-lts.Need-pick-requires (
 ) (find-at t) find.Post find-Inv-loop find-μ-loop
 find-pick-requires t c κs = c .before .before .before .before .before .pre .1 .3
 
--- src/lib.rt:154:9
+-- src/lib.rt:161:13
 find-finish-requires : (t : ℕ) → find-lts.Need-finish-requires (
   allowed-reads.Asked,
   allowed-reads.Learnt,
@@ -98,6 +104,8 @@ find-finish-requires : (t : ℕ) → find-lts.Need-finish-requires (
   lowest-reads.Learnt,
   without-reads.Asked,
   without-reads.Learnt,
+  wrapping-add-u64-reads.Asked,
+  wrapping-add-u64-reads.Learnt,
   settle-all-reads.Asked,
   settle-all-reads.Learnt,
   empty-reads.Asked,
@@ -109,7 +117,7 @@ find-finish-requires : (t : ℕ) → find-lts.Need-finish-requires (
 ) (find-at t) find.Post find-Inv-loop find-μ-loop
 find-finish-requires t c κs = let p = c .before .before .before .before .before .before .before .pre .1 in (p .0 .long, p .4, p .3, p .5, λ x h. c .before .pick .ensures .none (c .if1 .taken) x h)
 
--- src/lib.rt:154:9
+-- src/lib.rt:163:9
 find-returns : (t : ℕ) → find-lts.Need-returns (
   allowed-reads.Asked,
   allowed-reads.Learnt,
@@ -121,6 +129,8 @@ find-returns : (t : ℕ) → find-lts.Need-returns (
   lowest-reads.Learnt,
   without-reads.Asked,
   without-reads.Learnt,
+  wrapping-add-u64-reads.Asked,
+  wrapping-add-u64-reads.Learnt,
   settle-all-reads.Asked,
   settle-all-reads.Learnt,
   empty-reads.Asked,
@@ -130,9 +140,9 @@ find-returns : (t : ℕ) → find-lts.Need-returns (
   find-below t,
   find.Post,
 ) (find-at t) find.Post find-Inv-loop find-μ-loop
-find-returns t c = c .finish .ensures (c .before .before .before .before .before .before .before .before .args .base .now) (c .before .before .before .before .before .before .before .before .args .spots) (c .before .before .before .before .before .before .before .before .args .t13)
+find-returns t c = c .before .finish .ensures (c .before .before .before .before .before .before .before .before .before .args .base .now) (c .before .before .before .before .before .before .before .before .before .args .spots) (c .before .before .before .before .before .before .before .before .before .args .t13)
 
--- src/lib.rt:156:20
+-- src/lib.rt:170:20
 find-mul-left : (t : ℕ) → find-lts.Need-mul-left (
   allowed-reads.Asked,
   allowed-reads.Learnt,
@@ -144,6 +154,8 @@ find-mul-left : (t : ℕ) → find-lts.Need-mul-left (
   lowest-reads.Learnt,
   without-reads.Asked,
   without-reads.Learnt,
+  wrapping-add-u64-reads.Asked,
+  wrapping-add-u64-reads.Learnt,
   settle-all-reads.Asked,
   settle-all-reads.Learnt,
   empty-reads.Asked,
@@ -155,7 +167,7 @@ find-mul-left : (t : ℕ) → find-lts.Need-mul-left (
 ) (find-at t) find.Post find-Inv-loop find-μ-loop
 find-mul-left t c = let p = c .before .pick .ensures .some (c .if1 .left) in let a = p .0 in let b = c .before .before .before .before .before .before .before .pre .1 .3 in search needs
 
--- src/lib.rt:156:20
+-- src/lib.rt:170:20
 find-array-read-left : (t : ℕ) → find-lts.Need-array-read-left (
   allowed-reads.Asked,
   allowed-reads.Learnt,
@@ -167,6 +179,8 @@ find-array-read-left : (t : ℕ) → find-lts.Need-array-read-left (
   lowest-reads.Learnt,
   without-reads.Asked,
   without-reads.Learnt,
+  wrapping-add-u64-reads.Asked,
+  wrapping-add-u64-reads.Learnt,
   settle-all-reads.Asked,
   settle-all-reads.Learnt,
   empty-reads.Asked,
@@ -178,7 +192,7 @@ find-array-read-left : (t : ℕ) → find-lts.Need-array-read-left (
 ) (find-at t) find.Post find-Inv-loop find-μ-loop
 find-array-read-left t c = let p = c .before .pick .ensures .some (c .if1 .left) in let a = p .0 in let b = c .before .before .before .before .before .before .before .pre .1 .3 in search needs
 
--- src/lib.rt:157:5
+-- src/lib.rt:171:5
 find-loop-holds : (t : ℕ) → find-lts.Need-loop-holds (
   allowed-reads.Asked,
   allowed-reads.Learnt,
@@ -190,6 +204,8 @@ find-loop-holds : (t : ℕ) → find-lts.Need-loop-holds (
   lowest-reads.Learnt,
   without-reads.Asked,
   without-reads.Learnt,
+  wrapping-add-u64-reads.Asked,
+  wrapping-add-u64-reads.Learnt,
   settle-all-reads.Asked,
   settle-all-reads.Learnt,
   empty-reads.Asked,
@@ -201,7 +217,7 @@ find-loop-holds : (t : ℕ) → find-lts.Need-loop-holds (
 ) (find-at t) find.Post find-Inv-loop find-μ-loop
 find-loop-holds t c = let p = c .before .pick .ensures .some (c .if1 .left) in (search needs, p .0, p .1, trying-start (c .before .before .before .before .before .before .before .args .cl .now) (c .before .before .before .before .before .before .before .args .base .now) (c .before .before .before .before .before .before .before .args .ms) (c .before .before .before .before .before .before .before .args .caps) (c .before .before .before .before .before .before .before .args .spots) (c .before .before .before .before .before .before .before .args .v) (c .before .before .before .before .before .before .before .args .j) (c .before .before .before .before .before .before .before .args .codes) (c .before .before .before .before .before .before .before .args .t13) (c .before .pick .result) (c .before .before .allowed .result) (p .0))
 
--- src/lib.rt:158:13
+-- src/lib.rt:172:13
 find-lowest-requires : (t : ℕ) → find-lts.Need-lowest-requires (
   allowed-reads.Asked,
   allowed-reads.Learnt,
@@ -213,6 +229,8 @@ find-lowest-requires : (t : ℕ) → find-lts.Need-lowest-requires (
   lowest-reads.Learnt,
   without-reads.Asked,
   without-reads.Learnt,
+  wrapping-add-u64-reads.Asked,
+  wrapping-add-u64-reads.Learnt,
   settle-all-reads.Asked,
   settle-all-reads.Learnt,
   empty-reads.Asked,
@@ -224,7 +242,7 @@ find-lowest-requires : (t : ℕ) → find-lts.Need-lowest-requires (
 ) (find-at t) find.Post find-Inv-loop find-μ-loop
 find-lowest-requires t c κs = c .loop-test .taken
 
--- src/lib.rt:159:9
+-- src/lib.rt:173:9
 find-without-requires : (t : ℕ) → find-lts.Need-without-requires (
   allowed-reads.Asked,
   allowed-reads.Learnt,
@@ -236,6 +254,8 @@ find-without-requires : (t : ℕ) → find-lts.Need-without-requires (
   lowest-reads.Learnt,
   without-reads.Asked,
   without-reads.Learnt,
+  wrapping-add-u64-reads.Asked,
+  wrapping-add-u64-reads.Learnt,
   settle-all-reads.Asked,
   settle-all-reads.Learnt,
   empty-reads.Asked,
@@ -247,7 +267,32 @@ find-without-requires : (t : ℕ) → find-lts.Need-without-requires (
 ) (find-at t) find.Post find-Inv-loop find-μ-loop
 find-without-requires t c κs = c .lowest .ensures .0
 
--- src/lib.rt:161:9
+-- src/lib.rt:174:9
+find-wrapping-add-u64-requires : (t : ℕ) → find-lts.Need-wrapping-add-u64-requires (
+  allowed-reads.Asked,
+  allowed-reads.Learnt,
+  pick-reads.Asked,
+  pick-reads.Learnt,
+  finish-reads.Asked,
+  finish-reads.Learnt,
+  lowest-reads.Asked,
+  lowest-reads.Learnt,
+  without-reads.Asked,
+  without-reads.Learnt,
+  wrapping-add-u64-reads.Asked,
+  wrapping-add-u64-reads.Learnt,
+  settle-all-reads.Asked,
+  settle-all-reads.Learnt,
+  empty-reads.Asked,
+  empty-reads.Learnt,
+  mark-reads.Asked,
+  mark-reads.Learnt,
+  find-below t,
+  find.Post,
+) (find-at t) find.Post find-Inv-loop find-μ-loop
+find-wrapping-add-u64-requires t c κs = search needs
+
+-- src/lib.rt:176:9
 find-array-write-next : (t : ℕ) → find-lts.Need-array-write-next (
   allowed-reads.Asked,
   allowed-reads.Learnt,
@@ -259,6 +304,8 @@ find-array-write-next : (t : ℕ) → find-lts.Need-array-write-next (
   lowest-reads.Learnt,
   without-reads.Asked,
   without-reads.Learnt,
+  wrapping-add-u64-reads.Asked,
+  wrapping-add-u64-reads.Learnt,
   settle-all-reads.Asked,
   settle-all-reads.Learnt,
   empty-reads.Asked,
@@ -268,9 +315,9 @@ find-array-write-next : (t : ℕ) → find-lts.Need-array-write-next (
   find-below t,
   find.Post,
 ) (find-at t) find.Post find-Inv-loop find-μ-loop
-find-array-write-next t c = let a = c .before .before .before .loop .inv .1 in let b = c .before .before .before .before .before .before .before .before .before .before .before .pre .1 .3 in search needs
+find-array-write-next t c = let a = c .before .before .before .before .loop .inv .1 in let b = c .before .before .before .before .before .before .before .before .before .before .before .before .pre .1 .3 in search needs
 
--- src/lib.rt:162:13
+-- src/lib.rt:177:13
 find-settle-all-requires : (t : ℕ) → find-lts.Need-settle-all-requires (
   allowed-reads.Asked,
   allowed-reads.Learnt,
@@ -282,6 +329,8 @@ find-settle-all-requires : (t : ℕ) → find-lts.Need-settle-all-requires (
   lowest-reads.Learnt,
   without-reads.Asked,
   without-reads.Learnt,
+  wrapping-add-u64-reads.Asked,
+  wrapping-add-u64-reads.Learnt,
   settle-all-reads.Asked,
   settle-all-reads.Learnt,
   empty-reads.Asked,
@@ -291,9 +340,9 @@ find-settle-all-requires : (t : ℕ) → find-lts.Need-settle-all-requires (
   find-below t,
   find.Post,
 ) (find-at t) find.Post find-Inv-loop find-μ-loop
-find-settle-all-requires t c κs = let p = c .before .before .before .before .before .before .before .before .before .before .before .pre .1 in (p .0, p .1, p .2, p .3, p .4, c .before .lowest .ensures .0)
+find-settle-all-requires t c κs = let p = c .before .before .before .before .before .before .before .before .before .before .before .before .pre .1 in (p .0, p .1, p .2, p .3, p .4, c .before .before .lowest .ensures .0)
 
--- src/lib.rt:163:13
+-- src/lib.rt:178:13
 find-empty-requires : (t : ℕ) → find-lts.Need-empty-requires (
   allowed-reads.Asked,
   allowed-reads.Learnt,
@@ -305,6 +354,8 @@ find-empty-requires : (t : ℕ) → find-lts.Need-empty-requires (
   lowest-reads.Learnt,
   without-reads.Asked,
   without-reads.Learnt,
+  wrapping-add-u64-reads.Asked,
+  wrapping-add-u64-reads.Learnt,
   settle-all-reads.Asked,
   settle-all-reads.Learnt,
   empty-reads.Asked,
@@ -314,9 +365,9 @@ find-empty-requires : (t : ℕ) → find-lts.Need-empty-requires (
   find-below t,
   find.Post,
 ) (find-at t) find.Post find-Inv-loop find-μ-loop
-find-empty-requires t c κs = c .before .before .before .before .before .before .before .before .before .before .before .before .pre .1 .3
+find-empty-requires t c κs = c .before .before .before .before .before .before .before .before .before .before .before .before .before .pre .1 .3
 
--- src/lib.rt:164:17
+-- src/lib.rt:179:17
 find-mark-requires : (t : ℕ) → find-lts.Need-mark-requires (
   allowed-reads.Asked,
   allowed-reads.Learnt,
@@ -328,6 +379,8 @@ find-mark-requires : (t : ℕ) → find-lts.Need-mark-requires (
   lowest-reads.Learnt,
   without-reads.Asked,
   without-reads.Learnt,
+  wrapping-add-u64-reads.Asked,
+  wrapping-add-u64-reads.Learnt,
   settle-all-reads.Asked,
   settle-all-reads.Learnt,
   empty-reads.Asked,
@@ -337,9 +390,9 @@ find-mark-requires : (t : ℕ) → find-lts.Need-mark-requires (
   find-below t,
   find.Post,
 ) (find-at t) find.Post find-Inv-loop find-μ-loop
-find-mark-requires t c κs = (c .before .before .before .before .before .before .before .before .before .before .before .before .before .before .pre .1 .6 .blocks .long, c .before .before .before .before .lowest .ensures .0)
+find-mark-requires t c κs = (c .before .before .before .before .before .before .before .before .before .before .before .before .before .before .before .pre .1 .6 .blocks .long, c .before .before .before .before .before .lowest .ensures .0)
 
--- src/lib.rt:165:17
+-- src/lib.rt:180:17
 find-find-requires : (t : ℕ) → find-lts.Need-find-requires (
   allowed-reads.Asked,
   allowed-reads.Learnt,
@@ -351,6 +404,8 @@ find-find-requires : (t : ℕ) → find-lts.Need-find-requires (
   lowest-reads.Learnt,
   without-reads.Asked,
   without-reads.Learnt,
+  wrapping-add-u64-reads.Asked,
+  wrapping-add-u64-reads.Learnt,
   settle-all-reads.Asked,
   settle-all-reads.Learnt,
   empty-reads.Asked,
@@ -361,16 +416,41 @@ find-find-requires : (t : ℕ) → find-lts.Need-find-requires (
   find.Post,
 ) (find-at t) find.Post find-Inv-loop find-μ-loop
 find-find-requires t c κs =
-    let p = c .before .before .before .before .before .before .before .before .before .before .before .before .before .before .before .pre .1 in
-    let m = c .before .before .before .before .before .before .before .before .before .before .before .before .before .before .before .pre .0 in
-    let i = c .before .before .before .before .before .before .before .loop .inv in
-    let l = c .before .before .before .before .before .lowest .ensures .0 in
-    let w = uncoded-less (c .before .before .before .before .before .before .before .before .before .before .before .before .before .before .before .args .codes) (c .before .before .before .before .before .before .before .before .before .before .before .before .before .before .before .args .v) (c .before .before .before .before .before .before .before .before .before .pick .result) (c .before .before .before .before .before .lowest .result) (i .0) (p .3) (i .1) (i .2) l in
-    let q = valued-more (c .before .before .before .before .before .before .before .before .before .before .before .before .before .before .before .args .codes) (c .before .before .before .before .before .before .before .before .before .before .before .before .before .before .before .args .v) (c .before .before .before .before .before .before .before .before .before .pick .result) (c .before .before .before .before .before .lowest .result) (i .0) (p .3) (i .1) (c .before .before .before .before .before .before .before .before .before .before .before .before .before .before .before .args .ms) (c .before .before .before .before .before .before .before .before .before .before .before .before .before .before .before .args .gb .now) (c .before .before .before .before .before .before .before .before .before .before .before .before .before .before .before .args .all) (c .before .before .before .before .before .before .before .before .before .before .before .before .before .before .before .args .j) (c .before .before .before .before .before .before .before .before .before .before .before .before .before .before .before .args .used) (c .mark .result) l (c .mark .ensures) (p .6) in
-    let k = covers-more (c .before .before .before .before .before .before .before .before .before .before .before .before .before .before .before .args .codes) (c .before .before .before .before .before .before .before .before .before .before .before .before .before .before .before .args .v) (c .before .before .before .before .before .before .before .before .before .pick .result) (c .before .before .before .before .before .lowest .result) (i .0) (p .3) (i .1) (c .before .before .before .before .before .before .before .before .before .before .before .before .before .before .before .args .cl .now) (c .before .before .before .before .before .before .before .before .before .before .before .before .before .before .before .args .base .now) (c .before .before .before .before .before .before .before .before .before .before .before .before .before .before .before .args .ms) (c .before .before .before .before .before .before .before .before .before .before .before .before .before .before .before .args .caps) (c .before .before .before .before .before .before .before .before .before .before .before .before .before .before .before .args .spots) (c .before .before .before .before .before .before .before .before .before .before .before .before .before .before .before .args .j) (c .before .before .before .before .before .before .before .before .before .before .before .before .before .before .before .args .t13) (c .before .before .before .settle-all .result) (i .2) (c .before .before .before .settle-all .ensures) (p .7) in
+    let p = c .before .before .before .before .before .before .before .before .before .before .before .before .before .before .before .before .pre .1 in
+    let m = c .before .before .before .before .before .before .before .before .before .before .before .before .before .before .before .before .pre .0 in
+    let i = c .before .before .before .before .before .before .before .before .loop .inv in
+    let l = c .before .before .before .before .before .before .lowest .ensures .0 in
+    let w = uncoded-less (c .before .before .before .before .before .before .before .before .before .before .before .before .before .before .before .before .args .codes) (c .before .before .before .before .before .before .before .before .before .before .before .before .before .before .before .before .args .v) (c .before .before .before .before .before .before .before .before .before .before .pick .result) (c .before .before .before .before .before .before .lowest .result) (i .0) (p .3) (i .1) (i .2) l in
+    let q = valued-more (c .before .before .before .before .before .before .before .before .before .before .before .before .before .before .before .before .args .codes) (c .before .before .before .before .before .before .before .before .before .before .before .before .before .before .before .before .args .v) (c .before .before .before .before .before .before .before .before .before .before .pick .result) (c .before .before .before .before .before .before .lowest .result) (i .0) (p .3) (i .1) (c .before .before .before .before .before .before .before .before .before .before .before .before .before .before .before .before .args .ms) (c .before .before .before .before .before .before .before .before .before .before .before .before .before .before .before .before .args .gb .now) (c .before .before .before .before .before .before .before .before .before .before .before .before .before .before .before .before .args .all) (c .before .before .before .before .before .before .before .before .before .before .before .before .before .before .before .before .args .j) (c .before .before .before .before .before .before .before .before .before .before .before .before .before .before .before .before .args .used) (c .mark .result) l (c .mark .ensures) (p .6) in
+    let k = covers-more (c .before .before .before .before .before .before .before .before .before .before .before .before .before .before .before .before .args .codes) (c .before .before .before .before .before .before .before .before .before .before .before .before .before .before .before .before .args .v) (c .before .before .before .before .before .before .before .before .before .before .pick .result) (c .before .before .before .before .before .before .lowest .result) (i .0) (p .3) (i .1) (c .before .before .before .before .before .before .before .before .before .before .before .before .before .before .before .before .args .cl .now) (c .before .before .before .before .before .before .before .before .before .before .before .before .before .before .before .before .args .base .now) (c .before .before .before .before .before .before .before .before .before .before .before .before .before .before .before .before .args .ms) (c .before .before .before .before .before .before .before .before .before .before .before .before .before .before .before .before .args .caps) (c .before .before .before .before .before .before .before .before .before .before .before .before .before .before .before .before .args .spots) (c .before .before .before .before .before .before .before .before .before .before .before .before .before .before .before .before .args .j) (c .before .before .before .before .before .before .before .before .before .before .before .before .before .before .before .before .args .t13) (c .before .before .before .settle-all .result) (i .2) (c .before .before .before .settle-all .ensures) (p .7) in
     (omega arith, (p .0, p .1, p .2, p .3, p .4, p .5, q, k))
 
--- src/lib.rt:169:17
+-- src/lib.rt:181:13
+find-wrapping-add-u64-requires-2 : (t : ℕ) → find-lts.Need-wrapping-add-u64-requires-2 (
+  allowed-reads.Asked,
+  allowed-reads.Learnt,
+  pick-reads.Asked,
+  pick-reads.Learnt,
+  finish-reads.Asked,
+  finish-reads.Learnt,
+  lowest-reads.Asked,
+  lowest-reads.Learnt,
+  without-reads.Asked,
+  without-reads.Learnt,
+  wrapping-add-u64-reads.Asked,
+  wrapping-add-u64-reads.Learnt,
+  settle-all-reads.Asked,
+  settle-all-reads.Learnt,
+  empty-reads.Asked,
+  empty-reads.Learnt,
+  mark-reads.Asked,
+  mark-reads.Learnt,
+  find-below t,
+  find.Post,
+) (find-at t) find.Post find-Inv-loop find-μ-loop
+find-wrapping-add-u64-requires-2 t c κs = search needs
+
+-- src/lib.rt:184:17
 find-returns-2 : (t : ℕ) → find-lts.Need-returns-2 (
   allowed-reads.Asked,
   allowed-reads.Learnt,
@@ -382,6 +462,8 @@ find-returns-2 : (t : ℕ) → find-lts.Need-returns-2 (
   lowest-reads.Learnt,
   without-reads.Asked,
   without-reads.Learnt,
+  wrapping-add-u64-reads.Asked,
+  wrapping-add-u64-reads.Learnt,
   settle-all-reads.Asked,
   settle-all-reads.Learnt,
   empty-reads.Asked,
@@ -391,9 +473,9 @@ find-returns-2 : (t : ℕ) → find-lts.Need-returns-2 (
   find-below t,
   find.Post,
 ) (find-at t) find.Post find-Inv-loop find-μ-loop
-find-returns-2 t c = told-found (c .before .before .before .before .before .before .before .before .before .before .before .before .before .before .before .before .before .args .cl .now) (c .before .before .before .before .before .before .before .before .before .before .before .before .before .before .before .before .before .args .base .now) (c .before .before .before .before .before .before .before .before .before .before .before .before .before .before .before .before .before .args .ms) (c .before .before .before .before .before .before .before .before .before .before .before .before .before .before .before .before .before .args .ps) (c .before .before .before .before .before .before .before .before .before .before .before .before .before .before .before .before .before .args .caps) (c .before .before .before .before .before .before .before .before .before .before .before .before .before .before .before .before .before .args .spots) (c .before .before .before .before .before .before .before .before .before .before .before .before .before .before .before .before .before .args .v) (c .before .before .before .before .before .before .before .before .before .before .before .before .before .before .before .before .before .args .j) (c .before .before .before .before .before .before .before .before .before .before .before .before .before .before .before .before .before .args .codes) (c .before .before .before .before .before .before .before .before .before .before .before .before .before .before .before .before .before .args .t13) (set (c .before .before .before .before .before .before .before .before .before .before .before .before .before .before .before .before .before .args .codes) (c .before .before .before .before .before .before .before .before .before .before .before .pick .result) (c .before .before .before .before .before .before .before .lowest .result)) (c .before .before .before .before .before .settle-all .result) _ _ (c .if3 .taken) (c .before .find .ensures)
+find-returns-2 t c = told-found (c .before .before .before .before .before .before .before .before .before .before .before .before .before .before .before .before .before .before .before .before .args .cl .now) (c .before .before .before .before .before .before .before .before .before .before .before .before .before .before .before .before .before .before .before .before .args .base .now) (c .before .before .before .before .before .before .before .before .before .before .before .before .before .before .before .before .before .before .before .before .args .ms) (c .before .before .before .before .before .before .before .before .before .before .before .before .before .before .before .before .before .before .before .before .args .ps) (c .before .before .before .before .before .before .before .before .before .before .before .before .before .before .before .before .before .before .before .before .args .caps) (c .before .before .before .before .before .before .before .before .before .before .before .before .before .before .before .before .before .before .before .before .args .spots) (c .before .before .before .before .before .before .before .before .before .before .before .before .before .before .before .before .before .before .before .before .args .v) (c .before .before .before .before .before .before .before .before .before .before .before .before .before .before .before .before .before .before .before .before .args .j) (c .before .before .before .before .before .before .before .before .before .before .before .before .before .before .before .before .before .before .before .before .args .codes) (c .before .before .before .before .before .before .before .before .before .before .before .before .before .before .before .before .before .before .before .before .args .t13) (set (c .before .before .before .before .before .before .before .before .before .before .before .before .before .before .before .before .before .before .before .before .args .codes) (c .before .before .before .before .before .before .before .before .before .before .before .before .before .before .pick .result) (c .before .before .before .before .before .before .before .before .before .before .lowest .result)) (c .before .before .before .before .before .before .before .settle-all .result) _ _ (c .before .if3 .taken) (c .before .before .before .find .ensures)
 
--- src/lib.rt:157:5
+-- src/lib.rt:171:5
 find-loop-less : (t : ℕ) → find-lts.Need-loop-less (
   allowed-reads.Asked,
   allowed-reads.Learnt,
@@ -405,6 +487,8 @@ find-loop-less : (t : ℕ) → find-lts.Need-loop-less (
   lowest-reads.Learnt,
   without-reads.Asked,
   without-reads.Learnt,
+  wrapping-add-u64-reads.Asked,
+  wrapping-add-u64-reads.Learnt,
   settle-all-reads.Asked,
   settle-all-reads.Learnt,
   empty-reads.Asked,
@@ -414,9 +498,9 @@ find-loop-less : (t : ℕ) → find-lts.Need-loop-less (
   find-below t,
   find.Post,
 ) (find-at t) find.Post find-Inv-loop find-μ-loop
-find-loop-less t c = c .before .before .before .before .before .before .without .ensures .less (c .before .before .before .before .before .before .before .lowest .ensures .1)
+find-loop-less t c = c .before .before .before .before .before .before .before .before .without .ensures .less (c .before .before .before .before .before .before .before .before .before .lowest .ensures .1)
 
--- src/lib.rt:157:5
+-- src/lib.rt:171:5
 find-loop-again : (t : ℕ) → find-lts.Need-loop-again (
   allowed-reads.Asked,
   allowed-reads.Learnt,
@@ -428,6 +512,8 @@ find-loop-again : (t : ℕ) → find-lts.Need-loop-again (
   lowest-reads.Learnt,
   without-reads.Asked,
   without-reads.Learnt,
+  wrapping-add-u64-reads.Asked,
+  wrapping-add-u64-reads.Learnt,
   settle-all-reads.Asked,
   settle-all-reads.Learnt,
   empty-reads.Asked,
@@ -438,12 +524,12 @@ find-loop-again : (t : ℕ) → find-lts.Need-loop-again (
   find.Post,
 ) (find-at t) find.Post find-Inv-loop find-μ-loop
 find-loop-again t c =
-    let i = c .before .before .before .before .before .before .before .before .before .loop .inv in
-    let p = c .before .before .before .before .before .before .before .before .before .before .before .before .before .before .before .before .before .pre .1 in
-    let no-more = told-lost (c .before .before .before .before .before .before .before .before .before .before .before .before .before .before .before .before .before .args .cl .now) (c .before .before .before .before .before .before .before .before .before .before .before .before .before .before .before .before .before .args .base .now) (c .before .before .before .before .before .before .before .before .before .before .before .before .before .before .before .before .before .args .ms) (c .before .before .before .before .before .before .before .before .before .before .before .before .before .before .before .before .before .args .ps) (c .before .before .before .before .before .before .before .before .before .before .before .before .before .before .before .before .before .args .caps) (c .before .before .before .before .before .before .before .before .before .before .before .before .before .before .before .before .before .args .spots) (c .before .before .before .before .before .before .before .before .before .before .before .before .before .before .before .before .before .args .v) (c .before .before .before .before .before .before .before .before .before .before .before .before .before .before .before .before .before .args .j) (set (c .before .before .before .before .before .before .before .before .before .before .before .before .before .before .before .before .before .args .codes) (c .before .before .before .before .before .before .before .before .before .before .before .pick .result) (c .before .before .before .before .before .before .before .lowest .result)) (c .before .before .before .before .before .settle-all .result) (c .before .before .before .before .before .before .before .before .before .before .before .before .before .before .before .before .before .args .codes) (c .before .before .before .before .before .before .before .before .before .before .before .before .before .before .before .before .before .args .t13) _ _ (c .if3 .left) (c .before .find .ensures) in
-    (i .0, i .1, i .2, trying-more (c .before .before .before .before .before .before .before .before .before .before .before .before .before .before .before .before .before .args .cl .now) (c .before .before .before .before .before .before .before .before .before .before .before .before .before .before .before .before .before .args .base .now) (c .before .before .before .before .before .before .before .before .before .before .before .before .before .before .before .before .before .args .ms) (c .before .before .before .before .before .before .before .before .before .before .before .before .before .before .before .before .before .args .caps) (c .before .before .before .before .before .before .before .before .before .before .before .before .before .before .before .before .before .args .spots) (c .before .before .before .before .before .before .before .before .before .before .before .before .before .before .before .before .before .args .v) (c .before .before .before .before .before .before .before .before .before .before .before .before .before .before .before .before .before .args .j) (c .before .before .before .before .before .before .before .before .before .before .before .before .before .before .before .before .before .args .codes) (c .before .before .before .before .before .before .before .before .before .before .before .before .before .before .before .before .before .args .t13) (c .before .before .before .before .before .before .before .before .before .before .before .pick .result) (c .before .before .before .before .before .before .before .before .before .before .before .before .allowed .result) (i .1) (c .before .before .before .before .before .before .before .before .before .loop .left) (c .before .before .before .before .before .before .before .lowest .result) (c .before .before .before .before .before .before .without .result) (c .before .before .before .before .before .settle-all .result) (i .0) (p .3) (c .before .before .before .before .before .before .without .ensures) (c .before .before .before .before .before .settle-all .ensures) no-more (i .3))
+    let i = c .before .before .before .before .before .before .before .before .before .before .before .loop .inv in
+    let p = c .before .before .before .before .before .before .before .before .before .before .before .before .before .before .before .before .before .before .before .pre .1 in
+    let no-more = told-lost (c .before .before .before .before .before .before .before .before .before .before .before .before .before .before .before .before .before .before .before .args .cl .now) (c .before .before .before .before .before .before .before .before .before .before .before .before .before .before .before .before .before .before .before .args .base .now) (c .before .before .before .before .before .before .before .before .before .before .before .before .before .before .before .before .before .before .before .args .ms) (c .before .before .before .before .before .before .before .before .before .before .before .before .before .before .before .before .before .before .before .args .ps) (c .before .before .before .before .before .before .before .before .before .before .before .before .before .before .before .before .before .before .before .args .caps) (c .before .before .before .before .before .before .before .before .before .before .before .before .before .before .before .before .before .before .before .args .spots) (c .before .before .before .before .before .before .before .before .before .before .before .before .before .before .before .before .before .before .before .args .v) (c .before .before .before .before .before .before .before .before .before .before .before .before .before .before .before .before .before .before .before .args .j) (set (c .before .before .before .before .before .before .before .before .before .before .before .before .before .before .before .before .before .before .before .args .codes) (c .before .before .before .before .before .before .before .before .before .before .before .before .before .pick .result) (c .before .before .before .before .before .before .before .before .before .lowest .result)) (c .before .before .before .before .before .before .settle-all .result) (c .before .before .before .before .before .before .before .before .before .before .before .before .before .before .before .before .before .before .before .args .codes) (c .before .before .before .before .before .before .before .before .before .before .before .before .before .before .before .before .before .before .before .args .t13) _ _ (c .if3 .left) (c .before .before .find .ensures) in
+    (i .0, i .1, i .2, trying-more (c .before .before .before .before .before .before .before .before .before .before .before .before .before .before .before .before .before .before .before .args .cl .now) (c .before .before .before .before .before .before .before .before .before .before .before .before .before .before .before .before .before .before .before .args .base .now) (c .before .before .before .before .before .before .before .before .before .before .before .before .before .before .before .before .before .before .before .args .ms) (c .before .before .before .before .before .before .before .before .before .before .before .before .before .before .before .before .before .before .before .args .caps) (c .before .before .before .before .before .before .before .before .before .before .before .before .before .before .before .before .before .before .before .args .spots) (c .before .before .before .before .before .before .before .before .before .before .before .before .before .before .before .before .before .before .before .args .v) (c .before .before .before .before .before .before .before .before .before .before .before .before .before .before .before .before .before .before .before .args .j) (c .before .before .before .before .before .before .before .before .before .before .before .before .before .before .before .before .before .before .before .args .codes) (c .before .before .before .before .before .before .before .before .before .before .before .before .before .before .before .before .before .before .before .args .t13) (c .before .before .before .before .before .before .before .before .before .before .before .before .before .pick .result) (c .before .before .before .before .before .before .before .before .before .before .before .before .before .before .allowed .result) (i .1) (c .before .before .before .before .before .before .before .before .before .before .before .loop .left) (c .before .before .before .before .before .before .before .before .before .lowest .result) (c .before .before .before .before .before .before .before .before .without .result) (c .before .before .before .before .before .before .settle-all .result) (i .0) (p .3) (c .before .before .before .before .before .before .before .before .without .ensures) (c .before .before .before .before .before .before .settle-all .ensures) no-more (i .3))
 
--- src/lib.rt:157:5
+-- src/lib.rt:171:5
 find-loop-less-2 : (t : ℕ) → find-lts.Need-loop-less-2 (
   allowed-reads.Asked,
   allowed-reads.Learnt,
@@ -455,6 +541,8 @@ find-loop-less-2 : (t : ℕ) → find-lts.Need-loop-less-2 (
   lowest-reads.Learnt,
   without-reads.Asked,
   without-reads.Learnt,
+  wrapping-add-u64-reads.Asked,
+  wrapping-add-u64-reads.Learnt,
   settle-all-reads.Asked,
   settle-all-reads.Learnt,
   empty-reads.Asked,
@@ -464,9 +552,9 @@ find-loop-less-2 : (t : ℕ) → find-lts.Need-loop-less-2 (
   find-below t,
   find.Post,
 ) (find-at t) find.Post find-Inv-loop find-μ-loop
-find-loop-less-2 t c = c .before .before .before .without .ensures .less (c .before .before .before .before .lowest .ensures .1)
+find-loop-less-2 t c = c .before .before .before .before .without .ensures .less (c .before .before .before .before .before .lowest .ensures .1)
 
--- src/lib.rt:157:5
+-- src/lib.rt:171:5
 find-loop-again-2 : (t : ℕ) → find-lts.Need-loop-again-2 (
   allowed-reads.Asked,
   allowed-reads.Learnt,
@@ -478,6 +566,8 @@ find-loop-again-2 : (t : ℕ) → find-lts.Need-loop-again-2 (
   lowest-reads.Learnt,
   without-reads.Asked,
   without-reads.Learnt,
+  wrapping-add-u64-reads.Asked,
+  wrapping-add-u64-reads.Learnt,
   settle-all-reads.Asked,
   settle-all-reads.Learnt,
   empty-reads.Asked,
@@ -488,12 +578,12 @@ find-loop-again-2 : (t : ℕ) → find-lts.Need-loop-again-2 (
   find.Post,
 ) (find-at t) find.Post find-Inv-loop find-μ-loop
 find-loop-again-2 t c =
-    let i = c .before .before .before .before .before .before .loop .inv in
-    let p = c .before .before .before .before .before .before .before .before .before .before .before .before .before .before .pre .1 in
-    let no-more = empty-hopeless (c .before .before .before .before .before .before .before .before .before .before .before .before .before .before .args .cl .now) (c .before .before .before .before .before .before .before .before .before .before .before .before .before .before .args .base .now) (c .before .before .before .before .before .before .before .before .before .before .before .before .before .before .args .ms) (c .before .before .before .before .before .before .before .before .before .before .before .before .before .before .args .caps) (c .before .before .before .before .before .before .before .before .before .before .before .before .before .before .args .spots) (c .before .before .before .before .before .before .before .before .before .before .before .before .before .before .args .v) (c .before .before .before .before .before .before .before .before .before .before .before .before .before .before .args .j) (set (c .before .before .before .before .before .before .before .before .before .before .before .before .before .before .args .codes) (c .before .before .before .before .before .before .before .before .pick .result) (c .before .before .before .before .lowest .result)) (c .before .before .settle-all .result) (c .before .empty .ensures (not-false _ (c .if2 .left))) in
-    (i .0, i .1, i .2, trying-more (c .before .before .before .before .before .before .before .before .before .before .before .before .before .before .args .cl .now) (c .before .before .before .before .before .before .before .before .before .before .before .before .before .before .args .base .now) (c .before .before .before .before .before .before .before .before .before .before .before .before .before .before .args .ms) (c .before .before .before .before .before .before .before .before .before .before .before .before .before .before .args .caps) (c .before .before .before .before .before .before .before .before .before .before .before .before .before .before .args .spots) (c .before .before .before .before .before .before .before .before .before .before .before .before .before .before .args .v) (c .before .before .before .before .before .before .before .before .before .before .before .before .before .before .args .j) (c .before .before .before .before .before .before .before .before .before .before .before .before .before .before .args .codes) (c .before .before .before .before .before .before .before .before .before .before .before .before .before .before .args .t13) (c .before .before .before .before .before .before .before .before .pick .result) (c .before .before .before .before .before .before .before .before .before .allowed .result) (i .1) (c .before .before .before .before .before .before .loop .left) (c .before .before .before .before .lowest .result) (c .before .before .before .without .result) (c .before .before .settle-all .result) (i .0) (p .3) (c .before .before .before .without .ensures) (c .before .before .settle-all .ensures) no-more (i .3))
+    let i = c .before .before .before .before .before .before .before .loop .inv in
+    let p = c .before .before .before .before .before .before .before .before .before .before .before .before .before .before .before .pre .1 in
+    let no-more = empty-hopeless (c .before .before .before .before .before .before .before .before .before .before .before .before .before .before .before .args .cl .now) (c .before .before .before .before .before .before .before .before .before .before .before .before .before .before .before .args .base .now) (c .before .before .before .before .before .before .before .before .before .before .before .before .before .before .before .args .ms) (c .before .before .before .before .before .before .before .before .before .before .before .before .before .before .before .args .caps) (c .before .before .before .before .before .before .before .before .before .before .before .before .before .before .before .args .spots) (c .before .before .before .before .before .before .before .before .before .before .before .before .before .before .before .args .v) (c .before .before .before .before .before .before .before .before .before .before .before .before .before .before .before .args .j) (set (c .before .before .before .before .before .before .before .before .before .before .before .before .before .before .before .args .codes) (c .before .before .before .before .before .before .before .before .before .pick .result) (c .before .before .before .before .before .lowest .result)) (c .before .before .settle-all .result) (c .before .empty .ensures (not-false _ (c .if2 .left))) in
+    (i .0, i .1, i .2, trying-more (c .before .before .before .before .before .before .before .before .before .before .before .before .before .before .before .args .cl .now) (c .before .before .before .before .before .before .before .before .before .before .before .before .before .before .before .args .base .now) (c .before .before .before .before .before .before .before .before .before .before .before .before .before .before .before .args .ms) (c .before .before .before .before .before .before .before .before .before .before .before .before .before .before .before .args .caps) (c .before .before .before .before .before .before .before .before .before .before .before .before .before .before .before .args .spots) (c .before .before .before .before .before .before .before .before .before .before .before .before .before .before .before .args .v) (c .before .before .before .before .before .before .before .before .before .before .before .before .before .before .before .args .j) (c .before .before .before .before .before .before .before .before .before .before .before .before .before .before .before .args .codes) (c .before .before .before .before .before .before .before .before .before .before .before .before .before .before .before .args .t13) (c .before .before .before .before .before .before .before .before .before .pick .result) (c .before .before .before .before .before .before .before .before .before .before .allowed .result) (i .1) (c .before .before .before .before .before .before .before .loop .left) (c .before .before .before .before .before .lowest .result) (c .before .before .before .before .without .result) (c .before .before .settle-all .result) (i .0) (p .3) (c .before .before .before .before .without .ensures) (c .before .before .settle-all .ensures) no-more (i .3))
 
--- src/lib.rt:132:1
+-- src/lib.rt:139:1
 find-returns-3 : (t : ℕ) → find-lts.Need-returns-3 (
   allowed-reads.Asked,
   allowed-reads.Learnt,
@@ -505,6 +595,8 @@ find-returns-3 : (t : ℕ) → find-lts.Need-returns-3 (
   lowest-reads.Learnt,
   without-reads.Asked,
   without-reads.Learnt,
+  wrapping-add-u64-reads.Asked,
+  wrapping-add-u64-reads.Learnt,
   settle-all-reads.Asked,
   settle-all-reads.Learnt,
   empty-reads.Asked,
@@ -530,6 +622,8 @@ pub +find-spec : {M : Type 1} → statement M
   lowest-reads.Learnt,
   without-reads.Asked,
   without-reads.Learnt,
+  wrapping-add-u64-reads.Asked,
+  wrapping-add-u64-reads.Learnt,
   settle-all-reads.Asked,
   settle-all-reads.Learnt,
   empty-reads.Asked,
@@ -552,11 +646,13 @@ pub +find-spec : {M : Type 1} → statement M
     (find-loop-holds t)
     (find-lowest-requires t)
     (find-without-requires t)
+    (find-wrapping-add-u64-requires t)
     (find-array-write-next t)
     (find-settle-all-requires t)
     (find-empty-requires t)
     (find-mark-requires t)
     (find-find-requires t)
+    (find-wrapping-add-u64-requires-2 t)
     (find-returns-2 t)
     (find-loop-less t)
     (find-loop-again t)
