@@ -1,0 +1,29 @@
+use borrow.Author.Needs.{needs}
+use Rattle.memory.proofs.is_bad.Statement.{statement}
+use Rattle.memory.proofs.is_bad.Tie as tie
+use Rattle.memory.proofs.is_bad.Reads as reads
+use Rattle.memory.proofs.is_bad.Lts as lts
+use Rattle.memory.proofs.place.Reads as place-reads
+
+-- src/lib.rt:32:9
+place-requires : tie.Need-place-requires
+place-requires c κs = search needs
+
+-- src/lib.rt:33:13
+mul-w : tie.Need-mul-w
+mul-w c = search needs
+
+-- src/lib.rt:33:13
+array-read-w : tie.Need-array-read-w
+array-read-w c = search needs
+
+-- src/lib.rt:29:1
+returns : tie.Need-returns
+returns c = search needs
+
+-- src/lib.rt:29:1
+returns-2 : tie.Need-returns-2
+returns-2 c = search needs
+
+pub is-bad-spec : {M : Type 1} → statement M
+is-bad-spec = tie.close (tie.spec place-requires mul-w array-read-w returns returns-2)

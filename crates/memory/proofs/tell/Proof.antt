@@ -1,0 +1,49 @@
+use borrow.Author.Needs.{needs}
+use Rattle.memory.proofs.tell.Statement.{statement}
+use Rattle.memory.proofs.tell.Tie as tie
+use Rattle.memory.proofs.tell.Reads as reads
+use Rattle.memory.proofs.tell.Lts as lts
+use Rattle.memory.proofs.is_bad.Reads as is-bad-reads
+use Rattle.memory.proofs.is_good.Reads as is-good-reads
+use Rattle.memory.proofs.store.Reads as store-reads
+use Rattle.questions.proofs.ask.Reads as ask-reads
+
+-- src/lib.rt:67:8
+is-bad-requires : tie.Need-is-bad-requires
+is-bad-requires c κs = search needs
+
+-- src/lib.rt:68:9
+returns : tie.Need-returns
+returns c = search needs
+
+-- src/lib.rt:70:8
+is-good-requires : tie.Need-is-good-requires
+is-good-requires c κs = search needs
+
+-- src/lib.rt:71:9
+returns-2 : tie.Need-returns-2
+returns-2 c = search needs
+
+-- src/lib.rt:73:9
+ask-requires : tie.Need-ask-requires
+ask-requires c κs = search needs
+
+-- src/lib.rt:74:9
+store-requires : tie.Need-store-requires
+store-requires c κs = search needs
+
+-- src/lib.rt:63:1
+returns-3 : tie.Need-returns-3
+returns-3 c = search needs
+
+pub tell-spec : {M : Type 1} → statement M
+tell-spec =
+    tie.close
+    (tie.spec
+    is-bad-requires
+    returns
+    is-good-requires
+    returns-2
+    ask-requires
+    store-requires
+    returns-3)
