@@ -3,9 +3,11 @@
 use mathlib.Core.Path.{_≡_, refl, sym, ap, _∙_, subst}
 use mathlib.Core.Bool.{Bool, true, false}
 use mathlib.Core.List.{List}
-use Prim.Native.Nat.{ℕ, _+_, _-_, _*_, _/_, _%_, _≤_, _<_}
+use Prim.Native.Nat.{ℕ, _+_, _-_, _*_, _/_, _%_, _^_, _≤_, _<_}
 use native.Mathlib.Decide.{ℕ-discrete}
 use native.Mathlib.Omega.{arith}
+use native.Mathlib.Nat.{one-mul, mod-eq-of-lt, mul-le-mul}
+use lib.Pow.{pow-lt, pow-pos, pow-mono}
 use lib.ListN.{length, getD, set, length-set}
 use lib.Seq.{getD-set-same, getD-set-other}
 use Rattle.bits.specs.Logic.{true-false}
@@ -52,3 +54,16 @@ word-good k = record { not-ok = λ e. absurd (omega arith); half = λ e. absurd 
 
 pub word-bad : (k : ℕ) → Word k false (k * 2 + 1)
 word-bad k = record { not-ok = λ e. refl; half = λ e. (let z : (k * 2 + 1) / 2 ≡ k = omega arith in z) }
+
+-- ---- sets of outputs
+pub sets-are : (n : ℕ) → n ≤ 8 → (0 < 1 * 2 ^ n % 2 ^ 64) × (1 * 2 ^ n % 2 ^ 64 ≤ 256)
+sets-are n h =
+    let l : n < 64 = omega arith in
+    let e : 1 * 2 ^ n % 2 ^ 64 ≡ 2 ^ n = rw one-mul (mod-eq-of-lt (pow-lt l)) in
+    let p : 0 < 2 ^ n = pow-pos n in
+    let m : 2 ^ n ≤ 2 ^ 8 = pow-mono h in
+    (omega arith, omega arith)
+
+-- the sets of each size are at most 256, and m sizes are at most 8
+pub sizes-few : (end m : ℕ) → end ≤ 256 → m ≤ 8 → end * m ≤ 2048
+sizes-few end m h k = let p : end * m ≤ 256 * 8 = mul-le-mul h k in omega arith

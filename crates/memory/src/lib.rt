@@ -107,12 +107,12 @@ pub fn visit(
     rows: [u8; 8],
     mem: [u64; 256],
     a: usize,
-    n: usize,
+    n: u32,
 ) -> Reply
     requires { ⌜ Labels (now cl) × (v ≤ 32) × (m ≤ 8) × Short rows m × Honest (now cl) v mem × (a < 256) ⌝ }
     ensures { λ r. ⌜ Honest (now (cl .entry)) v (r .mem) × (r .ok ≡ false → Decided (now (cl .entry)) v m rows false rows) ⌝ }
 {
-    if u64::count_ones(a as u64) as usize == n {
+    if u64::count_ones(a as u64) == n {
         let k = questions::question(rows, m, a as u8);
         return tell(cl, v, k, mem);
     }
@@ -130,7 +130,7 @@ pub fn settle(cl: &[u8], v: usize, m: usize, rows: [u8; 8], mem: [u64; 256]) -> 
     let mut known = mem;
     let mut i = end * 2;
     while i < last {
-        let t = visit(cl, v, m, rows, known, i % end, i / end);
+        let t = visit(cl, v, m, rows, known, i % end, (i / end) as u32);
         known = t.mem;
         if !t.ok {
             return Reply { ok: false, mem: known };

@@ -1,3 +1,11 @@
+use Rattle.bits.specs.Logic.{true-false}
+use mathlib.Core.Path.{_≡_, refl, sym, ap, _∙_, subst}
+use mathlib.Core.Bool.{Bool, true, false}
+use mathlib.Core.List.{List}
+use mathlib.Core.Logic.{⊎-elim}
+use Prim.Native.Nat.{ℕ, _<_, _≤_, _+_, _-_, _*_, _^_, min, _/_, _%_}
+use native.Mathlib.Omega.{arith}
+use lib.ListN.{length, getD, set}
 use borrow.Author.Needs.{needs}
 use Rattle.memory.proofs.tell.Statement.{statement}
 use Rattle.memory.proofs.tell.Tie as tie
@@ -14,7 +22,7 @@ is-bad-requires c κs = search needs
 
 -- src/lib.rt:68:9
 returns : tie.Need-returns
-returns c = search needs
+returns c = (c .before .before .before .pre .2, λ e. c .before .is-bad .ensures (c .before .before .before .args .cl .now) (c .before .before .before .args .v) (c .before .before .before .pre .2) (c .if1 .taken))
 
 -- src/lib.rt:70:8
 is-good-requires : tie.Need-is-good-requires
@@ -22,11 +30,11 @@ is-good-requires c κs = search needs
 
 -- src/lib.rt:71:9
 returns-2 : tie.Need-returns-2
-returns-2 c = search needs
+returns-2 c = (c .before .before .before .before .before .pre .2, λ e. absurd (true-false e))
 
 -- src/lib.rt:73:9
 ask-requires : tie.Need-ask-requires
-ask-requires c κs = search needs
+ask-requires c κs = (c .before .before .before .before .before .pre .0, c .before .before .before .before .before .pre .1)
 
 -- src/lib.rt:74:9
 store-requires : tie.Need-store-requires
@@ -34,7 +42,7 @@ store-requires c κs = search needs
 
 -- src/lib.rt:63:1
 returns-3 : tie.Need-returns-3
-returns-3 c = search needs
+returns-3 c = (c .store .ensures (c .before .before .before .before .before .before .before .args .cl .now) (c .before .before .before .before .before .before .before .args .v) (c .before .ask .ensures) (c .before .before .before .before .before .before .before .pre .2), c .before .ask .ensures)
 
 pub tell-spec : {M : Type 1} → statement M
 tell-spec =
