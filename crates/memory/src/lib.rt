@@ -133,9 +133,15 @@ pub fn settle(cl: &[u8], v: usize, m: usize, rows: [u8; 8], mem: [u64; 256]) -> 
         let t = visit(cl, v, m, rows, known, i % end, (i / end) as u32);
         known = t.mem;
         if !t.ok {
-            return Reply { ok: false, mem: known };
+            return Reply {
+                ok: false,
+                mem: known,
+            };
         }
         i += 1;
     }
-    Reply { ok: true, mem: known }
+    Reply {
+        ok: true,
+        mem: known,
+    }
 }

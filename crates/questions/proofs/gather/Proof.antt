@@ -57,11 +57,11 @@ loop-less c = search needs
 loop-again : tie.Need-loop-again Inv-loop μ-loop
 loop-again c =
     let h = c .before .loop-test .taken in (
-    omega arith,
-    ⊎-elim
-    (λ w. gathered-more (c .before .before .before .args .k) (c .before .before .loop .o) (c .before .before .loop .rest) (c .before .before .loop .n) (c .before .before .loop .from) (c .before .before .loop .rows) h _ _ _ _ refl (w .0 .taken) (w .3) (w .1) (w .2) (c .before .before .loop .inv .1))
-    (λ w. gathered-skip (c .before .before .before .args .k) (c .before .before .loop .o) (c .before .before .loop .rest) (c .before .before .loop .n) (c .before .before .loop .from) (c .before .before .loop .rows) h _ _ _ (w .3) (w .1) (w .2) (c .before .before .loop .inv .1))
-    (c .if1 .came),
+      omega arith,
+      ⊎-elim
+          (λ w. gathered-more (c .before .before .before .args .k) (c .before .before .loop .o) (c .before .before .loop .rest) (c .before .before .loop .n) (c .before .before .loop .from) (c .before .before .loop .rows) h _ _ _ _ refl (w .0 .taken) (w .3) (w .1) (w .2) (c .before .before .loop .inv .1))
+          (λ w. gathered-skip (c .before .before .before .args .k) (c .before .before .loop .o) (c .before .before .loop .rest) (c .before .before .loop .n) (c .before .before .loop .from) (c .before .before .loop .rows) h _ _ _ (w .3) (w .1) (w .2) (c .before .before .loop .inv .1))
+          (c .if1 .came),
     )
 
 -- src/lib.rt:73:1

@@ -54,11 +54,11 @@ loop-less c = search needs
 loop-again : tie.Need-loop-again Inv-loop μ-loop
 loop-again c =
     let h = c .before .before .loop-test .taken in (
-    omega arith,
-    ⊎-elim
-    (λ w. moved-on (c .before .before .before .before .args .row) (c .before .before .before .before .args .t2) (c .before .before .before .loop .i) (c .before .before .before .loop .r) (w .1 .result) _ (sym (w .0 .taken) ∙ c .before .in-set .ensures) (w .1 .ensures .0) (w .2) (c .before .before .before .loop .inv .1))
-    (λ w. moved-off (c .before .before .before .before .args .row) (c .before .before .before .before .args .t2) (c .before .before .before .loop .i) (c .before .before .before .loop .r) _ (sym (w .0 .left) ∙ c .before .in-set .ensures) (w .1) (c .before .before .before .loop .inv .1))
-    (c .if1 .came),
+      omega arith,
+      ⊎-elim
+          (λ w. moved-on (c .before .before .before .before .args .row) (c .before .before .before .before .args .t2) (c .before .before .before .loop .i) (c .before .before .before .loop .r) (w .1 .result) _ (sym (w .0 .taken) ∙ c .before .in-set .ensures) (w .1 .ensures .0) (w .2) (c .before .before .before .loop .inv .1))
+          (λ w. moved-off (c .before .before .before .before .args .row) (c .before .before .before .before .args .t2) (c .before .before .before .loop .i) (c .before .before .before .loop .r) _ (sym (w .0 .left) ∙ c .before .in-set .ensures) (w .1) (c .before .before .before .loop .inv .1))
+          (c .if1 .came),
     )
 
 -- src/lib.rt:13:1
