@@ -65,6 +65,22 @@ on-half n i = sym (ap (λ (x : ℕ). eqb (x % 2) 1) (shr-shr n 1 i ∙ ap (λ (j
 on-high : (b : Bool) (n i : ℕ) → on (bit b + 2 * n) (suc i) ≡ on n i
 on-high b n i = on-half (bit b + 2 * n) i ∙ ap (λ (z : ℕ). on z i) (let h = bit-le b in let e : (bit b + 2 * n) / 2 ≡ n = omega arith in e)
 
+-- the number with the digits p below n
+unfoldable pub digitsOf : (ℕ → Bool) → ℕ → ℕ
+digitsOf p zero = 0
+digitsOf p (suc n) = bit (p 0) + 2 * digitsOf (λ (i : ℕ). p (suc i)) n
+
+pub on-digits : (p : ℕ → Bool) (n i : ℕ) → i < n → on (digitsOf p n) i ≡ p i
+unfolding digitsOf
+on-digits p zero i h = absurd (omega arith)
+on-digits p (suc n) zero h = on-low (p 0) (digitsOf (λ (i : ℕ). p (suc i)) n)
+on-digits p (suc n) (suc i) h = on-high (p 0) (digitsOf (λ (i : ℕ). p (suc i)) n) i ∙ on-digits (λ (i : ℕ). p (suc i)) n i (omega arith)
+
+pub digits-none : (p : ℕ → Bool) (n : ℕ) → ((i : ℕ) → p i ≡ false) → digitsOf p n ≡ 0
+unfolding digitsOf
+digits-none p zero h = refl
+digits-none p (suc n) h = ap₂ (λ (a b : ℕ). a + 2 * b) (ap bit (h 0)) (digits-none (λ (i : ℕ). p (suc i)) n (λ i. h (suc i)))
+
 pub count-shift : (p : ℕ → Bool) (n : ℕ) → count p (suc n) ≡ bit (p 0) + count (λ (i : ℕ). p (suc i)) n
 unfolding count
 count-shift p zero = omega arith

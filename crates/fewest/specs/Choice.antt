@@ -198,18 +198,18 @@ module _ (cl budgets : List ℕ) (v m u n : ℕ) (rows : List ℕ) where
   pub tried-all : (r : ℕ) → 2 ^ u ≤ r → Tried cl budgets v m u n rows r → Lost cl budgets v m u n rows
   tried-all r h t = record { none = λ R F N e. let a = t .past R F N e in let b = N .short n in omega arith }
 
+-- no codes serve the rows so far
+pub lost-of : (cl budgets : List ℕ) (v m u n : ℕ) (rows : List ℕ) → n ≤ m → Decided cl v n rows false rows → Lost cl budgets v m u n rows
+lost-of cl budgets v m u n rows h d = record { none = λ R F N q. d F (record { tells = λ o x y i a b c p. N .coded .tells o x y (omega arith) a b c (ap (bitAnd (F x)) (q o i) ∙ p ∙ sym (ap (bitAnd (F y)) (q o i))) }) (N .zero) }
+
 -- all rows are chosen: the codes decide
-pub chosen-end : (cl budgets : List ℕ) (v m u n : ℕ) (rows codes : List ℕ) (ok : Bool) → n ≡ m → Rows budgets u n rows → Decided cl v m rows ok codes → Chosen cl budgets v m u n rows ok rows codes
-chosen-end cl budgets v m u n rows codes true e s d = record { rows-fit = subst (λ (z : ℕ). Rows budgets u z rows) e s; coded = d }
-chosen-end cl budgets v m u n rows codes false e s d = record { none = λ R F N q. d F (record { tells = λ o x y i a b c p. N .coded .tells o x y i a b c (ap (bitAnd (F x)) (q o (omega arith)) ∙ p ∙ sym (ap (bitAnd (F y)) (q o (omega arith)))) }) (N .zero) }
+pub chosen-end : (cl budgets : List ℕ) (v m u n : ℕ) (rows rows' codes : List ℕ) (ok : Bool) → n ≡ m → rows' ≡ rows → Rows budgets u n rows → Decided cl v m rows ok codes → Chosen cl budgets v m u n rows ok rows' codes
+chosen-end cl budgets v m u n rows rows' codes true e q s d = subst (λ (z : List ℕ). Found cl budgets v m u z codes) (sym q) record { rows-fit = subst (λ (z : ℕ). Rows budgets u z rows) e s; coded = d }
+chosen-end cl budgets v m u n rows rows' codes false e q s d = subst (λ (z : ℕ). Lost cl budgets v m u z rows) (sym e) (lost-of cl budgets v m u m rows (omega arith) d)
 
 pub chosen-found : (cl budgets : List ℕ) (v m u n n' : ℕ) (rows rows₀ rows' codes : List ℕ) (ok : Bool) → ok ≡ true → Chosen cl budgets v m u n' rows₀ ok rows' codes → Chosen cl budgets v m u n rows ok rows' codes
 chosen-found cl budgets v m u n n' rows rows₀ rows' codes true e c = c
 chosen-found cl budgets v m u n n' rows rows₀ rows' codes false e c = absurd (true-false (sym e))
-
-pub decided-lost : (cl : List ℕ) (v j : ℕ) (rows codes : List ℕ) (ok : Bool) → ok ≡ false → Decided cl v j rows ok codes → Decided cl v j rows false rows
-decided-lost cl v j rows codes false e d = d
-decided-lost cl v j rows codes true e d = absurd (true-false e)
 
 -- ---- complementing: every table 0 at vertex 0
 pub record Zeroed (codes : List ℕ) (n : ℕ) (r : List ℕ) : Type 0 where

@@ -1,0 +1,39 @@
+use borrow.Author.Tests.{eqb-true}
+use Rattle.memory.specs.Memory.{Honest, honest-found}
+use Rattle.bits.specs.Logic.{true-false}
+use mathlib.Core.Path.{_≡_, refl, sym, ap, _∙_, subst}
+use mathlib.Core.Bool.{Bool, true, false}
+use mathlib.Core.List.{List}
+use mathlib.Core.Logic.{⊎-elim}
+use Prim.Native.Nat.{ℕ, _<_, _≤_, _+_, _-_, _*_, _^_, min, _/_, _%_}
+use native.Mathlib.Omega.{arith}
+use lib.ListN.{length, getD, set}
+use borrow.Author.Needs.{needs}
+use Rattle.memory.proofs.is_bad.Statement.{statement}
+use Rattle.memory.proofs.is_bad.Tie as tie
+use Rattle.memory.proofs.is_bad.Reads as reads
+use Rattle.memory.proofs.is_bad.Lts as lts
+use Rattle.memory.proofs.place.Reads as place-reads
+
+-- src/lib.rt:32:9
+place-requires : tie.Need-place-requires
+place-requires c κs = search needs
+
+-- src/lib.rt:33:13
+mul-w : tie.Need-mul-w
+mul-w c = search needs
+
+-- src/lib.rt:33:13
+array-read-w : tie.Need-array-read-w
+array-read-w c = search needs
+
+-- src/lib.rt:29:1
+returns : tie.Need-returns
+returns c = λ cl v s e. honest-found cl v (c .before .before .args .t1) (c .before .place .result) _ (c .before .before .args .k) (c .before .place .ensures) refl (c .if1 .taken) (eqb-true _ _ e) s
+
+-- src/lib.rt:29:1
+returns-2 : tie.Need-returns-2
+returns-2 c = λ cl v s e. absurd (true-false (sym e))
+
+pub is-bad-spec : {M : Type 1} → statement M
+is-bad-spec = tie.close (tie.spec place-requires mul-w array-read-w returns returns-2)

@@ -1,0 +1,147 @@
+// A memory of questions answered, and the subsets of outputs for which it is asked. What it says was found to have no codes
+// has none; that something has codes is used to leave a search out, and nothing rests on it. It rests on questions.
+ghost use mathlib.Core.Path.{_≡_};
+ghost use mathlib.Core.Bool.{Bool, true, false};
+ghost use mathlib.Core.List.{List};
+ghost use Prim.Native.Nat.{ℕ, _+_, _*_, _<_, _≤_, _^_};
+ghost use lib.ListN.{length, getD};
+ghost use Rattle.numbering.specs.Given.{Labels, item};
+ghost use Rattle.readers.specs.Masks.{Short, Decided};
+ghost use Rattle.questions.specs.Question.{Barred};
+ghost use Rattle.memory.specs.Memory.{Honest, Word};
+
+// The word for a question and its answer: its last digit is 1 where there are no codes.
+pub fn word(k: u64, ok: bool) -> u64
+    requires { ⌜ k < 2 ^ 62 ⌝ }
+    ensures { λ r. ⌜ Word k ok r ⌝ }
+{
+    if ok { k * 2 } else { k * 2 + 1 }
+}
+
+// Where a question's word stands.
+pub fn place(k: u64) -> usize
+    ensures { λ r. ⌜ r < 256 ⌝ }
+{
+    (k % 251) as usize
+}
+
+// Whether the question is known to have no codes.
+pub fn is_bad(mem: [u64; 256], k: u64) -> bool
+    ensures { λ r. ⌜ ((cl : List ℕ) (v : ℕ) → Honest cl v mem → r ≡ true → Barred cl v k) ⌝ }
+{
+    let i = place(k);
+    let w = mem[i];
+    if w % 2 == 1 { w / 2 == k } else { false }
+}
+
+// Whether the question is known to have codes.
+pub fn is_good(mem: [u64; 256], k: u64) -> bool {
+    let i = place(k);
+    let w = mem[i];
+    if w % 2 == 0 { w / 2 == k } else { false }
+}
+
+// The memory with one answer more.
+pub fn store(mem: [u64; 256], k: u64, ok: bool) -> [u64; 256]
+    ensures { λ r. ⌜ ((cl : List ℕ) (v : ℕ) → (ok ≡ false → Barred cl v k) → Honest cl v mem → Honest cl v r) ⌝ }
+{
+    let mut r = mem;
+    if k < 4611686018427387904 {
+        let i = place(k);
+        r[i] = word(k, ok);
+    }
+    r
+}
+
+// An answer, and the memory after it.
+pub struct Reply {
+    pub ok: bool,
+    pub mem: [u64; 256],
+}
+
+// Whether some codes answer the question, from memory where it is known.
+pub fn tell(cl: &[u8], v: usize, k: u64, mem: [u64; 256]) -> Reply
+    requires { ⌜ Labels (now cl) × (v ≤ 32) × Honest (now cl) v mem ⌝ }
+    ensures { λ r. ⌜ Honest (now (cl .entry)) v (r .mem) × (r .ok ≡ false → Barred (now (cl .entry)) v k) ⌝ }
+{
+    if is_bad(mem, k) {
+        return Reply { ok: false, mem };
+    }
+    if is_good(mem, k) {
+        return Reply { ok: true, mem };
+    }
+    let ok = questions::ask(cl, v, k);
+    let next = store(mem, k, ok);
+    Reply { ok, mem: next }
+}
+
+// How many sets of n outputs there are.
+pub fn sets(n: usize) -> usize
+    requires { ⌜ n ≤ 8 ⌝ }
+    ensures { λ r. ⌜ (0 < r) × (r ≤ 256) ⌝ }
+{
+    1 << n
+}
+
+// Whether one of the sets from .. to - 1 of the first n outputs is known to have no codes for the rows.
+pub fn known_bad(mem: [u64; 256], rows: [u8; 8], n: usize, from: usize, to: usize) -> bool
+    requires { ⌜ (n ≤ 8) × (to ≤ 256) × Short rows n ⌝ }
+    ensures { λ r. ⌜ ((cl : List ℕ) (v : ℕ) → Honest cl v mem → r ≡ true → Decided cl v n rows false rows) ⌝ }
+{
+    let mut a = from;
+    while a < to {
+        let k = questions::question(rows, n, a as u8);
+        if is_bad(mem, k) {
+            return true;
+        }
+        a += 1;
+    }
+    false
+}
+
+// Whether the outputs of the set a, where it has n of them, may have codes for the rows.
+pub fn visit(
+    cl: &[u8],
+    v: usize,
+    m: usize,
+    rows: [u8; 8],
+    mem: [u64; 256],
+    a: usize,
+    n: u32,
+) -> Reply
+    requires { ⌜ Labels (now cl) × (v ≤ 32) × (m ≤ 8) × Short rows m × Honest (now cl) v mem × (a < 256) ⌝ }
+    ensures { λ r. ⌜ Honest (now (cl .entry)) v (r .mem) × (r .ok ≡ false → Decided (now (cl .entry)) v m rows false rows) ⌝ }
+{
+    if u64::count_ones(a as u64) == n {
+        let k = questions::question(rows, m, a as u8);
+        return tell(cl, v, k, mem);
+    }
+    Reply { ok: true, mem }
+}
+
+// Whether every set of two or more of the m outputs, but not of all, has codes for the rows; smaller sets first, since
+// they are asked quickly and rule out more.
+pub fn settle(cl: &[u8], v: usize, m: usize, rows: [u8; 8], mem: [u64; 256]) -> Reply
+    requires { ⌜ Labels (now cl) × (v ≤ 32) × (m ≤ 8) × Short rows m × Honest (now cl) v mem ⌝ }
+    ensures { λ r. ⌜ Honest (now (cl .entry)) v (r .mem) × (r .ok ≡ false → Decided (now (cl .entry)) v m rows false rows) ⌝ }
+{
+    let end = sets(m);
+    let last = end * m;
+    let mut known = mem;
+    let mut i = end * 2;
+    while i < last {
+        let t = visit(cl, v, m, rows, known, i % end, (i / end) as u32);
+        known = t.mem;
+        if !t.ok {
+            return Reply {
+                ok: false,
+                mem: known,
+            };
+        }
+        i += 1;
+    }
+    Reply {
+        ok: true,
+        mem: known,
+    }
+}

@@ -1,0 +1,2 @@
+-- Question has the definitions that contracts cite, and their laws.
+pub mod Question
