@@ -33,21 +33,13 @@ pub fn suits(r: u8, want: u8, same: u8) -> bool
     }
 }
 
-// Whether codes for the rows of the first j outputs are possible, as far as a count shows.
-pub fn possible(cl: &[u8], v: usize, j: usize, rows: [u8; 8]) -> bool
-    requires { ⌜ Labels (now cl) × (v ≤ 32) × (j ≤ 8) × Short rows j ⌝ }
-    ensures { λ r. ⌜ (r ≡ false → Decided (now (cl .entry)) v j rows false rows) ⌝ }
-{
-    true
-}
-
 // Whether the rows of the first n + 1 outputs may go on: nothing rules them out that a count or the memory shows. A set of
 // outputs without the last of them was looked up before.
 pub fn alive(cl: &[u8], v: usize, n: usize, rows: [u8; 8], mem: [u64; 256]) -> bool
     requires { ⌜ Labels (now cl) × (v ≤ 32) × (n < 8) × Short rows (n + 1) × Honest (now cl) v mem ⌝ }
     ensures { λ r. ⌜ (r ≡ false → Decided (now (cl .entry)) v (n + 1) rows false rows) ⌝ }
 {
-    if !possible(cl, v, n + 1, rows) {
+    if !readers::possible(cl, v, n + 1, rows) {
         return false;
     }
     !memory::known_bad(mem, rows, n + 1, memory::sets(n), memory::sets(n + 1))

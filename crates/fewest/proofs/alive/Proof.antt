@@ -12,7 +12,7 @@ use Rattle.fewest.proofs.alive.Statement.{statement}
 use Rattle.fewest.proofs.alive.Tie as tie
 use Rattle.fewest.proofs.alive.Reads as reads
 use Rattle.fewest.proofs.alive.Lts as lts
-use Rattle.fewest.proofs.possible.Reads as possible-reads
+use Rattle.readers.proofs.possible.Reads as possible-reads
 use Rattle.memory.proofs.known_bad.Reads as known-bad-reads
 use Rattle.memory.proofs.sets.Reads as sets-reads
 
