@@ -109,3 +109,11 @@ based-more cl rows v j n x base h e s = record {
       (less-or-equal i n (omega arith));
   rest = λ i k. getD-set-other base n i x 0 (λ q. let z : i ≡ n = q in omega arith) ∙ s .rest i (omega arith);
 }
+
+-- a class that needs none
+pub based-none : (cl rows : List ℕ) (v j n : ℕ) (base : List ℕ) → Based cl rows v j n base → Based cl rows v j (n + 1) base
+based-none cl rows v j n base s = record {
+  long = s .long;
+  reasons = λ i k. ⊎-elim (s .reasons i) (λ q. inl (s .rest i (omega arith))) (less-or-equal i n (omega arith));
+  rest = λ i k. s .rest i (omega arith);
+}

@@ -54,15 +54,11 @@ pub fn kinds(cl: &[u8], v: usize, o: usize, l: u8, q: usize) -> u8
     g
 }
 
-// How many blocks class l of o needs; none where no vertex has the class.
+// How many blocks class l of o needs.
 pub fn need(cl: &[u8], v: usize, j: usize, rows: [u8; 8], o: usize, l: u8) -> u8
     requires { ⌜ Labels (now cl) × (v ≤ 32) × (j ≤ 8) × (o < j) ⌝ }
     ensures { λ r. ⌜ Reason (now (cl .entry)) rows v j o l r ⌝ }
 {
-    let here = kinds(cl, v, o, l, o);
-    if here == 0 {
-        return 0;
-    }
     let mut n: u8 = 0;
     let mut q = 0;
     while q < j {
@@ -77,16 +73,36 @@ pub fn need(cl: &[u8], v: usize, j: usize, rows: [u8; 8], o: usize, l: u8) -> u8
     n
 }
 
-// The same for each class l of each output o, at o * 32 + l.
+// The classes of output o.
+pub fn classes(cl: &[u8], v: usize, o: usize) -> u64
+    requires { ⌜ Labels (now cl) × (v ≤ 32) × (o < 8) ⌝ }
+{
+    let mut r: u64 = 0;
+    let mut x = 0;
+    while x < v {
+        r = cells::with(r, numbering::label(cl, o, x));
+        x += 1;
+    }
+    r
+}
+
+// The same for each class l of each output o, at o * 32 + l; a class that no vertex has needs none.
 pub fn bases(cl: &[u8], v: usize, j: usize, rows: [u8; 8]) -> [u8; 256]
     requires { ⌜ Labels (now cl) × (v ≤ 32) × (j ≤ 8) ⌝ }
     ensures { λ r. ⌜ Based (now (cl .entry)) rows v j (j * 32) r ⌝ }
 {
     let mut r = [0u8; 256];
     let end = j * 32;
+    let mut here: u64 = 0;
     let mut i = 0;
     while i < end {
-        r[i] = need(cl, v, j, rows, i / 32, (i % 32) as u8);
+        let l = (i % 32) as u8;
+        if l == 0 {
+            here = classes(cl, v, i / 32);
+        }
+        if cells::in_set(here, l) {
+            r[i] = need(cl, v, j, rows, i / 32, l);
+        }
         i += 1;
     }
     r
