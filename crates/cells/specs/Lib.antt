@@ -7,3 +7,4 @@ pub mod Sorted
 pub mod Codes
 pub mod Shared
 pub mod Sets
+pub mod Renumbered

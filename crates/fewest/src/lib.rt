@@ -12,7 +12,9 @@ ghost use Rattle.cells.specs.Core.{Differ, Answer, coreOf};
 ghost use Rattle.numbering.specs.Given.{Labels, labelAt, item};
 ghost use Rattle.readers.specs.Masks.{Short, Decided};
 ghost use Rattle.memory.specs.Memory.{Honest};
+ghost use Rattle.orders.specs.Order.{Order, Eight};
 ghost use Rattle.fewest.specs.Choice.{Rows, Alike, Chosen, Suits, Zeroed, Answered};
+ghost use Rattle.fewest.specs.Outputs.{Picked, Returned};
 
 // The smaller of two numbers.
 pub fn smaller(a: u8, b: u8) -> u8
@@ -164,8 +166,9 @@ pub struct Core {
     pub codes: [u8; 32],
 }
 
-// The fewest cells, up to the limit, that serve m outputs with these classes of v vertices and these budgets.
-pub fn fewest(cl: &[u8], budgets: [u8; 8], v: usize, m: usize, limit: u8) -> Core
+// The fewest cells, up to the limit, that serve m outputs with these classes of v vertices and these budgets, with the
+// outputs in the order given.
+pub fn least(cl: &[u8], budgets: [u8; 8], v: usize, m: usize, limit: u8) -> Core
     requires { ⌜ Labels (now cl) × (v ≤ 32) × (m ≤ 8) × (limit ≤ 6) ⌝ }
     ensures { λ r. ⌜ Answered (now (cl .entry)) budgets v m limit (r .found) (r .count) (r .rows) (r .codes) ⌝ }
 {
@@ -193,5 +196,85 @@ pub fn fewest(cl: &[u8], budgets: [u8; 8], v: usize, m: usize, limit: u8) -> Cor
         count: 0,
         rows: none,
         codes: [0u8; 32],
+    }
+}
+
+// How many classes output o has.
+pub fn classes(cl: &[u8], v: usize, o: usize) -> u64
+    requires { ⌜ Labels (now cl) × (v ≤ 32) × (o < 8) ⌝ }
+{
+    let mut seen: u64 = 0;
+    let mut n: u64 = 0;
+    let mut x: usize = 0;
+    while x < v {
+        let l = numbering::label(cl, o, x);
+        if !cells::in_set(seen, l) {
+            seen = cells::with(seen, l);
+            n += 1;
+        }
+        x += 1;
+    }
+    n
+}
+
+// How many classes each output has.
+pub fn sizes(cl: &[u8], v: usize, m: usize) -> [u64; 8]
+    requires { ⌜ Labels (now cl) × (v ≤ 32) × (m ≤ 8) ⌝ }
+{
+    let mut r = [0u64; 8];
+    let mut o: usize = 0;
+    while o < m {
+        r[o] = classes(cl, v, o);
+        o += 1;
+    }
+    r
+}
+
+// The budgets in the order from.
+pub fn picked(budgets: [u8; 8], from: [u8; 8]) -> [u8; 8]
+    requires { ⌜ Eight from ⌝ }
+    ensures { λ r. ⌜ Picked budgets from 8 r ⌝ }
+{
+    let mut r = [0u8; 8];
+    let mut i: usize = 0;
+    while i < 8 {
+        r[i] = budgets[from[i] as usize];
+        i += 1;
+    }
+    r
+}
+
+// The rows, which stand in the order from, back in their places.
+pub fn returned(rows: [u8; 8], from: [u8; 8], m: usize) -> [u8; 8]
+    requires { ⌜ (m ≤ 8) × Eight from ⌝ }
+    ensures { λ r. ⌜ Returned rows from m r ⌝ }
+{
+    let mut r = [0u8; 8];
+    let mut i: usize = 0;
+    while i < m {
+        r[from[i] as usize] = rows[i];
+        i += 1;
+    }
+    r
+}
+
+// The fewest cells, up to the limit, that serve m outputs with these classes of v vertices and these budgets. Outputs with
+// more classes are given their cells first: they leave less choice.
+pub fn fewest(cl: &[u8], budgets: [u8; 8], v: usize, m: usize, limit: u8) -> Core
+    requires { ⌜ Labels (now cl) × (v ≤ 32) × (m ≤ 8) × (limit ≤ 6) ⌝ }
+    ensures { λ r. ⌜ Answered (now (cl .entry)) budgets v m limit (r .found) (r .count) (r .rows) (r .codes) ⌝ }
+{
+    let from = orders::falling(sizes(cl, v, m), m);
+    let labels = questions::labels(cl, from);
+    let bs = picked(budgets, from);
+    let r = least(&labels, bs, v, m, limit);
+    let found = r.rows;
+    let codes = r.codes;
+    let rows = returned(found, from, m);
+    Core {
+        found: r.found,
+        count: r.count,
+        rows,
+        codes,
     }
 }

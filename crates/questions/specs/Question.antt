@@ -4,7 +4,7 @@
 -- cells are put in another order. So a question without codes rules out every core whose rows it was made of. Assumes nothing.
 use mathlib.Core.Path.{_≡_, refl, sym, ap, ap₂, _∙_, subst}
 use mathlib.Core.Bool.{Bool, true, false}
-use mathlib.Core.List.{List, [], _∷_}
+use mathlib.Core.List.{List}
 use mathlib.Core.Logic.{_⊎_, inl, inr, ⊎-elim}
 use Prim.Native.Nat.{ℕ, zero, suc, _+_, _-_, _*_, _/_, _%_, _^_, _≤_, _<_}
 use native.Mathlib.Decide.{ℕ-discrete, decLt}
@@ -24,6 +24,7 @@ use Rattle.cells.specs.Sets.{With, with-power}
 use Rattle.cells.specs.Codes.{Coded, digitsOf, on-digits, digits-none}
 use Rattle.numbering.specs.Given.{labelAt, item, Labels}
 use Rattle.readers.specs.Masks.{Short, Decided}
+use Rattle.orders.specs.Order.{Order}
 
 -- ======== definitions
 -- output o's entry in question k
@@ -38,11 +39,6 @@ pub record Barred (cl : List ℕ) (v k : ℕ) : Type 0 where
 -- where no codes answer k, none serve the first n rows
 pub record Asks (rows : List ℕ) (n k : ℕ) : Type 0 where
   pub rules-out : (cl : List ℕ) (v : ℕ) → Barred cl v k → Decided cl v n rows false rows
-
--- perm has each of the first n cells, and in its first n places cells; with n = 6 it is an order of the cells
-pub record Order (perm : List ℕ) (n : ℕ) : Type 0 where
-  pub low : (i : ℕ) → i < n → item perm i < 6
-  pub onto : (j : ℕ) → j < n → (i : ℕ) × (i < 6) × (item perm i ≡ j)
 
 -- r has the first i digits of row in the order perm, and no more
 pub record Moved (row : ℕ) (perm : List ℕ) (i r : ℕ) : Type 0 where
@@ -107,29 +103,6 @@ moved-low row perm r s = low-of (equal-digits (bitAnd r 63) r (λ k. on-and r 63
     go : (k : ℕ) → Dec (k < 6) → andb (on r k) (on 63 k) ≡ on r k
     go k (yes l) = ap (λ (b : Bool). andb (on r k) b) (on-ones 6 k l) ∙ and-on (on r k)
     go k (no l) = ap (λ (b : Bool). andb b (on 63 k)) (s .rest k (omega arith)) ∙ sym (s .rest k (omega arith))
-
--- ---- orders
-pub order-start : (perm : List ℕ) → Order perm 0
-order-start perm = record { low = λ i h. absurd (omega arith); onto = λ j h. absurd (omega arith) }
-
-pub order-more : (perm : List ℕ) (n i : ℕ) → item perm n < 6 → i < 6 → item perm i ≡ n → Order perm n → Order perm (n + 1)
-order-more perm n i l h e s = record {
-  low = λ k b. ⊎-elim (s .low k) (λ q. subst (λ (z : ℕ). item perm z < 6) (sym q) l) (less-or-equal k n (omega arith));
-  onto = λ j b. ⊎-elim (s .onto j) (λ q. (i, h, e ∙ sym q)) (less-or-equal j n (omega arith));
-}
-
--- the cells as they stand
-pub order-plain : Order (0 ∷ 1 ∷ 2 ∷ 3 ∷ 4 ∷ 5 ∷ []) 6
-order-plain = record { low = λ i h. subst (λ (z : ℕ). z < 6) (sym (same i h)) h; onto = λ j h. (j, h, same j h) }
-  where
-    same : (i : ℕ) → i < 6 → item (0 ∷ 1 ∷ 2 ∷ 3 ∷ 4 ∷ 5 ∷ []) i ≡ i
-    same zero h = refl
-    same (suc zero) h = refl
-    same (suc (suc zero)) h = refl
-    same (suc (suc (suc zero))) h = refl
-    same (suc (suc (suc (suc zero)))) h = refl
-    same (suc (suc (suc (suc (suc zero))))) h = refl
-    same (suc (suc (suc (suc (suc (suc i)))))) h = absurd (omega arith)
 
 -- ---- entries
 entry-first : (k e : ℕ) → e < 128 → entry (k * 128 + e) 0 ≡ e

@@ -1,5 +1,5 @@
 // Questions about some of the outputs: made of the rows so far, and asked on the labels of these outputs alone. A question
-// is a number, so that a memory of answers is an array (specs/Question has the argument). It rests on joint.
+// is a number, so that a memory of answers is an array (specs/Question has the argument). It rests on joint and orders.
 ghost use mathlib.Core.Path.{_≡_};
 ghost use mathlib.Core.Bool.{Bool, true, false};
 ghost use mathlib.Core.List.{List};
@@ -7,10 +7,11 @@ ghost use Prim.Native.Nat.{ℕ, _+_, _*_, _<_, _≤_};
 ghost use lib.ListN.{length, getD};
 ghost use Rattle.numbering.specs.Given.{Labels, item};
 ghost use Rattle.readers.specs.Masks.{Short};
-ghost use Rattle.questions.specs.Question.{Barred, Asks, Order, Moved, Part, Packed, Gathered, Taken};
+ghost use Rattle.orders.specs.Order.{Order};
+ghost use Rattle.questions.specs.Question.{Barred, Asks, Moved, Part, Packed, Gathered, Taken};
 
 // The row with its cells in the order perm.
-pub fn moved(row: u8, perm: [u8; 6]) -> u8
+pub fn moved(row: u8, perm: [u8; 8]) -> u8
     requires { ⌜ Order perm 6 ⌝ }
     ensures { λ r. ⌜ (r < 64) × Moved row perm 6 r ⌝ }
 {
@@ -26,7 +27,7 @@ pub fn moved(row: u8, perm: [u8; 6]) -> u8
 }
 
 // Output o's entry in the question about those of the first n outputs that are in the set asked; 64 where it is not.
-pub fn entry(rows: [u8; 8], n: usize, asked: u8, perm: [u8; 6], o: usize) -> u8
+pub fn entry(rows: [u8; 8], n: usize, asked: u8, perm: [u8; 8], o: usize) -> u8
     requires { ⌜ (n ≤ 8) × (o < 8) × Order perm 6 ⌝ }
     ensures { λ r. ⌜ Part rows n perm o r ⌝ }
 {
@@ -39,7 +40,7 @@ pub fn entry(rows: [u8; 8], n: usize, asked: u8, perm: [u8; 6], o: usize) -> u8
 }
 
 // The question about those of the first n outputs that are in the set asked, with the cells in the order perm.
-pub fn packed(rows: [u8; 8], n: usize, asked: u8, perm: [u8; 6]) -> u64
+pub fn packed(rows: [u8; 8], n: usize, asked: u8, perm: [u8; 8]) -> u64
     requires { ⌜ (n ≤ 8) × Order perm 6 ⌝ }
     ensures { λ r. ⌜ Packed rows n perm 0 r ⌝ }
 {
@@ -69,11 +70,11 @@ pub fn readers(rows: [u8; 8], n: usize, asked: u8, i: u8) -> u64
     r & asked as u64
 }
 
-// The readers of each cell.
-pub fn columns(rows: [u8; 8], n: usize, asked: u8) -> [u64; 6]
+// The readers of each of the 6 cells.
+pub fn columns(rows: [u8; 8], n: usize, asked: u8) -> [u64; 8]
     requires { ⌜ n ≤ 8 ⌝ }
 {
-    let mut r = [0u64; 6];
+    let mut r = [0u64; 8];
     let mut i: u8 = 0;
     while i < 6 {
         r[i as usize] = readers(rows, n, asked, i);
@@ -82,79 +83,13 @@ pub fn columns(rows: [u8; 8], n: usize, asked: u8) -> [u64; 6]
     r
 }
 
-// How many cells come before cell j: those with higher readers, and of those with the same readers the ones before it.
-pub fn rank(columns: [u64; 6], j: usize) -> usize
-    requires { ⌜ j < 6 ⌝ }
-{
-    let mine = columns[j];
-    let mut n: usize = 0;
-    let mut i: usize = 0;
-    while i < 6 {
-        let c = columns[i];
-        if c > mine || (c == mine && i < j) {
-            n += 1;
-        }
-        i += 1;
-    }
-    n
-}
-
-// The cells, those with the highest readers first.
-pub fn sorted(columns: [u64; 6]) -> [u8; 6] {
-    let mut r = [0u8; 6];
-    let mut j: usize = 0;
-    while j < 6 {
-        let p = rank(columns, j);
-        if p < 6 {
-            r[p] = j as u8;
-        }
-        j += 1;
-    }
-    r
-}
-
-// The place of cell j, or 6 where it has none.
-pub fn place(perm: [u8; 6], j: u8) -> usize
-    ensures { λ r. ⌜ (r < 6 → item perm r ≡ j) ⌝ }
-{
-    let mut i: usize = 0;
-    while i < 6 {
-        if perm[i] == j {
-            return i;
-        }
-        i += 1;
-    }
-    6
-}
-
-// Whether perm is an order of the cells.
-pub fn is_order(perm: [u8; 6]) -> bool
-    ensures { λ r. ⌜ (r ≡ true → Order perm 6) ⌝ }
-{
-    let mut j: u8 = 0;
-    while j < 6 {
-        if perm[j as usize] >= 6 {
-            return false;
-        }
-        if place(perm, j) >= 6 {
-            return false;
-        }
-        j += 1;
-    }
-    true
-}
-
 // The order in which the cells stand in the question about the set asked: two questions that differ in the order of the
 // cells alone are one.
-pub fn order(rows: [u8; 8], n: usize, asked: u8) -> [u8; 6]
+pub fn order(rows: [u8; 8], n: usize, asked: u8) -> [u8; 8]
     requires { ⌜ n ≤ 8 ⌝ }
     ensures { λ r. ⌜ Order r 6 ⌝ }
 {
-    let perm = sorted(columns(rows, n, asked));
-    if is_order(perm) {
-        return perm;
-    }
-    [0, 1, 2, 3, 4, 5]
+    orders::falling(columns(rows, n, asked), 6)
 }
 
 // The question about those of the first n outputs that are in the set asked.

@@ -1,6 +1,5 @@
-use Rattle.fewest.specs.Choice.{AtLeast, atleast-start, atleast-more, answer-found, answer-none, alike-start, rows-start}
-use Rattle.memory.specs.Memory.{Honest, honest-start}
-use Rattle.cells.specs.Lists.{zeros-are}
+use Rattle.fewest.specs.Outputs.{answered-back}
+use Rattle.questions.specs.Question.{taken-labels}
 use Rattle.bits.specs.Logic.{true-false}
 use mathlib.Core.Path.{_≡_, refl, sym, ap, _∙_, subst}
 use mathlib.Core.Bool.{Bool, true, false}
@@ -14,58 +13,54 @@ use Rattle.fewest.proofs.fewest.Statement.{statement}
 use Rattle.fewest.proofs.fewest.Tie as tie
 use Rattle.fewest.proofs.fewest.Reads as reads
 use Rattle.fewest.proofs.fewest.Lts as lts
-use Rattle.fewest.proofs.choose.Reads as choose-reads
-use Rattle.fewest.proofs.zero_first.Reads as zero-first-reads
+use Rattle.fewest.proofs.least.Reads as least-reads
+use Rattle.fewest.proofs.picked.Reads as picked-reads
+use Rattle.fewest.proofs.returned.Reads as returned-reads
+use Rattle.fewest.proofs.sizes.Reads as sizes-reads
+use Rattle.orders.proofs.falling.Reads as falling-reads
+use Rattle.questions.proofs.labels.Reads as labels-reads
 
-abbrev Inv-loop : tie.InvT-loop
-Inv-loop cl budgets v m limit none known₀ u₀ known u = (u ≤ limit + 1) × (length none ≡ 8) × AtLeast cl budgets v m u × Honest cl v known
+-- src/lib.rt:275:32
+sizes-requires : tie.Need-sizes-requires
+sizes-requires c κs = let p = c .before .pre in (p .0, p .1, p .2)
 
-abbrev μ-loop : tie.MeasureT-loop
-μ-loop cl budgets v m limit none known₀ u₀ known u = limit + 1 - u
+-- src/lib.rt:275:9
+falling-requires : tie.Need-falling-requires
+falling-requires c κs = c .before .before .pre .2
 
--- src/lib.rt:171:5
-loop-holds : tie.Need-loop-holds Inv-loop μ-loop
-loop-holds c = (omega arith, refl, atleast-start (c .before .args .cl .now) (c .before .args .budgets) (c .before .args .v) (c .before .args .m), honest-start (c .before .args .cl .now) (c .before .args .v) _ refl (zeros-are 256))
+-- src/lib.rt:276:18
+labels-requires : tie.Need-labels-requires
+labels-requires c κs = (c .before .before .before .pre .0 .long, c .falling .ensures .1 .small)
 
--- src/lib.rt:172:13
-choose-requires : tie.Need-choose-requires Inv-loop μ-loop
-choose-requires c κs = let p = c .before .before .before .pre in let a = p .3 in let h = c .loop-test .taken in (p .0, p .1, p .2, omega arith, omega arith, rows-start (c .before .before .before .args .budgets) (c .before .loop .u) _ (c .before .loop .inv .1), alike-start _ 63, c .before .loop .inv .3)
+-- src/lib.rt:277:9
+picked-requires : tie.Need-picked-requires
+picked-requires c κs = c .before .falling .ensures .1
 
--- src/lib.rt:177:17
-zero-first-requires : tie.Need-zero-first-requires Inv-loop μ-loop
-zero-first-requires c κs = search needs
+-- src/lib.rt:278:19
+slice-aggregate-least : tie.Need-slice-aggregate-least
+slice-aggregate-least c = sym (c .before .before .labels .ensures .long)
 
--- src/lib.rt:178:13
-returns : tie.Need-returns Inv-loop μ-loop
-returns c = answer-found (c .before .before .before .before .before .before .before .before .before .args .cl .now) (c .before .before .before .before .before .before .before .before .before .args .budgets) (c .before .before .before .before .before .before .before .before .before .args .v) (c .before .before .before .before .before .before .before .before .before .args .m) (c .before .before .before .before .before .before .before .loop .u) (c .before .before .before .before .before .before .before .before .before .args .limit) _ (c .before .before .before .before .before .choose .result .rows) (c .before .before .before .before .before .choose .result .codes) (c .zero-first .result) (c .before .before .before .before .before .choose .result .ok) (c .before .before .before .before .before .before .before .before .before .pre .1) (c .before .before .before .before .before .before .loop-test .taken) (c .before .before .before .if1 .taken) (c .before .before .before .before .before .choose .ensures .0) (c .zero-first .ensures) (c .before .before .before .before .before .before .before .loop .inv .2)
+-- src/lib.rt:278:9
+least-requires : tie.Need-least-requires
+least-requires c κs = let p = c .before .before .before .before .before .before .pre in (taken-labels (c .before .before .before .before .before .before .args .cl .now) (c .before .before .before .falling .result) (c .before .before .labels .result) (c .before .before .labels .ensures) (p .0) (c .before .before .before .falling .ensures .1 .small), p .1, p .2, p .3)
 
--- src/lib.rt:185:9
-add-u : tie.Need-add-u Inv-loop μ-loop
-add-u c = let h = c .before .before .before .loop-test .taken in let a = c .before .before .before .before .before .before .pre .3 in omega arith
+-- src/lib.rt:281:9
+returned-requires : tie.Need-returned-requires
+returned-requires c κs = (c .before .before .before .before .before .before .before .before .before .pre .2, c .before .before .before .before .before .before .falling .ensures .1)
 
--- src/lib.rt:171:5
-loop-less : tie.Need-loop-less Inv-loop μ-loop
-loop-less c = search needs
-
--- src/lib.rt:171:5
-loop-again : tie.Need-loop-again Inv-loop μ-loop
-loop-again c = let h = c .before .before .before .loop-test .taken in (omega arith, refl, atleast-more (c .before .before .before .before .before .before .args .cl .now) (c .before .before .before .before .before .before .args .budgets) (c .before .before .before .before .before .before .args .v) (c .before .before .before .before .before .before .args .m) (c .before .before .before .before .loop .u) _ (c .before .before .choose .result .rows) (c .before .before .choose .result .codes) (c .before .before .choose .result .ok) (c .if1 .left) (c .before .before .choose .ensures .0) (c .before .before .before .before .loop .inv .2), c .before .before .choose .ensures .1)
-
--- src/lib.rt:164:1
-returns-2 : tie.Need-returns-2 Inv-loop μ-loop
-returns-2 c = answer-none (c .before .before .before .args .cl .now) (c .before .before .before .args .budgets) (c .before .before .before .args .v) (c .before .before .before .args .m) (c .before .loop .u) (c .before .before .before .args .limit) _ _ (c .loop-test .left) (c .before .loop .inv .2)
+-- src/lib.rt:271:1
+returns : tie.Need-returns
+returns c = let p = c .before .before .before .before .before .before .before .before .before .before .pre in answered-back (c .before .before .before .before .before .before .before .before .before .before .args .cl .now) (c .before .before .before .before .before .before .labels .result) (c .before .before .before .before .before .before .before .before .before .before .args .budgets) (c .before .before .before .before .before .picked .result) (c .before .before .before .before .before .before .before .falling .result) (c .before .before .before .least .result .rows) (c .returned .result) (c .before .before .before .least .result .codes) (c .before .before .before .before .before .before .before .before .before .before .args .v) (c .before .before .before .before .before .before .before .before .before .before .args .m) (c .before .before .before .before .before .before .before .before .before .before .args .limit) (c .before .before .before .least .result .count) (p .1) (p .2) (c .before .before .before .before .before .before .before .falling .ensures .0) (c .before .before .before .before .before .before .labels .ensures) (c .before .before .before .before .before .picked .ensures) (c .returned .ensures) (c .before .before .before .least .result .found) (c .before .before .before .least .ensures)
 
 pub fewest-spec : {M : Type 1} → statement M
 fewest-spec =
     tie.close
     (tie.spec
-    Inv-loop
-    μ-loop
-    loop-holds
-    choose-requires
-    zero-first-requires
-    returns
-    add-u
-    loop-less
-    loop-again
-    returns-2)
+    sizes-requires
+    falling-requires
+    labels-requires
+    picked-requires
+    slice-aggregate-least
+    least-requires
+    returned-requires
+    returns)

@@ -15,7 +15,7 @@ use Rattle.questions.proofs.columns.Lts as lts
 use Rattle.questions.proofs.readers.Reads as readers-reads
 
 abbrev Inv-loop : tie.InvT-loop
-Inv-loop rows n asked r₀ i₀ r i = (i ≤ 6) × (length r ≡ 6)
+Inv-loop rows n asked r₀ i₀ r i = (i ≤ 6) × (length r ≡ 8)
 
 abbrev μ-loop : tie.MeasureT-loop
 μ-loop rows n asked r₀ i₀ r i = 6 - i

@@ -1,5 +1,5 @@
 use Rattle.numbering.specs.Given.{item}
-use Rattle.questions.specs.Question.{Moved, Order, moved-start, moved-off, moved-on, moved-low}
+use Rattle.questions.specs.Question.{Moved, moved-start, moved-off, moved-on, moved-low}
 use Rattle.bits.specs.Logic.{true-false}
 use mathlib.Core.Path.{_≡_, refl, sym, ap, _∙_, subst}
 use mathlib.Core.Bool.{Bool, true, false}

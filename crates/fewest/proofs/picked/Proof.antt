@@ -1,0 +1,72 @@
+use Rattle.fewest.specs.Outputs.{Picked, picked-more}
+use Rattle.bits.specs.Logic.{true-false}
+use mathlib.Core.Path.{_≡_, refl, sym, ap, _∙_, subst}
+use mathlib.Core.Bool.{Bool, true, false}
+use mathlib.Core.List.{List}
+use mathlib.Core.Logic.{⊎-elim}
+use Prim.Native.Nat.{ℕ, _<_, _≤_, _+_, _-_, _*_, _^_, min, _/_, _%_}
+use native.Mathlib.Omega.{arith}
+use lib.ListN.{length, getD, set}
+use borrow.Author.Needs.{needs}
+use Rattle.fewest.proofs.picked.Statement.{statement}
+use Rattle.fewest.proofs.picked.Tie as tie
+use Rattle.fewest.proofs.picked.Reads as reads
+use Rattle.fewest.proofs.picked.Lts as lts
+
+abbrev Inv-loop : tie.InvT-loop
+Inv-loop budgets from r₀ i₀ r i = (i ≤ 8) × Picked budgets from i r
+
+abbrev μ-loop : tie.MeasureT-loop
+μ-loop budgets from r₀ i₀ r i = 8 - i
+
+-- src/lib.rt:248:5
+loop-holds : tie.Need-loop-holds Inv-loop μ-loop
+loop-holds c = (omega arith, record { long = refl; done = λ k h. absurd (omega arith) })
+
+-- src/lib.rt:249:24
+array-read-r : tie.Need-array-read-r Inv-loop μ-loop
+array-read-r c = search needs
+
+-- src/lib.rt:249:24
+cast-r : tie.Need-cast-r Inv-loop μ-loop
+cast-r c = let z = c .before .before .pre .small (c .before .loop .i) (c .loop-test .taken) in record { fits = omega arith }
+
+-- src/lib.rt:249:16
+array-read-r-2 : tie.Need-array-read-r-2 Inv-loop μ-loop
+array-read-r-2 c = let z = c .before .before .pre .small (c .before .loop .i) (c .loop-test .taken) in search needs
+
+-- src/lib.rt:249:9
+array-write-r : tie.Need-array-write-r Inv-loop μ-loop
+array-write-r c = let h = c .loop-test .taken in let l = c .before .loop .inv .1 .long in search needs
+
+-- src/lib.rt:250:9
+add-i : tie.Need-add-i Inv-loop μ-loop
+add-i c = search needs
+
+-- src/lib.rt:248:5
+loop-less : tie.Need-loop-less Inv-loop μ-loop
+loop-less c = search needs
+
+-- src/lib.rt:248:5
+loop-again : tie.Need-loop-again Inv-loop μ-loop
+loop-again c = let h = c .loop-test .taken in (omega arith, picked-more (c .before .before .args .t1) (c .before .before .args .t2) (c .before .loop .i) _ (c .before .loop .r) h refl (c .before .loop .inv .1))
+
+-- src/lib.rt:242:1
+returns : tie.Need-returns Inv-loop μ-loop
+returns c = subst (λ (z : ℕ). Picked (c .before .before .args .t1) (c .before .before .args .t2) z (c .before .loop .r)) (let h = c .loop-test .left in let z = c .before .loop .inv .0 in omega arith) (c .before .loop .inv .1)
+
+pub picked-spec : {M : Type 1} → statement M
+picked-spec =
+    tie.close
+    (tie.spec
+    Inv-loop
+    μ-loop
+    loop-holds
+    array-read-r
+    cast-r
+    array-read-r-2
+    array-write-r
+    add-i
+    loop-less
+    loop-again
+    returns)
