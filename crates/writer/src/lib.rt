@@ -25,17 +25,18 @@ const EDITION: usize = 1;
 
 // What a network sheet is written from: the design, the names of its bound and of its free inputs, the number of shared
 // tables, for each output a mask of the tables that it reads, and for each vertex a code of the tables' values.
-pub struct Plan {
-    pub sheet: Sheet,
-    pub shape: Shape,
-    pub bound: Names,
-    pub free: Names,
-    pub tables: usize,
-    pub rows: [u8; 8],
-    pub codes: [u8; 32],
+struct Plan {
+    sheet: Sheet,
+    shape: Shape,
+    bound: Names,
+    free: Names,
+    tables: usize,
+    rows: [u8; 8],
+    codes: [u8; 32],
 }
 
-pub struct Writer<'a> {
+// The lent buffer, and the place of the next byte.
+struct Writer<'a> {
     out: &'a mut [u8],
     at: usize,
 }
