@@ -1,5 +1,5 @@
 // Map: a design sheet to the network sheet with the fewest shared tables, or a refusal. Rests on design for questions 1 to
-// 5, on classes for columns, on fewest for the search, and on writing for the network sheet.
+// 5, on classes for columns, on fewest for the search, and on writer for the network sheet.
 ghost use mathlib.Core.Path.{_≡_};
 ghost use Rattle.mapper.specs.Map.{Outcome};
 ghost use Rattle.mapper.specs.Answer.{mapAnswer, LabelsAre, BudgetsAre};
@@ -79,10 +79,10 @@ pub fn map(sheet: &[u8], buffer: &mut [u8]) -> Mapped
     let codes = core.codes;
     let u = core.count as usize;
     let mut nothing = [0u8; 1];
-    let n = writing::put_network(&mut nothing[..0], k, sh, u, rows, codes);
+    let n = writer::put_network(&mut nothing[..0], k, sh, u, rows, codes);
     if buffer.len() < n {
         return Mapped::Refused { number: 9, line: 0 };
     }
-    let length = writing::put_network(buffer, k, sh, u, rows, codes);
+    let length = writer::put_network(buffer, k, sh, u, rows, codes);
     Mapped::Written { cells: u, length }
 }

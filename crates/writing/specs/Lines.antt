@@ -7,7 +7,7 @@ use Prim.Native.Nat.{ℕ, zero, suc, _+_, _*_, _/_, _%_, _^_, _≤_, _<_}
 use lib.Dec.{eqb, ltb}
 use lib.ListN.{length, getD}
 use Rattle.bits.specs.Logic.{pick}
-use Rattle.text.specs.Bytes.{newline}
+use Rattle.text.specs.Bytes.{bytes, newline}
 use Rattle.sheet.specs.Lines.{endLine}
 use Rattle.classes.specs.Columns.{valuesUpto}
 use Rattle.classes.specs.Seen.{Inside, seen}
@@ -16,6 +16,10 @@ use Rattle.network.specs.Network.{Node}
 use Rattle.network.specs.Printer.{printCount}
 use Rattle.network.specs.Check.{firstOf}
 use Rattle.serving.specs.Build.{codeIn}
+
+-- the first line, of an edition below 10
+unfoldable pub headLine : ℕ → List ℕ
+headLine edition = bytes "(network " ++ (((48 + edition) ∷ []) ++ bytes ")\n")
 
 -- the first n lines that f says
 unfoldable pub linesUpto : (ℕ → List ℕ) → ℕ → List ℕ

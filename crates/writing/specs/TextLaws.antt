@@ -13,7 +13,7 @@ use Rattle.network.specs.Printer.{ledAll, lutName, printDigits, lutHead, printL
 use Rattle.serving.specs.Build.{codeIn}
 use Rattle.listing.specs.Listed.{Firsts}
 use Rattle.listing.specs.NumbersLaws.{one-digit}
-use Rattle.writing.specs.Lines.{lastLines, entryBy, cellBy, nodeBy}
+use Rattle.writing.specs.Lines.{headLine, lastLines, entryBy, cellBy, nodeBy}
 use Rattle.writing.specs.DigitLaws.{cells-are, entries-within}
 
 pub lut-head-text : (bs : List Name) (i : ℕ) (n : Name) → n ≡ lutName i
@@ -43,6 +43,10 @@ unfolding printNode
 node-text n fs ns x ds e f =
     ap₂ (λ (l : List Name) (v : List Bool). nodeHead n ++ ((ledAll true l ++ bytes ") ") ++ (printDigits v ++ bytes ")\n"))) e f
     ∙ joined (nodeHead n) (ledAll true (map lutName (x .reads) ++ fs)) (bytes ") ") (printDigits (x .digits))
+
+pub head-text : (e : ℕ) → bytes "(network " ++ (((48 + e) ∷ []) ++ bytes ")\n") ≡ headLine e
+unfolding headLine
+head-text e = refl
 
 pub last-text : (u : ℕ) → u < 10 → bytes "(count " ++ (((48 + u) ∷ []) ++ bytes ")\n(end)\n") ≡ lastLines u
 unfolding lastLines printCount

@@ -1,29 +1,34 @@
-// The network sheet put down line after line into a lent buffer: from what is known of a design, the shared tables as codes
-// of the vertices, and for each output a mask of the tables that it reads. Rests on putting for texts and on listing for
-// names.
+// The lines of a network sheet put into a lent buffer from a place on: from what is known of a design, the shared tables as
+// codes of the vertices, and for each output a mask of the tables that it reads. Each function takes the slice and the place
+// as a number; the writer's methods stand over those that are public. Rests on putting for texts and on listing for names.
 ghost use mathlib.Core.Path.{_≡_};
 ghost use mathlib.Core.List.{_++_, _∷_, []};
 ghost use Prim.Native.Nat.{ℕ, _+_, _*_, _≤_, _<_, _^_};
 ghost use lib.ListN.{length};
-ghost use lib.Seq.{sets};
 ghost use Rattle.bits.specs.Digit.{on};
 ghost use Rattle.text.specs.Bytes.{bytes, newline};
 ghost use Rattle.names.specs.Pack.{nameOf};
-ghost use Rattle.sheet.specs.Examine.{Design};
-ghost use Rattle.sheet.specs.Known.{Holds, tableAt};
+ghost use Rattle.sheet.specs.Known.{tableAt};
 ghost use Rattle.classes.specs.Columns.{valuesUpto};
-ghost use Rattle.classes.specs.Proper.{Proper};
 ghost use Rattle.classes.specs.Seen.{Inside};
-ghost use Rattle.classes.specs.Answer.{ShapeIs};
-ghost use Rattle.network.specs.Printer.{ledAll, printDigits, lutHead, printLut, nodeHead, printNode, printNetwork};
-ghost use Rattle.serving.specs.Build.{numbers, built};
+ghost use Rattle.network.specs.Printer.{ledAll, printDigits, lutHead, printLut, nodeHead, printNode};
+ghost use Rattle.serving.specs.Build.{numbers};
 ghost use Rattle.putting.specs.Written.{reach, Written};
 ghost use Rattle.listing.specs.Listed.{shown, item};
-ghost use Rattle.writing.specs.Lines.{linesUpto, lastLines, cellOn, cellBy, nodeBy, Bounded, Fitting};
+ghost use Rattle.writing.specs.Lines.{headLine, linesUpto, lastLines, cellOn, cellBy, nodeBy, Bounded};
 ghost use mathlib.Core.Bool.{true};
-use classes::Shape;
 use listing::Names;
 use sheet::Sheet;
+
+// The first line, of an edition.
+pub fn put_head(buf: &mut [u8], at: usize, edition: usize) -> usize
+    requires { ⌜ (at + 12 ≤ reach) × (edition < 10) ⌝ }
+    ensures { λ r. ⌜ Written 12 (now (buf .entry)) (now (buf .exit)) at r (headLine edition) ⌝ }
+{
+    let p = putting::put_text(buf, at, b"(network ");
+    let q = putting::put_byte(buf, p, b'0' + edition as u8);
+    putting::put_text(buf, q, b")\n")
+}
 
 // The names ns as the items of a list, its closing bracket and a space.
 fn put_list(buf: &mut [u8], at: usize, ns: Names) -> usize
@@ -72,7 +77,7 @@ fn put_lut(buf: &mut [u8], at: usize, bs: Names, i: usize, codes: [u8; 32], n: u
 }
 
 // The lines of the u shared tables.
-fn put_luts(buf: &mut [u8], at: usize, bs: Names, u: usize, codes: [u8; 32], n: usize) -> usize
+pub fn put_luts(buf: &mut [u8], at: usize, bs: Names, u: usize, codes: [u8; 32], n: usize) -> usize
     requires { ⌜ (at + 1200 ≤ reach) × (bs .count ≤ 16) × (n ≤ 32) × (u ≤ 6) ⌝ }
     ensures { λ r. ⌜ Written 1200 (now (buf .entry)) (now (buf .exit)) at r (linesUpto (λ (i : ℕ). printLut (shown bs) i (valuesUpto (λ (x : ℕ). on (item codes x) i) n)) u) ⌝ }
 {
@@ -164,7 +169,7 @@ fn put_node<'a>(
 }
 
 // The lines of all outputs.
-fn put_nodes<'a>(
+pub fn put_nodes<'a>(
     buf: &mut [u8],
     at: usize,
     k: Sheet,
@@ -193,38 +198,11 @@ fn put_nodes<'a>(
 }
 
 // The count line and the last line.
-fn put_end(buf: &mut [u8], at: usize, u: usize) -> usize
+pub fn put_end(buf: &mut [u8], at: usize, u: usize) -> usize
     requires { ⌜ (at + 16 ≤ reach) × (u < 10) ⌝ }
     ensures { λ r. ⌜ Written 16 (now (buf .entry)) (now (buf .exit)) at r (lastLines u) ⌝ }
 {
     let p = putting::put_text(buf, at, b"(count ");
     let q = putting::put_byte(buf, p, b'0' + u as u8);
     putting::put_text(buf, q, b")\n(end)\n")
-}
-
-// The network sheet of u tables: output o reads the tables whose digits are 1 in rows[o], and table i at vertex x is digit i
-// of codes[x].
-pub fn put_network(
-    buf: &mut [u8],
-    k: Sheet,
-    sh: Shape,
-    u: usize,
-    rows: [u8; 8],
-    codes: [u8; 32],
-) -> usize
-    requires { ⌜ (k .inputs ≤ 10) × (k .bounds ≤ 5) × (k .outputs ≤ 4) × (u ≤ 6) × Fitting sh ⌝ }
-    ensures { λ r. ⌜ ((d : Design) → Holds d k → Proper d → ShapeIs d sh → (r ≡ length (printNetwork d (built d u (item rows) (item codes)))) × (now (buf .exit) ≡ sets (now (buf .entry)) 0 (printNetwork d (built d u (item rows) (item codes))))) ⌝ }
-{
-    let names = k.names;
-    let places = k.bound;
-    let bs = listing::bound_names(names, places, k.bounds);
-    let fs = listing::free_names(names, k.inputs, bs);
-    let vertex = sh.vertex;
-    let free = sh.free;
-    let v = sh.vertices;
-    let f = sh.frees;
-    let p = putting::put_text(buf, 0, b"(network 1)\n");
-    let q = put_luts(buf, p, bs, u, codes, v);
-    let r = put_nodes(buf, q, k, fs, u, rows, codes, &vertex[..v], &free[..f]);
-    put_end(buf, r, u)
 }

@@ -14,7 +14,7 @@ use Rattle.design.proofs.examine.Reads as examine-reads
 use Rattle.fewest.proofs.fewest.Reads as fewest-reads
 use Rattle.mapper.proofs.budgets.Reads as budgets-reads
 use Rattle.mapper.proofs.labels.Reads as labels-reads
-use Rattle.writing.proofs.put_network.Reads as put-network-reads
+use Rattle.writer.proofs.put_network.Reads as put-network-reads
 
 -- src/lib.rt:52:9
 examine-requires : tie.Need-examine-requires

@@ -1,0 +1,37 @@
+-- The lines of a plan. Assumes nothing.
+use mathlib.Core.List.{List, _++_}
+use Prim.Native.Nat.{ℕ, _≤_}
+use lib.ListN.{take}
+use Rattle.bits.specs.Digit.{on}
+use Rattle.names.specs.Pack.{nameOf}
+use Rattle.sheet.specs.Known.{tableAt}
+use Rattle.classes.specs.Columns.{valuesUpto}
+use Rattle.network.specs.Printer.{printLut, printNode}
+use Rattle.serving.specs.Build.{numbers}
+use Rattle.listing.specs.Listed.{shown, item}
+use Rattle.writing.specs.Lines.{headLine, linesUpto, lastLines, nodeBy, Fitting}
+use Rattle.writer.specs.declared.Plan.{Plan}
+
+-- as many names, outputs and tables as there may be
+pub record Fit (p : Plan) : Type 0 where
+  pub few-bound : p .bound .count ≤ 16
+  pub few-free : p .free .count ≤ 10
+  pub few-outputs : p .sheet .outputs ≤ 4
+  pub few-tables : p .tables ≤ 6
+  pub fitting : Fitting (p .shape)
+
+unfoldable pub lutLines : Plan → List ℕ
+lutLines p =
+    linesUpto (λ (i : ℕ). printLut (shown (p .bound)) i (valuesUpto (λ (x : ℕ). on (item (p .codes) x) i) (p .shape .vertices))) (p .tables)
+
+unfoldable pub nodeLines : Plan → List ℕ
+nodeLines p =
+    linesUpto
+    (λ (o : ℕ).
+    printNode (nameOf (item (p .sheet .outs) o)) (shown (p .free))
+    (nodeBy (tableAt (p .sheet .tables) o) (take (p .shape .vertices) (p .shape .vertex)) (take (p .shape .frees) (p .shape .free)) (item (p .codes))
+    (numbers (p .tables) 0 (item (p .rows) o))))
+    (p .sheet .outputs)
+
+unfoldable pub allLines : Plan → List ℕ
+allLines p = headLine 1 ++ (lutLines p ++ (nodeLines p ++ lastLines (p .tables)))
