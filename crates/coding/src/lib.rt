@@ -26,8 +26,8 @@ pub fn empty(dom: [u64; 32], v: usize) -> bool
     false
 }
 
-// The sets narrowed by each output after some vertex took code c. Where a set is empty the other outputs are left out.
-pub fn settle_all(
+// The sets without full blocks, output by output, after some vertex took code c.
+pub fn bar_all(
     cl: &[u8],
     base: &[u8],
     bs: &[u64],
@@ -46,11 +46,39 @@ pub fn settle_all(
     let mut r = dom;
     let mut o = 0;
     while o < j {
-        let s = holding::settle(cl, base, bs, ms, caps, spots, v, j, o, codes, r, c);
+        let s = holding::bar(cl, base, bs, ms, caps, spots, v, j, o, codes, r, c);
         r = s;
+        o += 1;
+    }
+    r
+}
+
+// The sets narrowed by each output after some vertex took code c: full blocks first, since what a class can still take says
+// what it needs. Where a set is empty the other outputs are left out.
+pub fn settle_all(
+    cl: &[u8],
+    base: &[u8],
+    bs: &[u64],
+    ms: [u8; 8],
+    caps: [u8; 8],
+    spots: [u8; 8],
+    v: usize,
+    j: usize,
+    codes: [u8; 32],
+    dom: [u64; 32],
+    c: u8,
+) -> [u64; 32]
+    requires { ⌜ Labels (now cl) × (length (now base) ≡ 256) × Blocks ms (now bs) j × (v ≤ 32) × (j ≤ 8) × (c < 64) ⌝ }
+    ensures { λ r. ⌜ Kept (now (cl .entry)) (now (base .entry)) ms caps spots v j codes dom r ⌝ }
+{
+    let mut r = bar_all(cl, base, bs, ms, caps, spots, v, j, codes, dom, c);
+    let mut o = 0;
+    while o < j {
         if empty(r, v) {
             return r;
         }
+        let s = holding::settle(cl, base, bs, ms, caps, spots, v, j, o, codes, r);
+        r = s;
         o += 1;
     }
     r

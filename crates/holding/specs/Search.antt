@@ -192,13 +192,13 @@ module _ (cl base ms caps spots : List ℕ) (v j o : ℕ) (codes dom own owns wa
   pub settled-none : (r : List ℕ) → item spots o < needed wants base o → Kept cl base ms caps spots v j codes dom r
   settled-none r l = record { keeps = λ g f e. absurd (let z = enough cl base ms caps spots v j o codes dom own owns wants g h low s want f e in omega arith) }
 
-  pub settled : (c b : ℕ) (full tight : Bool) (r : List ℕ) → c < 64 → Block (item ms o) c b → (full ≡ true → item caps o ≤ holders own c 32) → (tight ≡ true → needed wants base o ≡ item spots o) → Narrowed cl base o own owns wants codes dom c b full tight v r → Kept cl base ms caps spots v j codes dom r
-  settled c b full tight r l is a t n = record {
+  pub settled : (c b : ℕ) (full tight : Bool) (r : List ℕ) → (full ≡ true → (c < 64) × Block (item ms o) c b × (item caps o ≤ holders own c 32)) → (tight ≡ true → needed wants base o ≡ item spots o) → Narrowed cl base o own owns wants codes dom c b full tight v r → Kept cl base ms caps spots v j codes dom r
+  settled c b full tight r a t n = record {
     keeps = λ g f e. record {
       coded = e .coded;
       within = λ x k. n .done x (g x) k (f .small x k) (e .within x k) (record {
         held = λ p q r. keeps-to cl base ms caps spots v j o codes dom own owns wants g h low s want f e x k (t p) q r;
-        free = λ p off. false-where _ (λ w. keeps-out cl base ms caps spots v j o codes dom own owns wants g h low s want f e x c k l (a p) off (eqb-true _ _ (sym (is (g x) (f .small x k)) ∙ w)));
+        free = λ p off. false-where _ (λ w. keeps-out cl base ms caps spots v j o codes dom own owns wants g h low s want f e x c k (a p .0) (a p .2) off (eqb-true _ _ (sym (a p .1 (g x) (f .small x k)) ∙ w)));
       });
     };
   }

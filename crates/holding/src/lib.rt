@@ -201,8 +201,8 @@ pub fn narrow(
     r
 }
 
-// The sets narrowed by output o after some vertex took code c.
-pub fn settle(
+// The sets of the vertices whose classes do not hold the block of c, without it where output o has no room left in it.
+pub fn bar(
     cl: &[u8],
     base: &[u8],
     bs: &[u64],
@@ -222,14 +222,9 @@ pub fn settle(
     let h = held(cl, bs, ms, v, j, o, codes);
     let own = h.own;
     let owns = h.owns;
-    let wants = wanted(cl, v, o, dom, own, owns);
-    let t = total(base, o, wants);
-    let spot = spots[o] as usize;
-    if spot < t {
-        return [0u64; 32];
+    if crowd(own, c) < caps[o] as usize {
+        return dom;
     }
-    let n = crowd(own, c);
-    let cap = caps[o] as usize;
     narrow(
         cl,
         base,
@@ -237,12 +232,46 @@ pub fn settle(
         o,
         own,
         owns,
-        wants,
+        owns,
         codes,
         dom,
         c,
         bs[o * 64 + c as usize],
-        cap <= n,
-        t == spot,
+        true,
+        false,
+    )
+}
+
+// The sets narrowed by what the classes of output o hold and need.
+pub fn settle(
+    cl: &[u8],
+    base: &[u8],
+    bs: &[u64],
+    ms: [u8; 8],
+    caps: [u8; 8],
+    spots: [u8; 8],
+    v: usize,
+    j: usize,
+    o: usize,
+    codes: [u8; 32],
+    dom: [u64; 32],
+) -> [u64; 32]
+    requires { ⌜ Labels (now cl) × (length (now base) ≡ 256) × Blocks ms (now bs) j × (v ≤ 32) × (j ≤ 8) × (o < j) ⌝ }
+    ensures { λ r. ⌜ Kept (now (cl .entry)) (now (base .entry)) ms caps spots v j codes dom r ⌝ }
+{
+    let h = held(cl, bs, ms, v, j, o, codes);
+    let own = h.own;
+    let owns = h.owns;
+    let wants = wanted(cl, v, o, dom, own, owns);
+    let t = total(base, o, wants);
+    let spot = spots[o] as usize;
+    if spot < t {
+        return [0u64; 32];
+    }
+    if t < spot {
+        return dom;
+    }
+    narrow(
+        cl, base, v, o, own, owns, wants, codes, dom, 0, 0, false, true,
     )
 }
