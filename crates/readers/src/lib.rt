@@ -218,6 +218,17 @@ pub fn codes_for(cl: &[u8], v: usize, j: usize, rows: [u8; 8]) -> coding::Search
             nodes: 0,
         };
     }
+    if sh == 0 {
+        let f = numbering::finish(cl, j, ms, ps, caps, v, [0u8; 32]);
+        if f.ok {
+            let written = f.codes;
+            return coding::Search {
+                ok: f.ok,
+                codes: written,
+                nodes: 0,
+            };
+        }
+    }
     let gb = holding::blocks(groups(ms, j, sh));
     let used = coding::mark(&gb, [0u64; 3], 0);
     let all = holding::block(!sh, 0);
