@@ -19,7 +19,7 @@ use Rattle.cells.specs.Core.{bit}
 use Rattle.cells.specs.Lists.{count, sum, count-drop, less-or-equal, never-both, false-where, count-more, count-same, or-off, or-on}
 use Rattle.cells.specs.Sets.{With, Without}
 use Rattle.numbering.specs.Given.{labelAt, item, Block, Labels, Solves, Extends, Kept, Hopeless, Told}
-use Rattle.holding.specs.Hold.{held-start, held-skip, held-old, held-new, Held, Wanted, need, needed, holders, enough, keeps-to, keeps-out}
+use Rattle.holding.specs.Hold.{held-start, held-skip, held-old, held-new, Held, Wanted, need, needed, holders, enough, keeps-to, keeps-near, keeps-out}
 
 -- ======== the block of a code
 -- the codes below k that are in c's block
@@ -86,41 +86,46 @@ entry-again ms n bs m f e d ne t = λ k h. first .0 k h ∙ ap (λ (z : ℕ). eq
         same false y = refl
 
 -- ======== sets of codes narrowed by one output
--- what a code k at y has to meet to stay
-pub record Stays (cl base : List ℕ) (o : ℕ) (own owns wants : List ℕ) (c b : ℕ) (full tight : Bool) (y k : ℕ) : Type 0 where
-  pub held : tight ≡ true → labelAt base o (labelAt cl o y) ≤ item owns (labelAt cl o y) → item wants (labelAt cl o y) ≡ item owns (labelAt cl o y) → on (item own (labelAt cl o y)) k ≡ true
-  pub free : full ≡ true → on (item own (labelAt cl o y)) c ≡ false → on b k ≡ false
-
-pub record Narrowed (cl base : List ℕ) (o : ℕ) (own owns wants codes dom : List ℕ) (c b : ℕ) (full tight : Bool) (n : ℕ) (r : List ℕ) : Type 0 where
+-- of the first n sets each code that may stay stays
+pub record Narrowed (Stays : ℕ → ℕ → Type 0) (dom : List ℕ) (n : ℕ) (r : List ℕ) : Type 0 where
   pub long : length r ≡ 32
-  pub done : (y k : ℕ) → y < n → k < 64 → on (item dom y) k ≡ true → Stays cl base o own owns wants c b full tight y k → on (item r y) k ≡ true
+  pub done : (y k : ℕ) → y < n → k < 64 → on (item dom y) k ≡ true → Stays y k → on (item r y) k ≡ true
   pub rest : (y : ℕ) → n ≤ y → item r y ≡ item dom y
 
-module _ (cl base : List ℕ) (o : ℕ) (own owns wants codes dom : List ℕ) (c b : ℕ) (full tight : Bool) where
-  pub narrowed-start : length dom ≡ 32 → Narrowed cl base o own owns wants codes dom c b full tight 0 dom
+-- a code at y where the block b of c is full: y's class holds the block, or the code is outside
+abbrev pub Free : List ℕ → ℕ → List ℕ → ℕ → ℕ → ℕ → ℕ → Type 0
+Free cl o own c b y k = on (item own (labelAt cl o y)) c ≡ false → on b k ≡ false
+
+-- a code of a class where no place is left: in the blocks that the class holds, if it wants no more, and in these or in
+-- common, if it wants one more
+pub record Keeps (own meet has wants need k : ℕ) : Type 0 where
+  pub held : wants ≡ has → need ≤ has → on own k ≡ true
+  pub near : wants ≡ has + 1 → need ≤ has + 1 → (on own k ≡ true) ⊎ (on meet k ≡ true)
+
+abbrev pub Stays : List ℕ → List ℕ → ℕ → List ℕ → List ℕ → List ℕ → List ℕ → ℕ → ℕ → Type 0
+Stays cl base o own meet owns wants y k = Keeps (item own (labelAt cl o y)) (item meet (labelAt cl o y)) (item owns (labelAt cl o y)) (item wants (labelAt cl o y)) (labelAt base o (labelAt cl o y)) k
+
+module _ (P : ℕ → ℕ → Type 0) (dom : List ℕ) where
+  pub narrowed-start : length dom ≡ 32 → Narrowed P dom 0 dom
   narrowed-start e = record { long = e; done = λ y k h. absurd (omega arith); rest = λ y h. refl }
 
-  pub narrowed-skip : (n : ℕ) (r : List ℕ) → Narrowed cl base o own owns wants codes dom c b full tight n r → Narrowed cl base o own owns wants codes dom c b full tight (n + 1) r
-  narrowed-skip n r s = record {
+  pub narrowed-same : (n : ℕ) (r r' : List ℕ) → r' ≡ r → Narrowed P dom n r → Narrowed P dom (n + 1) r'
+  narrowed-same n r r' e s = subst (Narrowed P dom (n + 1)) (sym e) (record {
     long = s .long;
     done = λ y k h l t st. ⊎-elim (λ a. s .done y k a l t st) (λ q. ap (λ (z : ℕ). on z k) (s .rest y (omega arith)) ∙ t) (less-or-equal y n (omega arith));
     rest = λ y h. s .rest y (omega arith);
-  }
+  })
 
-  pub narrowed-more : (n d : ℕ) (r : List ℕ) → n < 32 → ((k : ℕ) → k < 64 → on (item r n) k ≡ true → Stays cl base o own owns wants c b full tight n k → on d k ≡ true) → Narrowed cl base o own owns wants codes dom c b full tight n r → Narrowed cl base o own owns wants codes dom c b full tight (n + 1) (set r n d)
-  narrowed-more n d r h f s = record {
+  pub narrowed-more : (n d : ℕ) (r r' : List ℕ) → n < 32 → ((k : ℕ) → k < 64 → on (item r n) k ≡ true → P n k → on d k ≡ true) → r' ≡ set r n d → Narrowed P dom n r → Narrowed P dom (n + 1) r'
+  narrowed-more n d r r' h f e s = subst (Narrowed P dom (n + 1)) (sym e) (record {
     long = length-set r n d ∙ s .long;
     done = λ y k a l t st. ⊎-elim
         (λ b. ap (λ (z : ℕ). on z k) (getD-set-other r n y d 0 (λ q. let z : y ≡ n = q in omega arith)) ∙ s .done y k b l t st)
         (λ q. subst (λ (z : ℕ). on (item (set r n d) z) k ≡ true) (sym q) (ap (λ (z : ℕ). on z k) (getD-set-same r n d 0 (let z = s .long in omega arith))
-        ∙ f k l (ap (λ (z : ℕ). on z k) (s .rest n (omega arith)) ∙ subst (λ (z : ℕ). on (item dom z) k ≡ true) q t) (subst (λ (z : ℕ). Stays cl base o own owns wants c b full tight z k) q st)))
+        ∙ f k l (ap (λ (z : ℕ). on z k) (s .rest n (omega arith)) ∙ subst (λ (z : ℕ). on (item dom z) k ≡ true) q t) (subst (λ (z : ℕ). P z k) q st)))
         (less-or-equal y n (omega arith));
     rest = λ y a. getD-set-other r n y d 0 (λ q. let z : y ≡ n = q in omega arith) ∙ s .rest y (omega arith);
-  }
-
--- one set
-pub record Trimmed (d own : ℕ) (only out : Bool) (b r : ℕ) : Type 0 where
-  pub keeps : (k : ℕ) → k < 64 → on d k ≡ true → (only ≡ true → on own k ≡ true) → (out ≡ true → on b k ≡ false) → on r k ≡ true
+  })
 
 and-true : (a b : Bool) → a ≡ true → b ≡ true → andb a b ≡ true
 and-true a b e f = ap₂ andb e f
@@ -128,35 +133,53 @@ and-true a b e f = ap₂ andb e f
 pub on-both : (d m k : ℕ) → on d k ≡ true → on m k ≡ true → on (bitAnd d m) k ≡ true
 on-both d m k e f = on-and d m k ∙ and-true (on d k) (on m k) e f
 
-pub on-outside : (d b k : ℕ) → b < 2 ^ 64 → k < 64 → on d k ≡ true → on b k ≡ false → on (bitAnd d (2 ^ 64 - 1 - b)) k ≡ true
-on-outside d b k h l e f = on-both d (2 ^ 64 - 1 - b) k e (on-complement 64 b k h l ∙ ap not f)
+pub on-either : (a b k : ℕ) → (on a k ≡ true) ⊎ (on b k ≡ true) → on (bitOr a b) k ≡ true
+on-either a b k (inl e) = on-or a b k ∙ ap (λ (x : Bool). orb x (on b k)) e
+on-either a b k (inr e) = on-or a b k ∙ ap (orb (on a k)) e ∙ or-on (on a k)
 
--- the same as the code says it: q is y's class, need what it needs
-module _ (cl base : List ℕ) (o : ℕ) (own owns wants codes dom : List ℕ) (c b : ℕ) (full tight : Bool) (n : ℕ) (r r' : List ℕ) where
-  pub narrowed-same : r' ≡ r → Narrowed cl base o own owns wants codes dom c b full tight n r → Narrowed cl base o own owns wants codes dom c b full tight (n + 1) r'
-  narrowed-same e s = subst (Narrowed cl base o own owns wants codes dom c b full tight (n + 1)) (sym e) (narrowed-skip cl base o own owns wants codes dom c b full tight n r s)
+-- r is d without b
+pub record Minus (d b r : ℕ) : Type 0 where
+  pub digit : (k : ℕ) → k < 64 → on r k ≡ andb (on d k) (not (on b k))
+  pub less : r ≤ d
 
-  pub narrowed-trim : (q need' d : ℕ) (only out : Bool) → n < 32 → q ≡ labelAt cl o n → need' ≡ labelAt base o q → (only ≡ true → (tight ≡ true) × (need' ≤ item owns q) × (item wants q ≡ item owns q)) → (out ≡ true → (full ≡ true) × (on (item own q) c ≡ false)) → Trimmed (item r n) (item own q) only out b d → r' ≡ set r n d → Narrowed cl base o own owns wants codes dom c b full tight n r → Narrowed cl base o own owns wants codes dom c b full tight (n + 1) r'
-  narrowed-trim q need' d only out l e f a t m z s = subst (Narrowed cl base o own owns wants codes dom c b full tight (n + 1)) (sym z) (narrowed-more cl base o own owns wants codes dom c b full tight n d r l (λ k h p st.
-      m .keeps k h p
-      (λ i. let w = a i in subst (λ (x : ℕ). on (item own x) k ≡ true) (sym e) (st .held (w .0) (subst (λ (x : ℕ). labelAt base o x ≤ item owns x) e (subst (λ (x : ℕ). x ≤ item owns q) f (w .1))) (subst (λ (x : ℕ). item wants x ≡ item owns x) e (w .2))))
-      (λ i. let w = t i in st .free (w .0) (subst (λ (x : ℕ). on (item own x) c ≡ false) e (w .1)))) s)
+pub minus-of : (d b : ℕ) → b < 2 ^ 64 → Minus d b (bitAnd d (2 ^ 64 - 1 - b))
+minus-of d b h = record { digit = λ k l. on-and d (2 ^ 64 - 1 - b) k ∙ ap (λ (x : Bool). andb (on d k) x) (on-complement 64 b k h l); less = and-le-l d (2 ^ 64 - 1 - b) }
 
--- own kept where asked
-pub record Firstly (d own : ℕ) (only : Bool) (r : ℕ) : Type 0 where
-  pub keeps : (k : ℕ) → on d k ≡ true → (only ≡ true → on own k ≡ true) → on r k ≡ true
+pub minus-keeps : (d b r k : ℕ) → Minus d b r → k < 64 → on d k ≡ true → on b k ≡ false → on r k ≡ true
+minus-keeps d b r k m l e f = m .digit k l ∙ ap₂ (λ (x y : Bool). andb x (not y)) e f
 
-pub firstly-own : (d own : ℕ) (only : Bool) (r : ℕ) → only ≡ true → r ≡ bitAnd d own → Firstly d own only r
-firstly-own d own only r e f = record { keeps = λ k a h. ap (λ (z : ℕ). on z k) f ∙ on-both d own k a (h e) }
+-- the same as the code says it: q is y's class
+pub shut-more : (cl : List ℕ) (o c b n q d : ℕ) (own dom r r' : List ℕ) (t : Bool) → n < 32 → q ≡ labelAt cl o n → t ≡ on (item own q) c → t ≡ false → Minus (item r n) b d → r' ≡ set r n d → Narrowed (Free cl o own c b) dom n r → Narrowed (Free cl o own c b) dom (n + 1) r'
+shut-more cl o c b n q d own dom r r' t h e a f m g s = narrowed-more (Free cl o own c b) dom n d r r' h (λ k l p st. minus-keeps (item r n) b d k m l p (st (subst (λ (z : ℕ). on (item own z) c ≡ false) e (sym a ∙ f)))) g s
 
-pub firstly-all : (d own : ℕ) (only : Bool) (r : ℕ) → r ≡ d → Firstly d own only r
-firstly-all d own only r f = record { keeps = λ k a h. ap (λ (z : ℕ). on z k) f ∙ a }
+pub keep-more : (cl base : List ℕ) (o n q need d : ℕ) (own meet owns wants dom r r' : List ℕ) → n < 32 → q ≡ labelAt cl o n → need ≡ labelAt base o q → ((k : ℕ) → k < 64 → Keeps (item own q) (item meet q) (item owns q) (item wants q) need k → on d k ≡ true) → r' ≡ set r n (bitAnd (item r n) d) → Narrowed (Stays cl base o own meet owns wants) dom n r → Narrowed (Stays cl base o own meet owns wants) dom (n + 1) r'
+keep-more cl base o n q need d own meet owns wants dom r r' h e a f g s = narrowed-more (Stays cl base o own meet owns wants) dom n (bitAnd (item r n) d) r r' h (λ k l p st.
+    on-both (item r n) d k p (f k l (subst (λ (z : ℕ). Keeps (item own q) (item meet q) (item owns q) (item wants q) z k) (sym a) (subst (λ (z : ℕ). Keeps (item own z) (item meet z) (item owns z) (item wants z) (labelAt base o z) k) (sym e) st)))) g s
 
-pub trimmed-out : (d own : ℕ) (only out : Bool) (b r : ℕ) → b < 2 ^ 64 → out ≡ true → Firstly d own only r → Trimmed d own only out b (bitAnd r (2 ^ 64 - 1 - b))
-trimmed-out d own only out b r h e f = record { keeps = λ k l a p q. on-outside r b k h l (f .keeps k a p) (q e) }
+-- ======== the codes of the blocks that meet a set
+-- r has the whole block of each code of d
+pub record Spans (mask d r : ℕ) : Type 0 where
+  pub whole : (c k : ℕ) → c < 64 → k < 64 → on d c ≡ true → bitAnd c mask ≡ bitAnd k mask → on r k ≡ true
 
-pub trimmed-in : (d own : ℕ) (only out : Bool) (b r : ℕ) → Firstly d own only r → Trimmed d own only out b r
-trimmed-in d own only out b r f = record { keeps = λ k l a p q. f .keeps k a p }
+-- so it is but for the codes of rest
+pub record Spanning (mask d rest r : ℕ) : Type 0 where
+  pub part : (c : ℕ) → c < 64 → on d c ≡ true → (on rest c ≡ true) ⊎ ((k : ℕ) → k < 64 → bitAnd c mask ≡ bitAnd k mask → on r k ≡ true)
+
+pub spanning-start : (mask d : ℕ) → Spanning mask d d 0
+spanning-start mask d = record { part = λ c h e. inl e }
+
+pub spanning-more : (mask d rest r c b w rest' : ℕ) → c < 64 → Block mask c b → Without rest c w → Minus w b rest' → Spanning mask d rest r → Spanning mask d rest' (bitOr r b)
+spanning-more mask d rest r c b w rest' l is without minus s = record { part = λ k h e. ⊎-elim (λ t. case k h t (on b k) refl) (λ f. inr (λ i j q. on-either r b i (inl (f i j q)))) (s .part k h e) }
+  where
+    Part : ℕ → Type 0
+    Part k = (on rest' k ≡ true) ⊎ ((i : ℕ) → i < 64 → bitAnd k mask ≡ bitAnd i mask → on (bitOr r b) i ≡ true)
+
+    case : (k : ℕ) → k < 64 → on rest k ≡ true → (t : Bool) → on b k ≡ t → Part k
+    case k h e true q = inr (λ i j p. on-either r b i (inr (is i j ∙ eq-eqb (bitAnd i mask) (bitAnd c mask) (sym p ∙ eqb-true (bitAnd k mask) (bitAnd c mask) (sym (is k h) ∙ q)))))
+    case k h e false q = inl (minus-keeps w b rest' k minus h (without .others k h (λ z. never-both (is k h ∙ eq-eqb (bitAnd k mask) (bitAnd c mask) (ap (λ (n : ℕ). bitAnd n mask) z)) q) ∙ e) q)
+
+pub spanning-end : (mask d rest r : ℕ) → rest ≡ 0 → Spanning mask d rest r → Spans mask d r
+spanning-end mask d rest r z s = record { whole = λ c k h l e q. ⊎-elim (λ t. absurd (never-both t (ap (λ (n : ℕ). on n c) z ∙ on-zero c))) (λ f. f k l q) (s .part c h e) }
 
 -- counts and sums, one more
 pub holders-more : (own : List ℕ) (c l n n' : ℕ) → true ≡ on (getD own l 0) c → n' ≡ n + 1 → n ≡ holders own c l → n' ≡ holders own c (l + 1)
@@ -184,21 +207,31 @@ module _ (cl codes : List ℕ) (o mask y : ℕ) (own owns own' owns' : List ℕ)
       (subst (Held cl codes o mask (y + 1) (set own (labelAt cl o y) (bitOr (getD own (labelAt cl o y) 0) bs))) (sym (b ∙ ap (λ (z : ℕ). set owns z (getD owns z 0 + 1)) e)) new)
 
 -- ======== one output settled
-module _ (cl base ms caps spots : List ℕ) (v j o : ℕ) (codes dom own owns wants : List ℕ) (labels : Labels cl) (few : v ≤ 32) (outs : j ≤ 8) (h : o < j) (s : Held cl codes o (item ms o) v own owns) (want : Wanted cl o v dom own owns wants) where
+module _ (cl base ms caps spots : List ℕ) (v j o : ℕ) (codes dom own owns : List ℕ) (labels : Labels cl) (few : v ≤ 32) (outs : j ≤ 8) (h : o < j) (s : Held cl codes o (item ms o) v own owns) where
   low : (x : ℕ) → x < v → labelAt cl o x < 32
   low x l = labels .low (o * 32 + x) (omega arith)
 
-  -- more is held or needed than there are places
-  pub settled-none : (r : List ℕ) → item spots o < needed wants base o → Kept cl base ms caps spots v j codes dom r
-  settled-none r l = record { keeps = λ g f e. absurd (let z = enough cl base ms caps spots v j o codes dom own owns wants g h low s want f e in omega arith) }
+  -- the block of c is full
+  pub settled-full : (c b : ℕ) (r : List ℕ) → c < 64 → Block (item ms o) c b → item caps o ≤ holders own c 32 → Narrowed (Free cl o own c b) dom v r → Kept cl base ms caps spots v j codes dom r
+  settled-full c b r l is full n = record {
+    keeps = λ g f e. record {
+      coded = e .coded;
+      within = λ x k. n .done x (g x) k (f .small x k) (e .within x k) (λ off. false-where _ (λ w. keeps-out cl base ms caps spots v j o codes dom own owns g h low s f e x c k l full off (eqb-true _ _ (sym (is (g x) (f .small x k)) ∙ w))));
+    };
+  }
 
-  pub settled : (c b : ℕ) (full tight : Bool) (r : List ℕ) → (full ≡ true → (c < 64) × Block (item ms o) c b × (item caps o ≤ holders own c 32)) → (tight ≡ true → needed wants base o ≡ item spots o) → Narrowed cl base o own owns wants codes dom c b full tight v r → Kept cl base ms caps spots v j codes dom r
-  settled c b full tight r a t n = record {
+  -- more is held or needed than there are places
+  pub settled-none : (wants meet r : List ℕ) → Wanted cl o (item ms o) v dom own owns wants meet → item spots o < needed wants base o → Kept cl base ms caps spots v j codes dom r
+  settled-none wants meet r want l = record { keeps = λ g f e. absurd (let z = enough cl base ms caps spots v j o codes dom own owns wants meet g h low s want f e in omega arith) }
+
+  -- no place is left
+  pub settled-tight : (wants meet r : List ℕ) → Wanted cl o (item ms o) v dom own owns wants meet → needed wants base o ≡ item spots o → Narrowed (Stays cl base o own meet owns wants) dom v r → Kept cl base ms caps spots v j codes dom r
+  settled-tight wants meet r want t n = record {
     keeps = λ g f e. record {
       coded = e .coded;
       within = λ x k. n .done x (g x) k (f .small x k) (e .within x k) (record {
-        held = λ p q r. keeps-to cl base ms caps spots v j o codes dom own owns wants g h low s want f e x k (t p) q r;
-        free = λ p off. false-where _ (λ w. keeps-out cl base ms caps spots v j o codes dom own owns wants g h low s want f e x c k (a p .0) (a p .2) off (eqb-true _ _ (sym (a p .1 (g x) (f .small x k)) ∙ w)));
+        held = λ p q. keeps-to cl base ms caps spots v j o codes dom own owns wants meet g h low s want f e x k t q p;
+        near = λ p q. keeps-near cl base ms caps spots v j o codes dom own owns wants meet g h low s want f e x k t q p;
       });
     };
   }
@@ -259,3 +292,16 @@ module _ (cl base ms ps caps spots : List ℕ) (v j : ℕ) (codes dom codes' dom
   pub told-lost : (ok : Bool) → ok ≡ false → Told cl base ms ps caps spots v j codes dom ok r → Hopeless cl base ms caps spots v j codes dom
   told-lost true e t = absurd (true-false e)
   told-lost false e t = t
+
+-- ---- a list of n sets with every code
+abbrev pub copies : ℕ → ℕ → List ℕ
+copies zero x = []
+copies (suc n) x = x ∷ copies n x
+
+pub copies-are : (n x i : ℕ) → i < n → item (copies n x) i ≡ x
+copies-are zero x i h = absurd (omega arith)
+copies-are (suc n) x zero h = refl
+copies-are (suc n) x (suc i) h = copies-are n x i (omega arith)
+
+pub all-ones : (n i : ℕ) → i < n → item (copies n (2 ^ 64 - 1)) i ≡ 2 ^ 64 - 1
+all-ones n i h = copies-are n (2 ^ 64 - 1) i h

@@ -8,7 +8,7 @@ ghost use lib.ListN.{length, getD};
 ghost use Rattle.bits.specs.Digit.{on};
 ghost use Rattle.numbering.specs.Given.{labelAt, item, Block, Labels, Blocks, Kept};
 ghost use Rattle.holding.specs.Hold.{Held, Wanted, needed, holders};
-ghost use Rattle.holding.specs.Search.{Table, Narrowed, Trimmed};
+ghost use Rattle.holding.specs.Search.{Table, Minus, Spans, Narrowed, Free, Keeps, Stays};
 
 // The set of codes that a mask does not tell from c.
 pub fn block(mask: u8, c: u8) -> u64
@@ -80,28 +80,70 @@ pub fn held(
     Hold { own, owns }
 }
 
-// The blocks that each class holds, and one more where one of its vertices can take none of them.
+// d without b.
+pub fn minus(d: u64, b: u64) -> u64
+    ensures { λ r. ⌜ Minus d b r ⌝ }
+{
+    d & !b
+}
+
+// The codes of the blocks of output o that meet d.
+pub fn spread(bs: &[u64], o: usize, d: u64) -> u64
+    requires { ⌜ (length (now bs) ≡ 512) × (o < 8) ⌝ }
+    ensures { λ r. ⌜ ((mask : ℕ) → ((c : ℕ) → c < 64 → Block mask c (getD (now (bs .entry)) (o * 64 + c) 0)) → Spans mask d r) ⌝ }
+{
+    let mut r: u64 = 0;
+    let mut rest = d;
+    while rest != 0 {
+        let c = cells::lowest(rest);
+        let b = bs[o * 64 + c as usize];
+        r = r | b;
+        rest = minus(cells::without(rest, c), b);
+    }
+    r
+}
+
+// One more than n, or two more where m is empty.
+pub fn more(n: u8, m: u64) -> u8
+    requires { ⌜ n ≤ 32 ⌝ }
+    ensures { λ r. ⌜ (m ≡ 0 → r ≡ n + 2) × ((m ≡ 0 → ⊥) → r ≡ n + 1) ⌝ }
+{
+    if m == 0 { n + 2 } else { n + 1 }
+}
+
+// The blocks that each class holds, one more where one of its vertices can take none of them, and two more where such vertices
+// have no block in common; and the codes that they have in common, block by block.
+pub struct Wants {
+    pub wants: [u8; 32],
+    pub meet: [u64; 32],
+}
+
 pub fn wanted(
     cl: &[u8],
+    bs: &[u64],
     v: usize,
     o: usize,
     dom: [u64; 32],
     own: [u64; 32],
     owns: [u8; 32],
-) -> [u8; 32]
-    requires { ⌜ Labels (now cl) × (v ≤ 32) × (o < 8) × ((l : ℕ) → l < 32 → item owns l ≤ 32) ⌝ }
-    ensures { λ r. ⌜ Wanted (now (cl .entry)) o v dom own owns r ⌝ }
+) -> Wants
+    requires { ⌜ Labels (now cl) × (length (now bs) ≡ 512) × (v ≤ 32) × (o < 8) × ((l : ℕ) → l < 32 → item owns l ≤ 32) ⌝ }
+    ensures { λ r. ⌜ ((mask : ℕ) → ((c : ℕ) → c < 64 → Block mask c (getD (now (bs .entry)) (o * 64 + c) 0)) → Wanted (now (cl .entry)) o mask v dom own owns (r .wants) (r .meet)) ⌝ }
 {
-    let mut r = owns;
+    let mut wants = owns;
+    let mut meet = [18446744073709551615u64; 32];
     let mut y = 0;
     while y < v {
         let l = numbering::label(cl, o, y) as usize;
         if dom[y] & own[l] == 0 {
-            r[l] = owns[l] + 1;
+            let t = spread(bs, o, dom[y]);
+            let m = meet[l] & t;
+            meet[l] = m;
+            wants[l] = more(owns[l], m);
         }
         y += 1;
     }
-    r
+    Wants { wants, meet }
 }
 
 // The larger of two numbers.
@@ -141,60 +183,74 @@ pub fn crowd(own: [u64; 32], c: u8) -> usize
     n
 }
 
-// Whether no place is left and a class holds what it needs and wants no more.
-pub fn content(tight: bool, need: u8, has: u8, wants: u8) -> bool
-    ensures { λ r. ⌜ (r ≡ true → (tight ≡ true) × (need ≤ has) × (wants ≡ has)) ⌝ }
+// The codes that a class keeps to where no place is left.
+pub fn keep(own: u64, meet: u64, has: u8, wants: u8, need: u8) -> u64
+    requires { ⌜ has ≤ 32 ⌝ }
+    ensures { λ r. ⌜ ((k : ℕ) → k < 64 → Keeps own meet has wants need k → on r k ≡ true) ⌝ }
 {
-    if tight {
-        if wants == has { need <= has } else { false }
-    } else {
-        false
+    if wants == has {
+        if need <= has {
+            return own;
+        }
+    } else if wants == has + 1 {
+        if need <= has + 1 {
+            return own | meet;
+        }
     }
+    18446744073709551615
 }
 
-// Whether the block of c is full and a class does not hold it.
-pub fn barred(full: bool, own: u64, c: u8) -> bool
-    requires { ⌜ c < 64 ⌝ }
-    ensures { λ r. ⌜ (r ≡ true → (full ≡ true) × (on own c ≡ false)) ⌝ }
-{
-    if full { !cells::in_set(own, c) } else { false }
-}
-
-// The codes of d, where `only` holds those of own, and where `out` holds those outside of b.
-pub fn trim(d: u64, own: u64, only: bool, out: bool, b: u64) -> u64
-    ensures { λ r. ⌜ Trimmed d own only out b r ⌝ }
-{
-    let first = if only { d & own } else { d };
-    if out { first & !b } else { first }
-}
-
-// The sets of the vertices without a code, narrowed by what the classes of o hold.
+// The sets of the vertices without a code, narrowed where no place is left.
 pub fn narrow(
     cl: &[u8],
     base: &[u8],
     v: usize,
     o: usize,
     own: [u64; 32],
+    meet: [u64; 32],
     owns: [u8; 32],
     wants: [u8; 32],
     codes: [u8; 32],
     dom: [u64; 32],
-    c: u8,
-    b: u64,
-    full: bool,
-    tight: bool,
 ) -> [u64; 32]
-    requires { ⌜ Labels (now cl) × (length (now base) ≡ 256) × (v ≤ 32) × (o < 8) × (c < 64) ⌝ }
-    ensures { λ r. ⌜ Narrowed (now (cl .entry)) (now (base .entry)) o own owns wants codes dom c b full tight v r ⌝ }
+    requires { ⌜ Labels (now cl) × (length (now base) ≡ 256) × (v ≤ 32) × (o < 8) × ((l : ℕ) → l < 32 → item owns l ≤ 32) ⌝ }
+    ensures { λ r. ⌜ Narrowed (Stays (now (cl .entry)) (now (base .entry)) o own meet owns wants) dom v r ⌝ }
 {
     let mut r = dom;
     let mut y = 0;
     while y < v {
         if codes[y] >= 64 {
             let l = numbering::label(cl, o, y) as usize;
-            let only = content(tight, numbering::label(base, o, l), owns[l], wants[l]);
-            let out = barred(full, own[l], c);
-            r[y] = trim(r[y], own[l], only, out, b);
+            let need = numbering::label(base, o, l);
+            r[y] = r[y] & keep(own[l], meet[l], owns[l], wants[l], need);
+        }
+        y += 1;
+    }
+    r
+}
+
+// The sets of the vertices without a code whose classes do not hold the block b of c, without it.
+pub fn shut(
+    cl: &[u8],
+    v: usize,
+    o: usize,
+    own: [u64; 32],
+    codes: [u8; 32],
+    dom: [u64; 32],
+    c: u8,
+    b: u64,
+) -> [u64; 32]
+    requires { ⌜ Labels (now cl) × (v ≤ 32) × (o < 8) × (c < 64) ⌝ }
+    ensures { λ r. ⌜ Narrowed (Free (now (cl .entry)) o own c b) dom v r ⌝ }
+{
+    let mut r = dom;
+    let mut y = 0;
+    while y < v {
+        if codes[y] >= 64 {
+            let l = numbering::label(cl, o, y) as usize;
+            if !cells::in_set(own[l], c) {
+                r[y] = minus(r[y], b);
+            }
         }
         y += 1;
     }
@@ -221,25 +277,10 @@ pub fn bar(
 {
     let h = held(cl, bs, ms, v, j, o, codes);
     let own = h.own;
-    let owns = h.owns;
     if crowd(own, c) < caps[o] as usize {
         return dom;
     }
-    narrow(
-        cl,
-        base,
-        v,
-        o,
-        own,
-        owns,
-        owns,
-        codes,
-        dom,
-        c,
-        bs[o * 64 + c as usize],
-        true,
-        false,
-    )
+    shut(cl, v, o, own, codes, dom, c, bs[o * 64 + c as usize])
 }
 
 // The sets narrowed by what the classes of output o hold and need.
@@ -262,7 +303,8 @@ pub fn settle(
     let h = held(cl, bs, ms, v, j, o, codes);
     let own = h.own;
     let owns = h.owns;
-    let wants = wanted(cl, v, o, dom, own, owns);
+    let w = wanted(cl, bs, v, o, dom, own, owns);
+    let wants = w.wants;
     let t = total(base, o, wants);
     let spot = spots[o] as usize;
     if spot < t {
@@ -271,7 +313,6 @@ pub fn settle(
     if t < spot {
         return dom;
     }
-    narrow(
-        cl, base, v, o, own, owns, wants, codes, dom, 0, 0, false, true,
-    )
+    let meet = w.meet;
+    narrow(cl, base, v, o, own, meet, owns, wants, codes, dom)
 }

@@ -23,7 +23,7 @@ use Rattle.cells.specs.Codes.{Coded}
 use Rattle.cells.specs.Shared.{Split, Fits, sharedCode, crowd-bound, places-bound}
 use Rattle.numbering.specs.Given.{labelAt, item, Block, Blocks, Plan, Solves, Extends, Kept, Parted, Hopeless, Told}
 use Rattle.coding.specs.Values.{Agrees, Covers}
-use Rattle.holding.specs.Search.{Table}
+use Rattle.holding.specs.Search.{Table, copies, copies-are, all-ones}
 
 -- ======== definitions
 -- each output reads cells below 6
@@ -189,21 +189,12 @@ pub record Start (codes dom : List ℕ) : Type 0 where
   pub others : (x : ℕ) → x < 32 → (x ≡ 0 → ⊥) → item codes x ≡ 64
   pub any : (x : ℕ) → x < 32 → item dom x ≡ 2 ^ 64 - 1
 
-abbrev pub copies : ℕ → ℕ → List ℕ
-copies zero x = []
-copies (suc n) x = x ∷ copies n x
-
-copies-at : (n x i : ℕ) → i < n → item (copies n x) i ≡ x
-copies-at zero x i h = absurd (omega arith)
-copies-at (suc n) x zero h = refl
-copies-at (suc n) x (suc i) h = copies-at n x i (omega arith)
-
 pub start-of : Start (0 ∷ copies 31 64) (copies 32 (2 ^ 64 - 1))
-start-of = record { first = refl; others = others; any = λ x h. copies-at 32 (2 ^ 64 - 1) x h }
+start-of = record { first = refl; others = others; any = λ x h. all-ones 32 x h }
   where
     others : (x : ℕ) → x < 32 → (x ≡ 0 → ⊥) → item (0 ∷ copies 31 64) x ≡ 64
     others zero h ne = absurd (ne refl)
-    others (suc x) h ne = copies-at 31 64 x (omega arith)
+    others (suc x) h ne = copies-are 31 64 x (omega arith)
 
 pub start-agrees : (sh : ℕ) (codes dom : List ℕ) (v : ℕ) (f : ℕ → ℕ) → v ≤ 32 → f 0 ≡ 0 → Start codes dom → Agrees codes v (sharedCode sh f)
 start-agrees sh codes dom v f few z s x h l = go (ℕ-discrete x 0)

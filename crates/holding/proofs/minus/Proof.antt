@@ -1,0 +1,13 @@
+use Rattle.holding.specs.Search.{minus-of}
+use borrow.Author.Needs.{needs}
+use Rattle.holding.proofs.minus.Statement.{statement}
+use Rattle.holding.proofs.minus.Tie as tie
+use Rattle.holding.proofs.minus.Reads as reads
+use Rattle.holding.proofs.minus.Lts as lts
+
+-- src/lib.rt:84:1
+returns : tie.Need-returns
+returns c = minus-of (c .args .d) (c .args .b) (c .fits .b .fits)
+
+pub minus-spec : {M : Type 1} → statement M
+minus-spec = tie.close (tie.spec returns)
