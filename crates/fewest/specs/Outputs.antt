@@ -1,6 +1,6 @@
 -- The outputs in another order. The search takes them as it likes, on labels and budgets put in that order, and the rows
 -- that it finds are put back: the answer is the same, since serving does not care which number an output has. Assumes nothing.
-use mathlib.Core.Path.{_≡_, refl, sym, ap, _∙_, subst}
+use mathlib.Core.Path.{_≡_, sym, ap, _∙_, subst}
 use mathlib.Core.Bool.{Bool, true, false}
 use mathlib.Core.List.{List}
 use mathlib.Core.Logic.{⊎-elim}
@@ -10,14 +10,14 @@ use native.Mathlib.Omega.{arith}
 use lib.ListN.{length, getD, set, length-set}
 use lib.Seq.{getD-set-same, getD-set-other}
 use Rattle.bits.specs.Digit.{on}
-use Rattle.cells.specs.Core.{Cell, Differ, Serves, Least, Answer, cellsFrom, coreOf}
+use Rattle.cells.specs.Core.{Cell, Differ, Serves, Answer, coreOf}
 use Rattle.cells.specs.Lists.{count, less-or-equal}
 use Rattle.cells.specs.Codes.{cells-length}
 use Rattle.cells.specs.Renumbered.{renumbered, renumbered-length, renumbered-serves, cells-zero-as, cells-serve-as}
 use Rattle.numbering.specs.Given.{labelAt, item}
 use Rattle.orders.specs.Order.{Order}
 use Rattle.questions.specs.Question.{Taken, taken-at}
-use Rattle.fewest.specs.Choice.{Answered}
+use Rattle.fewest.specs.Count.{Answered}
 
 -- ======== definitions
 -- the first n numbers of r are those of l in the order from

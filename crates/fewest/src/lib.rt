@@ -1,148 +1,12 @@
-// The fewest cells that serve. `fewest` tries 0, 1, 2, .. cells; for each count `choose` gives output after output a set of
-// cells to read, leaving what a count or the memory of questions rules out, and at a complete choice `finish` asks about ever
-// larger sets of outputs, at last about all: the crate joint finds codes for them or shows that there are none. What is found
-// is a least core, and where nothing is found every core that serves has more cells than the limit: the contract of `fewest`
-// is Theorem B.
-ghost use mathlib.Core.Path.{_≡_};
-ghost use mathlib.Core.Bool.{Bool, true, false};
-ghost use mathlib.Core.List.{List};
-ghost use Prim.Native.Nat.{ℕ, _+_, _*_, _<_, _≤_, _^_, min};
-ghost use lib.ListN.{length, getD};
-ghost use Rattle.cells.specs.Core.{Differ, Answer, coreOf};
-ghost use Rattle.numbering.specs.Given.{Labels, labelAt, item};
-ghost use Rattle.readers.specs.Masks.{Short, Decided};
-ghost use Rattle.memory.specs.Memory.{Honest};
-ghost use Rattle.orders.specs.Order.{Order, Eight};
-ghost use Rattle.fewest.specs.Choice.{Rows, Alike, Chosen, Suits, Zeroed, Answered};
+// The fewest cells that serve. `fewest` puts the outputs with most classes first, and `least` tries 0, 1, 2, .. cells: the
+// crate choosing finds reading sets and codes for a count or shows that there are none. What is found is a least core, and
+// where nothing is found every core that serves has more cells than the limit: the contract of `fewest` is Theorem B.
+ghost use mathlib.Core.Bool.{true, false};
+ghost use Prim.Native.Nat.{_<_, _≤_, _^_};
+ghost use Rattle.numbering.specs.Given.{Labels};
+ghost use Rattle.orders.specs.Order.{Eight};
+ghost use Rattle.fewest.specs.Count.{Zeroed, Answered};
 ghost use Rattle.fewest.specs.Outputs.{Picked, Returned};
-
-// The smaller of two numbers.
-pub fn smaller(a: u8, b: u8) -> u8
-    ensures { λ r. ⌜ r ≡ min a b ⌝ }
-{
-    if a < b { a } else { b }
-}
-
-// Whether r has as many cells as wanted and is in order: of neighbouring cells of same it reads the first ones.
-pub fn suits(r: u8, want: u8, same: u8) -> bool
-    ensures { λ ok. ⌜ Suits r want same ok ⌝ }
-{
-    let n = bounds::digits(r);
-    if n == want {
-        (r / 2) & !r & same == 0
-    } else {
-        false
-    }
-}
-
-// Whether the rows of the first n + 1 outputs may go on: nothing rules them out that a count or the memory shows. A set of
-// outputs without the last of them was looked up before.
-pub fn alive(cl: &[u8], v: usize, n: usize, rows: [u8; 8], mem: [u64; 256]) -> bool
-    requires { ⌜ Labels (now cl) × (v ≤ 32) × (n < 8) × Short rows (n + 1) × Honest (now cl) v mem ⌝ }
-    ensures { λ r. ⌜ (r ≡ false → Decided (now (cl .entry)) v (n + 1) rows false rows) ⌝ }
-{
-    if !readers::possible(cl, v, n + 1, rows) {
-        return false;
-    }
-    !memory::known_bad(mem, rows, n + 1, memory::sets(n), memory::sets(n + 1))
-}
-
-// Whether there is a core with the rows given, its rows and codes, and what was learnt.
-pub struct Choice {
-    pub ok: bool,
-    pub rows: [u8; 8],
-    pub codes: [u8; 32],
-    pub mem: [u64; 256],
-}
-
-// Codes for the rows of all outputs. Sets of some of them are asked first: what they show rules out other rows too.
-pub fn finish(cl: &[u8], v: usize, m: usize, rows: [u8; 8], mem: [u64; 256]) -> Choice
-    requires { ⌜ Labels (now cl) × (v ≤ 32) × (m ≤ 8) × Short rows m × Honest (now cl) v mem ⌝ }
-    ensures { λ r. ⌜ (r .rows ≡ rows) × Decided (now (cl .entry)) v m rows (r .ok) (r .codes) × Honest (now (cl .entry)) v (r .mem) ⌝ }
-{
-    let s = memory::settle(cl, v, m, rows, mem);
-    let known = s.mem;
-    if !s.ok {
-        return Choice {
-            ok: false,
-            rows,
-            codes: [0u8; 32],
-            mem: known,
-        };
-    }
-    let c = joint::codes_for(cl, v, m, rows);
-    let codes = c.codes;
-    Choice {
-        ok: c.ok,
-        rows,
-        codes,
-        mem: known,
-    }
-}
-
-// A core of u cells whose first n rows are given. What was learnt below may concern the rows given alone: then none of the
-// rows left to try is of use.
-pub fn choose(
-    cl: &[u8],
-    budgets: [u8; 8],
-    v: usize,
-    m: usize,
-    u: u8,
-    rows: [u8; 8],
-    n: usize,
-    same: u8,
-    mem: [u64; 256],
-) -> Choice
-    requires { ⌜ Labels (now cl) × (v ≤ 32) × (m ≤ 8) × (u ≤ 6) × (n ≤ m) × Rows budgets u n rows × Alike rows n same × Honest (now cl) v mem ⌝ }
-    ensures { λ r. ⌜ Chosen (now (cl .entry)) budgets v m u n rows (r .ok) (r .rows) (r .codes) × Honest (now (cl .entry)) v (r .mem) ⌝ }
-{
-    if n == m {
-        return finish(cl, v, m, rows, mem);
-    }
-    let want = smaller(budgets[n], u);
-    let end = bounds::power(u);
-    let given = memory::sets(n);
-    let mut known = mem;
-    let mut r: u8 = 0;
-    while r < end {
-        if suits(r, want, same) {
-            let mut next = rows;
-            next[n] = r;
-            if alive(cl, v, n, next, known) {
-                let k = choose(
-                    cl,
-                    budgets,
-                    v,
-                    m,
-                    u,
-                    next,
-                    n + 1,
-                    same & !(r ^ (r / 2)),
-                    known,
-                );
-                if k.ok {
-                    return k;
-                }
-                known = k.mem;
-                if memory::known_bad(known, rows, n, 0, given) {
-                    return Choice {
-                        ok: false,
-                        rows,
-                        codes: [0u8; 32],
-                        mem: known,
-                    };
-                }
-            }
-        }
-        r += 1;
-    }
-    Choice {
-        ok: false,
-        rows,
-        codes: [0u8; 32],
-        mem: known,
-    }
-}
 
 // Every table complemented where it is 1 at vertex 0.
 pub fn zero_first(codes: [u8; 32]) -> [u8; 32]
@@ -176,7 +40,7 @@ pub fn least(cl: &[u8], budgets: [u8; 8], v: usize, m: usize, limit: u8) -> Core
     let mut known = [0u64; 256];
     let mut u: u8 = 0;
     while u <= limit {
-        let k = choose(cl, budgets, v, m, u, none, 0, 63, known);
+        let k = choosing::choose(cl, budgets, v, m, u, none, 0, 63, known);
         known = k.mem;
         if k.ok {
             let rows = k.rows;

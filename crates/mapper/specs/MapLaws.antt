@@ -31,7 +31,7 @@ use Rattle.cells.specs.Core.{Cell, Serves, Differ, Answer, ZeroFirst, coreOf, c
 use Rattle.cells.specs.Lists.{count, count-alike}
 use Rattle.cells.specs.Codes.{cells-length}
 use Rattle.numbering.specs.Given.{labelAt, item}
-use Rattle.fewest.specs.Choice.{Answered}
+use Rattle.fewest.specs.Count.{Answered}
 use Rattle.serving.specs.NetworkCore.{lutAt, networkCore, Conflicts, ServesDesign}
 use Rattle.serving.specs.Tells.{core-length}
 use Rattle.serving.specs.Build.{numbers, codeIn, entryAt, entry, nodeBuilt, built}

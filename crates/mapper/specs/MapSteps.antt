@@ -32,7 +32,7 @@ use Rattle.classes.specs.declared.Classes.{Classes}
 use Rattle.classes.specs.declared.Shape.{Shape}
 use Rattle.network.specs.Printer.{printNetwork}
 use Rattle.numbering.specs.Given.{Labels, labelAt, item}
-use Rattle.fewest.specs.Choice.{Answered}
+use Rattle.fewest.specs.Count.{Answered}
 use Rattle.serving.specs.Build.{built}
 use Rattle.serving.specs.TheoremA.{built-luts}
 use Rattle.mapper.specs.Map.{Permitted, MapAnswer, refused-by, mapped, Outcome, refused-sheet, too-many-classes, no-network, buffer-short, written}

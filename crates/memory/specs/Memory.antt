@@ -3,17 +3,15 @@
 use mathlib.Core.Path.{_≡_, refl, sym, ap, _∙_, subst}
 use mathlib.Core.Bool.{Bool, true, false}
 use mathlib.Core.List.{List}
-use Prim.Native.Nat.{ℕ, _+_, _-_, _*_, _/_, _%_, _^_, _≤_, _<_}
+use Prim.Native.Nat.{ℕ, _+_, _*_, _/_, _%_, _^_, _≤_, _<_}
 use native.Mathlib.Decide.{ℕ-discrete}
 use native.Mathlib.Omega.{arith}
 use native.Mathlib.Nat.{one-mul, mod-eq-of-lt, mul-le-mul}
 use lib.Pow.{pow-lt, pow-pos, pow-mono}
 use lib.ListN.{length, getD, set, length-set}
 use lib.Seq.{getD-set-same, getD-set-other}
-use Rattle.bits.specs.Logic.{true-false}
 use Rattle.numbering.specs.Given.{item}
-use Rattle.readers.specs.Masks.{Decided}
-use Rattle.questions.specs.Question.{Barred, Asks}
+use Rattle.questions.specs.Question.{Barred}
 
 -- ======== definitions
 -- an odd word says that no codes answer the question of its half

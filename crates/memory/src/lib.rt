@@ -1,11 +1,10 @@
 // A memory of questions answered, and the subsets of outputs for which it is asked. What it says was found to have no codes
 // has none; that something has codes is used to leave a search out, and nothing rests on it. It rests on questions.
 ghost use mathlib.Core.Path.{_≡_};
-ghost use mathlib.Core.Bool.{Bool, true, false};
+ghost use mathlib.Core.Bool.{true, false};
 ghost use mathlib.Core.List.{List};
 ghost use Prim.Native.Nat.{ℕ, _+_, _*_, _<_, _≤_, _^_};
-ghost use lib.ListN.{length, getD};
-ghost use Rattle.numbering.specs.Given.{Labels, item};
+ghost use Rattle.numbering.specs.Given.{Labels};
 ghost use Rattle.readers.specs.Masks.{Short, Decided};
 ghost use Rattle.questions.specs.Question.{Barred};
 ghost use Rattle.memory.specs.Memory.{Honest, Word};

@@ -5,12 +5,11 @@
 use mathlib.Core.Path.{_≡_, refl, sym, ap, ap₂, _∙_, subst}
 use mathlib.Core.Bool.{Bool, true, false}
 use mathlib.Core.List.{List}
-use mathlib.Core.Logic.{_⊎_, inl, inr, ⊎-elim}
+use mathlib.Core.Logic.{⊎-elim}
 use Prim.Native.Nat.{ℕ, zero, suc, _+_, _-_, _*_, _/_, _%_, _^_, _≤_, _<_}
 use native.Mathlib.Decide.{ℕ-discrete, decLt}
 use native.Mathlib.Omega.{arith}
 use native.Mathlib.Nat.{pow-suc, pow-le-pow-right}
-use native.Mathlib.Numerals.{add-one}
 use lib.Bits.{bitAnd, bitOr, and-le-r}
 use lib.ListN.{length, getD, set, length-set}
 use lib.Seq.{getD-set-same, getD-set-other}
@@ -19,9 +18,9 @@ use Rattle.bits.specs.Logic.{andb, orb, true-false}
 use Rattle.bits.specs.Digit.{on, on-and, on-zero, on-ones, equal-digits}
 use Rattle.cells.specs.Core.{Differ, bit}
 use Rattle.cells.specs.Lists.{less-or-equal, and-on, or-on, or-off}
-use Rattle.cells.specs.Pigeon.{Agree, agree-and, and-agree}
+use Rattle.cells.specs.Pigeon.{agree-and, and-agree}
 use Rattle.cells.specs.Sets.{With, with-power}
-use Rattle.cells.specs.Codes.{Coded, digitsOf, on-digits, digits-none}
+use Rattle.cells.specs.Codes.{digitsOf, on-digits, digits-none}
 use Rattle.numbering.specs.Given.{labelAt, item, Labels}
 use Rattle.readers.specs.Masks.{Short, Decided}
 use Rattle.orders.specs.Order.{Order}

@@ -1,10 +1,9 @@
 // Questions about some of the outputs: made of the rows so far, and asked on the labels of these outputs alone. A question
 // is a number, so that a memory of answers is an array (specs/Question has the argument). It rests on joint and orders.
 ghost use mathlib.Core.Path.{_≡_};
-ghost use mathlib.Core.Bool.{Bool, true, false};
-ghost use mathlib.Core.List.{List};
+ghost use mathlib.Core.Bool.{false};
 ghost use Prim.Native.Nat.{ℕ, _+_, _*_, _<_, _≤_};
-ghost use lib.ListN.{length, getD};
+ghost use lib.ListN.{length};
 ghost use Rattle.numbering.specs.Given.{Labels, item};
 ghost use Rattle.readers.specs.Masks.{Short};
 ghost use Rattle.orders.specs.Order.{Order};

@@ -1,11 +1,7 @@
-use Rattle.bits.specs.Logic.{true-false}
-use mathlib.Core.Path.{_≡_, refl, sym, ap, _∙_, subst}
-use mathlib.Core.Bool.{Bool, true, false}
-use mathlib.Core.List.{List}
 use mathlib.Core.Logic.{⊎-elim}
-use Prim.Native.Nat.{ℕ, _<_, _≤_, _+_, _-_, _*_, _^_, min, _/_, _%_}
+use Prim.Native.Nat.{_≤_, _+_, _-_, _*_}
 use native.Mathlib.Omega.{arith}
-use lib.ListN.{length, getD, set}
+use lib.ListN.{set}
 use borrow.Author.Needs.{needs}
 use Rattle.fewest.proofs.classes.Statement.{statement}
 use Rattle.fewest.proofs.classes.Tie as tie

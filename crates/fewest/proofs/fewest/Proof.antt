@@ -1,13 +1,7 @@
 use Rattle.fewest.specs.Outputs.{answered-back}
 use Rattle.questions.specs.Question.{taken-labels}
-use Rattle.bits.specs.Logic.{true-false}
-use mathlib.Core.Path.{_≡_, refl, sym, ap, _∙_, subst}
-use mathlib.Core.Bool.{Bool, true, false}
-use mathlib.Core.List.{List}
-use mathlib.Core.Logic.{⊎-elim}
-use Prim.Native.Nat.{ℕ, _<_, _≤_, _+_, _-_, _*_, _^_, min, _/_, _%_}
+use mathlib.Core.Path.{sym}
 use native.Mathlib.Omega.{arith}
-use lib.ListN.{length, getD, set}
 use borrow.Author.Needs.{needs}
 use Rattle.fewest.proofs.fewest.Statement.{statement}
 use Rattle.fewest.proofs.fewest.Tie as tie

@@ -1,20 +1,17 @@
-use Rattle.fewest.specs.Choice.{AtLeast, atleast-start, atleast-more, answer-found, answer-none, alike-start, rows-start}
+use Rattle.fewest.specs.Count.{AtLeast, atleast-start, atleast-more, answer-found, answer-none}
+use Rattle.choosing.specs.Choice.{alike-start, rows-start}
 use Rattle.memory.specs.Memory.{Honest, honest-start}
 use Rattle.cells.specs.Lists.{zeros-are}
-use Rattle.bits.specs.Logic.{true-false}
-use mathlib.Core.Path.{_≡_, refl, sym, ap, _∙_, subst}
-use mathlib.Core.Bool.{Bool, true, false}
-use mathlib.Core.List.{List}
-use mathlib.Core.Logic.{⊎-elim}
-use Prim.Native.Nat.{ℕ, _<_, _≤_, _+_, _-_, _*_, _^_, min, _/_, _%_}
+use mathlib.Core.Path.{_≡_, refl}
+use Prim.Native.Nat.{_≤_, _+_, _-_}
 use native.Mathlib.Omega.{arith}
-use lib.ListN.{length, getD, set}
+use lib.ListN.{length}
 use borrow.Author.Needs.{needs}
 use Rattle.fewest.proofs.least.Statement.{statement}
 use Rattle.fewest.proofs.least.Tie as tie
 use Rattle.fewest.proofs.least.Reads as reads
 use Rattle.fewest.proofs.least.Lts as lts
-use Rattle.fewest.proofs.choose.Reads as choose-reads
+use Rattle.choosing.proofs.choose.Reads as choose-reads
 use Rattle.fewest.proofs.zero_first.Reads as zero-first-reads
 
 abbrev Inv-loop : tie.InvT-loop

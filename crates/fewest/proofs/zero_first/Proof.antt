@@ -1,11 +1,8 @@
-use Rattle.fewest.specs.Choice.{Zeroed, zeroed-more}
-use Rattle.bits.specs.Logic.{true-false}
-use lib.ListN.{length, getD, set}
+use Rattle.fewest.specs.Count.{Zeroed, zeroed-more}
+use lib.ListN.{getD}
 use native.Mathlib.Omega.{arith}
-use Prim.Native.Nat.{ℕ, _<_, _≤_, _+_, _-_, _*_, _^_, min, _/_}
-use mathlib.Core.Logic.{⊎-elim}
-use mathlib.Core.Bool.{Bool, true, false}
-use mathlib.Core.Path.{_≡_, refl, sym, ap, _∙_, subst}
+use Prim.Native.Nat.{ℕ, _≤_, _-_}
+use mathlib.Core.Path.{_≡_, refl, subst}
 use borrow.Author.Needs.{needs}
 use Rattle.fewest.proofs.zero_first.Statement.{statement}
 use Rattle.fewest.proofs.zero_first.Tie as tie

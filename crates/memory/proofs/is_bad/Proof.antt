@@ -1,13 +1,9 @@
 use borrow.Author.Tests.{eqb-true}
-use Rattle.memory.specs.Memory.{Honest, honest-found}
+use Rattle.memory.specs.Memory.{honest-found}
 use Rattle.bits.specs.Logic.{true-false}
-use mathlib.Core.Path.{_≡_, refl, sym, ap, _∙_, subst}
-use mathlib.Core.Bool.{Bool, true, false}
-use mathlib.Core.List.{List}
-use mathlib.Core.Logic.{⊎-elim}
-use Prim.Native.Nat.{ℕ, _<_, _≤_, _+_, _-_, _*_, _^_, min, _/_, _%_}
+use mathlib.Core.Path.{refl, sym}
+use mathlib.Core.Bool.{true, false}
 use native.Mathlib.Omega.{arith}
-use lib.ListN.{length, getD, set}
 use borrow.Author.Needs.{needs}
 use Rattle.memory.proofs.is_bad.Statement.{statement}
 use Rattle.memory.proofs.is_bad.Tie as tie

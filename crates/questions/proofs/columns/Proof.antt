@@ -1,12 +1,8 @@
 use lib.ListN.{length-set}
-use Rattle.bits.specs.Logic.{true-false}
-use mathlib.Core.Path.{_≡_, refl, sym, ap, _∙_, subst}
-use mathlib.Core.Bool.{Bool, true, false}
-use mathlib.Core.List.{List}
-use mathlib.Core.Logic.{⊎-elim}
-use Prim.Native.Nat.{ℕ, _<_, _≤_, _+_, _-_, _*_, _^_, min, _/_, _%_}
+use mathlib.Core.Path.{_≡_, refl, _∙_}
+use Prim.Native.Nat.{_≤_, _-_}
 use native.Mathlib.Omega.{arith}
-use lib.ListN.{length, getD, set}
+use lib.ListN.{length, set}
 use borrow.Author.Needs.{needs}
 use Rattle.questions.proofs.columns.Statement.{statement}
 use Rattle.questions.proofs.columns.Tie as tie

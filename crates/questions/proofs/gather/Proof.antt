@@ -1,14 +1,9 @@
 use Rattle.cells.specs.Lists.{zeros-are}
-use Rattle.numbering.specs.Given.{item}
 use Rattle.questions.specs.Question.{Gathered, gathered-start, gathered-skip, gathered-more}
-use Rattle.bits.specs.Logic.{true-false}
-use mathlib.Core.Path.{_≡_, refl, sym, ap, _∙_, subst}
-use mathlib.Core.Bool.{Bool, true, false}
-use mathlib.Core.List.{List}
+use mathlib.Core.Path.{refl, subst}
 use mathlib.Core.Logic.{⊎-elim}
-use Prim.Native.Nat.{ℕ, _<_, _≤_, _+_, _-_, _*_, _^_, min, _/_, _%_}
+use Prim.Native.Nat.{ℕ, _≤_, _-_}
 use native.Mathlib.Omega.{arith}
-use lib.ListN.{length, getD, set}
 use borrow.Author.Needs.{needs}
 use Rattle.questions.proofs.gather.Statement.{statement}
 use Rattle.questions.proofs.gather.Tie as tie

@@ -1,14 +1,8 @@
 use native.Mathlib.Numerals.{add-one}
-use Rattle.numbering.specs.Given.{item}
 use Rattle.questions.specs.Question.{Packed, packed-start, packed-bound, packed-more}
-use Rattle.bits.specs.Logic.{true-false}
-use mathlib.Core.Path.{_≡_, refl, sym, ap, _∙_, subst}
-use mathlib.Core.Bool.{Bool, true, false}
-use mathlib.Core.List.{List}
-use mathlib.Core.Logic.{⊎-elim}
-use Prim.Native.Nat.{ℕ, _<_, _≤_, _+_, _-_, _*_, _^_, min, _/_, _%_}
+use mathlib.Core.Path.{_≡_, refl, _∙_, subst}
+use Prim.Native.Nat.{ℕ, _≤_, _+_, _-_}
 use native.Mathlib.Omega.{arith}
-use lib.ListN.{length, getD, set}
 use borrow.Author.Needs.{needs}
 use Rattle.questions.proofs.packed.Statement.{statement}
 use Rattle.questions.proofs.packed.Tie as tie

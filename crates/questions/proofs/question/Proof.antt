@@ -1,12 +1,5 @@
 use Rattle.questions.specs.Question.{asks-of}
-use Rattle.bits.specs.Logic.{true-false}
-use mathlib.Core.Path.{_≡_, refl, sym, ap, _∙_, subst}
-use mathlib.Core.Bool.{Bool, true, false}
-use mathlib.Core.List.{List}
-use mathlib.Core.Logic.{⊎-elim}
-use Prim.Native.Nat.{ℕ, _<_, _≤_, _+_, _-_, _*_, _^_, min, _/_, _%_}
 use native.Mathlib.Omega.{arith}
-use lib.ListN.{length, getD, set}
 use borrow.Author.Needs.{needs}
 use Rattle.questions.proofs.question.Statement.{statement}
 use Rattle.questions.proofs.question.Tie as tie

@@ -1,17 +1,12 @@
 use borrow.Author.Tests.{not-true, not-false}
-use Rattle.bits.specs.Logic.{true-false}
-use mathlib.Core.Path.{_≡_, refl, sym, ap, _∙_, subst}
-use mathlib.Core.Bool.{Bool, true, false}
-use mathlib.Core.List.{List}
-use mathlib.Core.Logic.{⊎-elim}
-use Prim.Native.Nat.{ℕ, _<_, _≤_, _+_, _-_, _*_, _^_, min, _/_, _%_}
+use mathlib.Core.Bool.{true, false}
 use native.Mathlib.Omega.{arith}
-use lib.ListN.{length, getD, set}
+use lib.ListN.{set}
 use borrow.Author.Needs.{needs}
-use Rattle.fewest.proofs.alive.Statement.{statement}
-use Rattle.fewest.proofs.alive.Tie as tie
-use Rattle.fewest.proofs.alive.Reads as reads
-use Rattle.fewest.proofs.alive.Lts as lts
+use Rattle.choosing.proofs.alive.Statement.{statement}
+use Rattle.choosing.proofs.alive.Tie as tie
+use Rattle.choosing.proofs.alive.Reads as reads
+use Rattle.choosing.proofs.alive.Lts as lts
 use Rattle.readers.proofs.possible.Reads as possible-reads
 use Rattle.memory.proofs.known_bad.Reads as known-bad-reads
 use Rattle.memory.proofs.sets.Reads as sets-reads

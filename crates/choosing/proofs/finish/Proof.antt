@@ -1,17 +1,13 @@
-use borrow.Author.Tests.{not-true, not-false}
-use Rattle.bits.specs.Logic.{true-false}
-use mathlib.Core.Path.{_≡_, refl, sym, ap, _∙_, subst}
-use mathlib.Core.Bool.{Bool, true, false}
-use mathlib.Core.List.{List}
-use mathlib.Core.Logic.{⊎-elim}
-use Prim.Native.Nat.{ℕ, _<_, _≤_, _+_, _-_, _*_, _^_, min, _/_, _%_}
+use borrow.Author.Tests.{not-true}
+use mathlib.Core.Path.{refl}
+use mathlib.Core.Bool.{true}
 use native.Mathlib.Omega.{arith}
-use lib.ListN.{length, getD, set}
+use lib.ListN.{set}
 use borrow.Author.Needs.{needs}
-use Rattle.fewest.proofs.finish.Statement.{statement}
-use Rattle.fewest.proofs.finish.Tie as tie
-use Rattle.fewest.proofs.finish.Reads as reads
-use Rattle.fewest.proofs.finish.Lts as lts
+use Rattle.choosing.proofs.finish.Statement.{statement}
+use Rattle.choosing.proofs.finish.Tie as tie
+use Rattle.choosing.proofs.finish.Reads as reads
+use Rattle.choosing.proofs.finish.Lts as lts
 use Rattle.joint.proofs.codes_for.Reads as codes-for-reads
 use Rattle.memory.proofs.settle.Reads as settle-reads
 

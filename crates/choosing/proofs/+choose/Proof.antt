@@ -1,31 +1,28 @@
-use Rattle.fewest.specs.Choice.{Rows, Alike, Tried, rows-more, rows-short, alike-more, power-low, tried-start, tried-unfit, tried-dead, tried-lost, tried-all, lost-of, chosen-end, chosen-found}
+use Rattle.choosing.specs.Choice.{Tried, rows-more, rows-short, alike-more, power-low, tried-start, tried-unfit, tried-dead, tried-lost, tried-all, lost-of, chosen-end, chosen-found}
 use Rattle.memory.specs.Memory.{Honest}
 use Rattle.numbering.specs.Given.{item}
-use lib.Pow.{pow-mono}
-use Rattle.bits.specs.Logic.{true-false}
-use mathlib.Core.Path.{_≡_, refl, sym, ap, _∙_, subst}
-use mathlib.Core.Bool.{Bool, true, false}
-use mathlib.Core.List.{List}
+use mathlib.Core.Path.{_≡_, refl, sym, _∙_, subst}
+use mathlib.Core.Bool.{false}
 use mathlib.Core.Logic.{⊎-elim}
-use Prim.Native.Nat.{ℕ, _<_, _≤_, _+_, _-_, _*_, _^_, min, _/_, _%_}
+use Prim.Native.Nat.{ℕ, _<_, _≤_, _+_, _-_, _^_, min}
 use native.Mathlib.Omega.{arith}
-use lib.ListN.{length, getD, set}
+use lib.ListN.{set}
 use borrow.Author.Needs.{needs}
 use Prim.Native.Nat.{ℕ, _<_}
 use borrow.Fn.Kinds.{In}
 use borrow.Fn.PlainCycle.{Measures, is, falls, and}
-use Rattle.fewest.proofs.choose.Reads as choose
-use Rattle.fewest.proofs.choose.Kinds as choose-kinds
-use Rattle.fewest.proofs.+choose.Lts-choose as choose-lts
+use Rattle.choosing.proofs.choose.Reads as choose
+use Rattle.choosing.proofs.choose.Kinds as choose-kinds
+use Rattle.choosing.proofs.+choose.Lts-choose as choose-lts
 use Rattle.bounds.proofs.power.Reads as power-reads
-use Rattle.fewest.proofs.alive.Reads as alive-reads
-use Rattle.fewest.proofs.finish.Reads as finish-reads
-use Rattle.fewest.proofs.smaller.Reads as smaller-reads
-use Rattle.fewest.proofs.suits.Reads as suits-reads
+use Rattle.choosing.proofs.alive.Reads as alive-reads
+use Rattle.choosing.proofs.finish.Reads as finish-reads
+use Rattle.choosing.proofs.smaller.Reads as smaller-reads
+use Rattle.choosing.proofs.suits.Reads as suits-reads
 use Rattle.memory.proofs.known_bad.Reads as known-bad-reads
 use Rattle.memory.proofs.sets.Reads as sets-reads
-use Rattle.fewest.proofs.+choose.{statement}
-use Rattle.fewest.proofs.+choose.Tie.{close}
+use Rattle.choosing.proofs.+choose.{statement}
+use Rattle.choosing.proofs.+choose.Tie.{close}
 
 abbrev μ-choose : Measures 1 choose-kinds.ps ℕ
 μ-choose κs a = a .1 .1 .1 .0 - a .1 .1 .1 .1 .1 .1 .0

@@ -1,16 +1,10 @@
-use Rattle.fewest.specs.Choice.{suits-count, suits-not}
-use Rattle.bits.specs.Logic.{true-false}
-use lib.ListN.{length, getD, set}
+use Rattle.choosing.specs.Choice.{suits-count, suits-not}
 use native.Mathlib.Omega.{arith}
-use Prim.Native.Nat.{ℕ, _<_, _≤_, _+_, _-_, _*_, _^_, min, _/_}
-use mathlib.Core.Logic.{⊎-elim}
-use mathlib.Core.Bool.{Bool, true, false}
-use mathlib.Core.Path.{_≡_, refl, sym, ap, _∙_, subst}
 use borrow.Author.Needs.{needs}
-use Rattle.fewest.proofs.suits.Statement.{statement}
-use Rattle.fewest.proofs.suits.Tie as tie
-use Rattle.fewest.proofs.suits.Reads as reads
-use Rattle.fewest.proofs.suits.Lts as lts
+use Rattle.choosing.proofs.suits.Statement.{statement}
+use Rattle.choosing.proofs.suits.Tie as tie
+use Rattle.choosing.proofs.suits.Reads as reads
+use Rattle.choosing.proofs.suits.Lts as lts
 use Rattle.bounds.proofs.digits.Reads as digits-reads
 
 -- src/lib.rt:24:9

@@ -1,0 +1,2 @@
+-- Choice has the definitions that contracts cite, and their laws.
+pub mod Choice
