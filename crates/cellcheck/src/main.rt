@@ -56,8 +56,26 @@ fn part(s: &[u8], n: usize) {
     }
 }
 
+// Reads further, and answers whether there may be more.
+fn read_on() -> bool {
+    let mut rest = [0u8; 4096];
+    io::read_full(STDIN_FILENO, &mut rest) == 4096
+}
+
+// Reads standard input to its end, so that whoever writes a long text to it can write it all. A loop has to end, and nothing
+// says that the input does: the turns are counted down from a number that no input needs.
+fn drain() {
+    let mut turns = u64::MAX;
+    while turns > 0 && read_on() {
+        turns -= 1;
+    }
+}
+
 fn main() {
     let mut text = [0u8; 16384];
     let n = io::read_full(STDIN_FILENO, &mut text);
+    if n == 16384 {
+        drain();
+    }
     part(&text, n);
 }

@@ -1,6 +1,6 @@
 // Reads one design sheet from standard input and prints its network, or `refused N line L`. Everything that matters is in
-// mapper. One byte more than a sheet may have is read, so that a longer sheet is seen to be too long; the buffer holds
-// every network sheet, so question 9 is always answered yes.
+// mapper. One byte more than a sheet may have is kept, so that a longer sheet is seen to be too long; the rest is read and
+// dropped. The buffer holds every network sheet, so question 9 is always answered yes.
 use libc::STDIN_FILENO;
 use libc::STDOUT_FILENO;
 use mapper::Mapped;
@@ -29,9 +29,27 @@ fn answer(sheet: &[u8], buffer: &mut [u8]) {
     }
 }
 
+// Reads further, and answers whether there may be more.
+fn read_on() -> bool {
+    let mut rest = [0u8; 4096];
+    io::read_full(STDIN_FILENO, &mut rest) == 4096
+}
+
+// Reads standard input to its end, so that whoever writes a long text to it can write it all. A loop has to end, and nothing
+// says that the input does: the turns are counted down from a number that no input needs.
+fn drain() {
+    let mut turns = u64::MAX;
+    while turns > 0 && read_on() {
+        turns -= 1;
+    }
+}
+
 fn main() {
     let mut sheet = [0u8; 4097];
     let n = io::read_full(STDIN_FILENO, &mut sheet);
+    if n == 4097 {
+        drain();
+    }
     let mut network = [0u8; 8192];
     if n <= 4097 {
         answer(&sheet[..n], &mut network);
