@@ -7,3 +7,7 @@ pub mod MapLaws
 pub mod Answer
 pub mod FillLaws
 pub mod MapSteps
+pub mod LengthLaws
+pub mod OutcomeLaws
+pub mod Demand1
+pub mod Demand1Laws
