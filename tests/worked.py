@@ -1,5 +1,5 @@
 #!/usr/bin/env python3
-"""Runs Map's program on the sheets to try of document 01: A, C to I and K. Sheet B, with buffers of its own, is the program `buffers`."""
+"""Runs Map's program on the sheets to try of document 01: A, C to I and K. Sheet B, with buffers of its own, is executed by the program `worked`."""
 import pathlib
 import subprocess
 import sys
