@@ -57,35 +57,38 @@ which c d o h = go (c .readers o) refl (d .readers o) refl h
     go a f false g h = inl (record { told = λ x y t. ⊎-elim (λ p. p .1) (λ r. ⊎-elim (λ p. absurd (not-read d g (p .0))) (λ n. absurd n) r) t })
     go false f true g h = inr (record { told = λ x y t. ⊎-elim (λ p. absurd (not-read c f (p .0))) (λ r. ⊎-elim (λ p. p .1) (λ n. absurd n) r) t })
 
--- each of three outputs tells a pair of x, y, z apart that the others may not, so that any two of them tell all three apart
+-- each of three outputs tells another one of x, y, z from the two others, so that any two of them tell all three apart
 pub record Triangle (l : List Cell) (o p q x y z : ℕ) : Type 0 where
   pub o-reads : reading o l ≤ 1
   pub p-reads : reading p l ≤ 1
   pub q-reads : reading q l ≤ 1
-  pub o-xz : Apart o x z l
-  pub o-yz : Apart o y z l
-  pub p-xy : Apart p x y l
+  pub o-zx : Apart o z x l
+  pub o-zy : Apart o z y l
+  pub p-yx : Apart p y x l
   pub p-yz : Apart p y z l
   pub q-xy : Apart q x y l
   pub q-xz : Apart q x z l
 
 pub three-cells : (l : List Cell) (o p q x y z : ℕ) → Triangle l o p q x y z → 3 ≤ length l
-three-cells [] o p q x y z t = absurd (t .o-xz)
-three-cells (c ∷ []) o p q x y z t = let h = two-cells (c ∷ []) p o o x y z (t .p-xy) (t .o-xz) (t .o-yz) in absurd (omega (arith, h))
+three-cells [] o p q x y z t = absurd (t .o-zx)
+three-cells (c ∷ []) o p q x y z t = let h = two-cells (c ∷ []) q q p x y z (t .q-xy) (t .q-xz) (t .p-yz) in absurd (omega (arith, h))
 three-cells (c ∷ d ∷ []) o p q x y z t =
     absurd (go (which c d o (t .o-reads)) (which c d p (t .p-reads)) (which c d q (t .q-reads)))
   where
+    turned : (e : Cell) (u v : ℕ) → Tells e u v → Tells e v u
+    turned e u v f g = f (sym g)
+
     values : (e : Cell) → Tells e x y → Tells e x z → Tells e y z → ⊥
     values e = three-values (e .table x) (e .table y) (e .table z)
 
     o-and-p : (e : Cell) → One c d o e → One c d p e → ⊥
-    o-and-p e f g = values e (g .told x y (t .p-xy)) (f .told x z (t .o-xz)) (f .told y z (t .o-yz))
+    o-and-p e f g = values e (turned e y x (g .told y x (t .p-yx))) (turned e z x (f .told z x (t .o-zx))) (g .told y z (t .p-yz))
 
     o-and-q : (e : Cell) → One c d o e → One c d q e → ⊥
-    o-and-q e f g = values e (g .told x y (t .q-xy)) (f .told x z (t .o-xz)) (f .told y z (t .o-yz))
+    o-and-q e f g = values e (g .told x y (t .q-xy)) (g .told x z (t .q-xz)) (turned e z y (f .told z y (t .o-zy)))
 
     p-and-q : (e : Cell) → One c d p e → One c d q e → ⊥
-    p-and-q e f g = values e (f .told x y (t .p-xy)) (g .told x z (t .q-xz)) (f .told y z (t .p-yz))
+    p-and-q e f g = values e (g .told x y (t .q-xy)) (g .told x z (t .q-xz)) (f .told y z (t .p-yz))
 
     go : One c d o c ⊎ One c d o d → One c d p c ⊎ One c d p d → One c d q c ⊎ One c d q d → ⊥
     go (inl f) (inl g) k = o-and-p c f g

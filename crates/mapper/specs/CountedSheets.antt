@@ -2,25 +2,19 @@
 use mathlib.Core.Path.{refl}
 use mathlib.Core.List.{List, [], _∷_, _++_}
 use Prim.Native.Nat.{ℕ}
-use lib.Dec.{lit<, lit≤}
+use lib.Dec.{lit≤}
 use Rattle.text.specs.Bytes.{bytes}
 use Rattle.network.specs.Network.{Network}
-use Rattle.mapper.specs.Each.{each-below}
 use Rattle.mapper.specs.Computing.{computing}
-use Rattle.mapper.specs.CellBounds.{two-cells, three-cells}
+use Rattle.mapper.specs.NeededCells.{AtLeast, two-needed, three-needed}
 use Rattle.mapper.specs.Designs.{designC, designD, designE, designG, bits, node, network}
 use Rattle.mapper.specs.Worked.{sheetC, sheetD, sheetE, sheetG, Refuses, Maps}
-use Rattle.mapper.specs.WorkedLaws.{AtLeast, refuses-8, Full, Fewest, maps-fewest}
+use Rattle.mapper.specs.WorkedLaws.{refuses-8, Fewest, fewest-of, maps-fewest}
 
 -- ---- C: f tells vertices with different a apart, g those with different b; so they need two cells together
 c-cells : (n : ℕ) → AtLeast 2 (designC n)
 unfolding computing
-c-cells n =
-    record {
-      cells = λ l s.
-          two-cells l 1 0 0 0 1 2 (s .tells 1 0 1 (lit< tt) (lit< tt) (lit< tt) refl) (s .tells 0 0 2 (lit< tt) (lit< tt) (lit< tt) refl)
-          (s .tells 0 1 2 (lit< tt) (lit< tt) (lit< tt) refl);
-    }
+c-cells n = two-needed (designC n) 1 0 0 0 1 2 refl refl refl
 
 pub c-refused : Refuses (sheetC "1") 8 0
 unfolding computing
@@ -36,14 +30,7 @@ c-sheet =
 
 c-fewest : Fewest (sheetC "2") c-sheet (designC 2) c-network
 unfolding computing
-c-fewest =
-    record {
-      drawn = record { is-valid = refl; is-read = refl; passes = refl };
-      right = refl;
-      few = lit≤ tt;
-      full = each-below 2 (Full (designC 2) c-network) (refl, (refl, tt));
-      least = c-cells 2;
-    }
+c-fewest = fewest-of refl refl refl refl (lit≤ tt) (refl, (refl, tt)) (c-cells 2)
 
 pub c-mapped : Maps (sheetC "2") 2 110
 c-mapped = maps-fewest (sheetC "2") c-sheet (designC 2) c-network c-fewest
@@ -52,21 +39,8 @@ c-mapped = maps-fewest (sheetC "2") c-sheet (designC 2) c-network c-fewest
 d-cells : (n : ℕ) → AtLeast 3 (designD n)
 unfolding computing
 d-cells n =
-    record {
-      cells = λ l s.
-          three-cells l 0 1 2 0 1 2
-          (record {
-            o-reads = s .within 0 (lit< tt);
-            p-reads = s .within 1 (lit< tt);
-            q-reads = s .within 2 (lit< tt);
-            o-xz = s .tells 0 0 2 (lit< tt) (lit< tt) (lit< tt) refl;
-            o-yz = s .tells 0 1 2 (lit< tt) (lit< tt) (lit< tt) refl;
-            p-xy = s .tells 1 0 1 (lit< tt) (lit< tt) (lit< tt) refl;
-            p-yz = s .tells 1 1 2 (lit< tt) (lit< tt) (lit< tt) refl;
-            q-xy = s .tells 2 0 1 (lit< tt) (lit< tt) (lit< tt) refl;
-            q-xz = s .tells 2 0 2 (lit< tt) (lit< tt) (lit< tt) refl;
-          });
-    }
+    three-needed (designD n) 0 1 2 0 1 2 (record { width-1 = refl; first = refl; second = refl })
+    (record { width-1 = refl; first = refl; second = refl }) (record { width-1 = refl; first = refl; second = refl })
 
 pub d-refused : Refuses (sheetD "2") 8 0
 unfolding computing
@@ -84,14 +58,7 @@ d-sheet =
 
 d-fewest : Fewest (sheetD "3") d-sheet (designD 3) d-network
 unfolding computing
-d-fewest =
-    record {
-      drawn = record { is-valid = refl; is-read = refl; passes = refl };
-      right = refl;
-      few = lit≤ tt;
-      full = each-below 3 (Full (designD 3) d-network) (refl, (refl, (refl, tt)));
-      least = d-cells 3;
-    }
+d-fewest = fewest-of refl refl refl refl (lit≤ tt) (refl, (refl, (refl, tt))) (d-cells 3)
 
 pub d-mapped : Maps (sheetD "3") 3 151
 d-mapped = maps-fewest (sheetD "3") d-sheet (designD 3) d-network d-fewest
@@ -99,12 +66,7 @@ d-mapped = maps-fewest (sheetD "3") d-sheet (designD 3) d-network d-fewest
 -- ---- E: f alone tells three vertices apart pairwise
 e-cells : AtLeast 2 designE
 unfolding computing
-e-cells =
-    record {
-      cells = λ l s.
-          two-cells l 0 0 0 0 1 2 (s .tells 0 0 1 (lit< tt) (lit< tt) (lit< tt) refl) (s .tells 0 0 2 (lit< tt) (lit< tt) (lit< tt) refl)
-          (s .tells 0 1 2 (lit< tt) (lit< tt) (lit< tt) refl);
-    }
+e-cells = two-needed designE 0 0 0 0 1 2 refl refl refl
 
 abbrev e-network : Network
 e-network =
@@ -118,14 +80,7 @@ e-sheet =
 
 e-fewest : Fewest sheetE e-sheet designE e-network
 unfolding computing
-e-fewest =
-    record {
-      drawn = record { is-valid = refl; is-read = refl; passes = refl };
-      right = refl;
-      few = lit≤ tt;
-      full = each-below 2 (Full designE e-network) (refl, (refl, tt));
-      least = e-cells;
-    }
+e-fewest = fewest-of refl refl refl refl (lit≤ tt) (refl, (refl, tt)) e-cells
 
 pub e-mapped : Maps sheetE 2 133
 e-mapped = maps-fewest sheetE e-sheet designE e-network e-fewest
@@ -133,12 +88,7 @@ e-mapped = maps-fewest sheetE e-sheet designE e-network e-fewest
 -- ---- G: f tells vertices 0, 1 and 3 apart pairwise
 g-cells : (n : ℕ) → AtLeast 2 (designG n)
 unfolding computing
-g-cells n =
-    record {
-      cells = λ l s.
-          two-cells l 0 0 0 0 1 3 (s .tells 0 0 1 (lit< tt) (lit< tt) (lit< tt) refl) (s .tells 0 0 3 (lit< tt) (lit< tt) (lit< tt) refl)
-          (s .tells 0 1 3 (lit< tt) (lit< tt) (lit< tt) refl);
-    }
+g-cells n = two-needed (designG n) 0 0 0 0 1 3 refl refl refl
 
 pub g-refused : Refuses (sheetG "1") 8 0
 unfolding computing

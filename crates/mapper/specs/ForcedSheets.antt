@@ -18,13 +18,13 @@ use Rattle.network.specs.Network.{Network}
 use Rattle.network.specs.Reads.{Rising, rising-none, rising-more}
 use Rattle.network.specs.Wellformed.{nodeAt}
 use Rattle.network.specs.Answers.{Computes}
-use Rattle.mapper.specs.Each.{each-below, digits-are}
+use Rattle.mapper.specs.Each.{digits-are}
 use Rattle.mapper.specs.Computing.{computing}
-use Rattle.mapper.specs.CellBounds.{one-cell}
+use Rattle.mapper.specs.NeededCells.{AtLeast, one-needed}
 use Rattle.mapper.specs.Map.{Permitted}
 use Rattle.mapper.specs.Designs.{designF, designH, bits, node, network}
 use Rattle.mapper.specs.Worked.{sheetA, networkA, sheetF, networkF, sheetH, networkH, Prints}
-use Rattle.mapper.specs.WorkedLaws.{AtLeast, Fewest, Full, count-of, prints-only}
+use Rattle.mapper.specs.WorkedLaws.{Fewest, fewest-of, count-of, prints-only}
 
 -- ---- lists of one and two
 none-of : {A : Type 0} (l : List A) → length l ≡ 0 → l ≡ []
@@ -70,14 +70,7 @@ f-network = network [] (node [] (bits "0111") ∷ [])
 
 f-fewest : Fewest sheetF networkF designF f-network
 unfolding computing
-f-fewest =
-    record {
-      drawn = record { is-valid = refl; is-read = refl; passes = refl };
-      right = refl;
-      few = lit≤ tt;
-      full = each-below 1 (Full designF f-network) (refl, tt);
-      least = f-cells;
-    }
+f-fewest = fewest-of refl refl refl refl (lit≤ tt) (refl, tt) f-cells
 
 f-node : (ds : List Bool) → length ds ≡ 4 → Computes designF (network [] (node [] ds ∷ [])) → ds ≡ bits "0111"
 unfolding computing
@@ -109,21 +102,14 @@ f-printed = prints-only sheetF networkF designF f-network f-fewest f-only
 -- ---- H
 h-cells : AtLeast 1 designH
 unfolding computing
-h-cells = record { cells = λ l s. one-cell l 0 0 3 (s .tells 0 0 3 (lit< tt) (lit< tt) (lit< tt) refl) }
+h-cells = one-needed designH 0 0 3 refl
 
 abbrev h-network : Network
 h-network = network (bits "0001" ∷ []) (node (0 ∷ []) (bits "01") ∷ [])
 
 h-fewest : Fewest sheetH networkH designH h-network
 unfolding computing
-h-fewest =
-    record {
-      drawn = record { is-valid = refl; is-read = refl; passes = refl };
-      right = refl;
-      few = lit≤ tt;
-      full = each-below 1 (Full designH h-network) (refl, tt);
-      least = h-cells;
-    }
+h-fewest = fewest-of refl refl refl refl (lit≤ tt) (refl, tt) h-cells
 
 -- a network of one table and one node that reads it
 abbrev oneNode : List Bool → List Bool → Network
@@ -178,7 +164,7 @@ h-printed = prints-only sheetH networkH designH h-network h-fewest h-only
 -- ---- A
 a-cells : AtLeast 1 designA
 unfolding computing
-a-cells = record { cells = λ l s. one-cell l 0 0 1 (s .tells 0 0 1 (lit< tt) (lit< tt) (lit< tt) refl) }
+a-cells = one-needed designA 0 0 1 refl
 
 -- a network of one table and two nodes that read it
 abbrev twoNodes : List Bool → List Bool → List Bool → Network
@@ -189,14 +175,7 @@ a-network = twoNodes (bits "01101001") (bits "0110") (bits "0001")
 
 a-fewest : Fewest sheetA networkA designA a-network
 unfolding computing
-a-fewest =
-    record {
-      drawn = record { is-valid = refl; is-read = refl; passes = refl };
-      right = refl;
-      few = lit≤ tt;
-      full = each-below 2 (Full designA a-network) (refl, (refl, tt));
-      least = a-cells;
-    }
+a-fewest = fewest-of refl refl refl refl (lit≤ tt) (refl, (refl, tt)) a-cells
 
 -- f without d is the parity of the vertex: the table has f's value there, since it is 0 at vertex 0
 a-table : (t fs gs : List Bool) → length t ≡ 8 → getD t 0 false ≡ false → Computes designA (twoNodes t fs gs) → t ≡ bits "01101001"

@@ -16,6 +16,7 @@ pub mod Computing
 pub mod Designs
 pub mod Each
 pub mod CellBounds
+pub mod NeededCells
 pub mod WorkedLaws
 pub mod CountedSheets
 pub mod ForcedSheets

@@ -2,6 +2,7 @@
 -- least, and no other count. Assumes nothing.
 use mathlib.Core.Path.{_≡_, refl, sym, ap, ap₂, _∙_, subst}
 use mathlib.Core.List.{List}
+use mathlib.Core.Option.{none}
 use Prim.Native.Nat.{ℕ, suc, _≤_, _<_, min}
 use native.Mathlib.Omega.{arith}
 use native.Mathlib.Nat.{le-antisymm}
@@ -10,29 +11,27 @@ use lib.Seq.{sets}
 use Rattle.text.specs.Limits.{maxClasses}
 use Rattle.sheet.specs.Examine.{Design, refused, valid, examine}
 use Rattle.sheet.specs.ExaminationLaws.{valid-well-formed}
-use Rattle.cells.specs.Core.{Cell}
 use Rattle.classes.specs.ProperLaws.{proper-of}
 use Rattle.classes.specs.Classes.{globalCount}
 use Rattle.classes.specs.Width.{budget}
 use Rattle.network.specs.Network.{Network}
+use Rattle.network.specs.Examine.{network, readNetwork, offending}
 use Rattle.network.specs.Printer.{printNetwork}
 use Rattle.network.specs.Wellformed.{Wellformed, Named}
 use Rattle.network.specs.Answers.{WithinLimits, Computes, Drawn, compared, readCount}
 use Rattle.network.specs.Check.{same}
 use Rattle.network.specs.CompareLaws.{compared-same}
 use Rattle.network.specs.PrintedLaws.{drawn-wellformed, drawn-within, drawn-print}
-use Rattle.serving.specs.NetworkCore.{networkCore, ServesDesign}
+use Rattle.serving.specs.NetworkCore.{networkCore}
 use Rattle.serving.specs.Tells.{core-length}
 use Rattle.serving.specs.TheoremA.{drawn-serves}
 use Rattle.mapper.specs.Map.{Permitted, MapAnswer, refused-by, mapped, Outcome, refused-sheet, too-many-classes, no-network, buffer-short, written}
+use Rattle.mapper.specs.Each.{Each, each-below}
 use Rattle.mapper.specs.DesignLaws.{named-of}
 use Rattle.mapper.specs.LengthLaws.{same-length}
+use Rattle.mapper.specs.NeededCells.{AtLeast}
 use Rattle.mapper.specs.OutcomeLaws.{refused-valid, OutcomeFor, many-classes, none-computes, too-short, printed, outcome-for}
 use Rattle.mapper.specs.Worked.{Refuses, Maps, Prints}
-
--- every core that serves the design d has u cells at least
-pub record AtLeast (u : ℕ) (d : Design) : Type 0 where
-  pub cells : (l : List Cell) → ServesDesign d l → u ≤ length l
 
 least-network : (s : List ℕ) (d : Design) (u : ℕ) → examine s ≡ valid d → AtLeast u d → (v : Network) → Wellformed d v → WithinLimits d v → Computes d v → u ≤ length (v .luts)
 least-network s d u e least v f l c =
@@ -70,6 +69,24 @@ pub record Fewest (s t : List ℕ) (d : Design) (w : Network) : Type 0 where
   pub few : globalCount d (d .bound) ≤ maxClasses
   pub full : (o : ℕ) → o < length (d .outputs) → Full d w o
   pub least : AtLeast (length (w .luts)) d
+
+pub fewest-of : {s t : List ℕ} {d : Design} {w : Network}
+    → examine s ≡ valid d
+    → readNetwork d t ≡ network w
+    → offending d w ≡ none
+    → compared d w ≡ same
+    → globalCount d (d .bound) ≤ maxClasses
+    → Each (length (d .outputs)) (Full d w)
+    → AtLeast (length (w .luts)) d
+    → Fewest s t d w
+fewest-of {d = d} {w = w} e f g h k r l =
+    record {
+      drawn = record { is-valid = e; is-read = f; passes = g };
+      right = h;
+      few = k;
+      full = each-below (length (d .outputs)) (Full d w) r;
+      least = l;
+    }
 
 module _ (s t : List ℕ) (d : Design) (w : Network) (x : Fewest s t d w) where
   e : examine s ≡ valid d
