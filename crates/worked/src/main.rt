@@ -4,20 +4,12 @@
 use libc::STDOUT_FILENO;
 use mapper::Mapped;
 
-fn two(first: &[u8], a: usize, second: &[u8], b: usize) {
-    io::write_all(STDOUT_FILENO, first);
-    io::print_decimal(STDOUT_FILENO, a as u64);
-    io::write_all(STDOUT_FILENO, second);
-    io::print_decimal(STDOUT_FILENO, b as u64);
-    io::write_all(STDOUT_FILENO, b"\n");
-}
-
 // Map's answer on a sheet and a buffer.
 fn answer(sheet: &[u8], buffer: &mut [u8]) {
     let r = mapper::map(sheet, buffer);
     match r {
-        Mapped::Refused { number, line } => two(b"refused ", number, b" line ", line),
-        Mapped::Written { cells, length } => two(b"cells ", cells, b" length ", length),
+        Mapped::Refused { number, line } => console::two(b"refused ", number, b" line ", line),
+        Mapped::Written { cells, length } => console::two(b"cells ", cells, b" length ", length),
     }
 }
 

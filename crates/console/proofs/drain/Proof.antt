@@ -1,8 +1,8 @@
--- `cellcheck::drain` is safe and ends: the turns that are left are the measure, and nothing has to hold from turn to turn.
+-- `console::drain` is safe and ends: the turns that are left are the measure, and nothing has to hold from turn to turn.
 -- Assumes nothing.
 use native.Mathlib.Omega.{arith}
-use Rattle.cellcheck.proofs.drain.Statement.{statement}
-use Rattle.cellcheck.proofs.drain.Tie as tie
+use Rattle.console.proofs.drain.Statement.{statement}
+use Rattle.console.proofs.drain.Tie as tie
 
 abbrev Inv-loop : tie.InvT-loop
 Inv-loop turns₀ turns = Unit {0}
