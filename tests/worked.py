@@ -1,5 +1,5 @@
 #!/usr/bin/env python3
-"""Runs Map's program on the sheets to try of document 01: A, C to I and K. Sheet B needs a buffer of the caller's own."""
+"""Runs Map's program on the sheets to try of document 01: A, C to I and K. Sheet B, with buffers of its own, is executed by the program `worked`."""
 import pathlib
 import subprocess
 import sys
@@ -47,7 +47,13 @@ def main():
         if "\n" + expected not in "\n" + said:
             wrong += 1
             print(f"{name}: said {said!r}, and {expected!r} was expected")
-    print(f"{len(CASES) - wrong} passed, {wrong} failed")
+    # a text of a megabyte is refused by 1, and is read to its end: what writes it is not cut off
+    writer = subprocess.run(
+        ["bash", "-c", f"set -o pipefail; head -c 1000000 /dev/zero | tr '\\0' a | {PROGRAM}"], capture_output=True, check=False)
+    if (writer.returncode, writer.stdout) != (0, b"refused 1 line 0\n"):
+        wrong += 1
+        print(f"a megabyte: status {writer.returncode}, said {writer.stdout!r}")
+    print(f"{len(CASES) + 1 - wrong} passed, {wrong} failed")
     return 1 if wrong else 0
 
 

@@ -4,7 +4,6 @@
 ghost use Prim.Native.Nat.{_≤_};
 ghost use lib.ListN.{length};
 use checker::Checked;
-use libc::STDIN_FILENO;
 use libc::STDOUT_FILENO;
 
 // The place of the first 0x00, or the text's length.
@@ -21,19 +20,11 @@ fn split(s: &[u8]) -> usize
     i
 }
 
-fn two(first: &[u8], a: usize, second: &[u8], b: usize) {
-    io::write_all(STDOUT_FILENO, first);
-    io::print_decimal(STDOUT_FILENO, a as u64);
-    io::write_all(STDOUT_FILENO, second);
-    io::print_decimal(STDOUT_FILENO, b as u64);
-    io::write_all(STDOUT_FILENO, b"\n");
-}
-
 fn answer(sheet: &[u8], network: &[u8]) {
     let r = checker::check(sheet, network);
     match r {
-        Checked::Refused { number, line } => two(b"refused ", number, b" line ", line),
-        Checked::Differs { output, row } => two(b"differs output ", output, b" row ", row),
+        Checked::Refused { number, line } => console::two(b"refused ", number, b" line ", line),
+        Checked::Differs { output, row } => console::two(b"differs output ", output, b" row ", row),
         Checked::Same => {
             io::write_all(STDOUT_FILENO, b"same\n");
         }
@@ -50,14 +41,8 @@ fn both(s: &[u8]) {
     }
 }
 
-fn part(s: &[u8], n: usize) {
-    if n <= s.len() {
-        both(&s[..n]);
-    }
-}
-
 fn main() {
     let mut text = [0u8; 16384];
-    let n = io::read_full(STDIN_FILENO, &mut text);
-    part(&text, n);
+    let n = console::read_text(&mut text);
+    both(&text[..n]);
 }

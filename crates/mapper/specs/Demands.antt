@@ -54,7 +54,7 @@ at-row : (o : ℕ) (x : Option ℕ) (later : Checked) → (later ≡ same) ⊎ D
 at-row o (some r) later h = inr (record { output = o; row = r; is = refl })
 at-row o none later h = h
 
-never-refused : (d : Design) (w : Network) (k o : ℕ) → (c.compareFrom d w k o ≡ same) ⊎ Differs (c.compareFrom d w k o)
+pub never-refused : (d : Design) (w : Network) (k o : ℕ) → (c.compareFrom d w k o ≡ same) ⊎ Differs (c.compareFrom d w k o)
 unfolding c.compareFrom
 never-refused d w zero o = inl refl
 never-refused d w (suc k) o = at-row o (c.differingRow d w o) (c.compareFrom d w k (suc o)) (never-refused d w k (suc o))

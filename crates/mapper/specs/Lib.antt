@@ -1,9 +1,23 @@
--- Map of document 01, and the demands as theorems.
+-- Map of document 01, the demands as theorems, and document 01's sheets to try.
 pub mod Map
 pub mod DesignLaws
 pub mod SizeLaws
+pub mod LengthLaws
+pub mod OutcomeLaws
 pub mod Demands
+pub mod Demand1
+pub mod Demand1Laws
 pub mod MapLaws
 pub mod Answer
 pub mod FillLaws
 pub mod MapSteps
+pub mod Worked
+pub mod Computing
+pub mod Designs
+pub mod Each
+pub mod CellBounds
+pub mod NeededCells
+pub mod WorkedLaws
+pub mod CountedSheets
+pub mod ForcedSheets
+pub mod WorkedSheets

@@ -1,0 +1,41 @@
+// What the programs do with standard input and output: a text is read to its end, and answers with two numbers are printed.
+// Rests on the kit's io.
+ghost use Rattle.io.specs.Counts.{Counts};
+use libc::STDIN_FILENO;
+use libc::STDOUT_FILENO;
+
+// Reads further, and answers whether there may be more.
+fn read_on() -> bool {
+    let mut rest = [0u8; 4096];
+    io::read_full(STDIN_FILENO, &mut rest) == 4096
+}
+
+// Reads standard input to its end. A loop has to end, and nothing says that the input does: the turns are counted down from
+// a number that no input needs.
+fn drain() {
+    let mut turns = u64::MAX;
+    while turns > 0 && read_on() {
+        turns -= 1;
+    }
+}
+
+// Reads standard input to its end, so that whoever writes a long text can write it all, and keeps as much of it as the buffer
+// holds. Answers how much that is.
+pub fn read_text(buffer: &mut [u8]) -> usize
+    ensures { λ r. ⌜ Counts r (now (buffer .exit)) ⌝ }
+{
+    let n = io::read_full(STDIN_FILENO, buffer);
+    if n == buffer.len() {
+        drain();
+    }
+    n
+}
+
+// A line of two numbers, each after a text.
+pub fn two(first: &[u8], a: usize, second: &[u8], b: usize) {
+    io::write_all(STDOUT_FILENO, first);
+    io::print_decimal(STDOUT_FILENO, a as u64);
+    io::write_all(STDOUT_FILENO, second);
+    io::print_decimal(STDOUT_FILENO, b as u64);
+    io::write_all(STDOUT_FILENO, b"\n");
+}

@@ -1,0 +1,168 @@
+-- How an outcome on a given sheet is known: a network sheet that is "same", as many cells as every core that serves has at
+-- least, and no other count. Assumes nothing.
+use mathlib.Core.Path.{_≡_, refl, sym, ap, ap₂, _∙_, subst}
+use mathlib.Core.List.{List}
+use mathlib.Core.Option.{none}
+use Prim.Native.Nat.{ℕ, suc, _≤_, _<_, min}
+use native.Mathlib.Omega.{arith}
+use native.Mathlib.Nat.{le-antisymm}
+use lib.ListN.{length}
+use lib.Seq.{sets}
+use Rattle.text.specs.Limits.{maxClasses}
+use Rattle.sheet.specs.Examine.{Design, refused, valid, examine}
+use Rattle.sheet.specs.ExaminationLaws.{valid-well-formed}
+use Rattle.classes.specs.ProperLaws.{proper-of}
+use Rattle.classes.specs.Classes.{globalCount}
+use Rattle.classes.specs.Width.{budget}
+use Rattle.network.specs.Network.{Network}
+use Rattle.network.specs.Examine.{network, readNetwork, offending}
+use Rattle.network.specs.Printer.{printNetwork}
+use Rattle.network.specs.Wellformed.{Wellformed, Named}
+use Rattle.network.specs.Answers.{WithinLimits, Computes, Drawn, compared, readCount}
+use Rattle.network.specs.Check.{same}
+use Rattle.network.specs.CompareLaws.{compared-same}
+use Rattle.network.specs.PrintedLaws.{drawn-wellformed, drawn-within, drawn-print}
+use Rattle.serving.specs.NetworkCore.{networkCore}
+use Rattle.serving.specs.Tells.{core-length}
+use Rattle.serving.specs.TheoremA.{drawn-serves}
+use Rattle.mapper.specs.Map.{Permitted, MapAnswer, refused-by, mapped, Outcome, refused-sheet, too-many-classes, no-network, buffer-short, written}
+use Rattle.mapper.specs.Each.{Each, each-below}
+use Rattle.mapper.specs.DesignLaws.{named-of}
+use Rattle.mapper.specs.LengthLaws.{same-length}
+use Rattle.mapper.specs.NeededCells.{AtLeast}
+use Rattle.mapper.specs.OutcomeLaws.{refused-valid, OutcomeFor, many-classes, none-computes, too-short, printed, outcome-for}
+use Rattle.mapper.specs.Worked.{Refuses, Maps, Prints}
+
+least-network : (s : List ℕ) (d : Design) (u : ℕ) → examine s ≡ valid d → AtLeast u d → (v : Network) → Wellformed d v → WithinLimits d v → Computes d v → u ≤ length (v .luts)
+least-network s d u e least v f l c =
+    subst (λ (n : ℕ). u ≤ n) (core-length v) (least .cells (networkCore v) (drawn-serves d v (proper-of d (valid-well-formed s d e)) f l c))
+
+-- ---- a sheet that needs more cells than its limit is refused by 8
+module _ (s : List ℕ) (d : Design) (e : examine s ≡ valid d) (few : globalCount d (d .bound) ≤ maxClasses) (least : AtLeast (suc (d .limit)) d) where
+  none-within : (v : Network) → Wellformed d v → WithinLimits d v → Computes d v → ⊥
+  none-within v f l c =
+      let h = least-network s d (suc (d .limit)) e least v f l c in
+      let k = l .luts-within in
+      omega (arith, h, k)
+
+  says-8 : {b : List ℕ} {a : MapAnswer} {b' : List ℕ} → OutcomeFor d b a b' → (a ≡ refused-by 8 0) × (b' ≡ b)
+  says-8 (many-classes h) = absurd (omega (arith, h, few))
+  says-8 (none-computes h n) = (refl, refl)
+  says-8 (too-short v h p n) = absurd (none-within v (p .wellformed) (p .within) (p .computes))
+  says-8 (printed v h p n) = absurd (none-within v (p .wellformed) (p .within) (p .computes))
+
+  pub refuses-8 : Refuses s 8 0
+  refuses-8 =
+      record {
+        answers = λ b a b' o. says-8 (outcome-for d e o) .0;
+        untouched = λ b a b' o. says-8 (outcome-for d e o) .1;
+      }
+
+-- output o's node reads as many tables as its width and their number allow
+abbrev pub Full : Design → Network → ℕ → Type 0
+Full d w o = readCount w o ≡ min (budget d (d .bound) o) (length (w .luts))
+
+-- ---- a sheet with a network that is "same" and has no more cells than it needs is mapped
+pub record Fewest (s t : List ℕ) (d : Design) (w : Network) : Type 0 where
+  pub drawn : Drawn s t d w
+  pub right : compared d w ≡ same
+  pub few : globalCount d (d .bound) ≤ maxClasses
+  pub full : (o : ℕ) → o < length (d .outputs) → Full d w o
+  pub least : AtLeast (length (w .luts)) d
+
+pub fewest-of : {s t : List ℕ} {d : Design} {w : Network}
+    → examine s ≡ valid d
+    → readNetwork d t ≡ network w
+    → offending d w ≡ none
+    → compared d w ≡ same
+    → globalCount d (d .bound) ≤ maxClasses
+    → Each (length (d .outputs)) (Full d w)
+    → AtLeast (length (w .luts)) d
+    → Fewest s t d w
+fewest-of {d = d} {w = w} e f g h k r l =
+    record {
+      drawn = record { is-valid = e; is-read = f; passes = g };
+      right = h;
+      few = k;
+      full = each-below (length (d .outputs)) (Full d w) r;
+      least = l;
+    }
+
+module _ (s t : List ℕ) (d : Design) (w : Network) (x : Fewest s t d w) where
+  e : examine s ≡ valid d
+  e = x .drawn .is-valid
+
+  named : Named d
+  named = named-of d (valid-well-formed s d e)
+
+  well : Wellformed d w
+  well = drawn-wellformed s d w named t (x .drawn)
+
+  inside : WithinLimits d w
+  inside = drawn-within s d w named t (x .drawn)
+
+  pub drawn-computes : Computes d w
+  drawn-computes = compared-same d w (x .right)
+
+  pub count-of : (v : Network) → Permitted d v → length (v .luts) ≡ length (w .luts)
+  count-of v p =
+      le-antisymm (p .fewest w well inside drawn-computes)
+      (least-network s d (length (w .luts)) e (x .least) v (p .wellformed) (p .within) (p .computes))
+
+  length-of : (v : Network) → Permitted d v → length (printNetwork d v) ≡ length t
+  length-of v p =
+      same-length d v w (p .wellformed) well (count-of v p)
+      (λ o h.
+      (let k = subst (λ (n : ℕ). o < n) (p .wellformed .node-each) h in
+      p .full o k ∙ ap (min (budget d (d .bound) o)) (count-of v p) ∙ sym (x .full o k)))
+      ∙ ap length (sym (drawn-print s d w named t (x .drawn)))
+
+  says-mapped : {b : List ℕ} {a : MapAnswer} {b' : List ℕ} → length t ≤ length b → OutcomeFor d b a b' → a ≡ mapped (length (w .luts)) (length t)
+  says-mapped k (many-classes h) = let f = x .few in absurd (omega (arith, h, f))
+  says-mapped k (none-computes h n) = absurd (n w well inside drawn-computes)
+  says-mapped k (too-short v h p n) = let g = length-of v p in absurd (omega (arith, g, n, k))
+  says-mapped k (printed v h p n) = ap₂ mapped (count-of v p) (length-of v p)
+
+  says-short : {b : List ℕ} {a : MapAnswer} {b' : List ℕ} → length b < length t → OutcomeFor d b a b' → (a ≡ refused-by 9 0) × (b' ≡ b)
+  says-short k (many-classes h) = let f = x .few in absurd (omega (arith, h, f))
+  says-short k (none-computes h n) = absurd (n w well inside drawn-computes)
+  says-short k (too-short v h p n) = (refl, refl)
+  says-short k (printed v h p n) = let g = length-of v p in absurd (omega (arith, g, n, k))
+
+  pub maps-fewest : Maps s (length (w .luts)) (length t)
+  maps-fewest =
+      record {
+        answers = λ b a b' k o. says-mapped k (outcome-for d e o);
+        short = λ b a b' k o. says-short k (outcome-for d e o) .0;
+        untouched = λ b a b' k o. says-short k (outcome-for d e o) .1;
+      }
+
+  says-text : ((v : Network) → Permitted d v → v ≡ w) → {b : List ℕ} {a : MapAnswer} {b' : List ℕ} → length t ≤ length b → OutcomeFor d b a b' → b' ≡ sets b 0 t
+  says-text only k (many-classes h) = let f = x .few in absurd (omega (arith, h, f))
+  says-text only k (none-computes h n) = absurd (n w well inside drawn-computes)
+  says-text only k (too-short v h p n) = let g = length-of v p in absurd (omega (arith, g, n, k))
+  says-text only {b = b} k (printed v h p n) =
+      ap (λ (y : Network). sets b 0 (printNetwork d y)) (only v p) ∙ ap (sets b 0) (sym (drawn-print s d w named t (x .drawn)))
+
+  -- where no other network is permitted, its sheet is what is written
+  pub prints-only : ((v : Network) → Permitted d v → v ≡ w) → Prints s (length (w .luts)) t
+  prints-only only =
+      record {
+        maps = maps-fewest;
+        writes = λ b a b' k o. says-text only k (outcome-for d e o);
+      }
+
+-- ---- a sheet that the examination refuses
+pub refuses-sheet : (s : List ℕ) (q l : ℕ) → examine s ≡ refused q l → Refuses s q l
+refuses-sheet s q l e =
+    record { answers = λ b a b' o. says q l e o .0; untouched = λ b a b' o. says q l e o .1 }
+  where
+    refused-same : {q l p m : ℕ} → refused p m ≡ refused q l → refused-by p m ≡ refused-by q l
+    refused-same e = cc
+
+    says : {b : List ℕ} {a : MapAnswer} {b' : List ℕ} (q l : ℕ) → examine s ≡ refused q l → Outcome s b a b' → (a ≡ refused-by q l) × (b' ≡ b)
+    says q l e (refused-sheet p m f) = (refused-same (sym f ∙ e), refl)
+    says q l e (too-many-classes c f h) = absurd (refused-valid (sym e ∙ f))
+    says q l e (no-network c f h n) = absurd (refused-valid (sym e ∙ f))
+    says q l e (buffer-short c w f h k n) = absurd (refused-valid (sym e ∙ f))
+    says q l e (written c w f h k n) = absurd (refused-valid (sym e ∙ f))

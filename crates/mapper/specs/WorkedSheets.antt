@@ -1,0 +1,72 @@
+-- What document 01 says of its sheets marked P holds of the definitions. Assumes nothing.
+use mathlib.Core.Path.{_≡_, refl, sym, _∙_, subst}
+use mathlib.Core.List.{[]}
+use native.Mathlib.Omega.{arith}
+use Rattle.sheet.specs.Examine.{Design, valid, examine, refused}
+use Rattle.classes.specs.Classes.{localCount, globalCount}
+use Rattle.classes.specs.Width.{width}
+use Rattle.mapper.specs.Computing.{computing}
+use Rattle.mapper.specs.OutcomeLaws.{valid-same}
+use Rattle.mapper.specs.Designs.{designD, designG}
+use Rattle.mapper.specs.Worked.{Worked, sheetD, sheetG, sheetK}
+use Rattle.mapper.specs.WorkedLaws.{refuses-sheet}
+use Rattle.mapper.specs.CountedSheets.{c-refused, c-mapped, d-refused, d-mapped, e-mapped, g-refused}
+use Rattle.mapper.specs.ForcedSheets.{a-printed, f-printed, h-printed}
+
+d-said : examine (sheetD "3") ≡ valid (designD 3)
+unfolding computing
+d-said = refl
+
+g-said : examine (sheetG "1") ≡ valid (designG 1)
+unfolding computing
+g-said = refl
+
+k-empty : examine [] ≡ refused 1 0
+unfolding computing
+k-empty = refl
+
+k-limit : examine sheetK ≡ refused 3 4
+unfolding computing
+k-limit = refl
+
+d-classes : globalCount (designD 3) (designD 3 .bound) ≡ 4
+unfolding computing
+d-classes = refl
+
+g-classes : localCount (designG 1) (designG 1 .bound) 0 ≡ 3
+unfolding computing
+g-classes = refl
+
+g-width : width (designG 1) (designG 1 .bound) 0 ≡ 2
+unfolding computing
+g-width = refl
+
+pub worked : Worked
+unfolding computing
+worked =
+    record {
+      sheet-a = a-printed;
+      bytes-a = refl;
+      buffer-95 = λ b a b' e o. a-printed .maps .short b a b' (omega (arith, e)) o;
+      untouched-95 = λ b a b' e o. a-printed .maps .untouched b a b' (omega (arith, e)) o;
+      buffer-96 = λ b a b' e o. a-printed .maps .answers b a b' (omega (arith, e)) o;
+      sheet-c-1 = c-refused;
+      sheet-c-2 = c-mapped;
+      sheet-d-2 = d-refused;
+      sheet-d-3 = d-mapped;
+      classes-d = λ d e. subst (λ (x : Design). globalCount x (x .bound) ≡ 4) (valid-same (sym d-said ∙ e)) d-classes;
+      sheet-e = e-mapped;
+      sheet-f = f-printed;
+      classes-g = λ d e. subst (λ (x : Design). localCount x (x .bound) 0 ≡ 3) (valid-same (sym g-said ∙ e)) g-classes;
+      width-g = λ d e. subst (λ (x : Design). width x (x .bound) 0 ≡ 2) (valid-same (sym g-said ∙ e)) g-width;
+      sheet-g-1 = g-refused;
+      sheet-h = h-printed;
+      sheet-j = refl;
+      sheet-j-complement = refl;
+      empty-table = λ o b. refl;
+      empty-map = refuses-sheet [] 1 0 k-empty;
+      empty-check = λ t. refl;
+      limit-7-table = λ o b. refl;
+      limit-7-map = refuses-sheet sheetK 3 4 k-limit;
+      limit-7-check = λ t. refl;
+    }
