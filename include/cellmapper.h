@@ -15,7 +15,7 @@
  * - Out-parameters are not null, are aligned, and are objects of their own: none overlaps another, a text or a buffer. The
  *   buffer overlaps no text.
  *
- * A call takes about 0.5 MiB of stack at most.
+ * A call takes less than 1 MiB of stack, measured on the most deeply nested texts; on a valid sheet it takes far less.
  */
 #ifndef CELLMAPPER_H
 #define CELLMAPPER_H

@@ -1,10 +1,16 @@
 // The specification's sheets A to K and every refusal, by hand: what each call must answer stands beside it. Buffers are
-// exactly long enough and one byte short; slices of length 0 have null pointers too (calls.cpp).
+// exactly long enough and one byte short; slices of length 0 have null pointers too (calls.cpp). Then the repository's
+// example sheets, and the stack that the header promises to be enough.
 #include "worked.h"
 
 #include "calls.h"
+#include "cellmapper.h"
 
 #include <cstdint>
+#include <filesystem>
+#include <fstream>
+#include <pthread.h>
+#include <sstream>
 #include <vector>
 
 namespace {
@@ -222,6 +228,67 @@ void refusals_by_the_network()
     differs_at(ten, text({"(network 1)", "(node f (b c d v w x y z) " + std::string(256, '0') + ")", "(count 0)", "(end)"}), 0, 1023);
 }
 
+// ---- the example sheets: Map has as many cells as the network beside a sheet, and refuses a sheet without one by 8
+
+std::string contents(const std::filesystem::path &path)
+{
+    std::ostringstream all;
+    all << std::ifstream(path, std::ios::binary).rdbuf();
+    return all.str();
+}
+
+void example_sheets()
+{
+    size_t sheets = 0;
+    for (const auto &entry : std::filesystem::directory_iterator("examples")) {
+        std::filesystem::path path = entry.path();
+        if (path.extension() != ".sheet")
+            continue;
+        sheets++;
+        std::string s = contents(path);
+        if (!std::filesystem::exists(path.replace_extension(".network"))) {
+            map_refuses(s, 8, 0);
+            continue;
+        }
+        std::string n = contents(path);
+        checks_to(s, n, 0, 0);
+        expect(n.find("(count " + std::to_string(call_map(s, AMPLE).cells) + ")\n") != std::string::npos, "cells of an example's network", s, n);
+    }
+    expect(sheets == 5, "there are five example sheets, and this runs where they are", "");
+}
+
+// ---- the stack
+
+// As many brackets as a text can open.
+const std::string DEEPEST = [] {
+    std::string s = text({"(design 1)", "(in a)", "(bound a)", "(limit 1)"}) + "(out f ";
+    while (s.size() + 5 <= 4096)
+        s += "(or ";
+    return s + "\n";
+}();
+
+void *call_all(void *)
+{
+    uint8_t buffer[4];
+    size_t line, a, b, c;
+    const uint8_t *s = reinterpret_cast<const uint8_t *>(DEEPEST.data());
+    size_t n = DEEPEST.size();
+    bool refused = cellmapper_table(s, n, 0, buffer, sizeof buffer, &line, &a) == 2
+        && cellmapper_map(s, n, buffer, sizeof buffer, &line, &a, &b) == 2
+        && cellmapper_check(s, n, buffer, 0, &line, &a, &b, &c) == 2;
+    expect(refused && line == 5, "a sheet of opening brackets", DEEPEST);
+    return nullptr;
+}
+
+void in_one_mebibyte_of_stack()
+{
+    pthread_attr_t small;
+    pthread_t thread;
+    bool good = pthread_attr_init(&small) == 0 && pthread_attr_setstacksize(&small, 1 << 20) == 0
+        && pthread_create(&thread, &small, call_all, nullptr) == 0 && pthread_join(thread, nullptr) == 0;
+    expect(good, "a thread with 1 MiB of stack", DEEPEST);
+}
+
 }
 
 void worked_sheets()
@@ -232,4 +299,6 @@ void worked_sheets()
         refusals_by_the_sheet();
         refusals_by_the_network();
     }
+    example_sheets();
+    in_one_mebibyte_of_stack();
 }
