@@ -2,7 +2,8 @@
  * the sheet alone.
  * timing large SHEET..: for each sheet a line: name, nanoseconds of Table of the last output, of the same in plain C, of
  * Check on Map's network, and of the same in plain C. The answers of the two are compared.
- * Last comes a line `peak` with the most memory that the process had, in KiB. Times are the best of several batches. */
+ * Last comes a line `peak` with the most memory that the process had, in KiB. Times are processor time, the best of several
+ * batches. */
 #define _POSIX_C_SOURCE 200809L
 #include "cellmapper.h"
 #include "plain.h"
@@ -72,7 +73,7 @@ static void check_plain(void)
 static double now(void)
 {
     struct timespec t;
-    clock_gettime(CLOCK_MONOTONIC, &t);
+    clock_gettime(CLOCK_PROCESS_CPUTIME_ID, &t);
     return (double)t.tv_sec * 1e9 + (double)t.tv_nsec;
 }
 
