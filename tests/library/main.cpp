@@ -1,6 +1,8 @@
-// main [CASES [SEED]]: the exported functions on sheets worked by hand, and then on CASES random design sheets, each with a
-// random network sheet, compared with the oracle. Shows progress on standard error, and at the end how often each answer came.
+// main [CASES [SEED]]: the exported functions on sheets worked by hand, on the repository's sheets, and then on CASES random
+// design sheets, each with a random network sheet, compared with the oracle. Shows progress on standard error, and at the end
+// how often each answer came.
 #include "compare.h"
+#include "files.h"
 #include "generate.h"
 #include "worked.h"
 
@@ -42,6 +44,8 @@ int main(int argc, char **argv)
     unsigned long cases = argc > 1 ? strtoul(argv[1], nullptr, 10) : 100000, seed = argc > 2 ? strtoul(argv[2], nullptr, 10) : 1;
     worked_sheets();
     fprintf(stderr, "library: worked sheets and refusals as they must be\n");
+    sheets_of_the_repository();
+    fprintf(stderr, "library: the sheets of examples/ and bench/border/ as they must be\n");
     Generator random(seed);
     for (unsigned long i = 0; i < cases; i++) {
         if (i % 10000 == 0)

@@ -1,16 +1,13 @@
 // The specification's sheets A to K and every refusal, by hand: what each call must answer stands beside it. Buffers are
-// exactly long enough and one byte short; slices of length 0 have null pointers too (calls.cpp). Then the repository's
-// example sheets, and the stack that the header promises to be enough.
+// exactly long enough and one byte short; slices of length 0 have null pointers too (calls.cpp). Then the stack that the header
+// promises to be enough.
 #include "worked.h"
 
 #include "calls.h"
 #include "cellmapper.h"
 
 #include <cstdint>
-#include <filesystem>
-#include <fstream>
 #include <pthread.h>
-#include <sstream>
 #include <vector>
 
 namespace {
@@ -228,35 +225,6 @@ void refusals_by_the_network()
     differs_at(ten, text({"(network 1)", "(node f (b c d v w x y z) " + std::string(256, '0') + ")", "(count 0)", "(end)"}), 0, 1023);
 }
 
-// ---- the example sheets: Map has as many cells as the network beside a sheet, and refuses a sheet without one by 8
-
-std::string contents(const std::filesystem::path &path)
-{
-    std::ostringstream all;
-    all << std::ifstream(path, std::ios::binary).rdbuf();
-    return all.str();
-}
-
-void example_sheets()
-{
-    size_t sheets = 0;
-    for (const auto &entry : std::filesystem::directory_iterator("examples")) {
-        std::filesystem::path path = entry.path();
-        if (path.extension() != ".sheet")
-            continue;
-        sheets++;
-        std::string s = contents(path);
-        if (!std::filesystem::exists(path.replace_extension(".network"))) {
-            map_refuses(s, 8, 0);
-            continue;
-        }
-        std::string n = contents(path);
-        checks_to(s, n, 0, 0);
-        expect(n.find("(count " + std::to_string(call_map(s, AMPLE).cells) + ")\n") != std::string::npos, "cells of an example's network", s, n);
-    }
-    expect(sheets == 5, "there are five example sheets, and this runs where they are", "");
-}
-
 // ---- the stack
 
 // As many brackets as a text can open.
@@ -299,6 +267,5 @@ void worked_sheets()
         refusals_by_the_sheet();
         refusals_by_the_network();
     }
-    example_sheets();
     in_one_mebibyte_of_stack();
 }
