@@ -1,0 +1,22 @@
+use Rattle.cellmapper.specs.NumberLaws.{map-number}
+use borrow.Author.Needs.{needs}
+use Rattle.cellmapper.proofs.cellmapper_map.Statement.{statement}
+use Rattle.cellmapper.proofs.cellmapper_map.Tie as tie
+
+map-requires : tie.Need-map-requires
+map-requires c κs = search needs
+
+report-map-requires : tie.Need-report-map-requires
+report-map-requires c κs =
+    let a = c .before .before .before .before .before .before .args in
+    map-number (a .sheet .now) (a .buffer .now) _ _ (c .before .before .map .ensures)
+
+same-length : tie.Need-same-length
+same-length c = search needs
+
+returns : tie.Need-returns
+returns c =
+    record { answer = _; outcome = c .before .before .before .map .ensures; reported = c .report-map .ensures }
+
+pub cellmapper-map-spec : {M : Type 1} → statement M
+cellmapper-map-spec = tie.close (tie.spec map-requires report-map-requires same-length returns)

@@ -1,0 +1,66 @@
+/* The Cell Mapper for a program in C: Table, Map and Check on design sheets and network sheets.
+ *
+ * Link target/staticlib/libcellmapper.a, which `rt staticlib cellmapper` proves and builds for x86-64 Linux. The archive
+ * needs nothing but memcpy and memset, keeps no state, allocates nothing, and may be called from several threads at once.
+ *
+ * What holds of all three functions, proved for all bytes, lengths and output numbers (crates/cellmapper/src/lib.rt):
+ * - They end, and read and write nothing outside of what they are lent.
+ * - The result is 0, or the number of the question that was answered "no", 1 to 11 (README.md, "Refusals"). On a refusal
+ *   *line is the line at fault, counted from 1, or 0 where the question concerns no line, and the buffer is untouched.
+ * - Every out-parameter is set on every call; one that does not apply is set to 0.
+ * - Bytes of a buffer past what was written are unchanged.
+ *
+ * What the caller owes, as to any C function:
+ * - A pointer and a length name that many bytes. A length may be 0; its pointer is then not read and may be null.
+ * - Out-parameters are not null, are aligned, and are objects of their own: none overlaps another, a text or a buffer. The
+ *   buffer overlaps no text.
+ *
+ * A call takes less than 1 MiB of stack, measured on the most deeply nested texts; on a valid sheet it takes far less.
+ */
+#ifndef CELLMAPPER_H
+#define CELLMAPPER_H
+
+#include <stddef.h>
+#include <stdint.h>
+
+#ifdef __cplusplus
+extern "C" {
+#endif
+
+/* The most bytes of a design sheet and of a network sheet, and the most digits of a table: buffers of these lengths are long
+ * enough for every sheet. */
+#define CELLMAPPER_MAX_SHEET 4096
+#define CELLMAPPER_MAX_NETWORK 8192
+#define CELLMAPPER_MAX_TABLE 1024
+
+/* Table: the truth table of one output of a design sheet, outputs counted from 0.
+ *
+ * Result 0: the buffer's first *written bytes, 2 to the number of inputs, are the output's digits '0' and '1' in row order.
+ * Refusals: 1 to 5 for the sheet, 6 where there is no such output, 9 where buffer_len is less than the digits. */
+uint32_t cellmapper_table(const uint8_t *sheet, size_t sheet_len, size_t output, uint8_t *buffer, size_t buffer_len,
+                          size_t *line, size_t *written);
+
+/* Map: the network sheet with the fewest shared tables for a design sheet.
+ *
+ * Result 0: the buffer's first *length bytes are a network sheet with *cells lut lines, which is within the limit and the
+ * widths and computes every output on every row; no network that does so has fewer lut lines. Each of its shared tables is
+ * 0 at vertex 0, and each composition entry whose code no vertex produces is 0.
+ * Refusals: 1 to 5 for the sheet, 7 for more than 16 global classes, 8 where no network within limit and widths computes
+ * every output, 9 where buffer_len is less than the network's length. */
+uint32_t cellmapper_map(const uint8_t *sheet, size_t sheet_len, uint8_t *buffer, size_t buffer_len, size_t *line,
+                        size_t *cells, size_t *length);
+
+/* Check: a network sheet against a design sheet.
+ *
+ * Result 0 and *differs 0: the network has the design's value in every output on every row. Result 0 and *differs 1: *output
+ * is the lowest output that differs, and *row the lowest row on which it does.
+ * Refusals: 1 to 5 for the design sheet; 10 where the network sheet is misspelled for this design, 11 where it exceeds the
+ * limit or a width, *line being then a line of the network sheet. */
+uint32_t cellmapper_check(const uint8_t *sheet, size_t sheet_len, const uint8_t *network, size_t network_len, size_t *line,
+                          size_t *differs, size_t *output, size_t *row);
+
+#ifdef __cplusplus
+}
+#endif
+
+#endif

@@ -1,0 +1,130 @@
+#include "calls.h"
+
+#include "cellmapper.h"
+
+#include <algorithm>
+#include <cstdio>
+#include <cstdlib>
+#include <cstring>
+#include <sys/mman.h>
+
+namespace {
+
+const size_t PAGE = 4096, PAGES = 4, ROOM = PAGE * PAGES;
+const unsigned char FILL = 0xA5;
+const size_t GARBAGE = 0xDEADBEEF;
+
+// Memory between two pages that may not be touched.
+class Place {
+public:
+    Place()
+    {
+        void *all = mmap(nullptr, ROOM + 2 * PAGE, PROT_NONE, MAP_PRIVATE | MAP_ANONYMOUS, -1, 0);
+        if (all == MAP_FAILED || mprotect(static_cast<char *>(all) + PAGE, ROOM, PROT_READ | PROT_WRITE) != 0) {
+            perror("no memory for a test");
+            exit(2);
+        }
+        base = static_cast<unsigned char *>(all) + PAGE;
+    }
+
+    // A part of the given size at either end, with the bytes of `text` at its start and FILL everywhere else.
+    unsigned char *lend(size_t size, const std::string &text, bool at_end)
+    {
+        if (size > ROOM) {
+            fprintf(stderr, "a test asks for %zu bytes\n", size);
+            exit(2);
+        }
+        memset(base, FILL, ROOM);
+        start = at_end ? base + ROOM - size : base;
+        memcpy(start, text.data(), text.size());
+        return start;
+    }
+
+    // Whether all is as `lend` left it, but for the first `written` bytes of the part.
+    bool untouched(const std::string &text, size_t written) const
+    {
+        if (written <= text.size() && memcmp(start + written, text.data() + written, text.size() - written) != 0)
+            return false;
+        const unsigned char *from = start + std::max(written, text.size());
+        return all_fill(base, start) && all_fill(from, base + ROOM);
+    }
+
+private:
+    static bool all_fill(const unsigned char *from, const unsigned char *to)
+    {
+        static const std::string fill(ROOM, char(FILL));
+        return memcmp(from, fill.data(), size_t(to - from)) == 0;
+    }
+
+    unsigned char *base, *start = nullptr;
+};
+
+Place sheets, networks, buffers;
+unsigned long calls;
+
+// Ends alternate, so that a step outside either end is met. An empty text has a null pointer on every other pair of calls.
+unsigned char *lend(Place &place, size_t size, const std::string &text)
+{
+    unsigned char *p = place.lend(size, text, calls % 2 == 0);
+    return size == 0 && calls % 4 < 2 ? nullptr : p;
+}
+
+std::string first_bytes(const unsigned char *p, size_t n)
+{
+    return n == 0 ? std::string() : std::string(reinterpret_cast<const char *>(p), n);
+}
+
+}
+
+void start_at_way(unsigned way)
+{
+    calls = way;
+}
+
+void expect(bool good, const std::string &what, const std::string &sheet, const std::string &network)
+{
+    if (good)
+        return;
+    fprintf(stderr, "FAILED: %s\n---- design sheet, %zu bytes\n%s\n---- network sheet, %zu bytes\n%s\n----\n", what.c_str(), sheet.size(), sheet.c_str(), network.size(), network.c_str());
+    exit(1);
+}
+
+Tabled call_table(const std::string &sheet, size_t output, size_t room)
+{
+    Tabled t = {0, GARBAGE, GARBAGE, ""};
+    unsigned char *s = lend(sheets, sheet.size(), sheet), *b = lend(buffers, room, "");
+    t.number = cellmapper_table(s, sheet.size(), output, b, room, &t.line, &t.written);
+    calls++;
+    expect(t.written <= room, "Table says it wrote more than there was room for", sheet);
+    expect(sheets.untouched(sheet, 0), "Table wrote into the sheet", sheet);
+    expect(buffers.untouched("", t.written), "Table wrote past its digits, or on a refusal", sheet);
+    expect(t.number == 0 ? t.line == 0 : t.written == 0, "Table left an out-parameter that does not apply", sheet);
+    t.digits = first_bytes(b, t.written);
+    return t;
+}
+
+Mapped call_map(const std::string &sheet, size_t room)
+{
+    Mapped m = {0, GARBAGE, GARBAGE, GARBAGE, ""};
+    unsigned char *s = lend(sheets, sheet.size(), sheet), *b = lend(buffers, room, "");
+    m.number = cellmapper_map(s, sheet.size(), b, room, &m.line, &m.cells, &m.length);
+    calls++;
+    expect(m.length <= room, "Map says it wrote more than there was room for", sheet);
+    expect(sheets.untouched(sheet, 0), "Map wrote into the sheet", sheet);
+    expect(buffers.untouched("", m.length), "Map wrote past its network, or on a refusal", sheet);
+    expect(m.number == 0 ? m.line == 0 : m.cells == 0 && m.length == 0, "Map left an out-parameter that does not apply", sheet);
+    m.network = first_bytes(b, m.length);
+    return m;
+}
+
+Checked call_check(const std::string &sheet, const std::string &network)
+{
+    Checked c = {0, GARBAGE, GARBAGE, GARBAGE, GARBAGE};
+    unsigned char *s = lend(sheets, sheet.size(), sheet), *n = lend(networks, network.size(), network);
+    c.number = cellmapper_check(s, sheet.size(), n, network.size(), &c.line, &c.differs, &c.output, &c.row);
+    calls++;
+    expect(sheets.untouched(sheet, 0) && networks.untouched(network, 0), "Check wrote into a sheet", sheet, network);
+    expect(c.number == 0 ? c.line == 0 : c.differs == 0, "Check left an out-parameter that does not apply", sheet, network);
+    expect(c.differs <= 1 && (c.differs == 1 || (c.output == 0 && c.row == 0)), "Check left output or row set", sheet, network);
+    return c;
+}

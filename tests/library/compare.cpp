@@ -1,0 +1,102 @@
+#include "compare.h"
+
+#include "calls.h"
+#include "fewest.h"
+
+#include <algorithm>
+
+Tally tables, maps, checks;
+
+namespace {
+
+const size_t AMPLE = 8192;
+
+// A length below `enough`.
+size_t too_short(size_t enough, size_t more)
+{
+    return enough - 1 - more % enough;
+}
+
+// What the section on cells asks of Map's network beside Check's "same".
+void examine_network(const Sheet &sheet, const Mapped &m)
+{
+    const oracle::Design &design = sheet.design;
+    oracle::Network network;
+    expect(oracle::read_network(design, m.network, network).number == 0, "Map's network is misspelled", sheet.text, m.network);
+    expect(network.luts.size() == m.cells, "Map's cells are its lut lines", sheet.text, m.network);
+    for (const oracle::Lut &lut : network.luts)
+        expect(lut.digits[0] == '0', "Map's tables are 0 at vertex 0", sheet.text, m.network);
+    size_t rows = size_t(1) << oracle::free_inputs(design).size();
+    for (size_t o = 0; o < network.nodes.size(); o++) {
+        const oracle::Node &node = network.nodes[o];
+        std::vector<bool> produced(size_t(1) << node.reads.size());
+        for (size_t vertex = 0; vertex < size_t(1) << design.bound.size(); vertex++)
+            produced[oracle::code(network, node, vertex)] = true;
+        for (size_t i = 0; i < node.digits.size(); i++)
+            expect(produced[i / rows] || node.digits[i] == '0', "an entry that no vertex produces is 0", sheet.text, m.network);
+        expect(node.reads.size() == std::min<size_t>(oracle::width(design, o), m.cells), "a node reads as many tables as its width allows", sheet.text, m.network);
+    }
+    oracle::Comparison c = oracle::check(design, m.network);
+    expect(c.refusal.number == 0 && !c.differs, "Map's network is the design's", sheet.text, m.network);
+}
+
+void compare_fewest(const Sheet &sheet, const Mapped &m)
+{
+    size_t u = fewest(sheet.design);
+    expect(m.number == 0 ? m.cells == u : u == NONE_SERVE, "Map's cells are the fewest, " + std::to_string(u), sheet.text, m.network);
+}
+
+}
+
+void compare_table(const Sheet &sheet, size_t output, size_t more)
+{
+    Tabled t = call_table(sheet.text, output, AMPLE);
+    tables[t.number]++;
+    if (sheet.refusal.number || output >= sheet.design.outputs.size()) {
+        oracle::Refusal wanted = sheet.refusal.number ? sheet.refusal : oracle::Refusal{6, 0};
+        expect(t.number == wanted.number && t.line == wanted.line, "Table's refusal, output " + std::to_string(output), sheet.text);
+        return;
+    }
+    const std::string &digits = sheet.design.outputs[output].table;
+    expect(t.number == 0 && t.digits == digits, "Table's digits, output " + std::to_string(output), sheet.text);
+    expect(call_table(sheet.text, output, digits.size()).digits == digits, "Table in a buffer just long enough", sheet.text);
+    Tabled shorter = call_table(sheet.text, output, too_short(digits.size(), more));
+    tables[shorter.number]++;
+    expect(shorter.number == 9 && shorter.line == 0, "Table in a buffer too short", sheet.text);
+}
+
+std::string compare_map(const Sheet &sheet, size_t more, bool try_all)
+{
+    Mapped m = call_map(sheet.text, AMPLE);
+    maps[m.number]++;
+    if (sheet.refusal.number) {
+        expect(m.number == sheet.refusal.number && m.line == sheet.refusal.line, "Map's refusal", sheet.text);
+        return "";
+    }
+    bool many = oracle::global_classes(sheet.design) > 16;
+    expect((m.number == 7) == many && m.line == 0, "Map on global classes", sheet.text);
+    expect(many || m.number == 0 || m.number == 8, "Map's number", sheet.text);
+    size_t bound = sheet.design.bound.size();
+    if (bound <= 2 || (try_all && bound == 3 && sheet.design.limit <= 2))
+        compare_fewest(sheet, m);
+    if (m.number != 0)
+        return "";
+    examine_network(sheet, m);
+    expect(call_map(sheet.text, m.length).network == m.network, "Map in a buffer just long enough", sheet.text);
+    Mapped shorter = call_map(sheet.text, too_short(m.length, more));
+    maps[shorter.number]++;
+    expect(shorter.number == 9 && shorter.line == 0, "Map in a buffer too short", sheet.text);
+    return m.network;
+}
+
+void compare_check(const Sheet &sheet, const std::string &network)
+{
+    Checked c = call_check(sheet.text, network);
+    oracle::Comparison wanted;
+    wanted.refusal = sheet.refusal;
+    if (!sheet.refusal.number)
+        wanted = oracle::check(sheet.design, network);
+    checks[c.differs ? DIFFERS : c.number]++;
+    expect(c.number == wanted.refusal.number && c.line == wanted.refusal.line, "Check's number and line; " + std::to_string(wanted.refusal.number) + " line " + std::to_string(wanted.refusal.line) + " by the oracle", sheet.text, network);
+    expect(c.differs == wanted.differs && c.output == wanted.output && c.row == wanted.row, "Check's difference", sheet.text, network);
+}

@@ -1,0 +1,493 @@
+#include "oracle.h"
+
+#include <algorithm>
+#include <set>
+
+namespace oracle {
+
+namespace {
+
+typedef std::vector<std::string> Names;
+
+const char *const OPERATORS[] = {"not", "and", "or", "xor"};
+
+// ---- lines and trees
+
+// The lines without their newlines; `ended` tells whether the last one had one.
+Names split(const std::string &text, bool &ended)
+{
+    Names lines;
+    std::string line;
+    for (char c : text) {
+        if (c == '\n') {
+            lines.push_back(line);
+            line.clear();
+        } else {
+            line += c;
+        }
+    }
+    ended = line.empty();
+    if (!ended)
+        lines.push_back(line);
+    return lines;
+}
+
+bool word_byte(char c)
+{
+    return c != ' ' && c != '(' && c != ')';
+}
+
+// Reads one item at `at`, passing over any number of spaces.
+bool read_item(const std::string &line, size_t &at, Tree &tree)
+{
+    while (at < line.size() && line[at] == ' ')
+        at++;
+    if (at == line.size() || line[at] == ')')
+        return false;
+    if (line[at] != '(') {
+        while (at < line.size() && word_byte(line[at]))
+            tree.word += line[at++];
+        return true;
+    }
+    tree.bracket = true;
+    at++;
+    for (;;) {
+        while (at < line.size() && line[at] == ' ')
+            at++;
+        if (at < line.size() && line[at] == ')') {
+            at++;
+            return true;
+        }
+        tree.items.emplace_back();
+        if (!read_item(line, at, tree.items.back()))
+            return false;
+    }
+}
+
+void print(const Tree &tree, std::string &to)
+{
+    if (!tree.bracket) {
+        to += tree.word;
+        return;
+    }
+    to += '(';
+    for (size_t i = 0; i < tree.items.size(); i++) {
+        if (i > 0)
+            to += ' ';
+        print(tree.items[i], to);
+    }
+    to += ')';
+}
+
+// A bracket whose print is the line itself, so that every space stands where it must.
+bool read_line(const std::string &line, Tree &tree)
+{
+    size_t at = 0;
+    std::string again;
+    if (!read_item(line, at, tree) || !tree.bracket)
+        return false;
+    print(tree, again);
+    return again == line;
+}
+
+// ---- the shapes of lines
+
+bool is_operator(const std::string &word)
+{
+    return std::find(std::begin(OPERATORS), std::end(OPERATORS), word) != std::end(OPERATORS);
+}
+
+bool is_name(const Tree &tree)
+{
+    const std::string &w = tree.word;
+    if (tree.bracket || w.empty() || w.size() > 8 || is_operator(w) || w[0] < 'a' || w[0] > 'z')
+        return false;
+    return std::all_of(w.begin(), w.end(), [](char c) { return (c >= 'a' && c <= 'z') || (c >= '0' && c <= '9'); });
+}
+
+bool is_number(const Tree &tree)
+{
+    const std::string &w = tree.word;
+    if (tree.bracket || w.empty() || w.size() > 3 || (w[0] == '0' && w.size() > 1))
+        return false;
+    return std::all_of(w.begin(), w.end(), [](char c) { return c >= '0' && c <= '9'; });
+}
+
+bool is_formula(const Tree &tree)
+{
+    if (!tree.bracket)
+        return tree.word == "0" || tree.word == "1" || is_name(tree);
+    if (tree.items.empty() || tree.items[0].bracket || !is_operator(tree.items[0].word))
+        return false;
+    size_t operands = tree.items.size() - 1;
+    if (tree.items[0].word == "not" ? operands != 1 : operands < 2)
+        return false;
+    return std::all_of(tree.items.begin() + 1, tree.items.end(), is_formula);
+}
+
+bool opens_with(const Tree &tree, const char *word)
+{
+    return !tree.items.empty() && !tree.items[0].bracket && tree.items[0].word == word;
+}
+
+bool is_list_of_names(const Tree &tree, const char *word)
+{
+    return opens_with(tree, word) && std::all_of(tree.items.begin() + 1, tree.items.end(), is_name);
+}
+
+unsigned depth(const Tree &tree)
+{
+    unsigned deepest = 0;
+    for (const Tree &t : tree.items)
+        deepest = std::max(deepest, depth(t));
+    return tree.bracket ? deepest + 1 : 0;
+}
+
+void collect_names(const Tree &tree, Names &names)
+{
+    if (is_name(tree))
+        names.push_back(tree.word);
+    for (const Tree &t : tree.items)
+        collect_names(t, names);
+}
+
+bool among(const std::string &name, const Names &names)
+{
+    return std::find(names.begin(), names.end(), name) != names.end();
+}
+
+bool all_among(const Names &some, const Names &names)
+{
+    return std::all_of(some.begin(), some.end(), [&](const std::string &n) { return among(n, names); });
+}
+
+Names words_after_first(const Tree &tree)
+{
+    Names words;
+    for (size_t i = 1; i < tree.items.size(); i++)
+        words.push_back(tree.items[i].word);
+    return words;
+}
+
+bool repeats(const Names &names)
+{
+    return std::set<std::string>(names.begin(), names.end()).size() < names.size();
+}
+
+// ---- questions 2 to 5 on one line; the answer is the number, or 0
+
+unsigned ask_in(const Tree &tree, Design &design)
+{
+    if (!is_list_of_names(tree, "in"))
+        return 2;
+    design.inputs = words_after_first(tree);
+    if (design.inputs.size() < 1 || design.inputs.size() > 10)
+        return 3;
+    return repeats(design.inputs) ? 4 : 0;
+}
+
+unsigned ask_bound(const Tree &tree, Design &design)
+{
+    if (!is_list_of_names(tree, "bound"))
+        return 2;
+    design.bound = words_after_first(tree);
+    if (design.bound.size() < 1 || design.bound.size() > 5)
+        return 3;
+    if (repeats(design.bound))
+        return 4;
+    return all_among(design.bound, design.inputs) ? 0 : 5;
+}
+
+unsigned ask_limit(const Tree &tree, Design &design)
+{
+    if (!opens_with(tree, "limit") || tree.items.size() != 2 || !is_number(tree.items[1]))
+        return 2;
+    design.limit = unsigned(std::stoul(tree.items[1].word));
+    return design.limit > 6 ? 3 : 0;
+}
+
+unsigned ask_out(const Tree &tree, Design &design)
+{
+    if (!opens_with(tree, "out") || tree.items.size() != 3 || !is_name(tree.items[1]) || !is_formula(tree.items[2]))
+        return 2;
+    const std::string &name = tree.items[1].word;
+    if (design.outputs.size() == 4 || depth(tree.items[2]) > 32)
+        return 3;
+    if (among(name, design.inputs))
+        return 4;
+    for (const Output &o : design.outputs)
+        if (o.name == name)
+            return 4;
+    Names used;
+    collect_names(tree.items[2], used);
+    design.outputs.push_back(Output{name, tree.items[2], ""});
+    return all_among(used, design.inputs) ? 0 : 5;
+}
+
+// ---- values
+
+// The digit that a name has in a row of the names, the first name highest.
+bool digit(const std::string &name, const Names &names, size_t row)
+{
+    size_t place = size_t(std::find(names.begin(), names.end(), name) - names.begin());
+    return row >> (names.size() - 1 - place) & 1;
+}
+
+bool value(const Tree &f, const Names &inputs, size_t row)
+{
+    if (!f.bracket)
+        return f.word == "1" || (f.word != "0" && digit(f.word, inputs, row));
+    const std::string &op = f.items[0].word;
+    unsigned ones = 0;
+    for (size_t i = 1; i < f.items.size(); i++)
+        ones += value(f.items[i], inputs, row);
+    if (op == "not")
+        return ones == 0;
+    if (op == "and")
+        return ones == f.items.size() - 1;
+    return op == "or" ? ones > 0 : ones % 2 == 1;
+}
+
+void tabulate(Design &design)
+{
+    for (Output &o : design.outputs)
+        for (size_t row = 0; row < size_t(1) << design.inputs.size(); row++)
+            o.table += value(o.formula, design.inputs, row) ? '1' : '0';
+}
+
+// The row over some of the inputs that a row over all of them has.
+size_t part_of_row(const Names &some, const Names &inputs, size_t row)
+{
+    size_t part = 0;
+    for (const std::string &n : some)
+        part = 2 * part + digit(n, inputs, row);
+    return part;
+}
+
+}
+
+// ---- the design sheet
+
+Refusal examine(const std::string &text, Design &design)
+{
+    design = Design();
+    if (text.size() < 1 || text.size() > 4096 || text.back() != '\n')
+        return Refusal{1, 0};
+    for (char c : text)
+        if (c != '\n' && (c < 0x20 || c > 0x7E))
+            return Refusal{1, 0};
+    bool ended, over = false;
+    Names lines = split(text, ended);
+    for (size_t i = 0; i < lines.size(); i++) {
+        Tree tree;
+        unsigned number;
+        if (over || !read_line(lines[i], tree))
+            number = 2;
+        else if (i == 0)
+            number = lines[i] == "(design 1)" ? 0 : 2;
+        else if (i == 1)
+            number = ask_in(tree, design);
+        else if (i == 2)
+            number = ask_bound(tree, design);
+        else if (i == 3)
+            number = ask_limit(tree, design);
+        else if (lines[i] == "(end)") {
+            over = true;
+            number = design.outputs.empty() ? 3 : 0;
+        } else
+            number = ask_out(tree, design);
+        if (number)
+            return Refusal{number, i + 1};
+    }
+    if (!over)
+        return Refusal{2, lines.size() + 1};
+    tabulate(design);
+    return Refusal{};
+}
+
+// ---- columns, classes, width
+
+Names free_inputs(const Design &design)
+{
+    Names names;
+    for (const std::string &n : design.inputs)
+        if (!among(n, design.bound))
+            names.push_back(n);
+    return names;
+}
+
+std::vector<std::string> columns(const Design &design, size_t output)
+{
+    Names free = free_inputs(design);
+    std::vector<std::string> list(size_t(1) << design.bound.size(), std::string(size_t(1) << free.size(), '?'));
+    const std::string &table = design.outputs[output].table;
+    for (size_t row = 0; row < table.size(); row++)
+        list[part_of_row(design.bound, design.inputs, row)][part_of_row(free, design.inputs, row)] = table[row];
+    return list;
+}
+
+unsigned width(const Design &design, size_t output)
+{
+    std::vector<std::string> list = columns(design, output);
+    size_t classes = std::set<std::string>(list.begin(), list.end()).size();
+    unsigned w = 0;
+    while (size_t(1) << w < classes)
+        w++;
+    return w;
+}
+
+size_t global_classes(const Design &design)
+{
+    std::vector<std::string> joined(size_t(1) << design.bound.size());
+    for (size_t o = 0; o < design.outputs.size(); o++) {
+        std::vector<std::string> list = columns(design, o);
+        for (size_t vertex = 0; vertex < list.size(); vertex++)
+            joined[vertex] += list[vertex] + " ";
+    }
+    return std::set<std::string>(joined.begin(), joined.end()).size();
+}
+
+// ---- the network sheet
+
+namespace {
+
+bool are_digits(const Tree &tree, size_t inputs)
+{
+    return !tree.bracket && tree.word.size() == size_t(1) << inputs && tree.word.find_first_not_of("01") == std::string::npos;
+}
+
+std::string lut_name(size_t number)
+{
+    return "_" + std::to_string(number);
+}
+
+bool is_lut(const Design &design, const Tree &tree, size_t number)
+{
+    if (number > 5 || !opens_with(tree, "lut") || tree.items.size() != 4 || tree.items[1].bracket || tree.items[1].word != lut_name(number))
+        return false;
+    const Tree &list = tree.items[2];
+    if (!list.bracket || list.items.size() != design.bound.size())
+        return false;
+    for (size_t i = 0; i < list.items.size(); i++)
+        if (list.items[i].bracket || list.items[i].word != design.bound[i])
+            return false;
+    return are_digits(tree.items[3], design.bound.size());
+}
+
+// The list must be some of the shared tables, rising, and then the free inputs: the tables are those at its front.
+bool is_node(const Design &design, const Tree &tree, size_t output, size_t luts, Node &node)
+{
+    if (!opens_with(tree, "node") || tree.items.size() != 4 || tree.items[1].bracket || tree.items[1].word != design.outputs[output].name)
+        return false;
+    const Tree &list = tree.items[2];
+    Names free = free_inputs(design);
+    if (!list.bracket || list.items.size() < free.size())
+        return false;
+    size_t reads = list.items.size() - free.size(), next = 0;
+    for (size_t i = 0; i < list.items.size(); i++) {
+        if (list.items[i].bracket)
+            return false;
+        if (i >= reads) {
+            if (list.items[i].word != free[i - reads])
+                return false;
+            continue;
+        }
+        while (next < luts && lut_name(next) != list.items[i].word)
+            next++;
+        if (next == luts)
+            return false;
+        node.reads.push_back(unsigned(next++));
+    }
+    node.digits = tree.items[3].word;
+    return are_digits(tree.items[3], list.items.size());
+}
+
+// One line after the first; `nodes` have been read, and then count and end.
+bool take_line(const Design &design, const std::string &line, size_t &closing, Network &network)
+{
+    Tree tree;
+    if (!read_line(line, tree))
+        return false;
+    if (network.nodes.empty() && is_lut(design, tree, network.luts.size())) {
+        network.luts.push_back(Lut{tree.items[3].word});
+        return true;
+    }
+    if (network.nodes.size() < design.outputs.size()) {
+        Node node;
+        if (!is_node(design, tree, network.nodes.size(), network.luts.size(), node))
+            return false;
+        network.nodes.push_back(node);
+        return true;
+    }
+    closing++;
+    if (closing == 1)
+        return line == "(count " + std::to_string(network.luts.size()) + ")";
+    return closing == 2 && line == "(end)";
+}
+
+}
+
+Refusal read_network(const Design &design, const std::string &text, Network &network)
+{
+    network = Network();
+    if (text.size() < 1 || text.size() > 8192)
+        return Refusal{10, 0};
+    bool ended;
+    size_t closing = 0;
+    Names lines = split(text, ended);
+    for (size_t i = 0; i < lines.size(); i++) {
+        bool open = !ended && i + 1 == lines.size();
+        if (open || !(i == 0 ? lines[i] == "(network 1)" : take_line(design, lines[i], closing, network)))
+            return Refusal{10, i + 1};
+    }
+    return closing == 2 ? Refusal{} : Refusal{10, lines.size() + 1};
+}
+
+size_t code(const Network &network, const Node &node, size_t vertex)
+{
+    size_t row = 0;
+    for (unsigned number : node.reads)
+        row = 2 * row + (network.luts[number].digits[vertex] == '1');
+    return row;
+}
+
+namespace {
+
+Refusal within(const Design &design, const Network &network)
+{
+    if (network.luts.size() > design.limit)
+        return Refusal{11, 2 + design.limit};
+    for (size_t o = 0; o < network.nodes.size(); o++)
+        if (network.nodes[o].reads.size() > width(design, o))
+            return Refusal{11, 2 + network.luts.size() + o};
+    return Refusal{};
+}
+
+}
+
+Comparison check(const Design &design, const std::string &text)
+{
+    Comparison answer;
+    Network network;
+    answer.refusal = read_network(design, text, network);
+    if (!answer.refusal.number)
+        answer.refusal = within(design, network);
+    if (answer.refusal.number)
+        return answer;
+    Names free = free_inputs(design);
+    for (size_t o = 0; o < design.outputs.size(); o++) {
+        const std::string &wanted = design.outputs[o].table;
+        for (size_t row = 0; row < wanted.size(); row++) {
+            size_t vertex = part_of_row(design.bound, design.inputs, row), rest = part_of_row(free, design.inputs, row);
+            if (network.nodes[o].digits[code(network, network.nodes[o], vertex) << free.size() | rest] == wanted[row])
+                continue;
+            answer.differs = true;
+            answer.output = o;
+            answer.row = row;
+            return answer;
+        }
+    }
+    return answer;
+}
+
+}

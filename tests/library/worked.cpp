@@ -1,0 +1,271 @@
+// The specification's sheets A to K and every refusal, by hand: what each call must answer stands beside it. Buffers are
+// exactly long enough and one byte short; slices of length 0 have null pointers too (calls.cpp). Then the stack that the header
+// promises to be enough.
+#include "worked.h"
+
+#include "calls.h"
+#include "cellmapper.h"
+
+#include <cstdint>
+#include <pthread.h>
+#include <vector>
+
+namespace {
+
+typedef std::vector<std::string> Lines;
+
+const size_t AMPLE = 8192;
+
+std::string text(const Lines &lines)
+{
+    std::string all;
+    for (const std::string &l : lines)
+        all += l + "\n";
+    return all;
+}
+
+std::string sheet(const std::string &inputs, const std::string &bound, const std::string &limit, const Lines &formulas)
+{
+    Lines lines = {"(design 1)", "(in " + inputs + ")", "(bound " + bound + ")", "(limit " + limit + ")"};
+    for (size_t i = 0; i < formulas.size(); i++)
+        lines.push_back(std::string("(out ") + "fghijk"[i] + " " + formulas[i] + ")");
+    lines.push_back("(end)");
+    return text(lines);
+}
+
+const std::string A = sheet("a b c d", "a b c", "2", {"(xor a b c d)", "(and (xor a b c) d)"});
+const Lines NETWORK_LINES = {"(network 1)", "(lut _0 (a b c) 01101001)", "(node f (_0 d) 0110)", "(node g (_0 d) 0001)", "(count 1)", "(end)"};
+const std::string NETWORK = text(NETWORK_LINES);
+
+// A's network with one line for another; an empty line takes it out.
+std::string with(size_t line, const std::string &other)
+{
+    Lines lines = NETWORK_LINES;
+    if (other.empty())
+        lines.erase(lines.begin() + long(line) - 1);
+    else
+        lines[line - 1] = other;
+    return text(lines);
+}
+
+// ---- Table
+
+void tables_to(const std::string &s, size_t output, const std::string &digits)
+{
+    Tabled t = call_table(s, output, digits.size());
+    expect(t.number == 0 && t.digits == digits, "Table's digits", s);
+    expect(call_table(s, output, AMPLE).digits == digits, "Table's digits in a longer buffer", s);
+    expect(call_table(s, output, digits.size() - 1).number == 9, "Table in a buffer one byte short", s);
+    expect(call_table(s, output, 0).number == 9, "Table in an empty buffer", s);
+}
+
+void table_refuses(const std::string &s, size_t output, unsigned number, size_t line)
+{
+    for (size_t room : {size_t(0), AMPLE}) {
+        Tabled t = call_table(s, output, room);
+        expect(t.number == number && t.line == line, "Table must refuse by " + std::to_string(number) + " line " + std::to_string(line), s);
+    }
+}
+
+// ---- Map
+
+void maps_to(const std::string &s, size_t cells, const std::string &part)
+{
+    Mapped m = call_map(s, AMPLE);
+    expect(m.number == 0 && m.cells == cells, "Map with " + std::to_string(cells) + " cells", s, m.network);
+    expect(("\n" + m.network).find("\n" + part) != std::string::npos, "Map's lines", s, m.network);
+    Checked c = call_check(s, m.network);
+    expect(c.number == 0 && c.differs == 0, "Check on Map's network", s, m.network);
+    Mapped exact = call_map(s, m.length), shorter = call_map(s, m.length - 1), none = call_map(s, 0);
+    expect(exact.number == 0 && exact.network == m.network, "Map in a buffer just long enough", s);
+    expect(shorter.number == 9 && shorter.line == 0, "Map in a buffer one byte short", s);
+    expect(none.number == 9 && none.line == 0, "Map in an empty buffer", s);
+}
+
+void map_refuses(const std::string &s, unsigned number, size_t line)
+{
+    for (size_t room : {size_t(0), AMPLE}) {
+        Mapped m = call_map(s, room);
+        expect(m.number == number && m.line == line, "Map must refuse by " + std::to_string(number) + " line " + std::to_string(line), s);
+    }
+}
+
+// ---- Check
+
+void checks_to(const std::string &s, const std::string &n, unsigned number, size_t line)
+{
+    Checked c = call_check(s, n);
+    expect(c.number == number && c.line == line && c.differs == 0, "Check must answer " + std::to_string(number) + " line " + std::to_string(line), s, n);
+}
+
+void differs_at(const std::string &s, const std::string &n, size_t output, size_t row)
+{
+    Checked c = call_check(s, n);
+    expect(c.number == 0 && c.differs == 1 && c.output == output && c.row == row, "Check must say where it differs", s, n);
+}
+
+// A refusal of the design sheet itself, by all three.
+void all_refuse(const std::string &s, unsigned number, size_t line)
+{
+    table_refuses(s, 0, number, line);
+    table_refuses(s, SIZE_MAX, number, line);
+    map_refuses(s, number, line);
+    checks_to(s, NETWORK, number, line);
+    checks_to(s, "", number, line);
+}
+
+void sheets_to_try()
+{
+    maps_to(A, 1, NETWORK);
+    expect(call_map(A, 96).number == 0 && call_map(A, 95).number == 9, "sheet B", A);
+    tables_to(A, 0, "0110100110010110");
+    tables_to(A, 1, "0001010001000001");
+    const Lines c = {"(xor a c)", "(xor b c)"}, d = {"(xor a c)", "(xor b c)", "(xor a b c)"};
+    map_refuses(sheet("a b c", "a b", "1", c), 8, 0);
+    maps_to(sheet("a b c", "a b", "2", c), 2, "(count 2)\n");
+    map_refuses(sheet("a b c", "a b", "2", d), 8, 0);
+    maps_to(sheet("a b c", "a b", "3", d), 3, "(count 3)\n");
+    maps_to(sheet("a b c d", "a b", "2", {"(or (and a c) (and b d))", "(xor a b c)"}), 2, "(count 2)\n");
+    maps_to(sheet("a b c d", "a b", "0", {"(or c d)"}), 0, "(node f (c d) 0111)\n(count 0)\n");
+    const Lines g = {"(or (and a b c) (and (xor a b) d))"};
+    map_refuses(sheet("a b c d", "a b", "1", g), 8, 0);
+    maps_to(sheet("a b c d", "a b", "2", g), 2, "(count 2)\n");
+    maps_to(sheet("a b", "a b", "1", {"(and a b)"}), 1, "(lut _0 (a b) 0001)\n(node f (_0) 01)\n(count 1)\n");
+    const Lines i = {"(or (and a x) (and e y))", "(xor b x)", "(xor c x)"};
+    maps_to(sheet("a b c d e x y", "a b c d e", "4", i), 4, "(count 4)\n");
+    map_refuses(sheet("a b c d e x y", "a b c d e", "3", i), 8, 0);
+    map_refuses(sheet("a b c d e x y", "a b c d e", "0", {i[0], i[1], i[2], "(xor d x)"}), 7, 0);
+    differs_at(A, with(4, "(node g (_0 d) 0011)"), 1, 2);
+    checks_to(A, text({"(network 1)", "(lut _0 (a b c) 10010110)", "(node f (_0 d) 1001)", "(node g (_0 d) 0100)", "(count 1)", "(end)"}), 0, 0);
+}
+
+std::string nested(size_t depth, const std::string &inside)
+{
+    std::string f = inside;
+    for (size_t i = 0; i < depth; i++)
+        f = "(not " + f + ")";
+    return f;
+}
+
+void refusals_by_the_sheet()
+{
+    all_refuse("", 1, 0);
+    all_refuse(A.substr(0, A.size() - 1), 1, 0);
+    all_refuse(A + std::string(1, '\0') + "\n", 1, 0);
+    all_refuse(std::string(4096, ' ') + "\n", 1, 0);
+    all_refuse(std::string(4095, ' ') + "\n", 2, 1);
+    all_refuse("\n", 2, 1);
+    all_refuse("(design 1)\n", 2, 2);
+    all_refuse("(design 2)\n", 2, 1);
+    all_refuse(A + "(end)\n", 2, 8);
+    all_refuse(A + "\n", 2, 8);
+    all_refuse(sheet("a  b", "a", "1", {"a"}), 2, 2);
+    all_refuse(sheet("a and", "a", "1", {"a"}), 2, 2);
+    all_refuse(sheet("a", "a", "07", {"a"}), 2, 4);
+    all_refuse(sheet("a b", "a", "1", {"(and a)"}), 2, 5);
+    all_refuse(sheet("a b", "a", "1", {"(and(not a) b)"}), 2, 5);
+    all_refuse(sheet("a", "a", "1", {nested(600, "2")}), 2, 5);
+    all_refuse(text({"(design 1)", "(in)", "(bound a)", "(limit 1)", "(out f a)", "(end)"}), 3, 2);
+    all_refuse(sheet("a b c d e f0 g0 h0 i0 j0 k0", "a", "1", {"a"}), 3, 2);
+    all_refuse(sheet("a b c d e x", "a b c d e x", "1", {"a"}), 3, 3);
+    all_refuse(sheet("a b", "a b", "7", {"(xor a b)"}), 3, 4);
+    all_refuse(sheet("a", "a", "999", {"a"}), 3, 4);
+    all_refuse(sheet("a", "a", "1", {nested(33, "a")}), 3, 5);
+    all_refuse(sheet("a", "a", "1", {nested(600, "a")}), 3, 5);
+    tables_to(sheet("a", "a", "1", {nested(32, "a")}), 0, "01");
+    all_refuse(sheet("a", "a", "1", {}), 3, 5);
+    all_refuse(sheet("a", "a", "1", {"a", "a", "a", "a", "a"}), 3, 9);
+    all_refuse(sheet("a b a", "a", "1", {"a"}), 4, 2);
+    all_refuse(sheet("a b", "b b", "1", {"a"}), 4, 3);
+    all_refuse(sheet("f", "f", "1", {"f"}), 4, 5);
+    all_refuse(text({"(design 1)", "(in a)", "(bound a)", "(limit 1)", "(out f a)", "(out f a)", "(end)"}), 4, 6);
+    all_refuse(sheet("a b", "c", "1", {"a"}), 5, 3);
+    all_refuse(sheet("a b", "a", "1", {"(or a c)"}), 5, 5);
+    all_refuse(sheet("a b", "a", "1", {"a", "f"}), 5, 6);
+    table_refuses(A, 2, 6, 0);
+    table_refuses(A, SIZE_MAX, 6, 0);
+}
+
+void refusals_by_the_network()
+{
+    checks_to(A, NETWORK, 0, 0);
+    checks_to(A, "", 10, 0);
+    checks_to(A, std::string(8193, '0'), 10, 0);
+    checks_to(A, std::string(8192, '0'), 10, 1);
+    checks_to(A, "\n", 10, 1);
+    checks_to(A, NETWORK.substr(0, NETWORK.size() - 1), 10, 6);
+    checks_to(A, NETWORK + "(end)\n", 10, 7);
+    checks_to(A, NETWORK + "\n", 10, 7);
+    checks_to(A, with(6, ""), 10, 6);
+    checks_to(A, with(1, "(network 2)"), 10, 1);
+    checks_to(A, with(2, ""), 10, 2);
+    checks_to(A, with(2, "(lut _1 (a b c) 01101001)"), 10, 2);
+    checks_to(A, with(2, "(lut _0 (a c b) 01101001)"), 10, 2);
+    checks_to(A, with(2, "(lut _0 (a b c) 0110100)"), 10, 2);
+    checks_to(A, with(3, "(node f (d _0) 0110)"), 10, 3);
+    checks_to(A, with(3, "(node f (_1 d) 0110)"), 10, 3);
+    checks_to(A, with(3, "(node f (_0 d) 0120)"), 10, 3);
+    checks_to(A, with(3, "(node g (_0 d) 0110)"), 10, 3);
+    checks_to(A, with(5, "(count 2)"), 10, 5);
+    checks_to(A, with(5, "(count 01)"), 10, 5);
+    const Lines luts = {"(lut _1 (a b c) 00000000)", "(lut _2 (a b c) 11111111)"};
+    const Lines three = {NETWORK_LINES[0], NETWORK_LINES[1], luts[0], luts[1], NETWORK_LINES[2], NETWORK_LINES[3], "(count 3)", "(end)"};
+    checks_to(A, text(three), 11, 4);
+    const Lines wide = {NETWORK_LINES[0], NETWORK_LINES[1], luts[0], NETWORK_LINES[2], "(node g (_0 _1 d) 00000001)", "(count 2)", "(end)"};
+    checks_to(A, text(wide), 11, 5);
+    const Lines spare = {NETWORK_LINES[0], NETWORK_LINES[1], luts[0], NETWORK_LINES[2], NETWORK_LINES[3], "(count 2)", "(end)"};
+    checks_to(A, text(spare), 0, 0);
+    checks_to(sheet("c d", "c", "1", {"d"}), text({"(network 1)", "(node f (d) 01)", "(count 0)", "(end)"}), 0, 0);
+    checks_to(sheet("a", "a", "0", {"1"}), text({"(network 1)", "(node f () 1)", "(count 0)", "(end)"}), 0, 0);
+    differs_at(sheet("a", "a", "0", {"1"}), text({"(network 1)", "(node f () 0)", "(count 0)", "(end)"}), 0, 0);
+    const std::string ten = sheet("a b c d e v w x y z", "e a", "2", {"(and a b c d e v w x y z)"});
+    std::string digits(1024, '0');
+    digits.back() = '1';
+    tables_to(ten, 0, digits);
+    differs_at(ten, text({"(network 1)", "(node f (b c d v w x y z) " + std::string(256, '0') + ")", "(count 0)", "(end)"}), 0, 1023);
+}
+
+// ---- the stack
+
+// As many brackets as a text can open.
+const std::string DEEPEST = [] {
+    std::string s = text({"(design 1)", "(in a)", "(bound a)", "(limit 1)"}) + "(out f ";
+    while (s.size() + 5 <= 4096)
+        s += "(or ";
+    return s + "\n";
+}();
+
+void *call_all(void *)
+{
+    uint8_t buffer[4];
+    size_t line, a, b, c;
+    const uint8_t *s = reinterpret_cast<const uint8_t *>(DEEPEST.data());
+    size_t n = DEEPEST.size();
+    bool refused = cellmapper_table(s, n, 0, buffer, sizeof buffer, &line, &a) == 2
+        && cellmapper_map(s, n, buffer, sizeof buffer, &line, &a, &b) == 2
+        && cellmapper_check(s, n, buffer, 0, &line, &a, &b, &c) == 2;
+    expect(refused && line == 5, "a sheet of opening brackets", DEEPEST);
+    return nullptr;
+}
+
+void in_one_mebibyte_of_stack()
+{
+    pthread_attr_t small;
+    pthread_t thread;
+    bool good = pthread_attr_init(&small) == 0 && pthread_attr_setstacksize(&small, 1 << 20) == 0
+        && pthread_create(&thread, &small, call_all, nullptr) == 0 && pthread_join(thread, nullptr) == 0;
+    expect(good, "a thread with 1 MiB of stack", DEEPEST);
+}
+
+}
+
+void worked_sheets()
+{
+    for (unsigned way = 0; way < 4; way++) {
+        start_at_way(way);
+        sheets_to_try();
+        refusals_by_the_sheet();
+        refusals_by_the_network();
+    }
+    in_one_mebibyte_of_stack();
+}
