@@ -17,7 +17,7 @@ pub fn word(k: u64, ok: bool) -> u64
     if ok { k * 2 } else { k * 2 + 1 }
 }
 
-// Where a question's word stands.
+// Where a question's word stands: by a prime, so that questions that differ in one output's cells seldom stand in one place.
 pub fn place(k: u64) -> usize
     ensures { λ r. ⌜ r < 256 ⌝ }
 {
@@ -33,14 +33,15 @@ pub fn is_bad(mem: [u64; 256], k: u64) -> bool
     if w % 2 == 1 { w / 2 == k } else { false }
 }
 
-// Whether the question is known to have codes.
+// Whether the question is known to have codes. An empty word says so of question 0, about 8 outputs that read nothing.
 pub fn is_good(mem: [u64; 256], k: u64) -> bool {
     let i = place(k);
     let w = mem[i];
     if w % 2 == 0 { w / 2 == k } else { false }
 }
 
-// The memory with one answer more.
+// The memory with one answer more, in place of what stood there. A question of 2 to the power 62 or more has no word; none is
+// made of rows.
 pub fn store(mem: [u64; 256], k: u64, ok: bool) -> [u64; 256]
     ensures { λ r. ⌜ ((cl : List ℕ) (v : ℕ) → (ok ≡ false → Barred cl v k) → Honest cl v mem → Honest cl v r) ⌝ }
 {
