@@ -29,25 +29,26 @@ pub fn empty(dom: [u64; 32], v: usize) -> bool
 // The sets without full blocks, output by output, after some vertex took code c.
 pub fn bar_all(
     cl: &[u8],
-    base: &[u8],
     bs: &[u64],
-    ms: [u8; 8],
     caps: [u8; 8],
-    spots: [u8; 8],
     v: usize,
     j: usize,
     codes: [u8; 32],
     dom: [u64; 32],
     c: u8,
 ) -> [u64; 32]
-    requires { ⌜ Labels (now cl) × (length (now base) ≡ 256) × Blocks ms (now bs) j × (v ≤ 32) × (j ≤ 8) × (c < 64) ⌝ }
-    ensures { λ r. ⌜ Kept (now (cl .entry)) (now (base .entry)) ms caps spots v j codes dom r ⌝ }
+    requires { ⌜ Labels (now cl) × (length (now bs) ≡ 512) × (v ≤ 32) × (j ≤ 8) × (c < 64) ⌝ }
+    ensures { λ r. ⌜ ((base ms spots : List ℕ) → Blocks ms (now (bs .entry)) j → Kept (now (cl .entry)) base ms caps spots v j codes dom r) ⌝ }
 {
     let mut r = dom;
     let mut o = 0;
     while o < j {
-        let s = holding::bar(cl, base, bs, ms, caps, spots, v, j, o, codes, r, c);
-        r = s;
+        let b = bs[o * 64 + c as usize];
+        let k = holding::crowd(cl, v, o, codes, b);
+        if caps[o] <= k.count {
+            let s = holding::shut(cl, v, o, k.seen, codes, r, b);
+            r = s;
+        }
         o += 1;
     }
     r
@@ -71,7 +72,7 @@ pub fn settle_all(
     requires { ⌜ Labels (now cl) × (length (now base) ≡ 256) × Blocks ms (now bs) j × (v ≤ 32) × (j ≤ 8) × (c < 64) ⌝ }
     ensures { λ r. ⌜ Kept (now (cl .entry)) (now (base .entry)) ms caps spots v j codes dom r ⌝ }
 {
-    let mut r = bar_all(cl, base, bs, ms, caps, spots, v, j, codes, dom, c);
+    let mut r = bar_all(cl, bs, caps, v, j, codes, dom, c);
     let mut o = 0;
     while o < j {
         if empty(r, v) {

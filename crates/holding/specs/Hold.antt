@@ -1,5 +1,5 @@
 -- Which blocks each class of an output holds among the vertices with codes, and the rules that follow for the others.
--- Full block: where a block holds as many classes as it can, a vertex of another class keeps out of it. Needs: a class needs a
+-- Needs: a class needs a
 -- block more than it holds where some vertex of it can take none of these, and two more where the vertices that can take none
 -- have no block in common. No place left: where the blocks held or needed are as many as there are places, a class that needs
 -- no more keeps to the blocks it holds, and one that needs one more keeps to these and to the blocks in common. Assumes nothing.
@@ -54,10 +54,6 @@ need owns base o l = max (getD owns l 0) (labelAt base o l)
 
 abbrev pub needed : List ℕ → List ℕ → ℕ → ℕ
 needed owns base o = sum (need owns base o) 32
-
--- how many classes hold the block of c
-abbrev pub holders : List ℕ → ℕ → ℕ → ℕ
-holders own c n = count (λ (l : ℕ). on (getD own l 0) c) n
 
 -- ======== the scan
 module _ (cl codes : List ℕ) (o mask : ℕ) where
@@ -322,20 +318,6 @@ module _ (cl base ms caps spots : List ℕ) (v j o : ℕ) (codes dom own owns : 
       here a (yes p) (no z) q = inl (more a (λ r t. absurd (z t)))
       here a (yes p) (yes z) (yes q) = inl (more a (λ r t. q))
       here a (yes p) (yes z) (no q) = inr (n, (omega arith), p, z, λ t. q (sym t))
-
-  -- a full block: a vertex of a class that does not hold it keeps out
-  pub keeps-out : (y c : ℕ) → y < v → c < 64 → item caps o ≤ holders own c 32 → on (getD own (labelAt cl o y) 0) c ≡ false → bitAnd (g y) mask ≡ bitAnd c mask → ⊥
-  keeps-out y c b d full off same =
-      let r = counted (λ (l : ℕ). on (getD own l 0) c) W (λ (a b : ℕ). labelAt cl o a ≡ labelAt cl o b → ⊥) (λ l k w z lt p q i. let a = p .1 in let b = q .1 in omega arith) 32 (λ l k t. let r = s .outside l c k d t in (r .0, ((r .1, r .2, r .4), r .3, t))) in
-      let a = f .fits .crowd o (bitAnd c mask) (y ∷ r .0) h ((b, same), all-map (Wit 32) (λ (w : ℕ). (w < v) × (key w ≡ bitAnd c mask)) (r .0) (λ w p. (p .2 .0 .0, ap (λ (z : ℕ). bitAnd z mask) (e .coded w (p .2 .0 .0) (p .2 .0 .1)) ∙ p .2 .0 .2)) (r .2))
-      (all-map (Wit 32) (λ (w : ℕ). labelAt cl o y ≡ labelAt cl o w → ⊥) (r .0) (λ w p i. never-both (p .2 .2) (subst (λ (z : ℕ). on (getD own z 0) c ≡ false) (i ∙ p .2 .1) off)) (r .2), r .3) in
-      let z = r .1 in omega arith
-    where
-      W : ℕ → ℕ → Type 0
-      W l w = ((w < v) × (item codes w < 64) × (bitAnd (item codes w) mask ≡ bitAnd c mask)) × (labelAt cl o w ≡ l) × (on (getD own l 0) c ≡ true)
-
-      Wit : ℕ → ℕ → Type 0
-      Wit n w = (l : ℕ) × (l < n) × W l w
 
 -- ---- with what is wanted
 module _ (cl base ms caps spots : List ℕ) (v j o : ℕ) (codes dom own owns wants meet : List ℕ) (g : ℕ → ℕ) (h : o < j) (low : (x : ℕ) → x < v → labelAt cl o x < 32) (s : Held cl codes o (item ms o) v own owns) (want : Wanted cl o (item ms o) v dom own owns wants meet) (f : Solves cl base ms caps spots v j g) (e : Extends codes dom v g) where

@@ -19,7 +19,7 @@ use Rattle.cells.specs.Core.{bit}
 use Rattle.cells.specs.Lists.{count, sum, count-drop, less-or-equal, never-both, false-where, count-more, count-same, or-off, or-on}
 use Rattle.cells.specs.Sets.{With, Without}
 use Rattle.numbering.specs.Given.{labelAt, item, Block, Labels, Solves, Extends, Kept, Hopeless, Told}
-use Rattle.holding.specs.Hold.{held-start, held-skip, held-old, held-new, Held, Wanted, need, needed, holders, enough, keeps-to, keeps-near, keeps-out}
+use Rattle.holding.specs.Hold.{held-start, held-skip, held-old, held-new, Held, Wanted, need, needed, enough, keeps-to, keeps-near}
 
 -- ======== the block of a code
 -- the codes below k that are in c's block
@@ -92,10 +92,6 @@ pub record Narrowed (Stays : ℕ → ℕ → Type 0) (dom : List ℕ) (n : ℕ) 
   pub done : (y k : ℕ) → y < n → k < 64 → on (item dom y) k ≡ true → Stays y k → on (item r y) k ≡ true
   pub rest : (y : ℕ) → n ≤ y → item r y ≡ item dom y
 
--- a code at y where the block b of c is full: y's class holds the block, or the code is outside
-abbrev pub Free : List ℕ → ℕ → List ℕ → ℕ → ℕ → ℕ → ℕ → Type 0
-Free cl o own c b y k = on (item own (labelAt cl o y)) c ≡ false → on b k ≡ false
-
 -- a code of a class where no place is left: in the blocks that the class holds, if it wants no more, and in these or in
 -- common, if it wants one more
 pub record Keeps (own meet has wants need k : ℕ) : Type 0 where
@@ -149,9 +145,6 @@ pub minus-keeps : (d b r k : ℕ) → Minus d b r → k < 64 → on d k ≡ true
 minus-keeps d b r k m l e f = m .digit k l ∙ ap₂ (λ (x y : Bool). andb x (not y)) e f
 
 -- the same as the code says it: q is y's class
-pub shut-more : (cl : List ℕ) (o c b n q d : ℕ) (own dom r r' : List ℕ) (t : Bool) → n < 32 → q ≡ labelAt cl o n → t ≡ on (item own q) c → t ≡ false → Minus (item r n) b d → r' ≡ set r n d → Narrowed (Free cl o own c b) dom n r → Narrowed (Free cl o own c b) dom (n + 1) r'
-shut-more cl o c b n q d own dom r r' t h e a f m g s = narrowed-more (Free cl o own c b) dom n d r r' h (λ k l p st. minus-keeps (item r n) b d k m l p (st (subst (λ (z : ℕ). on (item own z) c ≡ false) e (sym a ∙ f)))) g s
-
 pub keep-more : (cl base : List ℕ) (o n q need d : ℕ) (own meet owns wants dom r r' : List ℕ) → n < 32 → q ≡ labelAt cl o n → need ≡ labelAt base o q → ((k : ℕ) → k < 64 → Keeps (item own q) (item meet q) (item owns q) (item wants q) need k → on d k ≡ true) → r' ≡ set r n (bitAnd (item r n) d) → Narrowed (Stays cl base o own meet owns wants) dom n r → Narrowed (Stays cl base o own meet owns wants) dom (n + 1) r'
 keep-more cl base o n q need d own meet owns wants dom r r' h e a f g s = narrowed-more (Stays cl base o own meet owns wants) dom n (bitAnd (item r n) d) r r' h (λ k l p st.
     on-both (item r n) d k p (f k l (subst (λ (z : ℕ). Keeps (item own q) (item meet q) (item owns q) (item wants q) z k) (sym a) (subst (λ (z : ℕ). Keeps (item own z) (item meet z) (item owns z) (item wants z) (labelAt base o z) k) (sym e) st)))) g s
@@ -181,13 +174,7 @@ spanning-more mask d rest r c b w rest' l is without minus s = record { part = �
 pub spanning-end : (mask d rest r : ℕ) → rest ≡ 0 → Spanning mask d rest r → Spans mask d r
 spanning-end mask d rest r z s = record { whole = λ c k h l e q. ⊎-elim (λ t. absurd (never-both t (ap (λ (n : ℕ). on n c) z ∙ on-zero c))) (λ f. f k l q) (s .part c h e) }
 
--- counts and sums, one more
-pub holders-more : (own : List ℕ) (c l n n' : ℕ) → true ≡ on (getD own l 0) c → n' ≡ n + 1 → n ≡ holders own c l → n' ≡ holders own c (l + 1)
-holders-more own c l n n' e f h = f ∙ count-more (λ (l : ℕ). on (getD own l 0) c) l n (sym e) h
-
-pub holders-same : (own : List ℕ) (c l n n' : ℕ) → false ≡ on (getD own l 0) c → n' ≡ n → n ≡ holders own c l → n' ≡ holders own c (l + 1)
-holders-same own c l n n' e f h = f ∙ count-same (λ (l : ℕ). on (getD own l 0) c) l n (sym e) h
-
+-- a sum, one more
 pub sum-next : (f : ℕ → ℕ) (l t x : ℕ) → x ≡ f l → t ≡ sum f l → t + x ≡ sum f (l + 1)
 unfolding sum
 sum-next f l t x e h = ap₂ (λ (a b : ℕ). a + b) h e ∙ sym (ap (sum f) (add-one l))
@@ -210,15 +197,6 @@ module _ (cl codes : List ℕ) (o mask y : ℕ) (own owns own' owns' : List ℕ)
 module _ (cl base ms caps spots : List ℕ) (v j o : ℕ) (codes dom own owns : List ℕ) (labels : Labels cl) (few : v ≤ 32) (outs : j ≤ 8) (h : o < j) (s : Held cl codes o (item ms o) v own owns) where
   low : (x : ℕ) → x < v → labelAt cl o x < 32
   low x l = labels .low (o * 32 + x) (omega arith)
-
-  -- the block of c is full
-  pub settled-full : (c b : ℕ) (r : List ℕ) → c < 64 → Block (item ms o) c b → item caps o ≤ holders own c 32 → Narrowed (Free cl o own c b) dom v r → Kept cl base ms caps spots v j codes dom r
-  settled-full c b r l is full n = record {
-    keeps = λ g f e. record {
-      coded = e .coded;
-      within = λ x k. n .done x (g x) k (f .small x k) (e .within x k) (λ off. false-where _ (λ w. keeps-out cl base ms caps spots v j o codes dom own owns g h low s f e x c k l full off (eqb-true _ _ (sym (is (g x) (f .small x k)) ∙ w))));
-    };
-  }
 
   -- more is held or needed than there are places
   pub settled-none : (wants meet r : List ℕ) → Wanted cl o (item ms o) v dom own owns wants meet → item spots o < needed wants base o → Kept cl base ms caps spots v j codes dom r

@@ -7,8 +7,9 @@ ghost use Prim.Native.Nat.{ℕ, _+_, _*_, _<_, _≤_, max};
 ghost use lib.ListN.{length, getD};
 ghost use Rattle.bits.specs.Digit.{on};
 ghost use Rattle.numbering.specs.Given.{labelAt, item, Block, Labels, Blocks, Kept};
-ghost use Rattle.holding.specs.Hold.{Held, Wanted, needed, holders};
-ghost use Rattle.holding.specs.Search.{Table, Minus, Spans, Narrowed, Free, Keeps, Stays};
+ghost use Rattle.holding.specs.Hold.{Held, Wanted, needed};
+ghost use Rattle.holding.specs.Search.{Table, Minus, Spans, Narrowed, Keeps, Stays};
+ghost use Rattle.holding.specs.Full.{Crowd, Free};
 
 // The set of codes that a mask does not tell from c.
 pub fn block(mask: u8, c: u8) -> u64
@@ -167,20 +168,37 @@ pub fn total(base: &[u8], o: usize, owns: [u8; 32]) -> usize
     t
 }
 
-// How many classes hold the block of c.
-pub fn crowd(own: [u64; 32], c: u8) -> usize
-    requires { ⌜ c < 64 ⌝ }
-    ensures { λ r. ⌜ r ≡ holders own c 32 ⌝ }
+// Whether a vertex with code c is in b; without a code it is not.
+pub fn inside(b: u64, c: u8) -> bool
+    ensures { λ r. ⌜ (r ≡ true → (c < 64) × (on b c ≡ true)) ⌝ }
 {
-    let mut n: usize = 0;
-    let mut l = 0;
-    while l < 32 {
-        if cells::in_set(own[l], c) {
-            n += 1;
+    if c < 64 { cells::in_set(b, c) } else { false }
+}
+
+// The classes of output o in the block b, and how many.
+pub struct Classes {
+    pub seen: u64,
+    pub count: u8,
+}
+
+pub fn crowd(cl: &[u8], v: usize, o: usize, codes: [u8; 32], b: u64) -> Classes
+    requires { ⌜ Labels (now cl) × (v ≤ 32) × (o < 8) ⌝ }
+    ensures { λ r. ⌜ Crowd (now (cl .entry)) codes o b v (r .seen) (r .count) ⌝ }
+{
+    let mut seen: u64 = 0;
+    let mut count: u8 = 0;
+    let mut y = 0;
+    while y < v {
+        if inside(b, codes[y]) {
+            let l = numbering::label(cl, o, y);
+            if !cells::in_set(seen, l) {
+                seen = cells::with(seen, l);
+                count += 1;
+            }
         }
-        l += 1;
+        y += 1;
     }
-    n
+    Classes { seen, count }
 }
 
 // The codes that a class keeps to where no place is left.
@@ -229,58 +247,31 @@ pub fn narrow(
     r
 }
 
-// The sets of the vertices without a code whose classes do not hold the block b of c, without it.
+// The sets of the vertices without a code whose classes are not in seen, without b.
 pub fn shut(
     cl: &[u8],
     v: usize,
     o: usize,
-    own: [u64; 32],
+    seen: u64,
     codes: [u8; 32],
     dom: [u64; 32],
-    c: u8,
     b: u64,
 ) -> [u64; 32]
-    requires { ⌜ Labels (now cl) × (v ≤ 32) × (o < 8) × (c < 64) ⌝ }
-    ensures { λ r. ⌜ Narrowed (Free (now (cl .entry)) o own c b) dom v r ⌝ }
+    requires { ⌜ Labels (now cl) × (v ≤ 32) × (o < 8) ⌝ }
+    ensures { λ r. ⌜ Narrowed (Free (now (cl .entry)) o seen b) dom v r ⌝ }
 {
     let mut r = dom;
     let mut y = 0;
     while y < v {
         if codes[y] >= 64 {
-            let l = numbering::label(cl, o, y) as usize;
-            if !cells::in_set(own[l], c) {
+            let l = numbering::label(cl, o, y);
+            if !cells::in_set(seen, l) {
                 r[y] = minus(r[y], b);
             }
         }
         y += 1;
     }
     r
-}
-
-// The sets of the vertices whose classes do not hold the block of c, without it where output o has no room left in it.
-pub fn bar(
-    cl: &[u8],
-    base: &[u8],
-    bs: &[u64],
-    ms: [u8; 8],
-    caps: [u8; 8],
-    spots: [u8; 8],
-    v: usize,
-    j: usize,
-    o: usize,
-    codes: [u8; 32],
-    dom: [u64; 32],
-    c: u8,
-) -> [u64; 32]
-    requires { ⌜ Labels (now cl) × (length (now base) ≡ 256) × Blocks ms (now bs) j × (v ≤ 32) × (j ≤ 8) × (o < j) × (c < 64) ⌝ }
-    ensures { λ r. ⌜ Kept (now (cl .entry)) (now (base .entry)) ms caps spots v j codes dom r ⌝ }
-{
-    let h = held(cl, bs, ms, v, j, o, codes);
-    let own = h.own;
-    if crowd(own, c) < caps[o] as usize {
-        return dom;
-    }
-    shut(cl, v, o, own, codes, dom, c, bs[o * 64 + c as usize])
 }
 
 // The sets narrowed by what the classes of output o hold and need.

@@ -20,7 +20,7 @@ abbrev μ-loop : tie.MeasureT-loop
 
 -- src/lib.rt:74:9
 bar-all-requires : tie.Need-bar-all-requires Inv-loop μ-loop
-bar-all-requires c κs = let p = c .before .before .before .pre in (p .0, p .1, p .2, p .3, p .4, p .5)
+bar-all-requires c κs = let p = c .before .before .before .pre in (p .0, p .2 .long, p .3, p .4, p .5)
 
 -- src/lib.rt:76:5
 loop-holds : tie.Need-loop-holds Inv-loop μ-loop
@@ -32,7 +32,7 @@ empty-requires c κs = c .before .before .before .before .before .before .pre .3
 
 -- src/lib.rt:78:13
 returns : tie.Need-returns Inv-loop μ-loop
-returns c = kept-more (c .before .before .before .before .before .before .before .before .args .cl .now) (c .before .before .before .before .before .before .before .before .args .base .now) (c .before .before .before .before .before .before .before .before .args .ms) (c .before .before .before .before .before .before .before .before .args .caps) (c .before .before .before .before .before .before .before .before .args .spots) (c .before .before .before .before .before .before .before .before .args .v) (c .before .before .before .before .before .before .before .before .args .j) (c .before .before .before .before .before .before .before .before .args .codes) (c .before .before .before .before .before .before .before .before .args .dom) (c .before .before .before .before .bar-all .result) _ (c .before .before .before .before .bar-all .ensures) (c .before .before .before .loop .inv .1)
+returns c = kept-more (c .before .before .before .before .before .before .before .before .args .cl .now) (c .before .before .before .before .before .before .before .before .args .base .now) (c .before .before .before .before .before .before .before .before .args .ms) (c .before .before .before .before .before .before .before .before .args .caps) (c .before .before .before .before .before .before .before .before .args .spots) (c .before .before .before .before .before .before .before .before .args .v) (c .before .before .before .before .before .before .before .before .args .j) (c .before .before .before .before .before .before .before .before .args .codes) (c .before .before .before .before .before .before .before .before .args .dom) (c .before .before .before .before .bar-all .result) _ (c .before .before .before .before .bar-all .ensures (c .before .before .before .before .before .before .before .before .args .base .now) (c .before .before .before .before .before .before .before .before .args .ms) (c .before .before .before .before .before .before .before .before .args .spots) (c .before .before .before .before .before .before .before .before .pre .2)) (c .before .before .before .loop .inv .1)
 
 -- src/lib.rt:80:13
 settle-requires : tie.Need-settle-requires Inv-loop μ-loop
@@ -52,7 +52,7 @@ loop-again c = let h = c .before .before .before .loop-test .taken in (omega ari
 
 -- src/lib.rt:58:1
 returns-2 : tie.Need-returns-2 Inv-loop μ-loop
-returns-2 c = kept-more (c .before .before .before .before .before .before .args .cl .now) (c .before .before .before .before .before .before .args .base .now) (c .before .before .before .before .before .before .args .ms) (c .before .before .before .before .before .before .args .caps) (c .before .before .before .before .before .before .args .spots) (c .before .before .before .before .before .before .args .v) (c .before .before .before .before .before .before .args .j) (c .before .before .before .before .before .before .args .codes) (c .before .before .before .before .before .before .args .dom) (c .before .before .bar-all .result) _ (c .before .before .bar-all .ensures) (c .before .loop .inv .1)
+returns-2 c = kept-more (c .before .before .before .before .before .before .args .cl .now) (c .before .before .before .before .before .before .args .base .now) (c .before .before .before .before .before .before .args .ms) (c .before .before .before .before .before .before .args .caps) (c .before .before .before .before .before .before .args .spots) (c .before .before .before .before .before .before .args .v) (c .before .before .before .before .before .before .args .j) (c .before .before .before .before .before .before .args .codes) (c .before .before .before .before .before .before .args .dom) (c .before .before .bar-all .result) _ (c .before .before .bar-all .ensures (c .before .before .before .before .before .before .args .base .now) (c .before .before .before .before .before .before .args .ms) (c .before .before .before .before .before .before .args .spots) (c .before .before .before .before .before .before .pre .2)) (c .before .loop .inv .1)
 
 pub settle-all-spec : {M : Type 1} → statement M
 settle-all-spec =

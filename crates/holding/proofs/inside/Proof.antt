@@ -1,0 +1,23 @@
+use mathlib.Core.Path.{_≡_, refl, sym, ap, _∙_, subst}
+use Rattle.bits.specs.Logic.{true-false}
+use borrow.Author.Needs.{needs}
+use Rattle.holding.proofs.inside.Statement.{statement}
+use Rattle.holding.proofs.inside.Tie as tie
+use Rattle.holding.proofs.inside.Reads as reads
+use Rattle.holding.proofs.inside.Lts as lts
+use Rattle.cells.proofs.in_set.Reads as in-set-reads
+
+-- src/lib.rt:175:17
+in-set-requires : tie.Need-in-set-requires
+in-set-requires c κs = c .if1 .taken
+
+-- src/lib.rt:172:1
+returns : tie.Need-returns
+returns c = λ e. (c .before .if1 .taken, sym (c .in-set .ensures) ∙ e)
+
+-- src/lib.rt:172:1
+returns-2 : tie.Need-returns-2
+returns-2 c = λ e. absurd (true-false (sym e))
+
+pub inside-spec : {M : Type 1} → statement M
+inside-spec = tie.close (tie.spec in-set-requires returns returns-2)

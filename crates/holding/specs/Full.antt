@@ -1,0 +1,81 @@
+-- Full blocks: where a block of an output holds as many classes as it can, a vertex of another class keeps out of it.
+-- Assumes nothing.
+use mathlib.Core.Path.{_≡_, refl, sym, ap, _∙_, subst}
+use mathlib.Core.Bool.{Bool, true, false}
+use mathlib.Core.List.{List, [], _∷_}
+use Prim.Native.Nat.{ℕ, zero, suc, _+_, _*_, _≤_, _<_}
+use native.Mathlib.Omega.{arith}
+use lib.Bits.{bitAnd}
+use lib.Dec.{eqb}
+use lib.ListN.{length, set}
+use borrow.Author.Tests.{eq-eqb, eqb-true}
+use Rattle.bits.specs.Logic.{orb}
+use Rattle.bits.specs.Digit.{on}
+use Rattle.cells.specs.Lists.{All, Pairs, all-map, never-both, false-where, or-on}
+use Rattle.cells.specs.Sets.{With}
+use Rattle.numbering.specs.Given.{labelAt, item, Block, Solves, Extends, Kept}
+use Rattle.holding.specs.Search.{Narrowed, Minus, narrowed-more, minus-keeps}
+
+-- ======== definitions
+-- n of the first y vertices have codes in b, each of another class, and these classes are in seen
+pub record Crowd (cl codes : List ℕ) (o b y seen n : ℕ) : Type 0 where
+  pub found : (ws : List ℕ) × All (λ (w : ℕ). (w < y) × (item codes w < 64) × (on b (item codes w) ≡ true) × (on seen (labelAt cl o w) ≡ true)) ws × Pairs (λ (a b : ℕ). labelAt cl o a ≡ labelAt cl o b → ⊥) ws × (length ws ≡ n)
+  pub few : n ≤ y
+
+-- a code k at y where the block b is full: y's class is among those in it, or k is outside
+abbrev pub Free : List ℕ → ℕ → ℕ → ℕ → ℕ → ℕ → Type 0
+Free cl o seen b y k = on seen (labelAt cl o y) ≡ false → on b k ≡ false
+
+-- ======== laws
+module _ (cl codes : List ℕ) (o b : ℕ) where
+  abbrev In : ℕ → ℕ → ℕ → Type 0
+  In y seen w = (w < y) × (item codes w < 64) × (on b (item codes w) ≡ true) × (on seen (labelAt cl o w) ≡ true)
+
+  pub crowd-start : Crowd cl codes o b 0 0 0
+  crowd-start = record { found = ([], tt, tt, refl); few = omega arith }
+
+  pub crowd-same : (y seen n seen' n' : ℕ) → seen' ≡ seen → n' ≡ n → Crowd cl codes o b y seen n → Crowd cl codes o b (y + 1) seen' n'
+  crowd-same y seen n seen' n' e f s = subst (λ (z : ℕ). Crowd cl codes o b (y + 1) z n') (sym e) (subst (Crowd cl codes o b (y + 1) seen) (sym f) (record {
+    found = (let r = s .found in (r .0, all-map (In y seen) (In (y + 1) seen) (r .0) (λ w p. ((let z = p .0 in omega arith), p .1, p .2, p .3)) (r .1), r .2, r .3));
+    few = (let z = s .few in omega arith);
+  }))
+
+  -- y has a code in b, and its class l was not met so far
+  pub crowd-more : (y seen n l t seen' n' : ℕ) → l ≡ labelAt cl o y → item codes y < 64 → on b (item codes y) ≡ true → on seen l ≡ false → With seen l t → seen' ≡ t → n' ≡ n + 1 → Crowd cl codes o b y seen n → Crowd cl codes o b (y + 1) seen' n'
+  crowd-more y seen n l t seen' n' q low in-b off is e f s = subst (λ (z : ℕ). Crowd cl codes o b (y + 1) z n') (sym e) (subst (Crowd cl codes o b (y + 1) t) (sym f) (record {
+    found = (let r = s .found in (
+      y ∷ r .0,
+      (
+        ((omega arith), low, in-b, subst (λ (z : ℕ). on t z ≡ true) q (is l ∙ ap (λ (x : Bool). orb (on seen l) x) (eq-eqb l l refl) ∙ or-on (on seen l))),
+        all-map (In y seen) (In (y + 1) t) (r .0) (λ w p. ((let z = p .0 in omega arith), p .1, p .2, is (labelAt cl o w) ∙ ap (λ (x : Bool). orb x (eqb (labelAt cl o w) l)) (p .3))) (r .1),
+      ),
+      (all-map (In y seen) (λ (w : ℕ). labelAt cl o y ≡ labelAt cl o w → ⊥) (r .0) (λ w p d. never-both (p .3) (ap (on seen) (sym (q ∙ d)) ∙ off)) (r .1), r .2),
+      (let z = r .3 in omega arith),
+    ));
+    few = (let z = s .few in omega arith);
+  }))
+
+-- the block b of c is full: a vertex of another class keeps out
+module _ (cl base ms caps spots : List ℕ) (v j o : ℕ) (codes dom : List ℕ) (h : o < j) (c b seen n : ℕ) (is : Block (item ms o) c b) (s : Crowd cl codes o b v seen n) (full : item caps o ≤ n) where
+  keeps-out : (g : ℕ → ℕ) → Solves cl base ms caps spots v j g → Extends codes dom v g → (y : ℕ) → y < v → on seen (labelAt cl o y) ≡ false → on b (g y) ≡ true → ⊥
+  keeps-out g f e y i off t =
+      let r = s .found in
+      let a = f .fits .crowd o (bitAnd c (item ms o)) (y ∷ r .0) h
+      ((i, block-of (g y) (f .small y i) t), all-map (In cl codes o b v seen) (λ (w : ℕ). (w < v) × (bitAnd (g w) (item ms o) ≡ bitAnd c (item ms o))) (r .0) (λ w p. (p .0, ap (λ (z : ℕ). bitAnd z (item ms o)) (e .coded w (p .0) (p .1)) ∙ block-of (item codes w) (p .1) (p .2))) (r .1))
+      (all-map (In cl codes o b v seen) (λ (w : ℕ). labelAt cl o y ≡ labelAt cl o w → ⊥) (r .0) (λ w p d. never-both (p .3) (ap (on seen) (sym d) ∙ off)) (r .1), r .2) in
+      let z = r .3 in omega arith
+    where
+      block-of : (k : ℕ) → k < 64 → on b k ≡ true → bitAnd k (item ms o) ≡ bitAnd c (item ms o)
+      block-of k l t = eqb-true (bitAnd k (item ms o)) (bitAnd c (item ms o)) (sym (is k l) ∙ t)
+
+  pub settled-full : (r : List ℕ) → Narrowed (Free cl o seen b) dom v r → Kept cl base ms caps spots v j codes dom r
+  settled-full r w = record {
+    keeps = λ g f e. record {
+      coded = e .coded;
+      within = λ x k. w .done x (g x) k (f .small x k) (e .within x k) (λ off. false-where _ (λ t. keeps-out g f e x k off t));
+    };
+  }
+
+-- the same as the code says it: q is y's class
+pub shut-more : (cl : List ℕ) (o seen b n q d : ℕ) (dom r r' : List ℕ) (t : Bool) → n < 32 → q ≡ labelAt cl o n → t ≡ on seen q → t ≡ false → Minus (item r n) b d → r' ≡ set r n d → Narrowed (Free cl o seen b) dom n r → Narrowed (Free cl o seen b) dom (n + 1) r'
+shut-more cl o seen b n q d dom r r' t h e a f m g s = narrowed-more (Free cl o seen b) dom n d r r' h (λ k l p st. minus-keeps (item r n) b d k m l p (st (subst (λ (z : ℕ). on seen z ≡ false) e (sym a ∙ f)))) g s
