@@ -26,13 +26,15 @@ pub fn block(mask: u8, c: u8) -> u64
     r
 }
 
-// The block of each code c for each output o, at o * 64 + c. It is made once for the codes of a block.
-pub fn blocks(ms: [u8; 8]) -> [u64; 512]
-    ensures { λ r. ⌜ Table ms 512 r ⌝ }
+// The block of each code c for each of the first n outputs o, at o * 64 + c. It is made once for the codes of a block.
+pub fn blocks(ms: [u8; 8], n: usize) -> [u64; 512]
+    requires { ⌜ n ≤ 8 ⌝ }
+    ensures { λ r. ⌜ Table ms (n * 64) r ⌝ }
 {
     let mut r = [0u64; 512];
+    let end = n * 64;
     let mut i: usize = 0;
-    while i < 512 {
+    while i < end {
         let m = ms[i / 64];
         let c = (i % 64) as u8;
         let first = c & m;

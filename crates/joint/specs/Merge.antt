@@ -35,10 +35,11 @@ pub record Merged (cl : List ℕ) (j x n : ℕ) (first place : List ℕ) : Type 
   pub within : (y : ℕ) → y < x → item place y < n
   pub same : (y : ℕ) → y < x → Alike cl j y (item first (item place y))
 
--- labels of the classes: class i has the labels of its first vertex
+-- labels of the classes, the first n of them: class i has the labels of its first vertex
 pub record Picked (cl first : List ℕ) (n : ℕ) (r : List ℕ) : Type 0 where
   pub long : length r ≡ 256
   pub done : (i : ℕ) → i < n → getD r i 0 ≡ labelAt cl (i / 32) (item first (i % 32))
+  pub rest : (i : ℕ) → n ≤ i → getD r i 0 ≡ 0
 
 -- each vertex with the code of its class
 pub record Spread (place codes : List ℕ) (n : ℕ) (r : List ℕ) : Type 0 where
@@ -136,6 +137,7 @@ pub picked-more : (cl first : List ℕ) (i x : ℕ) (r : List ℕ) → i < 256 �
 picked-more cl first i x r h e s = record {
   long = length-set r i x ∙ s .long;
   done = λ k b. ⊎-elim (λ a. getD-set-other r i k x 0 (λ q. let z : k ≡ i = q in omega arith) ∙ s .done k a) (λ q. subst (λ (k : ℕ). getD (set r i x) k 0 ≡ labelAt cl (k / 32) (item first (k % 32))) (sym q) (getD-set-same r i x 0 (let z = s .long in omega arith) ∙ e)) (less-or-equal k i (omega arith));
+  rest = λ k b. getD-set-other r i k x 0 (λ q. let z : k ≡ i = q in omega arith) ∙ s .rest k (omega arith);
 }
 
 pub spread-more : (place codes : List ℕ) (n x : ℕ) (r : List ℕ) → n < 32 → x ≡ item codes (item place n) → Spread place codes n r → Spread place codes (n + 1) (set r n x)
@@ -145,18 +147,22 @@ spread-more place codes n x r h e s = record {
 }
 
 -- the labels of the classes are labels
-module _ (cl first r : List ℕ) (labels : Labels cl) (small : (i : ℕ) → i < 32 → item first i < 32) (p : Picked cl first 256 r) where
+module _ (cl first r : List ℕ) (j : ℕ) (outs : j ≤ 8) (labels : Labels cl) (small : (i : ℕ) → i < 32 → item first i < 32) (p : Picked cl first (j * 32) r) where
   pub picked-labels : Labels r
-  picked-labels = record { long = p .long; low = λ k h. subst (λ (z : ℕ). z < 32) (sym (p .done k h)) (labels .low (k / 32 * 32 + item first (k % 32)) (let z = small (k % 32) (omega arith) in omega arith)) }
+  picked-labels = record { long = p .long; low = λ k h. low k h (decLt k (j * 32)) }
+    where
+      low : (k : ℕ) → k < 256 → Dec (k < j * 32) → getD r k 0 < 32
+      low k h (yes l) = subst (λ (z : ℕ). z < 32) (sym (p .done k l)) (labels .low (k / 32 * 32 + item first (k % 32)) (let z = small (k % 32) (omega arith) in omega arith))
+      low k h (no l) = let z = p .rest k (omega arith) in omega arith
 
-  pub picked-at : (o i : ℕ) → o < 8 → i < 32 → labelAt r o i ≡ labelAt cl o (item first i)
+  pub picked-at : (o i : ℕ) → o < j → i < 32 → labelAt r o i ≡ labelAt cl o (item first i)
   picked-at o i h k = p .done (o * 32 + i) (omega arith) ∙ ap (λ (z : ℕ). labelAt cl z (item first ((o * 32 + i) % 32))) (let e : (o * 32 + i) / 32 ≡ o = omega arith in e) ∙ ap (λ (z : ℕ). labelAt cl o (item first z)) (let e : (o * 32 + i) % 32 ≡ i = omega arith in e)
 
 -- the answer for the classes is the answer for the vertices
-module _ (cl : List ℕ) (v j n : ℕ) (rows first place r codes codes' : List ℕ) (labels : Labels cl) (few : v ≤ 32) (outs : j ≤ 8) (m : Merged cl j v n first place) (p : Picked cl first 256 r) (s : Spread place codes v codes') where
+module _ (cl : List ℕ) (v j n : ℕ) (rows first place r codes codes' : List ℕ) (labels : Labels cl) (few : v ≤ 32) (outs : j ≤ 8) (m : Merged cl j v n first place) (p : Picked cl first (j * 32) r) (s : Spread place codes v codes') where
   -- the label of class i
   class-label : (o i : ℕ) → o < j → i < n → labelAt r o i ≡ labelAt cl o (item first i)
-  class-label o i h k = picked-at cl first r labels (m .small) p o i (omega arith) (let z = m .few in omega arith)
+  class-label o i h k = picked-at cl first r j outs labels (m .small) p o i h (let z = m .few in omega arith)
 
   vertex-label : (o x : ℕ) → o < j → x < v → labelAt cl o x ≡ labelAt r o (item place x)
   vertex-label o x h a = m .same x a o h ∙ sym (class-label o (item place x) h (m .within x a))

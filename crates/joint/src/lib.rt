@@ -74,14 +74,15 @@ pub fn merge(cl: &[u8], v: usize, j: usize) -> Classes
     }
 }
 
-// The labels of the classes.
-pub fn relabel(cl: &[u8], first: [u8; 32]) -> [u8; 256]
-    requires { ⌜ Labels (now cl) × ((i : ℕ) → i < 32 → item first i < 32) ⌝ }
-    ensures { λ r. ⌜ Picked (now (cl .entry)) first 256 r ⌝ }
+// The labels of the classes, for the first j outputs.
+pub fn relabel(cl: &[u8], first: [u8; 32], j: usize) -> [u8; 256]
+    requires { ⌜ Labels (now cl) × (j ≤ 8) × ((i : ℕ) → i < 32 → item first i < 32) ⌝ }
+    ensures { λ r. ⌜ Picked (now (cl .entry)) first (j * 32) r ⌝ }
 {
     let mut r = [0u8; 256];
+    let end = j * 32;
     let mut i = 0;
-    while i < 256 {
+    while i < end {
         r[i] = numbering::label(cl, i / 32, first[i % 32] as usize);
         i += 1;
     }
@@ -111,7 +112,7 @@ pub fn codes_for(cl: &[u8], v: usize, j: usize, rows: [u8; 8]) -> coding::Search
     let n = m.count;
     let first = m.first;
     let place = m.place;
-    let labels = relabel(cl, first);
+    let labels = relabel(cl, first, j);
     let c = readers::codes_for(&labels, n, j, rows);
     let small = c.codes;
     let codes = expand(small, place, v);

@@ -211,8 +211,8 @@ abbrev pub Decided : List ℕ → ℕ → ℕ → List ℕ → Bool → List ℕ
 Decided cl v j rows true r = Coded v j (Differ (labelAt cl)) (item rows) (item r)
 Decided cl v j rows false r = (f : ℕ → ℕ) → Coded v j (Differ (labelAt cl)) (item rows) f → f 0 ≡ 0 → ⊥
 
-pub blocks-of : (ms bs : List ℕ) (j : ℕ) → j ≤ 8 → Table ms 512 bs → Blocks ms bs j
-blocks-of ms bs j h t = record {
+pub blocks-of : (ms bs : List ℕ) (j : ℕ) → Table ms (j * 64) bs → Blocks ms bs j
+blocks-of ms bs j t = record {
   long = t .long;
   each = λ o c l k. subst (λ (z : ℕ). Block (item ms z) c (getD bs (o * 64 + c) 0)) (let e : (o * 64 + c) / 64 ≡ o = omega arith in e)
       (subst (λ (z : ℕ). Block (item ms ((o * 64 + c) / 64)) z (getD bs (o * 64 + c) 0)) (let e : (o * 64 + c) % 64 ≡ c = omega arith in e) (t .filled (o * 64 + c) (omega arith)));

@@ -205,7 +205,7 @@ pub fn codes_for(cl: &[u8], v: usize, j: usize, rows: [u8; 8]) -> coding::Search
     let ps = p.ps;
     let caps = p.caps;
     let spots = p.spots;
-    let bs = holding::blocks(ms);
+    let bs = holding::blocks(ms, j);
     let base = bounds::bases(cl, v, j, rows);
     let b = begin();
     let codes = b.codes;
@@ -229,7 +229,7 @@ pub fn codes_for(cl: &[u8], v: usize, j: usize, rows: [u8; 8]) -> coding::Search
             };
         }
     }
-    let gb = holding::blocks(groups(ms, j, sh));
+    let gb = holding::blocks(groups(ms, j, sh), 3);
     let used = coding::mark(&gb, [0u64; 3], 0);
     let all = holding::block(!sh, 0);
     coding::find(

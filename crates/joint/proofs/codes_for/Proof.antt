@@ -19,7 +19,7 @@ merge-requires c κs = (c .before .pre .0, c .before .pre .1, c .before .pre .2)
 
 -- src/lib.rt:114:18
 relabel-requires : tie.Need-relabel-requires
-relabel-requires c κs = (c .before .before .before .before .pre .0, c .before .before .merge .ensures .small)
+relabel-requires c κs = (c .before .before .before .before .pre .0, c .before .before .before .before .pre .2, c .before .before .merge .ensures .small)
 
 -- src/lib.rt:115:32
 slice-aggregate-codes-for : tie.Need-slice-aggregate-codes-for
@@ -27,7 +27,7 @@ slice-aggregate-codes-for c = sym (c .before .relabel .ensures .long)
 
 -- src/lib.rt:115:9
 codes-for-requires : tie.Need-codes-for-requires
-codes-for-requires c κs = let z = c .before .before .before .before .merge .ensures .few in let w = c .before .before .before .before .before .before .pre .1 in (picked-labels (c .before .before .before .before .before .before .args .cl .now) _ _ (c .before .before .before .before .before .before .pre .0) (c .before .before .before .before .merge .ensures .small) (c .before .relabel .ensures), omega arith, c .before .before .before .before .before .before .pre .2, c .before .before .before .before .before .before .pre .3)
+codes-for-requires c κs = let z = c .before .before .before .before .merge .ensures .few in let w = c .before .before .before .before .before .before .pre .1 in (picked-labels (c .before .before .before .before .before .before .args .cl .now) _ _ (c .before .before .before .before .before .before .args .j) (c .before .before .before .before .before .before .pre .2) (c .before .before .before .before .before .before .pre .0) (c .before .before .before .before .merge .ensures .small) (c .before .relabel .ensures), omega arith, c .before .before .before .before .before .before .pre .2, c .before .before .before .before .before .before .pre .3)
 
 -- src/lib.rt:117:9
 expand-requires : tie.Need-expand-requires
