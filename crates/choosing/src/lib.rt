@@ -40,27 +40,31 @@ pub fn alive(cl: &[u8], v: usize, n: usize, rows: [u8; 8], mem: [u64; 256]) -> b
     !memory::known_bad(mem, rows, n + 1, memory::sets(n), memory::sets(n + 1))
 }
 
-// Whether there is a core with the rows given, its rows and codes, and what was learnt.
+// Whether there is a core with the rows given, its rows and codes, what was learnt, and the nodes so far: how often the
+// search gave a vertex a code.
 pub struct Choice {
     pub ok: bool,
     pub rows: [u8; 8],
     pub codes: [u8; 32],
     pub mem: [u64; 256],
+    pub nodes: u64,
 }
 
 // Codes for the rows of all outputs. Sets of some of them are asked first: what they show rules out other rows too.
-pub fn finish(cl: &[u8], v: usize, m: usize, rows: [u8; 8], mem: [u64; 256]) -> Choice
+pub fn finish(cl: &[u8], v: usize, m: usize, rows: [u8; 8], mem: [u64; 256], nodes: u64) -> Choice
     requires { ⌜ Labels (now cl) × (v ≤ 32) × (m ≤ 8) × Short rows m × Honest (now cl) v mem ⌝ }
     ensures { λ r. ⌜ (r .rows ≡ rows) × Decided (now (cl .entry)) v m rows (r .ok) (r .codes) × Honest (now (cl .entry)) v (r .mem) ⌝ }
 {
     let s = memory::settle(cl, v, m, rows, mem);
     let known = s.mem;
+    let asked = std::num::wrapping_add_u64(nodes, s.nodes);
     if !s.ok {
         return Choice {
             ok: false,
             rows,
             codes: [0u8; 32],
             mem: known,
+            nodes: asked,
         };
     }
     let c = joint::codes_for(cl, v, m, rows);
@@ -70,6 +74,7 @@ pub fn finish(cl: &[u8], v: usize, m: usize, rows: [u8; 8], mem: [u64; 256]) -> 
         rows,
         codes,
         mem: known,
+        nodes: std::num::wrapping_add_u64(asked, c.nodes),
     }
 }
 
@@ -85,17 +90,19 @@ pub fn choose(
     n: usize,
     same: u8,
     mem: [u64; 256],
+    nodes: u64,
 ) -> Choice
     requires { ⌜ Labels (now cl) × (v ≤ 32) × (m ≤ 8) × (u ≤ 6) × (n ≤ m) × Rows budgets u n rows × Alike rows n same × Honest (now cl) v mem ⌝ }
     ensures { λ r. ⌜ Chosen (now (cl .entry)) budgets v m u n rows (r .ok) (r .rows) (r .codes) × Honest (now (cl .entry)) v (r .mem) ⌝ }
 {
     if n == m {
-        return finish(cl, v, m, rows, mem);
+        return finish(cl, v, m, rows, mem, nodes);
     }
     let want = smaller(budgets[n], u);
     let end = bounds::power(u);
     let given = memory::sets(n);
     let mut known = mem;
+    let mut total = nodes;
     let mut r: u8 = 0;
     while r < end {
         if suits(r, want, same) {
@@ -112,17 +119,20 @@ pub fn choose(
                     n + 1,
                     same & !(r ^ (r / 2)),
                     known,
+                    total,
                 );
                 if k.ok {
                     return k;
                 }
                 known = k.mem;
+                total = k.nodes;
                 if memory::known_bad(known, rows, n, 0, given) {
                     return Choice {
                         ok: false,
                         rows,
                         codes: [0u8; 32],
                         mem: known,
+                        nodes: total,
                     };
                 }
             }
@@ -134,5 +144,6 @@ pub fn choose(
         rows,
         codes: [0u8; 32],
         mem: known,
+        nodes: total,
     }
 }

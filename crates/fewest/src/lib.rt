@@ -22,12 +22,14 @@ pub fn zero_first(codes: [u8; 32]) -> [u8; 32]
     r
 }
 
-// A core: `count` cells, for each output the cells that it reads, for each vertex the cells that are 1 there.
+// A core: `count` cells, for each output the cells that it reads, for each vertex the cells that are 1 there; and how often
+// the search for it gave a vertex a code.
 pub struct Core {
     pub found: bool,
     pub count: u8,
     pub rows: [u8; 8],
     pub codes: [u8; 32],
+    pub nodes: u64,
 }
 
 // The fewest cells, up to the limit, that serve m outputs with these classes of v vertices and these budgets, with the
@@ -38,10 +40,12 @@ pub fn least(cl: &[u8], budgets: [u8; 8], v: usize, m: usize, limit: u8) -> Core
 {
     let none = [0u8; 8];
     let mut known = [0u64; 256];
+    let mut nodes: u64 = 0;
     let mut u: u8 = 0;
     while u <= limit {
-        let k = choosing::choose(cl, budgets, v, m, u, none, 0, 63, known);
+        let k = choosing::choose(cl, budgets, v, m, u, none, 0, 63, known, nodes);
         known = k.mem;
+        nodes = k.nodes;
         if k.ok {
             let rows = k.rows;
             let codes = k.codes;
@@ -51,6 +55,7 @@ pub fn least(cl: &[u8], budgets: [u8; 8], v: usize, m: usize, limit: u8) -> Core
                 count: u,
                 rows,
                 codes: zeroed,
+                nodes,
             };
         }
         u += 1;
@@ -60,6 +65,7 @@ pub fn least(cl: &[u8], budgets: [u8; 8], v: usize, m: usize, limit: u8) -> Core
         count: 0,
         rows: none,
         codes: [0u8; 32],
+        nodes,
     }
 }
 
@@ -140,5 +146,6 @@ pub fn fewest(cl: &[u8], budgets: [u8; 8], v: usize, m: usize, limit: u8) -> Cor
         count: r.count,
         rows,
         codes,
+        nodes: r.nodes,
     }
 }

@@ -53,10 +53,11 @@ pub fn store(mem: [u64; 256], k: u64, ok: bool) -> [u64; 256]
     r
 }
 
-// An answer, and the memory after it.
+// An answer, the memory after it, and how often the search gave a vertex a code: not at all where the answer was known.
 pub struct Reply {
     pub ok: bool,
     pub mem: [u64; 256],
+    pub nodes: u64,
 }
 
 // Whether some codes answer the question, from memory where it is known.
@@ -65,14 +66,26 @@ pub fn tell(cl: &[u8], v: usize, k: u64, mem: [u64; 256]) -> Reply
     ensures { λ r. ⌜ Honest (now (cl .entry)) v (r .mem) × (r .ok ≡ false → Barred (now (cl .entry)) v k) ⌝ }
 {
     if is_bad(mem, k) {
-        return Reply { ok: false, mem };
+        return Reply {
+            ok: false,
+            mem,
+            nodes: 0,
+        };
     }
     if is_good(mem, k) {
-        return Reply { ok: true, mem };
+        return Reply {
+            ok: true,
+            mem,
+            nodes: 0,
+        };
     }
-    let ok = questions::ask(cl, v, k);
-    let next = store(mem, k, ok);
-    Reply { ok, mem: next }
+    let a = questions::ask(cl, v, k);
+    let next = store(mem, k, a.ok);
+    Reply {
+        ok: a.ok,
+        mem: next,
+        nodes: a.nodes,
+    }
 }
 
 // How many sets of n outputs there are.
@@ -116,7 +129,11 @@ pub fn visit(
         let k = questions::question(rows, m, a as u8);
         return tell(cl, v, k, mem);
     }
-    Reply { ok: true, mem }
+    Reply {
+        ok: true,
+        mem,
+        nodes: 0,
+    }
 }
 
 // Whether every set of two or more of the m outputs, but not of all, has codes for the rows; smaller sets first, since
@@ -128,14 +145,17 @@ pub fn settle(cl: &[u8], v: usize, m: usize, rows: [u8; 8], mem: [u64; 256]) -> 
     let end = sets(m);
     let last = end * m;
     let mut known = mem;
+    let mut nodes: u64 = 0;
     let mut i = end * 2;
     while i < last {
         let t = visit(cl, v, m, rows, known, i % end, (i / end) as u32);
         known = t.mem;
+        nodes = std::num::wrapping_add_u64(nodes, t.nodes);
         if !t.ok {
             return Reply {
                 ok: false,
                 mem: known,
+                nodes,
             };
         }
         i += 1;
@@ -143,5 +163,6 @@ pub fn settle(cl: &[u8], v: usize, m: usize, rows: [u8; 8], mem: [u64; 256]) -> 
     Reply {
         ok: true,
         mem: known,
+        nodes,
     }
 }

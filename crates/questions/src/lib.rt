@@ -146,10 +146,15 @@ pub fn labels(cl: &[u8], from: [u8; 8]) -> [u8; 256]
     r
 }
 
-// Whether some codes answer the question.
-pub fn ask(cl: &[u8], v: usize, k: u64) -> bool
+// Whether some codes answer a question, and how often the search for them gave a vertex a code.
+pub struct Answer {
+    pub ok: bool,
+    pub nodes: u64,
+}
+
+pub fn ask(cl: &[u8], v: usize, k: u64) -> Answer
     requires { ⌜ Labels (now cl) × (v ≤ 32) ⌝ }
-    ensures { λ r. ⌜ (r ≡ false → Barred (now (cl .entry)) v k) ⌝ }
+    ensures { λ r. ⌜ (r .ok ≡ false → Barred (now (cl .entry)) v k) ⌝ }
 {
     let g = gather(k);
     let n = g.count;
@@ -157,5 +162,8 @@ pub fn ask(cl: &[u8], v: usize, k: u64) -> bool
     let rows = g.rows;
     let part = labels(cl, from);
     let c = joint::codes_for(&part, v, n, rows);
-    c.ok
+    Answer {
+        ok: c.ok,
+        nodes: c.nodes,
+    }
 }

@@ -11,10 +11,10 @@ use Rattle.border.proofs.report.Reads as report-reads
 use Rattle.io.proofs.read_full.Reads as read-full-reads
 
 abbrev Inv-loop : tie.InvT-loop
-Inv-loop line₀ i₀ line i = (i ≤ 100) × (length line ≡ 277)
+Inv-loop line₀ i₀ line i = (i ≤ 10000) × (length line ≡ 277)
 
 abbrev μ-loop : tie.MeasureT-loop
-μ-loop line₀ i₀ line i = 100 - i
+μ-loop line₀ i₀ line i = 10000 - i
 
 -- src/main.rt:81:5
 loop-holds : tie.Need-loop-holds Inv-loop μ-loop

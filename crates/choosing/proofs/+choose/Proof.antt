@@ -34,12 +34,12 @@ abbrev choose-below : ℕ → In 1 choose-kinds.ps
 choose-below t = and 1 choose-kinds.ps (falls 1 choose-kinds.ps _<_ μ-choose t) choose.Pre
 
 abbrev choose-Inv-loop : choose-lts.InvT-loop
-choose-Inv-loop cl v m u rows n same budgets want end given known₀ r₀ known r = (r ≤ end) × (n < m) × (want ≡ min (item budgets n) u) × (end ≡ 2 ^ u) × (end ≤ 64) × Tried cl budgets v m u n rows r × (given ≤ 256) × Honest cl v known
+choose-Inv-loop cl v m u rows n same nodes budgets want end given known₀ total₀ r₀ known total r = (r ≤ end) × (n < m) × (want ≡ min (item budgets n) u) × (end ≡ 2 ^ u) × (end ≤ 64) × Tried cl budgets v m u n rows r × (given ≤ 256) × Honest cl v known
 
 abbrev choose-μ-loop : choose-lts.MeasureT-loop
-choose-μ-loop cl v m u rows n same budgets want end given known₀ r₀ known r = end - r
+choose-μ-loop cl v m u rows n same nodes budgets want end given known₀ total₀ r₀ known total r = end - r
 
--- src/lib.rt:104:9
+-- src/lib.rt:99:9
 choose-finish-requires : (t : ℕ) → choose-lts.Need-finish-requires (
   finish-reads.Asked,
   finish-reads.Learnt,
@@ -60,7 +60,7 @@ choose-finish-requires : (t : ℕ) → choose-lts.Need-finish-requires (
 ) (choose-at t) choose.Post choose-Inv-loop choose-μ-loop
 choose-finish-requires t c κs = let p = c .before .before .pre .1 in (p .0, p .1, p .2, (λ o h. rows-short (c .before .before .args .t2) (c .before .before .args .u) (c .before .before .args .n) (c .before .before .args .rows) (p .3) (p .5) o (let e = c .if1 .taken in omega arith)), p .7)
 
--- src/lib.rt:104:9
+-- src/lib.rt:99:9
 choose-returns : (t : ℕ) → choose-lts.Need-returns (
   finish-reads.Asked,
   finish-reads.Learnt,
@@ -81,7 +81,7 @@ choose-returns : (t : ℕ) → choose-lts.Need-returns (
 ) (choose-at t) choose.Post choose-Inv-loop choose-μ-loop
 choose-returns t c = let p = c .before .before .before .pre .1 in (chosen-end (c .before .before .before .args .cl .now) (c .before .before .before .args .t2) (c .before .before .before .args .v) (c .before .before .before .args .m) (c .before .before .before .args .u) (c .before .before .before .args .n) (c .before .before .before .args .rows) (c .finish .result .rows) (c .finish .result .codes) (c .finish .result .ok) (c .before .if1 .taken) (c .finish .ensures .0) (p .5) (c .finish .ensures .1), c .finish .ensures .2)
 
--- src/lib.rt:106:24
+-- src/lib.rt:101:24
 choose-array-read-smaller : (t : ℕ) → choose-lts.Need-array-read-smaller (
   finish-reads.Asked,
   finish-reads.Learnt,
@@ -102,7 +102,7 @@ choose-array-read-smaller : (t : ℕ) → choose-lts.Need-array-read-smaller (
 ) (choose-at t) choose.Post choose-Inv-loop choose-μ-loop
 choose-array-read-smaller t c = let p = c .before .before .pre .1 in let a = p .2 in let b = p .4 in let e = c .if1 .left in search needs
 
--- src/lib.rt:106:9
+-- src/lib.rt:101:9
 choose-smaller-requires : (t : ℕ) → choose-lts.Need-smaller-requires (
   finish-reads.Asked,
   finish-reads.Learnt,
@@ -123,7 +123,7 @@ choose-smaller-requires : (t : ℕ) → choose-lts.Need-smaller-requires (
 ) (choose-at t) choose.Post choose-Inv-loop choose-μ-loop
 choose-smaller-requires t c κs = search needs
 
--- src/lib.rt:107:9
+-- src/lib.rt:102:9
 choose-power-requires : (t : ℕ) → choose-lts.Need-power-requires (
   finish-reads.Asked,
   finish-reads.Learnt,
@@ -144,7 +144,7 @@ choose-power-requires : (t : ℕ) → choose-lts.Need-power-requires (
 ) (choose-at t) choose.Post choose-Inv-loop choose-μ-loop
 choose-power-requires t c κs = c .before .before .before .pre .1 .3
 
--- src/lib.rt:108:9
+-- src/lib.rt:103:9
 choose-sets-requires : (t : ℕ) → choose-lts.Need-sets-requires (
   finish-reads.Asked,
   finish-reads.Learnt,
@@ -165,7 +165,7 @@ choose-sets-requires : (t : ℕ) → choose-lts.Need-sets-requires (
 ) (choose-at t) choose.Post choose-Inv-loop choose-μ-loop
 choose-sets-requires t c κs = let p = c .before .before .before .before .pre .1 in let a = p .2 in let b = p .4 in omega arith
 
--- src/lib.rt:111:5
+-- src/lib.rt:107:5
 choose-loop-holds : (t : ℕ) → choose-lts.Need-loop-holds (
   finish-reads.Asked,
   finish-reads.Learnt,
@@ -191,7 +191,7 @@ choose-loop-holds t c =
     let w = c .before .power .ensures .0 in
     (omega arith, omega arith, c .before .before .smaller .ensures, c .before .power .ensures .0, c .before .power .ensures .2, tried-start (c .before .before .before .before .before .args .cl .now) (c .before .before .before .before .before .args .t2) (c .before .before .before .before .before .args .v) (c .before .before .before .before .before .args .m) (c .before .before .before .before .before .args .u) (c .before .before .before .before .before .args .n) (c .before .before .before .before .before .args .rows), c .sets .ensures .1, p .7)
 
--- src/lib.rt:112:12
+-- src/lib.rt:108:12
 choose-suits-requires : (t : ℕ) → choose-lts.Need-suits-requires (
   finish-reads.Asked,
   finish-reads.Learnt,
@@ -212,7 +212,7 @@ choose-suits-requires : (t : ℕ) → choose-lts.Need-suits-requires (
 ) (choose-at t) choose.Post choose-Inv-loop choose-μ-loop
 choose-suits-requires t c κs = search needs
 
--- src/lib.rt:114:13
+-- src/lib.rt:110:13
 choose-array-write-next : (t : ℕ) → choose-lts.Need-array-write-next (
   finish-reads.Asked,
   finish-reads.Learnt,
@@ -233,7 +233,7 @@ choose-array-write-next : (t : ℕ) → choose-lts.Need-array-write-next (
 ) (choose-at t) choose.Post choose-Inv-loop choose-μ-loop
 choose-array-write-next t c = let p = c .before .before .before .before .before .before .before .before .before .pre .1 in let a = p .2 in let b = c .before .before .before .loop .inv .1 in search needs
 
--- src/lib.rt:115:16
+-- src/lib.rt:111:16
 choose-alive-requires : (t : ℕ) → choose-lts.Need-alive-requires (
   finish-reads.Asked,
   finish-reads.Learnt,
@@ -261,7 +261,7 @@ choose-alive-requires t c κs =
     let l : c .before .before .before .loop .r < 2 ^ c .before .before .before .before .before .before .before .before .before .args .u = omega arith in
     (p .0, p .1, omega arith, rows-short (c .before .before .before .before .before .before .before .before .before .args .t2) (c .before .before .before .before .before .before .before .before .before .args .u) (c .before .before .before .before .before .before .before .before .before .args .n + 1) (set (c .before .before .before .before .before .before .before .before .before .args .rows) (c .before .before .before .before .before .before .before .before .before .args .n) (c .before .before .before .loop .r)) (p .3) (rows-more (c .before .before .before .before .before .before .before .before .before .args .t2) (c .before .before .before .before .before .before .before .before .before .args .u) (c .before .before .before .before .before .before .before .before .before .args .n) (c .before .before .before .loop .r) (c .before .before .before .before .before .before .before .before .before .args .rows) (omega arith) (p .3) l (c .before .suits .ensures .right (c .if2 .taken) ∙ c .before .before .before .loop .inv .2) (p .5)), c .before .before .before .loop .inv .7)
 
--- src/lib.rt:116:60
+-- src/lib.rt:119:21
 choose-add-choose : (t : ℕ) → choose-lts.Need-add-choose (
   finish-reads.Asked,
   finish-reads.Learnt,
@@ -282,7 +282,7 @@ choose-add-choose : (t : ℕ) → choose-lts.Need-add-choose (
 ) (choose-at t) choose.Post choose-Inv-loop choose-μ-loop
 choose-add-choose t c = let p = c .before .before .before .before .before .before .before .before .before .before .before .pre .1 in let a = p .2 in let b = c .before .before .before .before .before .loop .inv .1 in omega arith
 
--- src/lib.rt:116:21
+-- src/lib.rt:112:21
 choose-choose-requires : (t : ℕ) → choose-lts.Need-choose-requires (
   finish-reads.Asked,
   finish-reads.Learnt,
@@ -311,7 +311,7 @@ choose-choose-requires t c κs =
     let l : c .before .before .before .before .before .loop .r < 2 ^ c .before .before .before .before .before .before .before .before .before .before .before .args .u = omega arith in
     (omega arith, (p .0, p .1, p .2, p .3, (omega arith), rows-more (c .before .before .before .before .before .before .before .before .before .before .before .args .t2) (c .before .before .before .before .before .before .before .before .before .before .before .args .u) (c .before .before .before .before .before .before .before .before .before .before .before .args .n) (c .before .before .before .before .before .loop .r) (c .before .before .before .before .before .before .before .before .before .before .before .args .rows) (omega arith) (p .3) l (c .before .before .before .suits .ensures .right (c .before .before .if2 .taken) ∙ c .before .before .before .before .before .loop .inv .2) (p .5), alike-more (c .before .before .before .before .before .before .before .before .before .before .before .args .rows) (c .before .before .before .before .before .before .before .before .before .before .before .args .n) (c .before .before .before .before .before .before .before .before .before .before .before .args .same) (c .before .before .before .before .before .loop .r) (p .5 .long) (omega arith) (power-low (c .before .before .before .before .before .before .before .before .before .before .before .args .u) (c .before .before .before .before .before .loop .r) (p .3) l) (p .6), c .before .before .before .before .before .loop .inv .7))
 
--- src/lib.rt:118:21
+-- src/lib.rt:125:21
 choose-returns-2 : (t : ℕ) → choose-lts.Need-returns-2 (
   finish-reads.Asked,
   finish-reads.Learnt,
@@ -332,7 +332,7 @@ choose-returns-2 : (t : ℕ) → choose-lts.Need-returns-2 (
 ) (choose-at t) choose.Post choose-Inv-loop choose-μ-loop
 choose-returns-2 t c = (chosen-found (c .before .before .before .before .before .before .before .before .before .before .before .before .before .args .cl .now) (c .before .before .before .before .before .before .before .before .before .before .before .before .before .args .t2) (c .before .before .before .before .before .before .before .before .before .before .before .before .before .args .v) (c .before .before .before .before .before .before .before .before .before .before .before .before .before .args .m) (c .before .before .before .before .before .before .before .before .before .before .before .before .before .args .u) (c .before .before .before .before .before .before .before .before .before .before .before .before .before .args .n) (c .before .before .before .before .before .before .before .before .before .before .before .before .before .args .n + 1) (c .before .before .before .before .before .before .before .before .before .before .before .before .before .args .rows) (set (c .before .before .before .before .before .before .before .before .before .before .before .before .before .args .rows) (c .before .before .before .before .before .before .before .before .before .before .before .before .before .args .n) (c .before .before .before .before .before .before .before .loop .r)) (c .before .choose .result .rows) (c .before .choose .result .codes) (c .before .choose .result .ok) (c .if4 .taken) (c .before .choose .ensures .0), c .before .choose .ensures .1)
 
--- src/lib.rt:121:20
+-- src/lib.rt:129:20
 choose-known-bad-requires : (t : ℕ) → choose-lts.Need-known-bad-requires (
   finish-reads.Asked,
   finish-reads.Learnt,
@@ -353,7 +353,7 @@ choose-known-bad-requires : (t : ℕ) → choose-lts.Need-known-bad-requires (
 ) (choose-at t) choose.Post choose-Inv-loop choose-μ-loop
 choose-known-bad-requires t c κs = let p = c .before .before .before .before .before .before .before .before .before .before .before .before .before .before .pre .1 in let a = p .2 in let b = p .4 in (omega arith, c .before .before .before .before .before .before .before .before .loop .inv .6, rows-short (c .before .before .before .before .before .before .before .before .before .before .before .before .before .before .args .t2) (c .before .before .before .before .before .before .before .before .before .before .before .before .before .before .args .u) (c .before .before .before .before .before .before .before .before .before .before .before .before .before .before .args .n) (c .before .before .before .before .before .before .before .before .before .before .before .before .before .before .args .rows) (p .3) (p .5))
 
--- src/lib.rt:122:21
+-- src/lib.rt:130:21
 choose-returns-3 : (t : ℕ) → choose-lts.Need-returns-3 (
   finish-reads.Asked,
   finish-reads.Learnt,
@@ -374,7 +374,7 @@ choose-returns-3 : (t : ℕ) → choose-lts.Need-returns-3 (
 ) (choose-at t) choose.Post choose-Inv-loop choose-μ-loop
 choose-returns-3 t c = let p = c .before .before .before .before .before .before .before .before .before .before .before .before .before .before .before .before .pre .1 in (lost-of (c .before .before .before .before .before .before .before .before .before .before .before .before .before .before .before .before .args .cl .now) (c .before .before .before .before .before .before .before .before .before .before .before .before .before .before .before .before .args .t2) (c .before .before .before .before .before .before .before .before .before .before .before .before .before .before .before .before .args .v) (c .before .before .before .before .before .before .before .before .before .before .before .before .before .before .before .before .args .m) (c .before .before .before .before .before .before .before .before .before .before .before .before .before .before .before .before .args .u) (c .before .before .before .before .before .before .before .before .before .before .before .before .before .before .before .before .args .n) (c .before .before .before .before .before .before .before .before .before .before .before .before .before .before .before .before .args .rows) (p .4) (c .before .known-bad .ensures (c .before .before .before .before .before .before .before .before .before .before .before .before .before .before .before .before .args .cl .now) (c .before .before .before .before .before .before .before .before .before .before .before .before .before .before .before .before .args .v) (c .before .before .before .before .choose .ensures .1) (c .if5 .taken)), c .before .before .before .before .choose .ensures .1)
 
--- src/lib.rt:131:9
+-- src/lib.rt:140:9
 choose-add-r : (t : ℕ) → choose-lts.Need-add-r (
   finish-reads.Asked,
   finish-reads.Learnt,
@@ -395,7 +395,7 @@ choose-add-r : (t : ℕ) → choose-lts.Need-add-r (
 ) (choose-at t) choose.Post choose-Inv-loop choose-μ-loop
 choose-add-r t c = let h = c .before .before .loop-test .taken in let z = c .before .before .before .loop .inv .4 in omega arith
 
--- src/lib.rt:111:5
+-- src/lib.rt:107:5
 choose-loop-less : (t : ℕ) → choose-lts.Need-loop-less (
   finish-reads.Asked,
   finish-reads.Learnt,
@@ -416,7 +416,7 @@ choose-loop-less : (t : ℕ) → choose-lts.Need-loop-less (
 ) (choose-at t) choose.Post choose-Inv-loop choose-μ-loop
 choose-loop-less t c = search needs
 
--- src/lib.rt:111:5
+-- src/lib.rt:107:5
 choose-loop-again : (t : ℕ) → choose-lts.Need-loop-again (
   finish-reads.Asked,
   finish-reads.Learnt,
@@ -459,7 +459,7 @@ choose-loop-again t c =
           (c .if2 .came),
     )
 
--- src/lib.rt:89:1
+-- src/lib.rt:83:1
 choose-returns-4 : (t : ℕ) → choose-lts.Need-returns-4 (
   finish-reads.Asked,
   finish-reads.Learnt,
