@@ -171,7 +171,7 @@ walk-step s ns g (found e u) p q r enough (going fs _ w) n h j =
 walk-step s ns g bad p q r enough w n h j = absurd (true-false (sym (and-left (p .ok) _ n) ∙ w))
 
 -- ---- past the closing bracket
--- a formula f whose part is p before its bracket and r after it, where k f is the formula with the bracket
+-- the part p just before the closing bracket of f: the values and names are f's, and the depth lacks f's own bracket
 record Whole (s : List ℕ) (ns : List Name) (f : Formula) (p : Part) : Type 0 where
   ready : p .ok ≡ true
   inside : p .next .at ≤ length s
