@@ -126,12 +126,12 @@ pub fn wanted(
     bs: &[u64],
     v: usize,
     o: usize,
-    dom: [u64; 32],
-    own: [u64; 32],
+    dom: &[u64],
+    own: &[u64],
     owns: [u8; 32],
 ) -> Wants
-    requires { ⌜ Labels (now cl) × (length (now bs) ≡ 512) × (v ≤ 32) × (o < 8) × ((l : ℕ) → l < 32 → item owns l ≤ 32) ⌝ }
-    ensures { λ r. ⌜ ((mask : ℕ) → ((c : ℕ) → c < 64 → Block mask c (getD (now (bs .entry)) (o * 64 + c) 0)) → Wanted (now (cl .entry)) o mask v dom own owns (r .wants) (r .meet)) ⌝ }
+    requires { ⌜ Labels (now cl) × (length (now bs) ≡ 512) × (v ≤ 32) × (o < 8) × (length (now dom) ≡ 32) × (length (now own) ≡ 32) × ((l : ℕ) → l < 32 → item owns l ≤ 32) ⌝ }
+    ensures { λ r. ⌜ ((mask : ℕ) → ((c : ℕ) → c < 64 → Block mask c (getD (now (bs .entry)) (o * 64 + c) 0)) → Wanted (now (cl .entry)) o mask v (now (dom .entry)) (now (own .entry)) owns (r .wants) (r .meet)) ⌝ }
 {
     let mut wants = owns;
     let mut meet = [18446744073709551615u64; 32];
@@ -296,7 +296,7 @@ pub fn settle(
     let h = held(cl, bs, ms, v, j, o, codes);
     let own = h.own;
     let owns = h.owns;
-    let w = wanted(cl, bs, v, o, dom, own, owns);
+    let w = wanted(cl, bs, v, o, &dom, &own, owns);
     let wants = w.wants;
     let t = total(base, o, wants);
     let spot = spots[o] as usize;
