@@ -1,6 +1,6 @@
 -- Which values of a group of cells a search may ask of a vertex: those that vertices with codes have, and one more, for the
 -- values that no vertex with a code has may be exchanged; and cells that no two outputs read are 0. Three groups are enough, for a group of one cell has no value to
--- spare once vertex 0 has a code. And the codes of a vertex tried one after another. Assumes nothing.
+-- spare once vertex 0 has a code. Assumes nothing.
 use mathlib.Core.Path.{_≡_, refl, sym, ap, ap₂, _∙_, subst}
 use mathlib.Core.Bool.{Bool, true, false, not}
 use mathlib.Core.List.{List, [], _∷_}
@@ -19,7 +19,7 @@ use Rattle.cells.specs.Lists.{less-or-equal, never-both, false-where, and-off, 
 use Rattle.cells.specs.Pigeon.{agree-and}
 use Rattle.cells.specs.Sets.{Without}
 use Rattle.numbering.specs.Given.{labelAt, item, Block, Blocks, Solves, Extends, Kept, Hopeless}
-use Rattle.holding.specs.Search.{on-both}
+use Rattle.holding.specs.Blocks.{on-both}
 use Rattle.coding.specs.Exchange.{Uniform, SameBlocks, swap, swap-blocks, swap-small, swap-stays, swap-first, swap-outside, solves-alike}
 
 -- ======== definitions
@@ -84,14 +84,6 @@ pub record Marked (gs used : List ℕ) (c n : ℕ) (r : List ℕ) : Type 0 where
   pub long : length r ≡ 3
   pub done : (k : ℕ) → k < n → (b : ℕ) × Block (item gs k) c b × (item r k ≡ bitOr (item used k) b)
   pub rest : (k : ℕ) → n ≤ k → item r k ≡ item used k
-
--- the sets of codes have room for every solution that goes on from the codes given
-pub record Covers (cl base ms caps spots : List ℕ) (v j : ℕ) (codes dom : List ℕ) : Type 0 where
-  pub covers : (g : ℕ → ℕ) → Solves cl base ms caps spots v j g → Agrees codes v g → (x : ℕ) → x < v → on (item dom x) (g x) ≡ true
-
--- each solution whose code at x is in can has it in left
-pub record Trying (cl base ms caps spots : List ℕ) (v j : ℕ) (codes dom : List ℕ) (x can left : ℕ) : Type 0 where
-  pub tried : (g : ℕ → ℕ) → Solves cl base ms caps spots v j g → Extends codes dom v g → on can (g x) ≡ true → on left (g x) ≡ true
 
 -- ======== laws
 or-l : (a b : Bool) → a ≡ true → orb a b ≡ true
@@ -327,27 +319,3 @@ module _ (codes : List ℕ) (v x c : ℕ) (long : length codes ≡ 32) (few : v 
       go : Dec (y ≡ x) → g y ≡ item (set codes x c) y
       go (yes e) = ap g e ∙ q ∙ sym (ap (item (set codes x c)) e ∙ here)
       go (no ne) = a y b (subst (λ (z : ℕ). z < 64) (there y ne) t) ∙ sym (there y ne)
-
-  pub covers-more : (cl base ms caps spots : List ℕ) (j : ℕ) (dom d : List ℕ) → 64 ≤ item codes x → Kept cl base ms caps spots v j (set codes x c) dom d → Covers cl base ms caps spots v j codes dom → Covers cl base ms caps spots v j (set codes x c) d
-  covers-more cl base ms caps spots j dom d u k s = record { covers = λ g f a. k .keeps g f (record { coded = a; within = s .covers g f (agrees-less g u a) }) .within }
-
--- ======== the codes of a vertex, one after another
-module _ (cl base ms caps spots : List ℕ) (v j : ℕ) (codes dom : List ℕ) (x can : ℕ) (h : x < v) where
-  pub trying-start : Trying cl base ms caps spots v j codes dom x can (bitAnd (item dom x) can)
-  trying-start = record { tried = λ g f e t. on-both (item dom x) can (g x) (e .within x h) t }
-
-  -- code c led to nothing
-  pub trying-more : (left c left' : ℕ) (d : List ℕ) → length codes ≡ 32 → v ≤ 32 → Without left c left' → Kept cl base ms caps spots v j (set codes x c) dom d → Hopeless cl base ms caps spots v j (set codes x c) d → Trying cl base ms caps spots v j codes dom x can left → Trying cl base ms caps spots v j codes dom x can left'
-  trying-more left c left' d long few w k bad t = record { tried = λ g f e i. go g f e i (ℕ-discrete (g x) c) }
-    where
-      go : (g : ℕ → ℕ) → Solves cl base ms caps spots v j g → Extends codes dom v g → on can (g x) ≡ true → Dec (g x ≡ c) → on left' (g x) ≡ true
-      go g f e i (no ne) = w .others (g x) (f .small x h) ne ∙ t .tried g f e i
-      go g f e i (yes q) = absurd (bad .none g f (k .keeps g f (record { coded = agrees-more codes v x c long few h g q (e .coded); within = e .within })))
-
-  -- no code is left: a solution would have led to one with a code in can
-  pub trying-end : (gb used : List ℕ) (all left : ℕ) → 64 ≤ item codes x → left ≡ 0 → Valued ms gb all j codes v used → ((gs : List ℕ) (sh : ℕ) → Over sh all → Blocks gs gb 3 → Groups gs sh → Marks gs used → Canon gs used sh 3 can) → Covers cl base ms caps spots v j codes dom → Trying cl base ms caps spots v j codes dom x can left → Hopeless cl base ms caps spots v j codes dom
-  trying-end gb used all left u z w n s t = record {
-    none = λ g f e.
-        let r = n (w .gs) (w .sh) (w .over) (w .blocks) (w .groups) (w .values .marks) .reach cl base ms caps spots codes v j x u (w .alike) (w .values .has) g f (e .coded) h in
-        never-both (t .tried (r .0) (r .1) (record { coded = r .2; within = s .covers (r .0) (r .1) (r .2) }) (r .3)) (ap (λ (m : ℕ). on m (r .0 x)) z ∙ on-zero (r .0 x));
-  }

@@ -9,7 +9,8 @@ ghost use Prim.Native.Nat.{ℕ, _+_, _*_, _<_, _≤_};
 ghost use lib.ListN.{length, getD};
 ghost use Rattle.numbering.specs.Given.{Labels, Blocks, Plan, Kept, Told, item};
 ghost use Rattle.holding.specs.Search.{Seeking, Empty};
-ghost use Rattle.coding.specs.Values.{Groups, Marks, Over, Fresh, Canon, Marked, Valued, Covers};
+ghost use Rattle.coding.specs.Values.{Groups, Marks, Over, Fresh, Canon, Marked, Valued};
+ghost use Rattle.coding.specs.Tried.{Covers};
 
 // Whether some vertex has no code left.
 pub fn empty(dom: [u64; 32], v: usize) -> bool

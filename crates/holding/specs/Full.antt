@@ -14,7 +14,8 @@ use Rattle.bits.specs.Digit.{on}
 use Rattle.cells.specs.Lists.{All, Pairs, all-map, never-both, false-where, or-on}
 use Rattle.cells.specs.Sets.{With}
 use Rattle.numbering.specs.Given.{labelAt, item, Block, Solves, Extends, Kept}
-use Rattle.holding.specs.Search.{Narrowed, Minus, narrowed-more, minus-keeps}
+use Rattle.holding.specs.Blocks.{Minus, minus-keeps}
+use Rattle.holding.specs.Narrow.{Narrowed, narrowed-more}
 
 -- ======== definitions
 -- n of the first y vertices have codes in b, each of another class, and these classes are in seen

@@ -1,5 +1,9 @@
--- Hold has the rules that follow from what the classes hold and need, each with its law; Search has the steps of the search,
--- which the contracts cite; Full has the rule of full blocks.
-pub mod Hold
-pub mod Search
+-- Blocks has sets of codes and blocks, Held and Wants what the classes hold and need, Rules what follows of every solution,
+-- Narrow and Full the sets of codes narrowed by it, Search the steps of the search. Contracts cite their definitions.
+pub mod Blocks
+pub mod Held
+pub mod Wants
+pub mod Rules
+pub mod Narrow
 pub mod Full
+pub mod Search

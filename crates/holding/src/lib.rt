@@ -1,5 +1,5 @@
 // What the classes of one output hold while vertices take codes, and the sets of codes of the others narrowed by it. A rule
-// that prunes is one law of specs/Hold: what it takes away is in no solution.
+// that prunes is one law of specs/Rules or specs/Full: what it takes away is in no solution.
 ghost use mathlib.Core.Path.{_≡_};
 ghost use mathlib.Core.Bool.{Bool, true, false};
 ghost use mathlib.Core.List.{List};
@@ -7,8 +7,10 @@ ghost use Prim.Native.Nat.{ℕ, _+_, _*_, _<_, _≤_, max};
 ghost use lib.ListN.{length, getD};
 ghost use Rattle.bits.specs.Digit.{on};
 ghost use Rattle.numbering.specs.Given.{labelAt, item, Block, Labels, Blocks, Kept};
-ghost use Rattle.holding.specs.Hold.{Held, Wanted, needed};
-ghost use Rattle.holding.specs.Search.{Table, Minus, Spans, Narrowed, Keeps, Stays};
+ghost use Rattle.holding.specs.Held.{Held};
+ghost use Rattle.holding.specs.Wants.{Wanted, needed};
+ghost use Rattle.holding.specs.Blocks.{Table, Minus, Spans};
+ghost use Rattle.holding.specs.Narrow.{Narrowed, Keeps, Stays};
 ghost use Rattle.holding.specs.Full.{Crowd, Free};
 
 // The set of codes that a mask does not tell from c.

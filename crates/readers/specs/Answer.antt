@@ -9,8 +9,8 @@ use lib.ListN.{length}
 use Rattle.cells.specs.Lists.{sum, zeros, zeros-are, all-map}
 use Rattle.cells.specs.Shared.{block, sharedCode, gather}
 use Rattle.numbering.specs.Given.{labelAt, item, Told, Hopeless}
-use Rattle.holding.specs.Hold.{needed}
-use Rattle.coding.specs.Values.{Covers}
+use Rattle.holding.specs.Wants.{needed}
+use Rattle.coding.specs.Tried.{Covers}
 use Rattle.readers.specs.Masks.{Short, Common, Planned, Start, Bounds, Decided, coded-of, solves-of, start-agrees}
 
 -- what is needed where nothing is held

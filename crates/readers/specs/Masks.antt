@@ -22,8 +22,9 @@ use Rattle.cells.specs.Pigeon.{Agree, agree-and, and-agree}
 use Rattle.cells.specs.Codes.{Coded}
 use Rattle.cells.specs.Shared.{Split, Fits, sharedCode, crowd-bound, places-bound}
 use Rattle.numbering.specs.Given.{labelAt, item, Block, Blocks, Plan, Solves, Extends, Kept, Parted, Hopeless, Told}
-use Rattle.coding.specs.Values.{Agrees, Covers}
-use Rattle.holding.specs.Search.{Table, copies, copies-are, all-ones}
+use Rattle.coding.specs.Values.{Agrees}
+use Rattle.coding.specs.Tried.{Covers}
+use Rattle.holding.specs.Blocks.{Table, copies, copies-are, all-ones}
 
 -- ======== definitions
 -- each output reads cells below 6

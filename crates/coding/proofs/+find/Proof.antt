@@ -6,7 +6,8 @@ use lib.ListN.{length, getD, set}
 use borrow.Author.Tests.{not-true, not-false}
 use Rattle.numbering.specs.Given.{item}
 use Rattle.holding.specs.Search.{uncoded, uncoded-less, told-found, told-lost, empty-hopeless}
-use Rattle.coding.specs.Values.{Valued, Covers, Trying, valued-more, covers-more, trying-start, trying-more, trying-end}
+use Rattle.coding.specs.Values.{Valued, valued-more}
+use Rattle.coding.specs.Tried.{Covers, Trying, covers-more, trying-start, trying-more, trying-end}
 use borrow.Author.Needs.{needs}
 use Prim.Native.Nat.{ℕ, _<_}
 use borrow.Fn.Kinds.{In}

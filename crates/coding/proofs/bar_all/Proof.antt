@@ -5,7 +5,7 @@ use mathlib.Core.Logic.{⊎-elim}
 use mathlib.Core.List.{List}
 use Rattle.numbering.specs.Given.{Kept, Blocks, item}
 use Rattle.holding.specs.Full.{settled-full}
-use Rattle.holding.specs.Search.{kept-start, kept-more}
+use Rattle.holding.specs.Narrow.{kept-start, kept-more}
 use borrow.Author.Needs.{needs}
 use Rattle.coding.proofs.bar_all.Statement.{statement}
 use Rattle.coding.proofs.bar_all.Tie as tie

@@ -2,7 +2,7 @@ use mathlib.Core.Path.{_≡_, refl, sym, ap, _∙_, subst}
 use Prim.Native.Nat.{ℕ, _<_, _≤_, _+_, _-_, _*_}
 use native.Mathlib.Omega.{arith}
 use Rattle.numbering.specs.Given.{Kept}
-use Rattle.holding.specs.Search.{kept-start, kept-more}
+use Rattle.holding.specs.Narrow.{kept-start, kept-more}
 use borrow.Author.Needs.{needs}
 use Rattle.coding.proofs.settle_all.Statement.{statement}
 use Rattle.coding.proofs.settle_all.Tie as tie

@@ -1,4 +1,4 @@
-use Rattle.holding.specs.Search.{Blocked, blocked-start, blocked-in, blocked-out}
+use Rattle.holding.specs.Blocks.{Blocked, blocked-start, blocked-in, blocked-out}
 use Rattle.bits.specs.Logic.{true-false}
 use lib.ListN.{length, getD, set}
 use native.Mathlib.Omega.{arith}

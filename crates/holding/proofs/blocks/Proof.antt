@@ -6,7 +6,7 @@ use native.Mathlib.Omega.{arith}
 use lib.ListN.{length, getD, set}
 use lib.Bits.{bitAnd, and-le-l}
 use Rattle.numbering.specs.Given.{item}
-use Rattle.holding.specs.Search.{Table, table-more, entry-again}
+use Rattle.holding.specs.Blocks.{Table, table-more, entry-again}
 use borrow.Author.Needs.{needs}
 use Rattle.holding.proofs.blocks.Statement.{statement}
 use Rattle.holding.proofs.blocks.Tie as tie

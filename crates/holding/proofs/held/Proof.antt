@@ -1,6 +1,6 @@
 use Rattle.cells.specs.Lists.{zeros-are}
-use Rattle.holding.specs.Search.{at-skip, at-old, at-new}
-use Rattle.holding.specs.Hold.{Held, held-start}
+use Rattle.holding.specs.Held.{at-skip, at-old, at-new}
+use Rattle.holding.specs.Held.{Held, held-start}
 use Rattle.numbering.specs.Given.{item, Block}
 use borrow.Author.Tests.{not-true, not-false}
 use Rattle.bits.specs.Logic.{true-false}

@@ -1,7 +1,8 @@
 use mathlib.Core.Path.{_≡_, refl, sym, ap, _∙_, subst}
 use native.Mathlib.Omega.{arith}
 use Rattle.bits.specs.Digit.{on, on-ones}
-use Rattle.holding.specs.Search.{Keeps, on-either}
+use Rattle.holding.specs.Blocks.{on-either}
+use Rattle.holding.specs.Narrow.{Keeps}
 use borrow.Author.Needs.{needs}
 use Rattle.holding.proofs.keep.Statement.{statement}
 use Rattle.holding.proofs.keep.Tie as tie

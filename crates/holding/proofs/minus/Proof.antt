@@ -1,4 +1,4 @@
-use Rattle.holding.specs.Search.{minus-of}
+use Rattle.holding.specs.Blocks.{minus-of}
 use borrow.Author.Needs.{needs}
 use Rattle.holding.proofs.minus.Statement.{statement}
 use Rattle.holding.proofs.minus.Tie as tie

@@ -2,7 +2,7 @@ use mathlib.Core.Path.{_≡_, refl, sym, ap, _∙_, subst}
 use Prim.Native.Nat.{ℕ, _<_, _≤_, _+_, _-_, _*_}
 use native.Mathlib.Omega.{arith}
 use mathlib.Core.Logic.{⊎-elim}
-use Rattle.holding.specs.Search.{Narrowed, Stays, narrowed-start, narrowed-same, keep-more}
+use Rattle.holding.specs.Narrow.{Narrowed, Stays, narrowed-start, narrowed-same, keep-more}
 use borrow.Author.Needs.{needs}
 use Rattle.holding.proofs.narrow.Statement.{statement}
 use Rattle.holding.proofs.narrow.Tie as tie

@@ -2,7 +2,7 @@ use mathlib.Core.Path.{_≡_, refl, sym, ap, _∙_, subst}
 use Prim.Native.Nat.{ℕ, _<_, _≤_, _+_, _-_, _*_}
 use native.Mathlib.Omega.{arith}
 use Rattle.numbering.specs.Given.{item}
-use Rattle.holding.specs.Search.{settled-none, settled-tight, kept-start}
+use Rattle.holding.specs.Narrow.{settled-none, settled-tight, kept-start}
 use borrow.Author.Needs.{needs}
 use Rattle.holding.proofs.settle.Statement.{statement}
 use Rattle.holding.proofs.settle.Tie as tie

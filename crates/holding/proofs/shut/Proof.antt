@@ -4,7 +4,7 @@ use native.Mathlib.Omega.{arith}
 use mathlib.Core.Logic.{⊎-elim}
 use borrow.Author.Tests.{not-true}
 use Rattle.holding.specs.Full.{Free, shut-more}
-use Rattle.holding.specs.Search.{Narrowed, narrowed-start, narrowed-same}
+use Rattle.holding.specs.Narrow.{Narrowed, narrowed-start, narrowed-same}
 use borrow.Author.Needs.{needs}
 use Rattle.holding.proofs.shut.Statement.{statement}
 use Rattle.holding.proofs.shut.Tie as tie

@@ -3,7 +3,7 @@ use Prim.Native.Nat.{ℕ, _<_, _≤_, _+_, _-_, _*_}
 use native.Mathlib.Omega.{arith}
 use lib.ListN.{length, getD}
 use Rattle.numbering.specs.Given.{Block}
-use Rattle.holding.specs.Search.{Spanning, spanning-start, spanning-more, spanning-end}
+use Rattle.holding.specs.Blocks.{Spanning, spanning-start, spanning-more, spanning-end}
 use borrow.Author.Needs.{needs}
 use Rattle.holding.proofs.spread.Statement.{statement}
 use Rattle.holding.proofs.spread.Tie as tie

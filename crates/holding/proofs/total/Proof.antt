@@ -1,5 +1,5 @@
-use Rattle.holding.specs.Search.{sum-next}
-use Rattle.holding.specs.Hold.{need}
+use Rattle.holding.specs.Narrow.{sum-next}
+use Rattle.holding.specs.Wants.{need}
 use Rattle.cells.specs.Lists.{sum}
 use borrow.Author.Tests.{not-true, not-false}
 use Rattle.bits.specs.Logic.{true-false}

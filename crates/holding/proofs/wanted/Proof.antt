@@ -4,8 +4,8 @@ use native.Mathlib.Omega.{arith}
 use mathlib.Core.Logic.{⊎-elim}
 use lib.ListN.{length, getD}
 use Rattle.numbering.specs.Given.{Block}
-use Rattle.holding.specs.Search.{all-ones}
-use Rattle.holding.specs.Hold.{Wanted, wanted-start, wanted-same, wanted-more}
+use Rattle.holding.specs.Blocks.{all-ones}
+use Rattle.holding.specs.Wants.{Wanted, wanted-start, wanted-same, wanted-more}
 use borrow.Author.Needs.{needs}
 use Rattle.holding.proofs.wanted.Statement.{statement}
 use Rattle.holding.proofs.wanted.Tie as tie

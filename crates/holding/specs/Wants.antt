@@ -1,0 +1,102 @@
+-- How many blocks each class of an output needs: those that it holds, one more where some vertex of it can take none of these,
+-- and two more where the vertices that can take none have no block in common. Assumes nothing.
+use mathlib.Core.Path.{_≡_, refl, sym, ap, ap₂, _∙_, subst}
+use mathlib.Core.Bool.{true}
+use mathlib.Core.List.{List}
+use mathlib.Core.Logic.{_⊎_, inl, inr, ⊎-elim}
+use Prim.Native.Nat.{ℕ, _+_, _-_, _^_, _<_, max}
+use native.Mathlib.Decide.{ℕ-discrete}
+use native.Mathlib.Omega.{arith}
+use lib.Bits.{bitAnd}
+use lib.ListN.{length, getD, set, length-set}
+use lib.Seq.{getD-set-same, getD-set-other}
+use Rattle.bits.specs.Logic.{andb}
+use Rattle.bits.specs.Digit.{on, on-and, on-ones}
+use Rattle.cells.specs.Lists.{count, sum}
+use Rattle.numbering.specs.Given.{labelAt, item}
+
+-- ======== definitions
+-- one of the first y vertices, of class l, can take none of the blocks that its class holds
+abbrev pub New : List ℕ → ℕ → ℕ → List ℕ → List ℕ → ℕ → Type 0
+New cl o y dom own l = (x : ℕ) × (x < y) × (labelAt cl o x ≡ l) × (bitAnd (item dom x) (item own l) ≡ 0)
+
+-- the set d has a code in k's block
+abbrev pub Near : ℕ → ℕ → ℕ → Type 0
+Near mask d k = (c : ℕ) × (c < 64) × (on d c ≡ true) × (bitAnd c mask ≡ bitAnd k mask)
+
+-- wants has for each class the blocks that it holds, one more where one of the first y vertices can take none of them, and two
+-- more where these vertices have no block in common; meet has the codes that they have in common, block by block
+pub record Wanted (cl : List ℕ) (o mask y : ℕ) (dom own owns wants meet : List ℕ) : Type 0 where
+  pub long : length wants ≡ 32
+  pub meet-long : length meet ≡ 32
+  pub each : (l : ℕ) → l < 32 → (item wants l ≡ item owns l) ⊎ (New cl o y dom own l × ((item wants l ≡ item owns l + 1) ⊎ ((item wants l ≡ item owns l + 2) × (item meet l ≡ 0))))
+  pub meets : (l k : ℕ) → l < 32 → k < 64 → ((x : ℕ) → x < y → labelAt cl o x ≡ l → bitAnd (item dom x) (item own l) ≡ 0 → Near mask (item dom x) k) → on (item meet l) k ≡ true
+
+-- how many blocks class l of o holds or needs
+abbrev pub need : List ℕ → List ℕ → ℕ → ℕ → ℕ
+need owns base o l = max (getD owns l 0) (labelAt base o l)
+
+abbrev pub needed : List ℕ → List ℕ → ℕ → ℕ
+needed owns base o = sum (need owns base o) 32
+
+-- ======== the scan of what is wanted
+module _ (cl : List ℕ) (o mask : ℕ) (dom own owns : List ℕ) where
+  -- what is said of a class when y vertices are seen
+  abbrev Each : ℕ → ℕ → ℕ → ℕ → Type 0
+  Each y l w m = (w ≡ item owns l) ⊎ (New cl o y dom own l × ((w ≡ item owns l + 1) ⊎ ((w ≡ item owns l + 2) × (m ≡ 0))))
+
+  up-one : (y l w m : ℕ) → Each y l w m → Each (y + 1) l w m
+  up-one y l w m = ⊎-elim inl (λ r. inr ((r .0 .0, (let z = r .0 .1 in omega arith), r .0 .2, r .0 .3), r .1))
+
+  pub wanted-start : (meet : List ℕ) → length owns ≡ 32 → length meet ≡ 32 → ((l : ℕ) → l < 32 → item meet l ≡ 2 ^ 64 - 1) → Wanted cl o mask 0 dom own owns owns meet
+  wanted-start meet e f a = record { long = e; meet-long = f; each = λ l h. inl refl; meets = λ l k h i q. ap (λ (z : ℕ). on z k) (a l h) ∙ on-ones 64 k i }
+
+  pub wanted-same : (y : ℕ) (wants meet wants' meet' : List ℕ) → wants' ≡ wants → meet' ≡ meet → Wanted cl o mask y dom own owns wants meet → Wanted cl o mask (y + 1) dom own owns wants' meet'
+  wanted-same y wants meet wants' meet' a b s = subst (λ (z : List ℕ). Wanted cl o mask (y + 1) dom own owns z meet') (sym a) (subst (Wanted cl o mask (y + 1) dom own owns wants) (sym b) (record {
+    long = s .long;
+    meet-long = s .meet-long;
+    each = λ l h. up-one y l (item wants l) (item meet l) (s .each l h);
+    meets = λ l k h i q. s .meets l k h i (λ x b. q x (omega arith));
+  }))
+
+  -- y's class q can take none of its blocks at y; t has the codes of the blocks that y can take
+  pub wanted-more : (y q t n : ℕ) (wants meet wants' meet' : List ℕ) → q ≡ labelAt cl o y → q < 32 → bitAnd (item dom y) (item own q) ≡ 0 → ((k : ℕ) → k < 64 → Near mask (item dom y) k → on t k ≡ true) → (bitAnd (item meet q) t ≡ 0 → n ≡ item owns q + 2) × ((bitAnd (item meet q) t ≡ 0 → ⊥) → n ≡ item owns q + 1) → meet' ≡ set meet q (bitAnd (item meet q) t) → wants' ≡ set wants q n → Wanted cl o mask y dom own owns wants meet → Wanted cl o mask (y + 1) dom own owns wants' meet'
+  wanted-more y q t n wants meet wants' meet' e h z near count a b s = subst (λ (z : List ℕ). Wanted cl o mask (y + 1) dom own owns z meet') (sym b) (subst (Wanted cl o mask (y + 1) dom own owns W) (sym a) (record {
+    long = length-set wants q n ∙ s .long;
+    meet-long = length-set meet q m ∙ s .meet-long;
+    each = λ l b. each l b (ℕ-discrete l q);
+    meets = λ l k b i c. meets l k b i c (ℕ-discrete l q);
+  }))
+    where
+      W : List ℕ
+      W = set wants q n
+
+      m : ℕ
+      m = bitAnd (item meet q) t
+
+      M : List ℕ
+      M = set meet q m
+
+      w-here : item W q ≡ n
+      w-here = getD-set-same wants q n 0 (let z = s .long in omega arith)
+
+      m-here : item M q ≡ m
+      m-here = getD-set-same meet q m 0 (let z = s .meet-long in omega arith)
+
+      number : Dec (m ≡ 0) → (item W q ≡ item owns q + 1) ⊎ ((item W q ≡ item owns q + 2) × (item M q ≡ 0))
+      number (yes i) = inr (w-here ∙ count .0 i, m-here ∙ i)
+      number (no i) = inl (w-here ∙ count .1 i)
+
+      each : (l : ℕ) → l < 32 → Dec (l ≡ q) → Each (y + 1) l (item W l) (item M l)
+      each l b (yes p) = subst (λ (l : ℕ). Each (y + 1) l (item W l) (item M l)) (sym p) (inr ((y, (omega arith), sym e, z), number (ℕ-discrete m 0)))
+      each l b (no ne) = subst (λ (w : ℕ). Each (y + 1) l w (item M l)) (sym (getD-set-other wants q l n 0 ne)) (subst (λ (c : ℕ). Each (y + 1) l (item wants l) c) (sym (getD-set-other meet q l m 0 ne)) (up-one y l (item wants l) (item meet l) (s .each l b)))
+
+      All-near : ℕ → ℕ → Type 0
+      All-near l k = (x : ℕ) → x < y + 1 → labelAt cl o x ≡ l → bitAnd (item dom x) (item own l) ≡ 0 → Near mask (item dom x) k
+
+      meets : (l k : ℕ) → l < 32 → k < 64 → All-near l k → Dec (l ≡ q) → on (item M l) k ≡ true
+      meets l k b i c (no ne) = ap (λ (n : ℕ). on n k) (getD-set-other meet q l m 0 ne) ∙ s .meets l k b i (λ x d. c x (omega arith))
+      meets l k b i c (yes p) = subst (λ (l : ℕ). on (item M l) k ≡ true) (sym p) (ap (λ (n : ℕ). on n k) m-here ∙ on-and (item meet q) t k ∙ ap₂ andb (s .meets q k h i (λ x d r u. at-q x (omega arith) r u)) (near k i (at-q y (omega arith) (sym e) z)))
+        where
+          at-q : (x : ℕ) → x < y + 1 → labelAt cl o x ≡ q → bitAnd (item dom x) (item own q) ≡ 0 → Near mask (item dom x) k
+          at-q x d r u = c x d (r ∙ sym p) (subst (λ (l : ℕ). bitAnd (item dom x) (item own l) ≡ 0) (sym p) u)
