@@ -1,6 +1,6 @@
 -- Which values of a group of cells a search may ask of a vertex: those that vertices with codes have, and one more, for the
--- values that no vertex with a code has may be exchanged; and cells that no two outputs read are 0. Three groups are enough, for a group of one cell has no value to
--- spare once vertex 0 has a code. Assumes nothing.
+-- values that no vertex with a code has may be exchanged; and cells that no two outputs read are 0. Three groups are enough,
+-- for a group of one cell has no value to spare once vertex 0 has a code. Assumes nothing.
 use mathlib.Core.Path.{_≡_, refl, sym, ap, ap₂, _∙_, subst}
 use mathlib.Core.Bool.{Bool, true, false, not}
 use mathlib.Core.List.{List, [], _∷_}

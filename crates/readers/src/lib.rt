@@ -173,8 +173,8 @@ pub fn begin() -> State
     }
 }
 
-// Whether the classes of the first j outputs may do with the blocks that there are: class after class needs so many of them
-// that there are too few, or the question stays open.
+// Whether each of the first j outputs has as many blocks as its classes cannot do without. Where one has not, there are no
+// codes; where all have, that is still open.
 pub fn possible(cl: &[u8], v: usize, j: usize, rows: [u8; 8]) -> bool
     requires { ⌜ Labels (now cl) × (v ≤ 32) × (j ≤ 8) × Short rows j ⌝ }
     ensures { λ r. ⌜ (r ≡ false → Decided (now (cl .entry)) v j rows false rows) ⌝ }
