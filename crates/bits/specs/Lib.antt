@@ -1,3 +1,5 @@
 -- Binary digits of numbers, and the laws that the crates above cite.
 pub mod Logic
+pub mod LogicLaws
 pub mod Digit
+pub mod DigitLaws

@@ -14,7 +14,8 @@ use lib.Dec.{eqb}
 use lib.ListN.{length, getD, set, length-set}
 use lib.Seq.{getD-set-same, getD-set-other}
 use borrow.Author.Tests.{eq-eqb}
-use Rattle.bits.specs.Logic.{orb, true-false}
+use Rattle.bits.specs.Logic.{orb}
+use Rattle.bits.specs.LogicLaws.{true-false}
 use Rattle.bits.specs.Digit.{on}
 use Rattle.cells.specs.Lists.{All, Pairs, count, all-map, less-or-equal, never-both, or-on}
 use Rattle.cells.specs.Sets.{With}

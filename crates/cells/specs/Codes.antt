@@ -15,8 +15,10 @@ use lib.Bits.{bitAnd}
 use lib.Dec.{eqb}
 use lib.ListN.{length}
 use lib.Pow.{shr-shr}
-use Rattle.bits.specs.Logic.{andb, true-false}
-use Rattle.bits.specs.Digit.{digit, on, on-zero}
+use Rattle.bits.specs.Logic.{andb}
+use Rattle.bits.specs.LogicLaws.{true-false}
+use Rattle.bits.specs.Digit.{digit, on}
+use Rattle.bits.specs.DigitLaws.{on-zero}
 use Rattle.cells.specs.Core.{Cell, Apart, bit, reading, Serves, ZeroFirst, cellsFrom, coreOf}
 use Rattle.cells.specs.Lists.{count, bit-le, less-or-equal, never-both, count-alike}
 use Rattle.cells.specs.Pigeon.{Agree, agree-and, and-agree}

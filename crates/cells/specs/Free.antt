@@ -10,7 +10,8 @@ use native.Mathlib.Omega.{arith}
 use lib.Dec.{ltb}
 use lib.ListN.{length}
 use borrow.Author.Tests.{ltb-true, ltb-false}
-use Rattle.bits.specs.Logic.{orb, xorb, true-false}
+use Rattle.bits.specs.Logic.{orb, xorb}
+use Rattle.bits.specs.LogicLaws.{true-false}
 use Rattle.cells.specs.Core.{Cell, Apart, bit, reading, Serves, ZeroFirst}
 use Rattle.cells.specs.Lists.{bit-le}
 

@@ -13,8 +13,10 @@ use lib.Bits.{bitAnd}
 use lib.Dec.{eqb}
 use lib.ListN.{length}
 use borrow.Author.Tests.{eq-eqb, ne-eqb, eqb-true, eqb-false, not-true}
-use Rattle.bits.specs.Logic.{andb, true-false}
-use Rattle.bits.specs.Digit.{on, on-and, on-above, equal-digits}
+use Rattle.bits.specs.Logic.{andb}
+use Rattle.bits.specs.LogicLaws.{true-false}
+use Rattle.bits.specs.Digit.{on}
+use Rattle.bits.specs.DigitLaws.{on-and, on-above, equal-digits}
 use Rattle.cells.specs.Core.{bit}
 use Rattle.cells.specs.Lists.{All, Pairs, keep, part, count, bit-le, less-or-equal, never-both, all-map, all-both, pairs-map, all-part, part-has, pairs-part, part-length, and-off, and-on}
 

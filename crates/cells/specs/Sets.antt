@@ -11,8 +11,10 @@ use lib.Count.{trailingZeros, under}
 use lib.Dec.{eqb}
 use lib.Pow.{pow-lt, pow-pos}
 use borrow.Author.Tests.{eq-eqb, ne-eqb}
-use Rattle.bits.specs.Logic.{andb, orb, true-false}
-use Rattle.bits.specs.Digit.{digit, on, on-and, on-or, on-zero, on-single, on-complement}
+use Rattle.bits.specs.Logic.{andb, orb}
+use Rattle.bits.specs.LogicLaws.{true-false}
+use Rattle.bits.specs.Digit.{digit, on}
+use Rattle.bits.specs.DigitLaws.{on-and, on-or, on-zero, on-single, on-complement}
 use Rattle.cells.specs.Lists.{never-both, and-off, and-on}
 use Rattle.cells.specs.Codes.{on-half}
 

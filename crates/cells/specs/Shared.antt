@@ -12,8 +12,10 @@ use native.Mathlib.Decide.{ℕ-discrete}
 use native.Mathlib.Omega.{arith}
 use lib.Bits.{bitAnd}
 use lib.ListN.{length, length-append}
-use Rattle.bits.specs.Logic.{andb, orb, true-false}
-use Rattle.bits.specs.Digit.{on, on-and}
+use Rattle.bits.specs.Logic.{andb, orb}
+use Rattle.bits.specs.LogicLaws.{true-false}
+use Rattle.bits.specs.Digit.{on}
+use Rattle.bits.specs.DigitLaws.{on-and}
 use Rattle.cells.specs.Core.{Differ}
 use Rattle.cells.specs.Lists.{All, Pairs, count, sum, all-map, all-both, all-append, pairs-append, pairs-map, less-or-equal, and-on}
 use Rattle.cells.specs.Pigeon.{Agree, agree-and, and-agree, pigeon}

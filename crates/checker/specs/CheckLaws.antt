@@ -5,7 +5,7 @@ use mathlib.Core.List.{List}
 use Prim.Native.Nat.{ℕ, _≤_, _<_}
 use native.Mathlib.Omega.{arith}
 use lib.ListN.{length}
-use Rattle.bits.specs.Logic.{true-false}
+use Rattle.bits.specs.LogicLaws.{true-false}
 use Rattle.sheet.specs.Examine as sheets
 use Rattle.sheet.specs.Examine.{Design, refused, valid}
 use Rattle.sheet.specs.Known.{Holds}

@@ -8,10 +8,12 @@ use native.Mathlib.Omega.{arith}
 use borrow.Author.Count.{below-more}
 use borrow.Author.Tests.{not-false}
 use lib.ListN.{length, getD}
-use Rattle.bits.specs.Logic.{xorb, true-false}
+use Rattle.bits.specs.Logic.{xorb}
+use Rattle.bits.specs.LogicLaws.{true-false}
 use Rattle.rows.specs.Words.{rowOn}
 use Rattle.sheet.specs.Examine.{Design}
-use Rattle.sheet.specs.Known.{tableAt, outputOn}
+use Rattle.sheet.specs.Known.{tableAt}
+use Rattle.sheet.specs.Value.{outputOn}
 use Rattle.sheet.specs.declared.Sheet.{Sheet}
 use Rattle.classes.specs.declared.Shape.{Shape}
 use Rattle.network.specs.Network.{Network}

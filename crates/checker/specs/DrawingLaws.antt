@@ -22,7 +22,8 @@ use Rattle.network.specs.Printer.{printDigits}
 use Rattle.network.specs.LineAnswer.{Stands}
 use Rattle.network.specs.Value.{networkOn}
 use Rattle.netsheet.specs.Answer.{frees}
-use Rattle.serving.specs.NetworkCore.{lutAt, nodeOf}
+use Rattle.serving.specs.NetworkCore.{nodeOf}
+use Rattle.network.specs.Value.{lutAt}
 use Rattle.serving.specs.Tells.{node-at}
 use Rattle.serving.specs.Compose.{row-append}
 use Rattle.serving.specs.TheoremA.{parts-of}

@@ -14,8 +14,10 @@ use borrow.Author.Tests.{eqb-false}
 use lib.ListN.{length, getD, set, length-set}
 use lib.Seq.{getD-set-same, getD-set-other}
 use lib.Pow.{pow-mono}
-use Rattle.bits.specs.Logic.{andb, orb, xorb, true-false, and-left, and-right}
-use Rattle.bits.specs.Digit.{on, on-and, on-xor, on-ones, on-above, on-complement, on-none, equal-digits}
+use Rattle.bits.specs.Logic.{andb, orb, xorb}
+use Rattle.bits.specs.LogicLaws.{true-false, and-left, and-right}
+use Rattle.bits.specs.Digit.{on}
+use Rattle.bits.specs.DigitLaws.{on-and, on-xor, on-ones, on-above, on-complement, on-none, equal-digits}
 use Rattle.cells.specs.Core.{Differ, bit}
 use Rattle.cells.specs.Lists.{count, less-or-equal, never-both, and-off, and-on}
 use Rattle.cells.specs.Codes.{Coded, Normal, on-half}

@@ -3,7 +3,7 @@ use mathlib.Core.Path.{_≡_}
 use mathlib.Core.List.{List, []}
 use Prim.Native.Nat.{ℕ, _+_, _≤_, _<_}
 use lib.ListN.{length, getD}
-use Rattle.text.specs.Limits.{maxInputs, maxBound, maxOutputs}
+use Rattle.limits.specs.Limits.{maxInputs, maxBound, maxOutputs}
 use Rattle.sheet.specs.Examine.{Design}
 use Rattle.sheet.specs.Known.{Holds}
 use Rattle.sheet.specs.declared.Sheet.{Sheet}

@@ -10,7 +10,8 @@ use native.Mathlib.Omega.{arith}
 use native.Mathlib.Numerals.{add-one}
 use lib.ListN.{length, length-append}
 use borrow.Author.Tests.{not-true}
-use Rattle.bits.specs.Logic.{xorb, true-false, and-left, and-right, and-both}
+use Rattle.bits.specs.Logic.{xorb}
+use Rattle.bits.specs.LogicLaws.{true-false, and-left, and-right, and-both}
 use Rattle.rows.specs.EveryLaws.{last-or-below}
 use Rattle.names.specs.Name.{Name}
 use Rattle.sheet.specs.Examine.{Design}

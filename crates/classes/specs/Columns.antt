@@ -10,7 +10,7 @@ use Rattle.names.specs.Name.{Name, among}
 use Rattle.rows.specs.Row.{rowOf}
 use Rattle.formula.specs.Value.{onRow}
 use Rattle.sheet.specs.Examine.{Design}
-use Rattle.sheet.specs.Known.{outputOn}
+use Rattle.sheet.specs.Value.{outputOn}
 
 -- the free inputs, in the order of the inputs
 unfoldable pub free : List Name → List Name → List Name

@@ -11,8 +11,9 @@ use native.Mathlib.Nat.{add-zero, mul-assoc, pow-suc}
 use native.Mathlib.Numerals.{add-one}
 use lib.ListN.{length, length-map, length-append}
 use lib.Pow.{high, low, pow-pos}
-use Rattle.bits.specs.Logic.{true-false}
-use Rattle.bits.specs.Digit.{on, on-zero, on-above}
+use Rattle.bits.specs.LogicLaws.{true-false}
+use Rattle.bits.specs.Digit.{on}
+use Rattle.bits.specs.DigitLaws.{on-zero, on-above}
 use Rattle.names.specs.Name.{Name, sameName, among}
 use Rattle.rows.specs.Row.{bit, rowOf}
 use Rattle.rows.specs.RowLaws.{row-lt}

@@ -8,7 +8,7 @@ use Prim.Native.Nat.{ℕ, zero, suc, _+_, _-_, _<_}
 use native.Mathlib.Omega.{arith}
 use lib.ListN.{length, getD}
 use borrow.Author.Tests.{not-true}
-use Rattle.bits.specs.Logic.{true-false, and-left, and-right, and-both}
+use Rattle.bits.specs.LogicLaws.{true-false, and-left, and-right, and-both}
 use Rattle.names.specs.Name.{Name, sameName, among, distinct, allAmong}
 use Rattle.names.specs.SameLaws.{same-name-true, same-name-self}
 use Rattle.classes.specs.Cases.{either, not-both}

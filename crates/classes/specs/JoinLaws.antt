@@ -9,8 +9,10 @@ use native.Mathlib.Omega.{arith}
 use native.Mathlib.Nat.{add-zero, add-mul}
 use lib.ListN.{length, length-map}
 use lib.Pow.{high, low}
-use Rattle.bits.specs.Logic.{pick, true-false}
-use Rattle.bits.specs.Digit.{on, digit, on-zero}
+use Rattle.bits.specs.Logic.{pick}
+use Rattle.bits.specs.LogicLaws.{true-false}
+use Rattle.bits.specs.Digit.{on, digit}
+use Rattle.bits.specs.DigitLaws.{on-zero}
 use Rattle.names.specs.Name.{Name, sameName, among, distinct}
 use Rattle.names.specs.SameLaws.{same-name-true, same-name-self}
 use Rattle.rows.specs.Row.{bit, rowOf, valuesOf}

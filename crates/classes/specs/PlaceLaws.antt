@@ -9,7 +9,7 @@ use Prim.Native.Nat.{ℕ, zero, suc, _+_, _-_, _≤_, _<_}
 use native.Mathlib.Omega.{arith}
 use lib.ListN.{length, getD, drop, length-map}
 use lib.Seq.{drop-cons}
-use Rattle.bits.specs.Logic.{true-false}
+use Rattle.bits.specs.LogicLaws.{true-false}
 use Rattle.names.specs.Name.{Name, sameName, among, distinct}
 use Rattle.names.specs.SameLaws.{same-name-true, same-name-self, same-name-equal, same-name-different}
 use Rattle.names.specs.LookupLaws.{look-first}

@@ -5,7 +5,7 @@ use mathlib.Core.Bool.{true}
 use mathlib.Core.List.{List}
 use Prim.Native.Nat.{_≤_}
 use lib.ListN.{length}
-use Rattle.text.specs.Limits.{maxInputs, maxBound}
+use Rattle.limits.specs.Limits.{maxInputs, maxBound}
 use Rattle.names.specs.Name.{Name, distinct, allAmong}
 use Rattle.sheet.specs.Examine.{Design}
 

@@ -10,7 +10,7 @@ use lib.ListN.{length, getD, take}
 use lib.Pow.{pow-mono}
 use lib.Seq.{getD-take, length-take-le}
 use borrow.Author.Tests.{eq-eqb, eqb-true}
-use Rattle.bits.specs.Logic.{and-left, and-right, and-both}
+use Rattle.bits.specs.LogicLaws.{and-left, and-right, and-both}
 use Rattle.names.specs.Name.{Name}
 use Rattle.sheet.specs.Examine.{Design}
 use Rattle.sheet.specs.Known.{Holds, tableAt}

@@ -9,11 +9,11 @@ use Prim.Native.Nat.{ℕ, zero, suc, _^_, _≤_, _<_}
 use native.Mathlib.Omega.{arith}
 use lib.ListN.{length}
 use borrow.Author.Tests.{not-true}
-use Rattle.bits.specs.Logic.{and-left, and-right, and-both}
+use Rattle.bits.specs.LogicLaws.{and-left, and-right, and-both}
 use Rattle.rows.specs.EveryLaws.{last-or-below}
 use Rattle.names.specs.Name.{Name}
 use Rattle.sheet.specs.Examine.{Design}
-use Rattle.sheet.specs.Known.{outputOn}
+use Rattle.sheet.specs.Value.{outputOn}
 use Rattle.classes.specs.Columns.{vertexOf, freeRowOf, vertexCount, freeCount, valueAt, conflict, alike, alikeUpto, alikeInAll}
 use Rattle.classes.specs.Proper.{Parted}
 use Rattle.classes.specs.Classes.{localCount, localClass, globalCount, globalClass}

@@ -12,8 +12,10 @@ use lib.Bits.{bitAnd, bitOr, and-le-l, and-le-r}
 use lib.Dec.{eqb}
 use lib.ListN.{length, getD}
 use borrow.Author.Tests.{eq-eqb, ne-eqb, eqb-true}
-use Rattle.bits.specs.Logic.{andb, orb, pick, true-false, and-left, and-right}
-use Rattle.bits.specs.Digit.{on, on-and, on-or, on-zero, on-above, on-complement, on-ones, equal-digits}
+use Rattle.bits.specs.Logic.{andb, orb, pick}
+use Rattle.bits.specs.LogicLaws.{true-false, and-left, and-right}
+use Rattle.bits.specs.Digit.{on}
+use Rattle.bits.specs.DigitLaws.{on-and, on-or, on-zero, on-above, on-complement, on-ones, equal-digits}
 use Rattle.cells.specs.Lists.{All, Pairs, all-map, pairs-map, never-both, and-off, and-on, or-off}
 use Rattle.cells.specs.Pigeon.{Agree, agree-and, and-agree}
 use Rattle.cells.specs.Shared.{Fits, block}

@@ -7,7 +7,8 @@ use Prim.Native.Nat.{ℕ, _≤_, _<_}
 use native.Mathlib.Decide.{ℕ-discrete}
 use lib.Bits.{bitAnd}
 use lib.ListN.{length, set}
-use Rattle.bits.specs.Digit.{on, on-zero}
+use Rattle.bits.specs.Digit.{on}
+use Rattle.bits.specs.DigitLaws.{on-zero}
 use Rattle.cells.specs.Lists.{never-both}
 use Rattle.cells.specs.Sets.{Without}
 use Rattle.numbering.specs.Given.{item, Blocks, Solves, Extends, Kept, Hopeless}

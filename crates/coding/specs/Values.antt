@@ -13,8 +13,10 @@ use lib.Dec.{eqb}
 use lib.ListN.{length, getD, set, length-set}
 use lib.Seq.{getD-set-same, getD-set-other}
 use borrow.Author.Tests.{eq-eqb, ne-eqb, eqb-true}
-use Rattle.bits.specs.Logic.{andb, orb, pick, true-false, and-left, and-right}
-use Rattle.bits.specs.Digit.{on, on-and, on-or, on-zero, on-above, on-complement, equal-digits}
+use Rattle.bits.specs.Logic.{andb, orb, pick}
+use Rattle.bits.specs.LogicLaws.{true-false, and-left, and-right}
+use Rattle.bits.specs.Digit.{on}
+use Rattle.bits.specs.DigitLaws.{on-and, on-or, on-zero, on-above, on-complement, equal-digits}
 use Rattle.cells.specs.Lists.{less-or-equal, never-both, false-where, and-off, and-on}
 use Rattle.cells.specs.Pigeon.{agree-and}
 use Rattle.cells.specs.Sets.{Without}

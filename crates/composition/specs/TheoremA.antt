@@ -10,7 +10,8 @@ use native.Mathlib.Omega.{arith}
 use lib.Bits.{bitAnd}
 use lib.Dec.{eqb}
 use borrow.Author.Tests.{eq-eqb, ne-eqb, eqb-true}
-use Rattle.bits.specs.Logic.{andb, pick, true-false, and-left, and-right}
+use Rattle.bits.specs.Logic.{andb, pick}
+use Rattle.bits.specs.LogicLaws.{true-false, and-left, and-right}
 use Rattle.bits.specs.Digit.{on}
 use Rattle.cells.specs.Core.{Cell, Apart, Serves, cellsFrom, coreOf}
 use Rattle.cells.specs.Lists.{count, less-or-equal, never-both}

@@ -10,7 +10,8 @@ use lib.Dec.{eqb}
 use lib.ListN.{length, getD, drop, drop-of-length-le}
 use lib.Seq.{drop-cons}
 use borrow.Author.Tests.{eq-eqb, ne-eqb}
-use Rattle.bits.specs.Logic.{pick, true-false}
+use Rattle.bits.specs.Logic.{pick}
+use Rattle.bits.specs.LogicLaws.{true-false}
 use Rattle.text.specs.Bytes.{openBracket}
 use Rattle.text.specs.Number.{numeral}
 use Rattle.text.specs.NumeralLaws.{numeral-between}

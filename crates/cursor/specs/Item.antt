@@ -6,7 +6,7 @@ use mathlib.Core.List.{List, map}
 use Prim.Native.Nat.{ℕ, _≤_}
 use lib.ListN.{length, take, drop}
 use Rattle.text.specs.Bytes.{Read, found, bad}
-use Rattle.text.specs.Limits.{maxInputs}
+use Rattle.limits.specs.Limits.{maxInputs}
 use Rattle.names.specs.Name.{Name}
 use Rattle.names.specs.Pack.{nameOf}
 use Rattle.cursor.specs.Opening as spec

@@ -10,7 +10,8 @@ use lib.Dec.{eqb}
 use lib.ListN.{length, getD, drop}
 use lib.Seq.{drop-cons}
 use borrow.Author.Tests.{eq-eqb, ne-eqb}
-use Rattle.bits.specs.Logic.{pick, true-false}
+use Rattle.bits.specs.Logic.{pick}
+use Rattle.bits.specs.LogicLaws.{true-false}
 use Rattle.text.specs.Bytes.{bytes, same, Read, found, bad, after, eat, space, openBracket}
 use Rattle.text.specs.BytesLaws.{differ-same}
 use Rattle.text.specs.Number.{numeral}

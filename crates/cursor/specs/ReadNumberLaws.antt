@@ -12,9 +12,9 @@ use lib.ListN.{length, getD, take, drop, length-drop}
 use lib.Seq.{drop-cons, drop-drop, getD-take, getD-drop}
 use borrow.Author.Tests.{le-leb, lt-leb, leb-true}
 use borrow.Author.Count.{below-more}
-use Rattle.bits.specs.Logic.{and-right}
+use Rattle.bits.specs.LogicLaws.{and-right}
 use Rattle.text.specs.Bytes.{bad}
-use Rattle.text.specs.Limits.{maxDigits}
+use Rattle.limits.specs.Limits.{maxDigits}
 use Rattle.text.specs.Number.{numeral, numerals, afterNumerals, valueFrom, noLeadingZero, isNumber, readNumber}
 use Rattle.cursor.specs.declared.Cursor.{Cursor}
 use Rattle.cursor.specs.Item.{At}

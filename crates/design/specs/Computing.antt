@@ -13,7 +13,7 @@ use Rattle.formula.specs.Reader.{readWithin, readFormula}
 use Rattle.formula.specs.Value.{combine, value, onRow}
 use Rattle.sheet.specs.Lines.{readIn, readBound, readLimit, readOut}
 use Rattle.sheet.specs.Examine.{plain, plainLines, sized, askIn, askBound, askLimit, askOut, askEnd, askLine, askLines, examine}
-use Rattle.sheet.specs.Known.{outputOn}
+use Rattle.sheet.specs.Value.{outputOn}
 use Rattle.design.specs.Tabulate.{tableDigits, tableOf, tabulate}
 
 texts : Unit {0}

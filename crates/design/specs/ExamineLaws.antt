@@ -8,7 +8,8 @@ use native.Mathlib.Nat.{mod-eq-of-lt, one-mul}
 use native.Mathlib.Numerals.{add-one}
 use lib.ListN.{length, getD, drop, take}
 use lib.Pow.{pow-mono}
-use Rattle.bits.specs.Logic.{pick, true-false}
+use Rattle.bits.specs.Logic.{pick}
+use Rattle.bits.specs.LogicLaws.{true-false}
 use Rattle.text.specs.Bytes.{newline}
 use Rattle.text.specs.Line.{lines}
 use Rattle.text.specs.LineEnd.{LineEnd}

@@ -9,8 +9,8 @@ use lib.Dec.{eqb, leb}
 use lib.ListN.{length, getD, drop, drop-of-length-le}
 use lib.Seq.{drop-cons}
 use borrow.Author.Tests.{le-leb, lt-leb, eq-eqb, ne-eqb, eqb-true}
-use Rattle.bits.specs.Logic.{true-false}
-use Rattle.text.specs.Limits.{maxSheet}
+use Rattle.bits.specs.LogicLaws.{true-false}
+use Rattle.limits.specs.Limits.{maxSheet}
 use Rattle.text.specs.Bytes.{newline}
 use Rattle.sheet.specs.Examine.{sized, plain, plainLines, within}
 

@@ -8,13 +8,15 @@ use lib.Dec.{leb, ltb}
 use lib.ListN.{length}
 use lib.Seq.{sets}
 use borrow.Author.Tests.{le-leb, lt-leb, lt-ltb, le-ltb}
-use Rattle.bits.specs.Logic.{pick, true-false}
+use Rattle.bits.specs.Logic.{pick}
+use Rattle.bits.specs.LogicLaws.{true-false}
 use Rattle.rows.specs.Words.{rowOn}
 use Rattle.rows.specs.Digits.{digitsUpto}
 use Rattle.rows.specs.DigitLaws.{digits-rowwise}
 use Rattle.sheet.specs.Examine as spec
 use Rattle.sheet.specs.Examine.{Design, refused, valid}
-use Rattle.sheet.specs.Known.{Holds, tableAt, outputOn}
+use Rattle.sheet.specs.Known.{Holds, tableAt}
+use Rattle.sheet.specs.Value.{outputOn}
 use Rattle.sheet.specs.declared.Sheet.{Sheet}
 use Rattle.design.specs.Tabulate.{Tabulated, TableAnswer, refused-by, written, untouched, tableOf, tabulate, tableDigits, rowCount}
 use Rattle.design.specs.Answer.{ExaminedIs, RefusedAs, ValidAs}

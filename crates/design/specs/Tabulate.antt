@@ -8,7 +8,7 @@ use lib.ListN.{length}
 use lib.Seq.{sets}
 use Rattle.bits.specs.Logic.{pick}
 use Rattle.rows.specs.Digits.{digitsUpto}
-use Rattle.sheet.specs.Known.{outputOn}
+use Rattle.sheet.specs.Value.{outputOn}
 use Rattle.sheet.specs.Examine.{Design, Examined, refused, valid, examine}
 
 -- how many rows a design has

@@ -10,8 +10,10 @@ use native.Mathlib.Omega.{arith}
 use lib.Bits.{bitXor}
 use lib.ListN.{length, getD, set, length-set}
 use lib.Seq.{getD-set-same, getD-set-other}
-use Rattle.bits.specs.Logic.{orb, xorb, true-false}
-use Rattle.bits.specs.Digit.{on, on-xor, on-none}
+use Rattle.bits.specs.Logic.{orb, xorb}
+use Rattle.bits.specs.LogicLaws.{true-false}
+use Rattle.bits.specs.Digit.{on}
+use Rattle.bits.specs.DigitLaws.{on-xor, on-none}
 use Rattle.cells.specs.Core.{Cell, Differ, Serves, Least, Answer, coreOf, bit}
 use Rattle.cells.specs.Lists.{count, less-or-equal}
 use Rattle.cells.specs.Pigeon.{agree-and, and-agree}

@@ -5,7 +5,7 @@ use mathlib.Core.List.{List, [], _∷_, _++_}
 use Prim.Native.Nat.{ℕ, suc, _%_}
 use native.Mathlib.Omega.{arith}
 use Rattle.bits.specs.Logic.{andb, orb, xorb}
-use Rattle.bits.specs.Digit.{Binary, is0, is1, binary}
+use Rattle.bits.specs.DigitLaws.{Binary, is0, is1, binary}
 use Rattle.cursor.specs.Opening.{Gate, and-gate, or-gate, xor-gate}
 use Rattle.formula.specs.Value.{every, some, count, odd, combine}
 use Rattle.formula.specs.Gates.{two}

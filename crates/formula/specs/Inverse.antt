@@ -7,7 +7,7 @@ use mathlib.Core.List.{List, [], _∷_, _++_, append-nil}
 use mathlib.Core.Option.{some}
 use Prim.Native.Nat.{ℕ, suc}
 use lib.ListN.{length}
-use Rattle.bits.specs.Logic.{and-left, and-right}
+use Rattle.bits.specs.LogicLaws.{and-left, and-right}
 use Rattle.text.specs.Bytes.{Read, found, after, eat, space, closeBracket, whole}
 use Rattle.text.specs.EatLaws.{whole-found, found-whole}
 use Rattle.names.specs.Front.{Stops}

@@ -6,7 +6,7 @@ use mathlib.Core.List.{List, [], _∷_, map}
 use Prim.Native.Nat.{ℕ, suc, _+_, _≤_, min, max}
 use lib.ListN.{length, drop}
 use Rattle.bits.specs.Logic.{andb, orb, xorb}
-use Rattle.text.specs.Limits.{maxDepth}
+use Rattle.limits.specs.Limits.{maxDepth}
 use Rattle.text.specs.Bytes.{Read, found, bad, after, closeBracket}
 use Rattle.names.specs.Name.{Name}
 use Rattle.rows.specs.Words.{Rowwise, rowOn}

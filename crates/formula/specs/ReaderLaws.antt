@@ -6,7 +6,8 @@ use mathlib.Core.List.{List, [], _∷_}
 use Prim.Native.Nat.{ℕ, zero, suc, _≤_, _<_}
 use native.Mathlib.Omega.{arith}
 use lib.ListN.{length, length-append}
-use Rattle.bits.specs.Logic.{pick, true-false}
+use Rattle.bits.specs.Logic.{pick}
+use Rattle.bits.specs.LogicLaws.{true-false}
 use Rattle.text.specs.Bytes.{Read, found, bad, after}
 use Rattle.text.specs.After.{after-same}
 use Rattle.names.specs.NameLaws.{name-not-empty}

@@ -10,8 +10,9 @@ use lib.Dec.{eqb}
 use lib.ListN.{length, drop, getD, length-drop, drop-of-length-le}
 use lib.Seq.{drop-cons}
 use borrow.Author.Tests.{eq-eqb, ne-eqb, eqb-true}
-use Rattle.bits.specs.Logic.{andb, pick, true-false, and-left, and-right, and-both}
-use Rattle.text.specs.Limits.{maxDepth}
+use Rattle.bits.specs.Logic.{andb, pick}
+use Rattle.bits.specs.LogicLaws.{true-false, and-left, and-right, and-both}
+use Rattle.limits.specs.Limits.{maxDepth}
 use Rattle.text.specs.Bytes.{Read, found, bad, after, eat, closeBracket, space}
 use Rattle.names.specs.Name.{Name}
 use Rattle.rows.specs.Words.{Rowwise}

@@ -6,7 +6,8 @@ use mathlib.Core.Bool.{Bool, true, false, _&&_}
 use mathlib.Core.List.{List, [], _∷_, _++_}
 use Prim.Native.Nat.{ℕ, zero, suc}
 use borrow.Author.Tests.{eqb-true}
-use Rattle.bits.specs.Logic.{pick, true-false, and-both}
+use Rattle.bits.specs.Logic.{pick}
+use Rattle.bits.specs.LogicLaws.{true-false, and-both}
 use Rattle.text.specs.Bytes.{Read, found, after, space, closeBracket}
 use Rattle.text.specs.EatLaws.{bad-found, found-item, found-rest, after-found}
 use Rattle.text.specs.After.{byte-found}

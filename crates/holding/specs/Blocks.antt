@@ -13,7 +13,8 @@ use lib.ListN.{length, getD, set, length-set}
 use lib.Seq.{getD-set-same, getD-set-other}
 use borrow.Author.Tests.{eq-eqb, ne-eqb, eqb-true}
 use Rattle.bits.specs.Logic.{andb, orb}
-use Rattle.bits.specs.Digit.{on, on-and, on-or, on-zero, on-complement, equal-digits}
+use Rattle.bits.specs.Digit.{on}
+use Rattle.bits.specs.DigitLaws.{on-and, on-or, on-zero, on-complement, equal-digits}
 use Rattle.cells.specs.Lists.{less-or-equal, never-both, or-on, or-off}
 use Rattle.numbering.specs.Given.{item, Block}
 use Rattle.cells.specs.Sets.{With, Without}

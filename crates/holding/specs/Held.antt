@@ -11,7 +11,8 @@ use lib.ListN.{length, getD, set, length-set}
 use lib.Seq.{getD-set-same, getD-set-other}
 use borrow.Author.Tests.{eq-eqb, eqb-true}
 use Rattle.bits.specs.Logic.{orb}
-use Rattle.bits.specs.Digit.{on, on-or, on-zero}
+use Rattle.bits.specs.Digit.{on}
+use Rattle.bits.specs.DigitLaws.{on-or, on-zero}
 use Rattle.cells.specs.Lists.{All, Pairs, all-map, less-or-equal, never-both, or-on}
 use Rattle.numbering.specs.Given.{labelAt, item, Block}
 

@@ -13,7 +13,8 @@ use lib.Dec.{eqb}
 use lib.ListN.{getD}
 use borrow.Author.Tests.{eq-eqb, ne-eqb}
 use Rattle.bits.specs.Logic.{andb, pick}
-use Rattle.bits.specs.Digit.{on, on-and, on-zero}
+use Rattle.bits.specs.Digit.{on}
+use Rattle.bits.specs.DigitLaws.{on-and, on-zero}
 use Rattle.cells.specs.Lists.{sum, all-map, pairs-map, less-or-equal, never-both, false-where, true-where, sum-more}
 use Rattle.cells.specs.Shared.{block, Group, gather}
 use Rattle.numbering.specs.Given.{labelAt, item, Solves, Extends}

@@ -10,8 +10,9 @@ use lib.Dec.{leb}
 use lib.ListN.{length, set}
 use lib.Seq.{getD-set-same, getD-set-other}
 use borrow.Author.Tests.{leb-true, le-leb}
-use Rattle.bits.specs.Logic.{true-false}
-use Rattle.bits.specs.Digit.{on, on-zero}
+use Rattle.bits.specs.LogicLaws.{true-false}
+use Rattle.bits.specs.Digit.{on}
+use Rattle.bits.specs.DigitLaws.{on-zero}
 use Rattle.cells.specs.Lists.{count, less-or-equal, never-both, false-where, count-drop}
 use Rattle.numbering.specs.Given.{item, Hopeless, Told}
 

@@ -11,7 +11,8 @@ use lib.Bits.{bitAnd}
 use lib.ListN.{length, getD, set, length-set}
 use lib.Seq.{getD-set-same, getD-set-other}
 use Rattle.bits.specs.Logic.{andb}
-use Rattle.bits.specs.Digit.{on, on-and, on-ones}
+use Rattle.bits.specs.Digit.{on}
+use Rattle.bits.specs.DigitLaws.{on-and, on-ones}
 use Rattle.cells.specs.Lists.{count, sum}
 use Rattle.numbering.specs.Given.{labelAt, item}
 

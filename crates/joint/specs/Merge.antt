@@ -12,7 +12,7 @@ use native.Mathlib.Omega.{arith}
 use lib.Bits.{bitAnd}
 use lib.ListN.{length, getD, set, length-set}
 use lib.Seq.{getD-set-same, getD-set-other}
-use Rattle.bits.specs.Logic.{true-false}
+use Rattle.bits.specs.LogicLaws.{true-false}
 use Rattle.cells.specs.Core.{Differ}
 use Rattle.cells.specs.Lists.{less-or-equal}
 use Rattle.cells.specs.Codes.{Coded}

@@ -8,7 +8,7 @@ use mathlib.Core.Logic.{_⊎_}
 use mathlib.Core.Option.{some}
 use Prim.Native.Nat.{ℕ, _≤_, _<_}
 use lib.ListN.{length}
-use Rattle.text.specs.Limits.{maxClasses}
+use Rattle.limits.specs.Limits.{maxClasses}
 use Rattle.sheet.specs.Examine.{Design, refused, valid, examine}
 use Rattle.design.specs.Tabulate as tables
 use Rattle.design.specs.Tabulate.{tabulate, rowCount}

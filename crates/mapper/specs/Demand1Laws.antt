@@ -11,7 +11,7 @@ use lib.ListN.{length}
 use lib.Seq.{sets}
 use borrow.Author.Tests.{ltb-true, ltb-false, leb-false, lt-ltb, le-ltb, lt-leb}
 use Rattle.bits.specs.Logic.{pick}
-use Rattle.text.specs.Limits.{maxClasses}
+use Rattle.limits.specs.Limits.{maxClasses}
 use Rattle.sheet.specs.Examine.{Design, Examined, refused, valid, examine}
 use Rattle.sheet.specs.ExaminationLaws.{refused-right}
 use Rattle.design.specs.Tabulate as tables

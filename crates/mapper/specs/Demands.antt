@@ -9,7 +9,7 @@ use native.Mathlib.Omega.{arith}
 use native.Mathlib.Nat.{zero-add}
 use lib.ListN.{length, take, drop}
 use lib.Seq.{sets, sets-eq, take-at}
-use Rattle.text.specs.Limits.{maxClasses}
+use Rattle.limits.specs.Limits.{maxClasses}
 use Rattle.sheet.specs.Examine.{Design, refused, valid, examine}
 use Rattle.sheet.specs.WellFormed.{WellFormed}
 use Rattle.sheet.specs.ExaminationLaws.{valid-well-formed}

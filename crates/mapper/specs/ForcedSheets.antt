@@ -8,7 +8,7 @@ use Prim.Native.Nat.{ℕ, zero, _+_, _^_, _<_, min}
 use native.Mathlib.Omega.{arith}
 use lib.Dec.{lit<, lit≤}
 use lib.ListN.{length, getD}
-use Rattle.bits.specs.Logic.{true-false}
+use Rattle.bits.specs.LogicLaws.{true-false}
 use Rattle.rows.specs.Row.{rowOf}
 use Rattle.sheet.specs.Examine.{Design}
 use Rattle.design.specs.Sheets.{designA}

@@ -2,12 +2,11 @@
 -- networks is written is free. Assumes nothing.
 use mathlib.Core.Path.{_≡_}
 use mathlib.Core.Bool.{Bool, true, false}
-use mathlib.Core.List.{List, [], map}
+use mathlib.Core.List.{List, []}
 use Prim.Native.Nat.{ℕ, _/_, _≤_, _<_, min}
 use lib.ListN.{length, getD}
 use lib.Seq.{sets}
-use Rattle.text.specs.Limits.{maxClasses}
-use Rattle.rows.specs.Row.{rowOf}
+use Rattle.limits.specs.Limits.{maxClasses}
 use Rattle.sheet.specs.Examine.{Design, refused, valid, examine}
 use Rattle.classes.specs.Columns.{vertexCount, freeCount}
 use Rattle.classes.specs.Classes.{globalCount}
@@ -16,11 +15,7 @@ use Rattle.network.specs.Network.{Network}
 use Rattle.network.specs.Printer.{printNetwork}
 use Rattle.network.specs.Wellformed.{Wellformed, nodeAt}
 use Rattle.network.specs.Answers.{WithinLimits, Computes, readCount}
-use Rattle.serving.specs.NetworkCore.{lutAt}
-
--- the code that vertex x produces in the shared tables of a list
-abbrev pub codeAt : Network → List ℕ → ℕ → ℕ
-codeAt w is x = rowOf (map (λ i. lutAt w i x) is)
+use Rattle.network.specs.Value.{lutAt, codeAt}
 
 -- "Map uses the fewest shared tables that serve. Each of its tables is 0 at vertex 0. A composition entry whose code no
 -- vertex produces is 0." Each node reads as many tables as its width and their number allow, so that "its length depends

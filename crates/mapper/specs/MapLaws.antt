@@ -11,9 +11,10 @@ use lib.Dec.{eqb}
 use lib.ListN.{length, getD, List·getD-eq-default}
 use lib.Pow.{pow-pos}
 use borrow.Author.Tests.{ne-eqb}
-use Rattle.bits.specs.Logic.{true-false, pick}
+use Rattle.bits.specs.Logic.{pick}
+use Rattle.bits.specs.LogicLaws.{true-false}
 use Rattle.bits.specs.Digit.{on}
-use Rattle.text.specs.Limits.{maxCells}
+use Rattle.limits.specs.Limits.{maxCells}
 use Rattle.rows.specs.Row.{rowOf}
 use Rattle.sheet.specs.Examine.{Design}
 use Rattle.sheet.specs.WellFormed.{WellFormed}
@@ -32,12 +33,14 @@ use Rattle.cells.specs.Lists.{count, count-alike}
 use Rattle.cells.specs.Codes.{cells-length}
 use Rattle.numbering.specs.Given.{labelAt, item}
 use Rattle.fewest.specs.Count.{Answered}
-use Rattle.serving.specs.NetworkCore.{lutAt, networkCore, Conflicts, ServesDesign}
+use Rattle.serving.specs.NetworkCore.{networkCore, Conflicts, ServesDesign}
+use Rattle.network.specs.Value.{lutAt}
 use Rattle.serving.specs.Tells.{core-length}
 use Rattle.serving.specs.Build.{numbers, codeIn, entryAt, entry, nodeBuilt, built}
 use Rattle.serving.specs.Compose.{values-length, values-at, lut-built, tables-at}
 use Rattle.serving.specs.TheoremA.{drawn-serves, built-luts, built-node, built-wellformed, built-reads, built-within, built-computes, parts-of, columns-of}
-use Rattle.mapper.specs.Map.{Permitted, codeAt}
+use Rattle.mapper.specs.Map.{Permitted}
+use Rattle.network.specs.Value.{codeAt}
 
 -- the problem that was given to the search is the design's
 pub record Given (d : Design) (cl budgets : List ℕ) (v m limit : ℕ) : Type 0 where

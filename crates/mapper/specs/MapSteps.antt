@@ -8,8 +8,8 @@ use native.Mathlib.Decide.{decLt}
 use lib.ListN.{length, getD}
 use lib.Pow.{pow-mono}
 use lib.Seq.{sets}
-use Rattle.bits.specs.Logic.{true-false}
-use Rattle.text.specs.Limits.{maxCells, maxClasses}
+use Rattle.bits.specs.LogicLaws.{true-false}
+use Rattle.limits.specs.Limits.{maxCells, maxClasses}
 use Rattle.sheet.specs.Examine as spec
 use Rattle.sheet.specs.Examine.{Design, valid, examine}
 use Rattle.sheet.specs.Known.{Holds}

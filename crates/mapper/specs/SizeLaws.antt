@@ -8,8 +8,9 @@ use native.Mathlib.Omega.{arith}
 use lib.Dec.{ltb}
 use lib.ListN.{length, getD, length-append, length-map}
 use lib.Pow.{pow-mono}
-use Rattle.bits.specs.Logic.{pick, true-false}
-use Rattle.text.specs.Limits.{maxNetwork, maxCells}
+use Rattle.bits.specs.Logic.{pick}
+use Rattle.bits.specs.LogicLaws.{true-false}
+use Rattle.limits.specs.Limits.{maxNetwork, maxCells}
 use Rattle.text.specs.Bytes.{bytes, space, newline, closeBracket}
 use Rattle.text.specs.Number.{printNumber}
 use Rattle.names.specs.Name.{Name, isName}

@@ -8,7 +8,7 @@ use native.Mathlib.Omega.{arith}
 use native.Mathlib.Nat.{le-antisymm}
 use lib.ListN.{length}
 use lib.Seq.{sets}
-use Rattle.text.specs.Limits.{maxClasses}
+use Rattle.limits.specs.Limits.{maxClasses}
 use Rattle.sheet.specs.Examine.{Design, refused, valid, examine}
 use Rattle.sheet.specs.ExaminationLaws.{valid-well-formed}
 use Rattle.classes.specs.ProperLaws.{proper-of}

@@ -5,8 +5,8 @@ use Prim.Native.Nat.{_≤_, _<_}
 use lib.Dec.{leb}
 use lib.ListN.{length}
 use borrow.Author.Tests.{leb-true, le-leb, lt-leb, not-true}
-use Rattle.bits.specs.Logic.{and-left, and-right, and-both}
-use Rattle.text.specs.Limits.{maxName}
+use Rattle.bits.specs.LogicLaws.{and-left, and-right, and-both}
+use Rattle.limits.specs.Limits.{maxName}
 use Rattle.names.specs.Name.{Name, Operator, none-op, operator, isOperator, allNameBytes, startsWithLetter, isName}
 
 pub is-name : (n : Name) → startsWithLetter n ≡ true → allNameBytes n ≡ true → length n ≤ 8 → operator n ≡ none-op → isName n ≡ true

@@ -6,7 +6,8 @@ use mathlib.Core.List.{List, [], _∷_, map}
 use Prim.Native.Nat.{ℕ, zero, suc, _-_, _^_, _<_}
 use native.Mathlib.Omega.{arith}
 use lib.ListN.{length, getD, length-map, List·getD-map}
-use Rattle.bits.specs.Logic.{pick, true-false}
+use Rattle.bits.specs.Logic.{pick}
+use Rattle.bits.specs.LogicLaws.{true-false}
 use Rattle.names.specs.Name.{Name, sameName, among}
 use Rattle.names.specs.Pack.{unpackWithin, nameOf}
 use Rattle.names.specs.Word.{PositionIs}

@@ -8,7 +8,7 @@ use lib.ListN.{length}
 use Rattle.bits.specs.Logic.{pick}
 use Rattle.text.specs.Bytes.{bytes, same, Read, found, bad}
 use Rattle.text.specs.Number.{numeral}
-use Rattle.text.specs.Limits.{maxName}
+use Rattle.limits.specs.Limits.{maxName}
 
 abbrev pub Name : Type 0
 Name = List ℕ

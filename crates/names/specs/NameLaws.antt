@@ -6,7 +6,8 @@ use mathlib.Core.List.{List, [], _∷_, _++_}
 use Prim.Native.Nat.{ℕ, _+_, _≤_, _<_}
 use native.Mathlib.Omega.{arith}
 use lib.ListN.{length, length-append}
-use Rattle.bits.specs.Logic.{pick, true-false, and-both}
+use Rattle.bits.specs.Logic.{pick}
+use Rattle.bits.specs.LogicLaws.{true-false, and-both}
 use Rattle.text.specs.Bytes.{found, bad}
 use Rattle.text.specs.Number.{numeral}
 use Rattle.names.specs.Name.{Name, letter, nameByte, word, afterWord, allNameBytes, startsWithLetter, isName, readName}

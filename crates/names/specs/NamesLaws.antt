@@ -7,7 +7,8 @@ use native.Mathlib.Omega.{arith}
 use lib.Dec.{eqb}
 use lib.ListN.{length, length-append}
 use borrow.Author.Tests.{eqb-true, ne-eqb}
-use Rattle.bits.specs.Logic.{pick, and-left, and-right, and-both}
+use Rattle.bits.specs.Logic.{pick}
+use Rattle.bits.specs.LogicLaws.{and-left, and-right, and-both}
 use Rattle.text.specs.Bytes.{Read, found, bad, after, space, closeBracket}
 use Rattle.text.specs.EatLaws.{bad-found, found-item, found-rest, after-found}
 use Rattle.text.specs.After.{after-same}

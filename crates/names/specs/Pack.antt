@@ -4,7 +4,7 @@ use mathlib.Core.List.{List, [], _∷_}
 use Prim.Native.Nat.{ℕ, zero, suc, _+_, _*_, _/_, _%_}
 use lib.Dec.{eqb}
 use Rattle.bits.specs.Logic.{pick}
-use Rattle.text.specs.Limits.{maxName}
+use Rattle.limits.specs.Limits.{maxName}
 use Rattle.names.specs.Name.{Name}
 
 unfoldable pub pack : Name → ℕ

@@ -11,7 +11,8 @@ use native.Mathlib.Decide.{ℕ-discrete}
 use lib.Dec.{eqb, leb}
 use lib.ListN.{length}
 use borrow.Author.Tests.{eq-eqb, ne-eqb, leb-true}
-use Rattle.bits.specs.Logic.{pick, and-left, and-right}
+use Rattle.bits.specs.Logic.{pick}
+use Rattle.bits.specs.LogicLaws.{and-left, and-right}
 use Rattle.text.specs.Bytes.{same}
 use Rattle.text.specs.BytesLaws.{differ-same}
 use Rattle.text.specs.Number.{numeral}

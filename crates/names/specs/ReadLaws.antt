@@ -4,7 +4,8 @@ use mathlib.Core.Path.{_≡_, refl, ap}
 use mathlib.Core.Bool.{Bool, true, false}
 use mathlib.Core.List.{List, [], _∷_, _++_}
 use Prim.Native.Nat.{ℕ}
-use Rattle.bits.specs.Logic.{pick, and-left, and-right}
+use Rattle.bits.specs.Logic.{pick}
+use Rattle.bits.specs.LogicLaws.{and-left, and-right}
 use Rattle.text.specs.Bytes.{found, space, closeBracket}
 use Rattle.text.specs.Number.{numeral}
 use Rattle.names.specs.Name.{Name, letter, nameByte, word, afterWord, allNameBytes, isName, readName}

@@ -5,7 +5,7 @@ use mathlib.Core.Bool.{true, false}
 use mathlib.Core.List.{List, []}
 use Prim.Native.Nat.{ℕ, _^_, _≤_, _<_}
 use lib.ListN.{length, getD}
-use Rattle.text.specs.Limits.{maxCells}
+use Rattle.limits.specs.Limits.{maxCells}
 use Rattle.sheet.specs.Examine.{Design}
 use Rattle.classes.specs.Columns.{free}
 use Rattle.network.specs.Network.{Network}

@@ -12,7 +12,7 @@ use lib.Seq.{getD-take}
 use borrow.Author.Tests.{lt-ltb, le-ltb, ltb-true, ltb-false}
 use Rattle.bits.specs.Logic.{pick}
 use Rattle.text.specs.Bytes.{same}
-use Rattle.text.specs.Limits.{maxCells, maxOutputs}
+use Rattle.limits.specs.Limits.{maxCells, maxOutputs}
 use Rattle.names.specs.Name.{Name}
 use Rattle.names.specs.Pack.{nameOf}
 use Rattle.sheet.specs.Lines.{endLine}

@@ -8,7 +8,7 @@ use Prim.Native.Nat.{ℕ, _+_, _-_, _^_, _<_}
 use native.Mathlib.Omega.{arith}
 use lib.ListN.{length, getD, take, drop, set, length-append, length-drop, List·getD-append}
 use lib.Seq.{drop-drop, drop-append-le, take-append-le, getD-at, getD-set-same, getD-set-other}
-use Rattle.text.specs.Limits.{maxCells}
+use Rattle.limits.specs.Limits.{maxCells}
 use Rattle.rows.specs.EveryLaws.{last-or-below}
 use Rattle.network.specs.Network.{Network, Node}
 use Rattle.network.specs.Examine.{withLut, withNode}

@@ -3,7 +3,7 @@ use mathlib.Core.Path.{_≡_}
 use mathlib.Core.List.{List, map}
 use Prim.Native.Nat.{ℕ, _≤_, _<_}
 use lib.ListN.{length, getD, take}
-use Rattle.text.specs.Limits.{maxInputs, maxBound, maxOutputs}
+use Rattle.limits.specs.Limits.{maxInputs, maxBound, maxOutputs}
 use Rattle.names.specs.Pack.{nameOf}
 use Rattle.sheet.specs.Examine.{Design, outputNames}
 use Rattle.sheet.specs.Known.{Holds}

@@ -7,7 +7,8 @@ use Prim.Native.Nat.{ℕ, zero, suc, _≤_, _<_}
 use native.Mathlib.Omega.{arith}
 use lib.ListN.{length, getD, take, List·getD-map}
 use lib.Seq.{getD-take, length-take-le}
-use Rattle.bits.specs.Logic.{pick, true-false, and-left, and-right}
+use Rattle.bits.specs.Logic.{pick}
+use Rattle.bits.specs.LogicLaws.{true-false, and-left, and-right}
 use Rattle.names.specs.Name.{Name, sameName, among, allAmong}
 use Rattle.names.specs.SameLaws.{same-name-true}
 use Rattle.names.specs.Pack.{nameOf, unpackWithin}

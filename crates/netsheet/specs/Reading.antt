@@ -7,7 +7,7 @@ use Prim.Native.Nat.{ℕ, _+_, _≤_, _<_}
 use lib.Dec.{ltb}
 use lib.ListN.{length, drop, set}
 use Rattle.bits.specs.Logic.{pick}
-use Rattle.text.specs.Limits.{maxCells, maxOutputs}
+use Rattle.limits.specs.Limits.{maxCells, maxOutputs}
 use Rattle.names.specs.Name.{Name}
 use Rattle.sheet.specs.Examine.{Design}
 use Rattle.network.specs.Network.{Network}

@@ -11,9 +11,10 @@ use lib.Dec.{eqb, leb}
 use lib.ListN.{length, getD, take, drop, length-drop, take-append-drop}
 use lib.Seq.{drop-cons, getD-drop, length-take-le}
 use borrow.Author.Tests.{eq-eqb, ne-eqb, le-leb, lt-leb}
-use Rattle.bits.specs.Logic.{pick, true-false}
+use Rattle.bits.specs.Logic.{pick}
+use Rattle.bits.specs.LogicLaws.{true-false}
 use Rattle.text.specs.Bytes.{newline}
-use Rattle.text.specs.Limits.{maxNetwork}
+use Rattle.limits.specs.Limits.{maxNetwork}
 use Rattle.text.specs.Line.{lines}
 use Rattle.text.specs.LineEnd.{LineEnd}
 use Rattle.text.specs.Unbroken.{unbroken}

@@ -6,7 +6,7 @@ use mathlib.Core.Option.{none}
 use Prim.Native.Nat.{ℕ, _+_, _^_, _≤_, _<_}
 use lib.ListN.{length}
 use Rattle.sheet.specs.Examine.{Design, valid, examine}
-use Rattle.sheet.specs.Known.{outputOn}
+use Rattle.sheet.specs.Value.{outputOn}
 use Rattle.classes.specs.Width.{budget}
 use Rattle.network.specs.Network.{Network}
 use Rattle.network.specs.Examine.{network, readNetwork, offending}

@@ -8,7 +8,7 @@ use lib.ListN.{length}
 use Rattle.bits.specs.Logic.{pick, xorb}
 use Rattle.sheet.specs.Examine as sheets
 use Rattle.sheet.specs.Examine.{Design}
-use Rattle.sheet.specs.Known.{outputOn}
+use Rattle.sheet.specs.Value.{outputOn}
 use Rattle.network.specs.Network.{Network}
 use Rattle.network.specs.Examine.{Answer, bad-line, network, readNetwork, offending}
 use Rattle.network.specs.Value.{networkOn}

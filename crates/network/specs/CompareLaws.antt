@@ -7,9 +7,10 @@ use Prim.Native.Nat.{ℕ, zero, suc, _^_, _<_}
 use native.Mathlib.Omega.{arith}
 use lib.ListN.{length}
 use borrow.Author.Tests.{not-false}
-use Rattle.bits.specs.Logic.{xorb, true-false}
+use Rattle.bits.specs.Logic.{xorb}
+use Rattle.bits.specs.LogicLaws.{true-false}
 use Rattle.sheet.specs.Examine.{Design}
-use Rattle.sheet.specs.Known.{outputOn}
+use Rattle.sheet.specs.Value.{outputOn}
 use Rattle.network.specs.Network.{Network}
 use Rattle.network.specs.Value.{networkOn}
 use Rattle.network.specs.Check.{Checked, same, differs, firstOf, differsOn, differingRow, atRow, compareFrom}

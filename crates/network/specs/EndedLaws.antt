@@ -8,7 +8,8 @@ use native.Mathlib.Omega.{arith}
 use lib.Dec.{eqb}
 use lib.ListN.{length, length-append}
 use borrow.Author.Tests.{eqb-true}
-use Rattle.bits.specs.Logic.{pick, true-false, and-left, and-right}
+use Rattle.bits.specs.Logic.{pick}
+use Rattle.bits.specs.LogicLaws.{true-false, and-left, and-right}
 use Rattle.text.specs.Bytes.{newline}
 use Rattle.text.specs.Line.{lines, onto}
 use Rattle.text.specs.LineLaws.{lines-empty, lines-broken}

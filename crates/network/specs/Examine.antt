@@ -9,7 +9,7 @@ use lib.ListN.{length, getD}
 use Rattle.bits.specs.Logic.{pick}
 use Rattle.text.specs.Bytes.{same, newline}
 use Rattle.text.specs.Line.{lines}
-use Rattle.text.specs.Limits.{maxNetwork, maxCells}
+use Rattle.limits.specs.Limits.{maxNetwork, maxCells}
 use Rattle.names.specs.Name.{Name}
 use Rattle.sheet.specs.Lines.{endLine}
 use Rattle.sheet.specs.Examine.{Design, outputNames, within}

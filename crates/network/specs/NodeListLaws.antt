@@ -7,7 +7,7 @@ use Prim.Native.Nat.{ℕ}
 use native.Mathlib.Omega.{arith}
 use lib.Dec.{leb}
 use borrow.Author.Tests.{ne-eqb, leb-true}
-use Rattle.bits.specs.Logic.{true-false, and-left}
+use Rattle.bits.specs.LogicLaws.{true-false, and-left}
 use Rattle.text.specs.Bytes.{bad, eat, bytes}
 use Rattle.names.specs.Name.{Name, letter, isName}
 use Rattle.names.specs.Front.{allNames}

@@ -11,7 +11,8 @@ use lib.Dec.{eqb}
 use lib.ListN.{length, length-append}
 use lib.Pow.{pow-mono, high, low}
 use Rattle.bits.specs.Logic.{pick}
-use Rattle.bits.specs.Digit.{on, digit, on-above}
+use Rattle.bits.specs.Digit.{on, digit}
+use Rattle.bits.specs.DigitLaws.{on-above}
 use Rattle.rows.specs.PartLaws.{on-low}
 use Rattle.network.specs.Numbers.{numbersOf}
 

@@ -4,7 +4,7 @@ use mathlib.Core.Path.{_≡_}
 use mathlib.Core.List.{List}
 use Prim.Native.Nat.{ℕ, _≤_}
 use lib.ListN.{length}
-use Rattle.text.specs.Limits.{maxNetwork}
+use Rattle.limits.specs.Limits.{maxNetwork}
 use Rattle.sheet.specs.Examine.{Design, valid, examine}
 use Rattle.network.specs.Network.{Network}
 use Rattle.network.specs.Printer.{printNetwork}

@@ -8,7 +8,7 @@ use Prim.Native.Nat.{ℕ, suc, _+_, _≤_}
 use native.Mathlib.Omega.{arith}
 use lib.ListN.{length}
 use Rattle.bits.specs.Logic.{pick}
-use Rattle.text.specs.Limits.{maxNetwork}
+use Rattle.limits.specs.Limits.{maxNetwork}
 use Rattle.text.specs.Line.{lines}
 use Rattle.sheet.specs.Examine.{Design, within}
 use Rattle.network.specs.Network.{Network}

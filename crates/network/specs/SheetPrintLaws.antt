@@ -9,8 +9,9 @@ use native.Mathlib.Decide.{decLt}
 use lib.Dec.{leb}
 use lib.ListN.{length, getD, length-append}
 use borrow.Author.Tests.{leb-true}
-use Rattle.bits.specs.Logic.{pick, and-right}
-use Rattle.text.specs.Limits.{maxCells, maxNetwork}
+use Rattle.bits.specs.Logic.{pick}
+use Rattle.bits.specs.LogicLaws.{and-right}
+use Rattle.limits.specs.Limits.{maxCells, maxNetwork}
 use Rattle.text.specs.Line.{lines}
 use Rattle.sheet.specs.Examine.{Design, within}
 use Rattle.network.specs.Network.{Network, Node}

@@ -7,8 +7,9 @@ use Prim.Native.Nat.{ℕ, suc, _+_, _^_, _≤_, _<_}
 use native.Mathlib.Omega.{arith}
 use lib.ListN.{length, getD, length-append}
 use borrow.Author.Tests.{le-leb}
-use Rattle.bits.specs.Logic.{pick, and-left, and-right, and-both}
-use Rattle.text.specs.Limits.{maxCells, maxNetwork}
+use Rattle.bits.specs.Logic.{pick}
+use Rattle.bits.specs.LogicLaws.{and-left, and-right, and-both}
+use Rattle.limits.specs.Limits.{maxCells, maxNetwork}
 use Rattle.text.specs.BytesLaws.{same-self}
 use Rattle.text.specs.Line.{lines}
 use Rattle.text.specs.Unbroken.{unbroken}

@@ -12,7 +12,7 @@ use borrow.Author.Tests.{lt-ltb, le-ltb}
 use Rattle.bits.specs.Logic.{pick}
 use Rattle.text.specs.Bytes.{same}
 use Rattle.text.specs.BytesLaws.{same-self, same-equal}
-use Rattle.text.specs.Limits.{maxCells}
+use Rattle.limits.specs.Limits.{maxCells}
 use Rattle.sheet.specs.Lines.{endLine}
 use Rattle.sheet.specs.Examine.{Design}
 use Rattle.network.specs.Network.{Network, Node}

@@ -14,7 +14,8 @@ use lib.ListN.{length, getD, take, drop, length-drop, length-map}
 use lib.Pow.{pow-mono}
 use lib.Seq.{drop-cons, drop-drop, length-take-le}
 use borrow.Author.Tests.{eq-eqb, ne-eqb, eqb-true}
-use Rattle.bits.specs.Logic.{pick, true-false, and-left, and-right}
+use Rattle.bits.specs.Logic.{pick}
+use Rattle.bits.specs.LogicLaws.{true-false, and-left, and-right}
 use Rattle.text.specs.Bytes.{Read, found, bad, after, whole, closeBracket}
 use Rattle.rows.specs.Digits.{digit}
 use Rattle.sheet.specs.Lines.{closed}

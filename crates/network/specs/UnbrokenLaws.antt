@@ -6,7 +6,7 @@ use Prim.Native.Nat.{ℕ, _≤_, _<_}
 use native.Mathlib.Omega.{arith}
 use lib.Dec.{eqb}
 use borrow.Author.Tests.{ne-eqb}
-use Rattle.bits.specs.Logic.{true-false, and-left, and-right, and-both}
+use Rattle.bits.specs.LogicLaws.{true-false, and-left, and-right, and-both}
 use Rattle.text.specs.Bytes.{newline, bytes, closeBracket}
 use Rattle.text.specs.Unbroken.{unbroken}
 use Rattle.text.specs.LineLaws.{unbroken-cons, unbroken-append}

@@ -11,9 +11,17 @@ use Rattle.sheet.specs.Examine.{Design}
 use Rattle.classes.specs.Columns.{free, vertexOf}
 use Rattle.network.specs.Network.{Network, Node}
 
+-- shared table i at vertex x
+abbrev pub lutAt : Network → ℕ → ℕ → Bool
+lutAt w i x = getD (getD (w .luts) i []) x false
+
+-- the code that vertex x produces in the shared tables of a list
+abbrev pub codeAt : Network → List ℕ → ℕ → ℕ
+codeAt w is x = rowOf (map (λ i. lutAt w i x) is)
+
 -- shared table i on row r
 unfoldable pub lutOn : Design → Network → ℕ → ℕ → Bool
-lutOn d w r i = getD (getD (w .luts) i []) (vertexOf (d .inputs) (d .bound) r) false
+lutOn d w r i = lutAt w i (vertexOf (d .inputs) (d .bound) r)
 
 -- the row of a node's own inputs: the shared tables that it reads, then the free inputs
 unfoldable pub nodeRow : Design → Network → List ℕ → ℕ → ℕ

@@ -15,7 +15,7 @@ use Rattle.formula.specs.Tree.{depth, knows}
 use Rattle.formula.specs.Reader.{readWithin, readFormula}
 use Rattle.formula.specs.Value.{combine, value, onRow}
 use Rattle.sheet.specs.Lines.{readIn, readBound, readLimit, readOut}
-use Rattle.sheet.specs.Known.{outputOn}
+use Rattle.sheet.specs.Value.{outputOn}
 use Rattle.sheet.specs.Examine.{examine, askIn, askBound, askLimit, askOut, askEnd, askLine, askLines, plain, plainLines, sized}
 use Rattle.classes.specs.Columns.{free, onParts, joinRow, vertexOf, freeRowOf, valueAt, valuesUpto, column, apart, conflict, alikeUpto}
 use Rattle.classes.specs.Classes.{firstFrom, firstLike, classCount, classOf, localCount}

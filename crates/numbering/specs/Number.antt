@@ -15,8 +15,10 @@ use borrow.Author.Tests.{eq-eqb, ne-eqb}
 use Rattle.cells.specs.Sets.{With}
 use lib.ListN.{length, getD, set, length-set}
 use lib.Seq.{getD-set-same, getD-set-other}
-use Rattle.bits.specs.Logic.{andb, orb, true-false}
-use Rattle.bits.specs.Digit.{on, on-and, on-or, on-zero, on-ones, on-above, on-complement, equal-digits}
+use Rattle.bits.specs.Logic.{andb, orb}
+use Rattle.bits.specs.LogicLaws.{true-false}
+use Rattle.bits.specs.Digit.{on}
+use Rattle.bits.specs.DigitLaws.{on-and, on-or, on-zero, on-ones, on-above, on-complement, equal-digits}
 use Rattle.cells.specs.Core.{bit}
 use Rattle.cells.specs.Lists.{All, Pairs, count, all-map, less-or-equal, never-both, count-more, count-same, and-off, and-on, or-off, or-on}
 use Rattle.cells.specs.Pigeon.{Agree, agree-and, and-agree}

@@ -14,8 +14,10 @@ use lib.Bits.{bitAnd, bitOr, and-le-r}
 use lib.ListN.{length, getD, set, length-set}
 use lib.Seq.{getD-set-same, getD-set-other}
 use borrow.Author.Tests.{eq-eqb, ne-eqb}
-use Rattle.bits.specs.Logic.{andb, orb, true-false}
-use Rattle.bits.specs.Digit.{on, on-and, on-zero, on-ones, equal-digits}
+use Rattle.bits.specs.Logic.{andb, orb}
+use Rattle.bits.specs.LogicLaws.{true-false}
+use Rattle.bits.specs.Digit.{on}
+use Rattle.bits.specs.DigitLaws.{on-and, on-zero, on-ones, equal-digits}
 use Rattle.cells.specs.Core.{Differ, bit}
 use Rattle.cells.specs.Lists.{less-or-equal, and-on, or-on, or-off}
 use Rattle.cells.specs.Pigeon.{agree-and, and-agree}

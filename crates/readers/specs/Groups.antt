@@ -12,8 +12,10 @@ use lib.Dec.{eqb}
 use lib.ListN.{length, getD, set, length-set}
 use lib.Seq.{getD-set-same, getD-set-other}
 use borrow.Author.Tests.{eq-eqb}
-use Rattle.bits.specs.Logic.{andb, orb, true-false, and-left, and-right}
-use Rattle.bits.specs.Digit.{on, on-and, on-or, on-zero}
+use Rattle.bits.specs.Logic.{andb, orb}
+use Rattle.bits.specs.LogicLaws.{true-false, and-left, and-right}
+use Rattle.bits.specs.Digit.{on}
+use Rattle.bits.specs.DigitLaws.{on-and, on-or, on-zero}
 use Rattle.cells.specs.Lists.{zeros, zeros-are, less-or-equal, never-both, false-where, and-off}
 use Rattle.numbering.specs.Given.{item, Block, Blocks}
 use Rattle.coding.specs.Exchange.{Uniform}

@@ -14,8 +14,10 @@ use lib.Dec.{eqb}
 use lib.ListN.{length, getD, set, length-set}
 use lib.Seq.{getD-set-same, getD-set-other}
 use borrow.Author.Tests.{eq-eqb, ne-eqb}
-use Rattle.bits.specs.Logic.{andb, orb, true-false, and-left, and-right}
-use Rattle.bits.specs.Digit.{on, on-and, on-or, on-zero, on-ones, on-above, on-complement, on-single, equal-digits}
+use Rattle.bits.specs.Logic.{andb, orb}
+use Rattle.bits.specs.LogicLaws.{true-false, and-left, and-right}
+use Rattle.bits.specs.Digit.{on}
+use Rattle.bits.specs.DigitLaws.{on-and, on-or, on-zero, on-ones, on-above, on-complement, on-single, equal-digits}
 use Rattle.cells.specs.Core.{Differ}
 use Rattle.cells.specs.Lists.{All, Pairs, count, less-or-equal, never-both, false-where}
 use Rattle.cells.specs.Pigeon.{Agree, agree-and, and-agree}

@@ -12,8 +12,10 @@ use native.Mathlib.Omega.{arith}
 use lib.Bits.{bitAnd, and-le-l}
 use lib.ListN.{length, getD}
 use lib.Pow.{pow-pos}
-use Rattle.bits.specs.Logic.{andb, orb, true-false, and-left, and-right}
-use Rattle.bits.specs.Digit.{on, on-and, on-above, on-complement}
+use Rattle.bits.specs.Logic.{andb, orb}
+use Rattle.bits.specs.LogicLaws.{true-false, and-left, and-right}
+use Rattle.bits.specs.Digit.{on}
+use Rattle.bits.specs.DigitLaws.{on-and, on-above, on-complement}
 use Rattle.cells.specs.Core.{Differ}
 use Rattle.cells.specs.Lists.{All, Pairs, count, pairs-map, never-both, and-on}
 use Rattle.cells.specs.Pigeon.{Agree, agree-and, and-agree, pigeon, buckets}

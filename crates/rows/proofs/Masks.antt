@@ -6,7 +6,8 @@ use Prim.Native.Nat.{ℕ, _+_, _-_, _*_, _≤_, _<_}
 use native.Mathlib.Omega.{arith}
 use lib.Arith.{digits-div, digits-mod}
 use lib.ListN.{getD}
-use Rattle.bits.specs.Digit.{on, digit, on-ones, on-zero, on-above}
+use Rattle.bits.specs.Digit.{on, digit}
+use Rattle.bits.specs.DigitLaws.{on-ones, on-zero, on-above}
 use Rattle.rows.specs.Every.{every, same}
 use Rattle.rows.specs.EveryLaws.{every-at, same-equal}
 use Rattle.rows.specs.PartLaws.{on-low, on-high}

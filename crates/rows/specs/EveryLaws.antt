@@ -5,7 +5,7 @@ use mathlib.Core.Bool.{Bool, true, false}
 use Prim.Native.Nat.{ℕ, zero, suc, _<_}
 use native.Mathlib.Decide.{decLt}
 use native.Mathlib.Omega.{arith}
-use Rattle.bits.specs.Logic.{true-false, and-left, and-right}
+use Rattle.bits.specs.LogicLaws.{true-false, and-left, and-right}
 use Rattle.rows.specs.Every.{every, same}
 
 pub last-or-below : (k n : ℕ) → k < suc n → (k < n) ⊎ (k ≡ n)

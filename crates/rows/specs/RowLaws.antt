@@ -11,7 +11,8 @@ use lib.Dec.{eqb}
 use lib.Arith.{digits-lt}
 use lib.Pow.{mod-pow-add, high, low}
 use lib.ListN.{length, getD}
-use Rattle.bits.specs.Digit.{on, digit, Binary, is0, is1, digit-binary}
+use Rattle.bits.specs.Digit.{on, digit}
+use Rattle.bits.specs.DigitLaws.{Binary, is0, is1, digit-binary}
 use Rattle.rows.specs.PartLaws.{on-low}
 use Rattle.rows.specs.Row.{bit, rowOf, inputOn, valuesOf}
 

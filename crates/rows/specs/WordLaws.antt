@@ -9,7 +9,8 @@ use native.Mathlib.Omega.{arith}
 use lib.Arith.{digits-div, digits-mod}
 use lib.ListN.{length, getD, replicate, getD-replicate}
 use lib.Seq.{ext-getD}
-use Rattle.bits.specs.Digit.{on, on-above, equal-digits}
+use Rattle.bits.specs.Digit.{on}
+use Rattle.bits.specs.DigitLaws.{on-above, equal-digits}
 use Rattle.rows.specs.Words.{rowOn, Rowwise, WordOf, Sized}
 
 pub row-word : (ws : List ℕ) (w k : ℕ) → k < 64 → rowOn ws (w * 64 + k) ≡ on (getD ws w 0) k

@@ -15,19 +15,21 @@ use lib.ListN.{length, getD, length-map, length-append, List·getD-append}
 use lib.Seq.{getD-append-add, getD-at}
 use lib.Pow.{high, low, pow-add, pow-pos}
 use borrow.Author.Tests.{eq-eqb, ne-eqb, eqb-true}
-use Rattle.bits.specs.Logic.{true-false, pick}
+use Rattle.bits.specs.Logic.{pick}
+use Rattle.bits.specs.LogicLaws.{true-false}
 use Rattle.bits.specs.Digit.{on}
 use Rattle.rows.specs.Row.{rowOf, valuesOf, bit}
 use Rattle.rows.specs.RowLaws.{row-lt, row-values, length-values, values-row}
 use Rattle.formula.specs.Value.{onRow}
 use Rattle.sheet.specs.Examine.{Design}
-use Rattle.sheet.specs.Known.{outputOn}
+use Rattle.sheet.specs.Value.{outputOn}
 use Rattle.classes.specs.Columns.{free, joinRow, vertexOf, freeRowOf, vertexCount, freeCount, valueAt, valuesUpto, conflict}
 use Rattle.network.specs.Network.{Network, Node}
 use Rattle.network.specs.Check.{firstOf}
 use Rattle.network.specs.Value.{networkOn}
 use Rattle.cells.specs.Core.{Apart, Serves, coreOf, cellsFrom}
-use Rattle.serving.specs.NetworkCore.{lutAt, nodeOf, has, Conflicts, ServesDesign}
+use Rattle.serving.specs.NetworkCore.{nodeOf, has, Conflicts, ServesDesign}
+use Rattle.network.specs.Value.{lutAt}
 use Rattle.serving.specs.Parts.{Parts, Columns}
 use Rattle.serving.specs.Tells.{node-at}
 use Rattle.serving.specs.Build.{numbers, codeIn, entryAt, entry, nodeBuilt, lutsBuilt, nodesBuilt, built}

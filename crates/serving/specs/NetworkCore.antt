@@ -11,10 +11,7 @@ use Rattle.sheet.specs.Examine.{Design}
 use Rattle.classes.specs.Columns.{conflict, vertexCount}
 use Rattle.classes.specs.Width.{budget}
 use Rattle.network.specs.Network.{Network, Node}
-
--- shared table i at vertex x
-abbrev pub lutAt : Network → ℕ → ℕ → Bool
-lutAt w i x = getD (getD (w .luts) i []) x false
+use Rattle.network.specs.Value.{lutAt}
 
 -- the node of output o
 abbrev pub nodeOf : Network → ℕ → Node

@@ -10,19 +10,20 @@ use native.Mathlib.Decide.{ℕ-discrete}
 use lib.Dec.{eqb}
 use lib.ListN.{length, getD, length-map}
 use borrow.Author.Tests.{eq-eqb, ne-eqb, eqb-true}
-use Rattle.bits.specs.Logic.{true-false}
+use Rattle.bits.specs.LogicLaws.{true-false}
 use Rattle.rows.specs.Row.{rowOf, valuesOf}
 use Rattle.rows.specs.RowLaws.{row-lt, values-row}
 use Rattle.names.specs.Name.{Name}
 use Rattle.formula.specs.Value.{onRow}
 use Rattle.sheet.specs.Examine.{Design}
-use Rattle.sheet.specs.Known.{outputOn}
+use Rattle.sheet.specs.Value.{outputOn}
 use Rattle.cells.specs.Core.{Cell, Apart, Serves, reading, bit}
 use Rattle.classes.specs.Columns.{free, joinRow, vertexOf, freeRowOf, vertexCount, freeCount, valueAt, conflict}
 use Rattle.classes.specs.Width.{budget}
 use Rattle.network.specs.Network.{Network, Node}
 use Rattle.network.specs.Value.{lutOn, nodeRow, networkOn}
-use Rattle.serving.specs.NetworkCore.{lutAt, nodeOf, has, cellsOf, networkCore, Conflicts, ServesDesign}
+use Rattle.serving.specs.NetworkCore.{nodeOf, has, cellsOf, networkCore, Conflicts, ServesDesign}
+use Rattle.network.specs.Value.{lutAt}
 use Rattle.serving.specs.Parts.{Parts, Columns}
 
 -- ---- a number in a list

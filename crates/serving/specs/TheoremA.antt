@@ -10,9 +10,10 @@ use native.Mathlib.Nat.{zero-add, add-zero}
 use lib.Dec.{eqb}
 use lib.ListN.{length, getD}
 use borrow.Author.Tests.{eqb-true}
-use Rattle.bits.specs.Logic.{pick, true-false}
+use Rattle.bits.specs.Logic.{pick}
+use Rattle.bits.specs.LogicLaws.{true-false}
 use Rattle.bits.specs.Digit.{on}
-use Rattle.text.specs.Limits.{maxCells}
+use Rattle.limits.specs.Limits.{maxCells}
 use Rattle.names.specs.Name.{Name}
 use Rattle.sheet.specs.Examine.{Design}
 use Rattle.cells.specs.Core.{Cell, Serves, reading, bit, coreOf, cellsFrom}

@@ -5,7 +5,7 @@ use Prim.Native.Nat.{ℕ}
 use lib.ListN.{length, length-map}
 use mir.Val.{Val}
 use denote.Laws.{Is}
-use Rattle.text.specs.Limits.{maxInputs, maxOutputs}
+use Rattle.limits.specs.Limits.{maxInputs, maxOutputs}
 use Rattle.sheet.specs.declared.Sheet.{Sheet}
 use Rattle.sheet.proofs.Sheet as sheet
 

@@ -9,8 +9,8 @@ use native.Mathlib.Omega.{arith}
 use lib.Dec.{leb, ltb}
 use lib.ListN.{length, take}
 use borrow.Author.Tests.{le-leb, lt-leb, lt-ltb, le-ltb}
-use Rattle.bits.specs.Logic.{true-false}
-use Rattle.text.specs.Limits.{maxOutputs, maxDepth}
+use Rattle.bits.specs.LogicLaws.{true-false}
+use Rattle.limits.specs.Limits.{maxOutputs, maxDepth}
 use Rattle.names.specs.Name.{Name}
 use Rattle.names.specs.Pack.{nameOf}
 use Rattle.rows.specs.Words.{Rowwise}

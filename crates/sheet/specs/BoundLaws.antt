@@ -8,13 +8,14 @@ use native.Mathlib.Omega.{arith}
 use lib.ListN.{length, take}
 use Rattle.bits.specs.Logic.{pick}
 use Rattle.text.specs.Bytes.{bytes, eat}
-use Rattle.text.specs.Limits.{maxBound}
+use Rattle.limits.specs.Limits.{maxBound}
 use Rattle.names.specs.Name.{Name, allAmong}
 use Rattle.names.specs.Pack.{nameOf}
 use Rattle.cursor.specs.declared.NameList.{NameList}
 use Rattle.sheet.specs.Lines.{readBound}
 use Rattle.sheet.specs.Examine.{Design, Step, no-to, next, at-limit, ask, askBound}
-use Rattle.sheet.specs.Known.{outputOn, Holds, Refused, StepIs, LineIs, PlacesAre}
+use Rattle.sheet.specs.Known.{Holds, Refused, StepIs, LineIs, PlacesAre}
+use Rattle.sheet.specs.Value.{outputOn}
 use Rattle.sheet.specs.LineLaws.{namesAfter}
 use Rattle.sheet.specs.ListLaws.{AsksList}
 use Rattle.sheet.specs.OnwardLaws.{Passed, passed-onward}

@@ -7,7 +7,7 @@ use Prim.Native.Nat.{ℕ, suc}
 use lib.Dec.{eqb, leb, ltb}
 use lib.ListN.{length}
 use Rattle.bits.specs.Logic.{pick}
-use Rattle.text.specs.Limits.{maxInputs, maxBound, maxLimit, maxOutputs, maxDepth, maxSheet}
+use Rattle.limits.specs.Limits.{maxInputs, maxBound, maxLimit, maxOutputs, maxDepth, maxSheet}
 use Rattle.text.specs.Bytes.{same, newline}
 use Rattle.text.specs.Line.{lines}
 use Rattle.names.specs.Name.{Name, among, distinct, allAmong}

@@ -7,7 +7,7 @@ use Prim.Native.Nat.{ℕ}
 use lib.Dec.{leb, ltb}
 use lib.ListN.{length}
 use Rattle.bits.specs.Logic.{pick}
-use Rattle.text.specs.Limits.{maxLimit, maxOutputs, maxDepth}
+use Rattle.limits.specs.Limits.{maxLimit, maxOutputs, maxDepth}
 use Rattle.text.specs.Bytes.{same}
 use Rattle.names.specs.Name.{Name, distinct, allAmong}
 use Rattle.formula.specs.Tree.{depth, knows}

@@ -8,8 +8,8 @@ use native.Mathlib.Decide.{decLt}
 use lib.ListN.{length, length-append, List·getD-append}
 use lib.Seq.{getD-append-seam}
 use borrow.Author.Tests.{not-true}
-use Rattle.bits.specs.Logic.{true-false, and-left, and-right}
-use Rattle.text.specs.Limits.{maxOutputs}
+use Rattle.bits.specs.LogicLaws.{true-false, and-left, and-right}
+use Rattle.limits.specs.Limits.{maxOutputs}
 use Rattle.names.specs.Name.{Name, sameName, among, distinct}
 use Rattle.names.specs.LookupLaws.{neither-left, neither-right}
 use Rattle.names.specs.SameLaws.{same-name-equal, same-name-different}

@@ -8,17 +8,18 @@ use Prim.Native.Nat.{ℕ, suc, _≤_, _<_}
 use lib.Dec.{eqb}
 use lib.ListN.{length, getD, take}
 use Rattle.bits.specs.Logic.{pick}
-use Rattle.text.specs.Limits.{maxInputs, maxBound, maxLimit, maxOutputs}
+use Rattle.limits.specs.Limits.{maxInputs, maxBound, maxLimit, maxOutputs}
 use Rattle.names.specs.Name.{Name, sameName, distinct, allAmong}
 use Rattle.names.specs.Pack.{nameOf}
 use Rattle.rows.specs.Words.{Rowwise}
-use Rattle.formula.specs.Tree.{Formula, constant, depth, knows}
+use Rattle.formula.specs.Tree.{depth, knows}
 use Rattle.formula.specs.Reader.{readFormula}
 use Rattle.formula.specs.Part.{capped}
 use Rattle.formula.specs.Value.{value, onRow}
 use Rattle.cursor.specs.Item.{Kept}
 use Rattle.cursor.specs.declared.NameList.{NameList}
 use Rattle.sheet.specs.Lines.{Output, closed}
+use Rattle.sheet.specs.Value.{outputOn}
 use Rattle.sheet.specs.Examine.{Design, Examined, refused, valid, Step, no-to, next, within, outputNames, newName, withOutput}
 use Rattle.sheet.specs.Examine as spec
 use Rattle.sheet.specs.declared.Place.{Place}
@@ -35,14 +36,6 @@ position [] n = 0
 position (m ∷ ms) n =
     let later = position ms n in
     pick (sameName m n) 0 (suc later)
-
--- output o's formula
-abbrev pub formulaOf : Design → ℕ → Formula
-formulaOf d o = getD (d .outputs) o (record { name = []; formula = constant false }) .formula
-
--- output o's value on row r
-unfoldable pub outputOn : Design → ℕ → ℕ → Bool
-outputOn d o r = value (onRow (d .inputs) r) (formulaOf d o)
 
 -- the table of output o
 abbrev pub tableAt : List Rows → ℕ → List ℕ

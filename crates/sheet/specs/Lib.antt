@@ -6,6 +6,7 @@ pub mod Kinds
 pub mod HeadLaws
 pub mod LineInverse
 pub mod Examine
+pub mod Value
 pub mod WellFormed
 pub mod FurtherOutputLaws
 pub mod LineRightLaws

@@ -7,14 +7,15 @@ use mathlib.Core.Option.{Option, some, none}
 use Prim.Native.Nat.{ℕ, _≤_, _<_}
 use borrow.Author.Tests.{le-leb, lt-leb}
 use Rattle.bits.specs.Logic.{pick}
-use Rattle.text.specs.Limits.{maxLimit}
+use Rattle.limits.specs.Limits.{maxLimit}
 use Rattle.text.specs.Bytes.{bytes, bad, eat}
 use Rattle.text.specs.Number.{readNumber}
 use Rattle.cursor.specs.Item.{At, from}
 use Rattle.cursor.specs.declared.Cursor.{Cursor}
 use Rattle.sheet.specs.Lines.{readLimit}
 use Rattle.sheet.specs.Examine.{Design, askLimit}
-use Rattle.sheet.specs.Known.{Holds, Refused, StepIs, outputOn, LimitIs, closesAt}
+use Rattle.sheet.specs.Known.{Holds, Refused, StepIs, LimitIs, closesAt}
+use Rattle.sheet.specs.Value.{outputOn}
 use Rattle.sheet.specs.OnwardLaws.{Passed, passed-onward}
 use Rattle.sheet.specs.CloseLaws.{closed-whole}
 use Rattle.sheet.specs.declared.LimitLine.{LimitLine}

@@ -9,8 +9,9 @@ use native.Mathlib.Omega.{arith}
 use lib.Dec.{leb, ltb}
 use lib.ListN.{length}
 use borrow.Author.Tests.{leb-true, ltb-true, not-true}
-use Rattle.bits.specs.Logic.{pick, and-left, and-right}
-use Rattle.text.specs.Limits.{maxInputs, maxBound, maxLimit, maxOutputs, maxDepth}
+use Rattle.bits.specs.Logic.{pick}
+use Rattle.bits.specs.LogicLaws.{and-left, and-right}
+use Rattle.limits.specs.Limits.{maxInputs, maxBound, maxLimit, maxOutputs, maxDepth}
 use Rattle.text.specs.Bytes.{same}
 use Rattle.names.specs.Name.{Name, among, distinct, allAmong}
 use Rattle.formula.specs.Tree.{depth, knows}

@@ -9,8 +9,9 @@ use native.Mathlib.Omega.{arith}
 use lib.Dec.{leb}
 use lib.ListN.{length}
 use borrow.Author.Tests.{leb-true}
-use Rattle.bits.specs.Logic.{pick, and-right}
-use Rattle.text.specs.Limits.{maxInputs}
+use Rattle.bits.specs.Logic.{pick}
+use Rattle.bits.specs.LogicLaws.{and-right}
+use Rattle.limits.specs.Limits.{maxInputs}
 use Rattle.names.specs.Name.{Name, distinct}
 use Rattle.cursor.specs.declared.NameList.{NameList}
 use Rattle.sheet.specs.Examine.{Step, no-to, ask, within}

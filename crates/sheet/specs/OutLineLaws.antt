@@ -5,7 +5,8 @@ use mathlib.Core.List.{List, [], _∷_}
 use mathlib.Core.Option.{Option, some, none}
 use Prim.Native.Nat.{ℕ, _≤_}
 use lib.ListN.{length, drop}
-use Rattle.bits.specs.Logic.{pick, true-false}
+use Rattle.bits.specs.Logic.{pick}
+use Rattle.bits.specs.LogicLaws.{true-false}
 use Rattle.text.specs.Bytes.{bytes, Read, found, bad, after, eat, whole, space}
 use Rattle.names.specs.Name.{Name, readName}
 use Rattle.names.specs.Pack.{nameOf}

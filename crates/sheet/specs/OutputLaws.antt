@@ -8,7 +8,7 @@ use native.Mathlib.Decide.{decLt}
 use native.Mathlib.Omega.{arith}
 use lib.ListN.{length, take, set, length-append, List·getD-append}
 use lib.Seq.{take-suc-set, getD-set-same, getD-set-other, getD-at}
-use Rattle.text.specs.Limits.{maxOutputs}
+use Rattle.limits.specs.Limits.{maxOutputs}
 use Rattle.names.specs.Name.{Name}
 use Rattle.names.specs.Pack.{nameOf}
 use Rattle.rows.specs.Words.{Rowwise}
@@ -16,7 +16,8 @@ use Rattle.rows.specs.WordLaws.{rowwise-same}
 use Rattle.formula.specs.Value.{value, onRow}
 use Rattle.sheet.specs.Lines.{Output}
 use Rattle.sheet.specs.Examine.{Design, outputNames, withOutput}
-use Rattle.sheet.specs.Known.{Holds, outputOn, tableAt}
+use Rattle.sheet.specs.Known.{Holds, tableAt}
+use Rattle.sheet.specs.Value.{outputOn}
 use Rattle.sheet.specs.declared.Sheet.{Sheet}
 use Rattle.sheet.specs.declared.Rows.{Rows}
 

@@ -5,7 +5,7 @@ use mathlib.Core.Bool.{true, false}
 use mathlib.Core.List.{List, []}
 use Prim.Native.Nat.{ℕ, _≤_, _<_}
 use lib.ListN.{length, getD}
-use Rattle.text.specs.Limits.{maxInputs, maxBound, maxLimit, maxOutputs, maxDepth}
+use Rattle.limits.specs.Limits.{maxInputs, maxBound, maxLimit, maxOutputs, maxDepth}
 use Rattle.names.specs.Name.{Name, isName, among, distinct, allAmong}
 use Rattle.names.specs.Front.{allNames}
 use Rattle.formula.specs.Tree.{constant, depth, knows}

@@ -22,8 +22,6 @@ use cursor::NumberRead;
 use formula::Part;
 use names::Position;
 
-pub mod limits;
-
 // A whole truth table.
 pub struct Rows {
     pub words: [u64; 16],

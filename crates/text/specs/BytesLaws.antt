@@ -5,7 +5,7 @@ use mathlib.Core.List.{List, [], _∷_}
 use Prim.Native.Nat.{ℕ}
 use lib.Dec.{eqb}
 use borrow.Author.Tests.{eq-eqb, eqb-true}
-use Rattle.bits.specs.Logic.{true-false, and-left, and-right}
+use Rattle.bits.specs.LogicLaws.{true-false, and-left, and-right}
 use Rattle.text.specs.Bytes.{same}
 
 pub same-self : (a : List ℕ) → same a a ≡ true

@@ -8,7 +8,7 @@ use native.Mathlib.Omega.{arith}
 use lib.Dec.{eqb}
 use lib.ListN.{length, getD}
 use borrow.Author.Tests.{ne-eqb, eqb-false, not-true}
-use Rattle.bits.specs.Logic.{and-left, and-right}
+use Rattle.bits.specs.LogicLaws.{and-left, and-right}
 use Rattle.text.specs.Bytes.{newline}
 use Rattle.text.specs.Line.{lines}
 use Rattle.text.specs.Unbroken.{unbroken}

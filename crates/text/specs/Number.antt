@@ -6,7 +6,7 @@ use lib.Dec.{eqb, leb, ltb}
 use lib.ListN.{length}
 use Rattle.bits.specs.Logic.{pick}
 use Rattle.text.specs.Bytes.{Read, found, bad}
-use Rattle.text.specs.Limits.{maxDigits}
+use Rattle.limits.specs.Limits.{maxDigits}
 
 unfoldable pub numeral : ℕ → Bool
 numeral b = leb 0x30 b && leb b 0x39

@@ -8,7 +8,7 @@ use native.Mathlib.Decide.{decLt}
 use lib.Dec.{eqb, leb}
 use lib.ListN.{length, length-append}
 use borrow.Author.Tests.{lt-ltb, le-ltb, leb-true, ne-eqb, eqb-false, not-true}
-use Rattle.bits.specs.Logic.{true-false, and-left, and-right}
+use Rattle.bits.specs.LogicLaws.{true-false, and-left, and-right}
 use Rattle.text.specs.Bytes.{found}
 use Rattle.text.specs.Unbroken.{unbroken}
 use Rattle.text.specs.Number.{numeral, numerals, afterNumerals, valueFrom, isNumber, readNumber, printNumber}

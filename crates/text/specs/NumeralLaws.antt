@@ -7,7 +7,8 @@ use Prim.Native.Nat.{ℕ, _≤_}
 use native.Mathlib.Omega.{arith}
 use lib.Dec.{leb}
 use borrow.Author.Tests.{ne-eqb, leb-true, le-leb, not-true}
-use Rattle.bits.specs.Logic.{pick, and-left, and-right}
+use Rattle.bits.specs.Logic.{pick}
+use Rattle.bits.specs.LogicLaws.{and-left, and-right}
 use Rattle.text.specs.Bytes.{newline}
 use Rattle.text.specs.Unbroken.{unbroken}
 use Rattle.text.specs.LineLaws.{unbroken-cons}

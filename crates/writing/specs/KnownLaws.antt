@@ -8,7 +8,7 @@ use Prim.Native.Nat.{ℕ, _<_}
 use native.Mathlib.Omega.{arith}
 use lib.ListN.{length, getD, take, List·getD-map}
 use lib.Seq.{getD-take}
-use Rattle.bits.specs.Logic.{true-false, and-left, and-right}
+use Rattle.bits.specs.LogicLaws.{true-false, and-left, and-right}
 use Rattle.names.specs.Name.{Name, sameName, among, allAmong}
 use Rattle.names.specs.Pack.{unpackWithin, nameOf}
 use Rattle.names.specs.SameLaws.{same-name-true}

@@ -14,7 +14,7 @@ use lib.Seq.{getD-take, length-take-le}
 use Rattle.bits.specs.Logic.{pick}
 use Rattle.rows.specs.Words.{rowOn, Rowwise}
 use Rattle.sheet.specs.Examine.{Design}
-use Rattle.sheet.specs.Known.{outputOn}
+use Rattle.sheet.specs.Value.{outputOn}
 use Rattle.classes.specs.Columns.{free, valuesUpto, joinRow, valueAt, vertexCount, freeCount}
 use Rattle.classes.specs.Seen.{seen}
 use Rattle.classes.specs.Answer.{ShapeIs}

@@ -1,4 +1,4 @@
-use Rattle.bits.specs.Logic.{true-false}
+use Rattle.bits.specs.LogicLaws.{true-false}
 use lib.ListN.{length, getD, set}
 use native.Mathlib.Omega.{arith}
 use Prim.Native.Nat.{ℕ, _<_, _≤_, _+_, _-_, _*_}

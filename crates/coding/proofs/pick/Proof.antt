@@ -1,6 +1,6 @@
 use Rattle.holding.specs.Search.{Seeking, seeking-start, seeking-coded, seeking-better, seeking-worse}
 use borrow.Author.Tests.{not-true, not-false}
-use Rattle.bits.specs.Logic.{true-false}
+use Rattle.bits.specs.LogicLaws.{true-false}
 use lib.ListN.{length, getD, set}
 use native.Mathlib.Omega.{arith}
 use Prim.Native.Nat.{ℕ, _<_, _≤_, _+_, _-_, _*_}

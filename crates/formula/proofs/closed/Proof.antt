@@ -1,6 +1,7 @@
 use Rattle.formula.specs.Walk.{and-first, and-second, closed-none, next-inside}
 use Rattle.formula.specs.Reader.{nextIs}
-use Rattle.bits.specs.Logic.{andb, and-both}
+use Rattle.bits.specs.Logic.{andb}
+use Rattle.bits.specs.LogicLaws.{and-both}
 use borrow.Author.Tests.{not-true, not-false}
 use lib.ListN.{drop}
 use mathlib.Core.Bool.{Bool}

@@ -3,7 +3,7 @@ use Rattle.holding.specs.Held.{at-skip, at-old, at-new}
 use Rattle.holding.specs.Held.{Held, held-start}
 use Rattle.numbering.specs.Given.{item, Block}
 use borrow.Author.Tests.{not-true, not-false}
-use Rattle.bits.specs.Logic.{true-false}
+use Rattle.bits.specs.LogicLaws.{true-false}
 use lib.ListN.{length, getD, set}
 use native.Mathlib.Omega.{arith}
 use Prim.Native.Nat.{ℕ, _<_, _≤_, _+_, _-_, _*_}

@@ -2,7 +2,7 @@ use Rattle.holding.specs.Narrow.{sum-next}
 use Rattle.holding.specs.Wants.{need}
 use Rattle.cells.specs.Lists.{sum}
 use borrow.Author.Tests.{not-true, not-false}
-use Rattle.bits.specs.Logic.{true-false}
+use Rattle.bits.specs.LogicLaws.{true-false}
 use lib.ListN.{length, getD, set}
 use native.Mathlib.Omega.{arith}
 use Prim.Native.Nat.{ℕ, _<_, _≤_, _+_, _-_, _*_, max}

@@ -1,6 +1,6 @@
 use Rattle.joint.specs.Merge.{Alike, alike-more}
 use borrow.Author.Count.{below-more}
-use Rattle.bits.specs.Logic.{true-false}
+use Rattle.bits.specs.LogicLaws.{true-false}
 use lib.ListN.{length, getD, set}
 use native.Mathlib.Omega.{arith}
 use Prim.Native.Nat.{ℕ, _<_, _≤_, _+_, _-_, _*_, _/_, _%_}

@@ -1,6 +1,6 @@
 use borrow.Author.Tests.{eqb-true}
 use Rattle.memory.specs.Memory.{honest-found}
-use Rattle.bits.specs.Logic.{true-false}
+use Rattle.bits.specs.LogicLaws.{true-false}
 use mathlib.Core.Path.{refl, sym}
 use mathlib.Core.Bool.{true, false}
 use native.Mathlib.Omega.{arith}

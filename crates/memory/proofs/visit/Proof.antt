@@ -1,4 +1,4 @@
-use Rattle.bits.specs.Logic.{true-false}
+use Rattle.bits.specs.LogicLaws.{true-false}
 use mathlib.Core.Bool.{true, false}
 use native.Mathlib.Omega.{arith}
 use borrow.Author.Needs.{needs}

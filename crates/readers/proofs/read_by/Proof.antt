@@ -1,4 +1,4 @@
-use Rattle.bits.specs.Logic.{true-false}
+use Rattle.bits.specs.LogicLaws.{true-false}
 use lib.Bits.{bitAnd, bitOr}
 use lib.ListN.{length, getD, set}
 use mathlib.Core.List.{List}

@@ -1,7 +1,7 @@
 use Rattle.readers.specs.Groups.{uniform-more}
 use Rattle.coding.specs.Exchange.{Uniform}
 use Rattle.numbering.specs.Given.{item}
-use Rattle.bits.specs.Logic.{true-false}
+use Rattle.bits.specs.LogicLaws.{true-false}
 use lib.Bits.{bitAnd, bitOr}
 use lib.ListN.{length, getD, set}
 use mathlib.Core.List.{List}

@@ -1,5 +1,5 @@
 use mathlib.Core.Path.{_≡_, refl, sym, ap, _∙_, subst}
-use Rattle.bits.specs.Logic.{true-false}
+use Rattle.bits.specs.LogicLaws.{true-false}
 use borrow.Author.Needs.{needs}
 use Rattle.readers.proofs.useful.Statement.{statement}
 use Rattle.readers.proofs.useful.Tie as tie

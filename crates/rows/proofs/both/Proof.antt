@@ -2,7 +2,7 @@
 use Prim.Native.Nat.{_-_}
 use lib.Bits.{bitAnd}
 use borrow.Author.Needs.{needs}
-use Rattle.bits.specs.Digit.{on-and}
+use Rattle.bits.specs.DigitLaws.{on-and}
 use Rattle.bits.specs.Logic.{andb}
 use Rattle.rows.specs.Words.{rowOn}
 use Rattle.rows.specs.WordLaws.{word-of-two}

@@ -1,6 +1,6 @@
 -- `constant`: one word with all digits alike, sixteen times. Assumes nothing.
 use mathlib.Core.Path.{sym, _∙_}
-use Rattle.bits.specs.Digit.{on-ones, on-zero}
+use Rattle.bits.specs.DigitLaws.{on-ones, on-zero}
 use Rattle.rows.specs.WordLaws.{repeated}
 use Rattle.rows.proofs.constant.Statement.{statement}
 use Rattle.rows.proofs.constant.Tie as tie

@@ -2,7 +2,7 @@
 use Prim.Native.Nat.{_-_}
 use lib.Bits.{bitXor}
 use borrow.Author.Needs.{needs}
-use Rattle.bits.specs.Digit.{on-xor}
+use Rattle.bits.specs.DigitLaws.{on-xor}
 use Rattle.bits.specs.Logic.{xorb}
 use Rattle.rows.specs.Words.{rowOn}
 use Rattle.rows.specs.WordLaws.{word-of-two}

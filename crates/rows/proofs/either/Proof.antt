@@ -2,7 +2,7 @@
 use Prim.Native.Nat.{_-_}
 use lib.Bits.{bitOr}
 use borrow.Author.Needs.{needs}
-use Rattle.bits.specs.Digit.{on-or}
+use Rattle.bits.specs.DigitLaws.{on-or}
 use Rattle.bits.specs.Logic.{orb}
 use Rattle.rows.specs.Words.{rowOn}
 use Rattle.rows.specs.WordLaws.{word-of-two}

@@ -8,7 +8,7 @@ use native.Mathlib.Omega.{arith}
 use lib.Seq.{length-take-le}
 use borrow.Author.Tests.{not-true, not-false, ltb-true, ltb-false}
 use borrow.Author.Needs.{needs}
-use Rattle.text.specs.Limits.{maxDepth}
+use Rattle.limits.specs.Limits.{maxDepth}
 use Rattle.sheet.specs.AskOutLaws.{out-misspelled, out-spelled, out-fifth, out-deep, out-old-name, out-unknown, out-passes}
 use Rattle.sheet.specs.Lines.{Output, readOut}
 use Rattle.sheet.specs.Examine.{Design, askOut}
