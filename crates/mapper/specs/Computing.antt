@@ -28,7 +28,8 @@ unfolding readDigits readLut readReads readNode networks.askNode networks.askLut
 reading = tt
 
 checking : Unit {0}
-unfolding lutOn nodeRow networkOn checks.firstOf checks.differsOn checks.differingRow checks.compareFrom checks.check
+unfolding lutOn nodeRow networkOn checks.firstOf checks.differsOn checks.differingRow checks.compareFrom checks.examinePair
+    checks.checkOf checks.check
 checking = tt
 
 unfoldable pub computing : Unit {0}

@@ -71,7 +71,7 @@ pub record Worked : Type 0 where
       (start ++ (second ++ (bytes "(lut _2 (a b c) 00000000)\n" ++ (nodes ++ bytes "(count 3)\n(end)\n")))) ≡ refused-by 11 4
 
 pub worked : Worked
-unfolding check c.firstOf c.differsOn c.differingRow c.compareFrom net.askNode net.askLut net.askLine net.askLines
+unfolding check c.checkOf c.examinePair c.firstOf c.differsOn c.differingRow c.compareFrom net.askNode net.askLut net.askLine net.askLines
     net.endsLine net.readNetwork net.wideNode net.offending lutOn nodeRow networkOn ledAll lutName printDigits
     lutHead nodeHead printCount readDigits readLut readReads readNode free onParts joinRow vertexOf freeRowOf
     valueAt valuesUpto column apart conflict alikeUpto firstFrom firstLike classCount classOf localCount widthFrom
