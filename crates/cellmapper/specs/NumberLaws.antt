@@ -1,6 +1,6 @@
 -- Each operation refuses by one of document 01's numbers, 1 to 11, and so 0 says that no question was answered "no".
 -- Assumes nothing.
-use mathlib.Core.Path.{_≡_, refl}
+use mathlib.Core.Path.{_≡_, refl, sym, subst}
 use mathlib.Core.Bool.{Bool, true, false}
 use mathlib.Core.List.{List}
 use mathlib.Core.Option.{Option, some, none}
@@ -14,7 +14,7 @@ use Rattle.sheet.specs.ExaminationLaws.{refused-right}
 use Rattle.design.specs.Tabulate as table
 use Rattle.design.specs.Tabulate.{Tabulated, tableOf, tabulate, rowCount, untouched}
 use Rattle.mapper.specs.Map as map
-use Rattle.mapper.specs.Map.{MapAnswer, Outcome}
+use Rattle.mapper.specs.Map.{MapAnswer, OutcomeFor, OutcomeOf, Outcome}
 use Rattle.network.specs.Network.{Network}
 use Rattle.network.specs.Examine.{Answer, bad-line, network, readNetwork, offending}
 use Rattle.network.specs.Check as check
@@ -45,12 +45,21 @@ unfolding tabulate
 table-number s o b = table-of-number (examine s) o b (sheet-number s)
 
 -- ---- Map
+design-map-number : {d : Design} {b : List ℕ} {a : MapAnswer} {b′ : List ℕ} → OutcomeFor d b a b′ → MapNumber a
+design-map-number (map.too-many-classes m) = record { low = omega arith; high = omega arith }
+design-map-number (map.no-network f none-serves) = record { low = omega arith; high = omega arith }
+design-map-number (map.buffer-short w f p short) = record { low = omega arith; high = omega arith }
+design-map-number (map.written w f p long) = tt
+
+map-of-number : (x : Examined) (b : List ℕ) (a : MapAnswer) (b′ : List ℕ)
+    → ((q l : ℕ) → x ≡ refused q l → IsNumber q)
+    → OutcomeOf x b a b′
+    → MapNumber a
+map-of-number (refused q l) b a b′ h o = subst MapNumber (sym (o .refusal)) (h q l refl)
+map-of-number (valid d) b a b′ h o = design-map-number o
+
 pub map-number : (s b : List ℕ) (a : MapAnswer) (b′ : List ℕ) → Outcome s b a b′ → MapNumber a
-map-number s b _ _ (map.refused-sheet q l e) = sheet-number s q l e
-map-number s b _ _ (map.too-many-classes d e m) = record { low = omega arith; high = omega arith }
-map-number s b _ _ (map.no-network d e f none-serves) = record { low = omega arith; high = omega arith }
-map-number s b _ _ (map.buffer-short d w e f p short) = record { low = omega arith; high = omega arith }
-map-number s b _ _ (map.written d w e f p long) = tt
+map-number s b a b′ o = map-of-number (examine s) b a b′ (sheet-number s) o
 
 -- ---- Check
 at-row-number : (o : ℕ) (x : Option ℕ) (later : Checked) → CheckNumber later → CheckNumber (atRow o x later)

@@ -30,7 +30,7 @@ c-sheet =
 
 c-fewest : Fewest (sheetC "2") c-sheet (designC 2) c-network
 unfolding computing
-c-fewest = fewest-of refl refl refl refl (lit≤ tt) (refl, (refl, tt)) (c-cells 2)
+c-fewest = fewest-of refl refl refl refl (lit≤ tt) (c-cells 2)
 
 pub c-mapped : Maps (sheetC "2") 2 110
 c-mapped = maps-fewest (sheetC "2") c-sheet (designC 2) c-network c-fewest
@@ -58,7 +58,7 @@ d-sheet =
 
 d-fewest : Fewest (sheetD "3") d-sheet (designD 3) d-network
 unfolding computing
-d-fewest = fewest-of refl refl refl refl (lit≤ tt) (refl, (refl, (refl, tt))) (d-cells 3)
+d-fewest = fewest-of refl refl refl refl (lit≤ tt) (d-cells 3)
 
 pub d-mapped : Maps (sheetD "3") 3 151
 d-mapped = maps-fewest (sheetD "3") d-sheet (designD 3) d-network d-fewest
@@ -80,7 +80,7 @@ e-sheet =
 
 e-fewest : Fewest sheetE e-sheet designE e-network
 unfolding computing
-e-fewest = fewest-of refl refl refl refl (lit≤ tt) (refl, (refl, tt)) e-cells
+e-fewest = fewest-of refl refl refl refl (lit≤ tt) e-cells
 
 pub e-mapped : Maps sheetE 2 133
 e-mapped = maps-fewest sheetE e-sheet designE e-network e-fewest

@@ -4,7 +4,7 @@
 use mathlib.Core.Path.{_≡_, refl, sym, ap, ap₂, _∙_, subst}
 use mathlib.Core.Bool.{Bool, true, false, not}
 use mathlib.Core.List.{List, [], _∷_}
-use Prim.Native.Nat.{ℕ, zero, _+_, _^_, _<_, min}
+use Prim.Native.Nat.{ℕ, zero, _+_, _^_, _<_}
 use native.Mathlib.Omega.{arith}
 use lib.Dec.{lit<, lit≤}
 use lib.ListN.{length, getD}
@@ -13,18 +13,17 @@ use Rattle.rows.specs.Row.{rowOf}
 use Rattle.sheet.specs.Examine.{Design}
 use Rattle.design.specs.Sheets.{designA}
 use Rattle.classes.specs.Columns.{free}
-use Rattle.classes.specs.Width.{budget}
 use Rattle.network.specs.Network.{Network}
 use Rattle.network.specs.Reads.{Rising, rising-none, rising-more}
 use Rattle.network.specs.Wellformed.{nodeAt}
-use Rattle.network.specs.Answers.{Computes}
+use Rattle.network.specs.Answers.{Computes, readCount}
 use Rattle.mapper.specs.Each.{digits-are}
 use Rattle.mapper.specs.Computing.{computing}
 use Rattle.mapper.specs.NeededCells.{AtLeast, one-needed}
 use Rattle.mapper.specs.Map.{Permitted}
 use Rattle.mapper.specs.Designs.{designF, designH, bits, node, network}
 use Rattle.mapper.specs.Worked.{sheetA, networkA, sheetF, networkF, sheetH, networkH, Prints}
-use Rattle.mapper.specs.WorkedLaws.{Fewest, fewest-of, count-of, prints-only}
+use Rattle.mapper.specs.WorkedLaws.{Fewest, fewest-of, count-of, reads-of, prints-only}
 
 -- ---- lists of one and two
 none-of : {A : Type 0} (l : List A) → length l ≡ 0 → l ≡ []
@@ -70,7 +69,7 @@ f-network = network [] (node [] (bits "0111") ∷ [])
 
 f-fewest : Fewest sheetF networkF designF f-network
 unfolding computing
-f-fewest = fewest-of refl refl refl refl (lit≤ tt) (refl, tt) f-cells
+f-fewest = fewest-of refl refl refl refl (lit≤ tt) f-cells
 
 f-node : (ds : List Bool) → length ds ≡ 4 → Computes designF (network [] (node [] ds ∷ [])) → ds ≡ bits "0111"
 unfolding computing
@@ -90,7 +89,7 @@ unfolding computing
 f-only w p =
     let a = count-of sheetF networkF designF f-network f-fewest w p in
     let b = p .wellformed .node-each in
-    let c : length (nodeAt (w .nodes) 0 .reads) ≡ 0 = p .full 0 (lit< tt) ∙ ap (min 0) a in
+    let c : length (nodeAt (w .nodes) 0 .reads) ≡ 0 = reads-of sheetF networkF designF f-network f-fewest w p 0 (lit< tt) in
     let e = f-shape w a b c in
     let ds = nodeAt (w .nodes) 0 .digits in
     let n : length ds ≡ 4 = p .wellformed .node-fits 0 (subst (λ (k : ℕ). 0 < k) (sym b) (lit< tt)) .counted ∙ ap (λ (k : ℕ). 2 ^ (k + 2)) c in
@@ -109,7 +108,7 @@ h-network = network (bits "0001" ∷ []) (node (0 ∷ []) (bits "01") ∷ [])
 
 h-fewest : Fewest sheetH networkH designH h-network
 unfolding computing
-h-fewest = fewest-of refl refl refl refl (lit≤ tt) (refl, tt) h-cells
+h-fewest = fewest-of refl refl refl refl (lit≤ tt) h-cells
 
 -- a network of one table and one node that reads it
 abbrev oneNode : List Bool → List Bool → Network
@@ -136,11 +135,16 @@ h-shape w a b c =
     ap₂ network (one-of [] (w .luts) a)
     (one-of (node [] []) (w .nodes) b ∙ ap (λ (is : List ℕ). node is (nodeAt (w .nodes) 0 .digits) ∷ []) c)
 
--- what a node reads, and how many digits it has, where there is one table and its width is 1
-one-read : (d : Design) (w : Network) (o : ℕ) → Permitted d w → length (w .luts) ≡ 1 → o < length (d .outputs) → budget d (d .bound) o ≡ 1 → nodeAt (w .nodes) o .reads ≡ 0 ∷ []
+-- what a node reads, and how many digits it has, where there is one table and it reads one
+one-read : (d : Design) (w : Network) (o : ℕ)
+    → Permitted d w
+    → length (w .luts) ≡ 1
+    → o < length (d .outputs)
+    → readCount w o ≡ 1
+    → nodeAt (w .nodes) o .reads ≡ 0 ∷ []
 one-read d w o p a h e =
-    first-read (subst (λ (n : ℕ). Rising 0 n (nodeAt (w .nodes) o .reads)) a (p .wellformed .node-fits o (subst (λ (n : ℕ). o < n) (sym (p .wellformed .node-each)) h) .rises))
-    (p .full o h ∙ ap₂ min e a)
+    let k = subst (λ (n : ℕ). o < n) (sym (p .wellformed .node-each)) h in
+    first-read (subst (λ (n : ℕ). Rising 0 n (nodeAt (w .nodes) o .reads)) a (p .wellformed .node-fits o k .rises)) e
 
 node-digits : (d : Design) (w : Network) (o : ℕ) → Permitted d w → o < length (d .outputs) → nodeAt (w .nodes) o .reads ≡ 0 ∷ [] → length (nodeAt (w .nodes) o .digits) ≡ 2 ^ (1 + length (free (d .inputs) (d .bound)))
 node-digits d w o p h e =
@@ -151,7 +155,7 @@ h-only : (w : Network) → Permitted designH w → w ≡ h-network
 unfolding computing
 h-only w p =
     let a = count-of sheetH networkH designH h-network h-fewest w p in
-    let r = one-read designH w 0 p a (lit< tt) refl in
+    let r = one-read designH w 0 p a (lit< tt) (reads-of sheetH networkH designH h-network h-fewest w p 0 (lit< tt)) in
     let e = h-shape w a (p .wellformed .node-each) r in
     let k : 0 < length (w .luts) = subst (λ (n : ℕ). 0 < n) (sym a) (lit< tt) in
     e
@@ -175,7 +179,7 @@ a-network = twoNodes (bits "01101001") (bits "0110") (bits "0001")
 
 a-fewest : Fewest sheetA networkA designA a-network
 unfolding computing
-a-fewest = fewest-of refl refl refl refl (lit≤ tt) (refl, (refl, tt)) a-cells
+a-fewest = fewest-of refl refl refl refl (lit≤ tt) a-cells
 
 -- f without d is the parity of the vertex: the table has f's value there, since it is 0 at vertex 0
 a-table : (t fs gs : List Bool) → length t ≡ 8 → getD t 0 false ≡ false → Computes designA (twoNodes t fs gs) → t ≡ bits "01101001"
@@ -224,8 +228,8 @@ a-only : (w : Network) → Permitted designA w → w ≡ a-network
 unfolding computing
 a-only w p =
     let a = count-of sheetA networkA designA a-network a-fewest w p in
-    let r = one-read designA w 0 p a (lit< tt) refl in
-    let q = one-read designA w 1 p a (lit< tt) refl in
+    let r = one-read designA w 0 p a (lit< tt) (reads-of sheetA networkA designA a-network a-fewest w p 0 (lit< tt)) in
+    let q = one-read designA w 1 p a (lit< tt) (reads-of sheetA networkA designA a-network a-fewest w p 1 (lit< tt)) in
     let e = a-shape w a (p .wellformed .node-each) r q in
     let k : 0 < length (w .luts) = subst (λ (n : ℕ). 0 < n) (sym a) (lit< tt) in
     e

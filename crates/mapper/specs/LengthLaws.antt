@@ -3,7 +3,7 @@
 use mathlib.Core.Path.{_≡_, refl, sym, ap, ap₂, _∙_, subst}
 use mathlib.Core.Bool.{Bool, true, false}
 use mathlib.Core.List.{List, [], _∷_, _++_, map}
-use Prim.Native.Nat.{ℕ, suc, _+_, _^_, _≤_, _<_, min}
+use Prim.Native.Nat.{ℕ, suc, _+_, _^_, _≤_, _<_}
 use native.Mathlib.Omega.{arith}
 use native.Mathlib.Nat.{le-antisymm}
 use lib.ListN.{length, getD, length-append, length-map}
@@ -15,12 +15,13 @@ use Rattle.rows.specs.Digits.{digit}
 use Rattle.sheet.specs.Lines.{endLine}
 use Rattle.sheet.specs.Examine.{Design, outputNames}
 use Rattle.classes.specs.Columns.{free}
-use Rattle.classes.specs.Width.{budget}
+use Rattle.classes.specs.Proper.{Proper}
 use Rattle.network.specs.Network.{Network, Node}
 use Rattle.network.specs.Printer.{led, ledAll, lutName, printDigits, networkLine, lutHead, printLut, nodeHead, printNode, printCount, lutLines, nodeLines, networkLines, endedLines, printNetwork}
 use Rattle.network.specs.Reads.{Rising, rising-none, rising-more}
 use Rattle.network.specs.Wellformed.{Wellformed, nodeAt}
 use Rattle.network.specs.Answers.{readCount}
+use Rattle.serving.specs.FullReads.{reads-width}
 use Rattle.mapper.specs.Map.{Permitted}
 
 -- ---- as many items, each as long
@@ -145,10 +146,14 @@ pub permitted-count : (d : Design) (v w : Network) → Permitted d v → Permitt
 permitted-count d v w p q =
     le-antisymm (p .fewest w (q .wellformed) (q .within) (q .computes)) (q .fewest v (p .wellformed) (p .within) (p .computes))
 
-pub permitted-length : (d : Design) (v w : Network) → Permitted d v → Permitted d w → length (printNetwork d v) ≡ length (printNetwork d w)
-permitted-length d v w p q =
-    let e = permitted-count d v w p q in
-    same-length d v w (p .wellformed) (q .wellformed) e
+pub permitted-length : (d : Design) (v w : Network)
+    → Proper d
+    → Permitted d v
+    → Permitted d w
+    → length (printNetwork d v) ≡ length (printNetwork d w)
+permitted-length d v w f p q =
+    same-length d v w (p .wellformed) (q .wellformed) (permitted-count d v w p q)
     (λ o h.
     (let k = subst (λ (n : ℕ). o < n) (p .wellformed .node-each) h in
-    p .full o k ∙ ap (min (budget d (d .bound) o)) e ∙ sym (q .full o k)))
+    reads-width d v f (p .wellformed) (p .within) (p .computes) o k
+    ∙ sym (reads-width d w f (q .wellformed) (q .within) (q .computes) o k)))

@@ -4,11 +4,16 @@ pub mod DesignLaws
 pub mod SizeLaws
 pub mod LengthLaws
 pub mod OutcomeLaws
-pub mod Demands
 pub mod Demand1
+pub mod Demand2
+pub mod Demand3
+pub mod Demand3Laws
 pub mod Demand1Laws
+pub mod Demand2Laws
+pub mod DecisionLaws
 pub mod MapLaws
 pub mod Answer
+pub mod SearchInput
 pub mod FillLaws
 pub mod MapSteps
 pub mod Worked

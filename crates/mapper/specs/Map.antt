@@ -1,25 +1,23 @@
--- Map: questions 1 to 5, then 7, 8 and 9, and what the section on cells permits its network to be. Which of the permitted
--- networks is written is free. Assumes nothing.
+-- Map: what the section on cells permits its network to be, and questions 7, 8 and 9 on a design; before them stands an
+-- examination, for a sheet questions 1 to 5. Which of the permitted networks is written is free. Assumes nothing.
 use mathlib.Core.Path.{_≡_}
-use mathlib.Core.Bool.{Bool, true, false}
-use mathlib.Core.List.{List, []}
-use Prim.Native.Nat.{ℕ, _/_, _≤_, _<_, min}
+use mathlib.Core.Bool.{false}
+use mathlib.Core.List.{List}
+use Prim.Native.Nat.{ℕ, _/_, _≤_, _<_}
 use lib.ListN.{length, getD}
 use lib.Seq.{sets}
 use Rattle.limits.specs.Limits.{maxClasses}
-use Rattle.sheet.specs.Examine.{Design, refused, valid, examine}
+use Rattle.sheet.specs.Examine.{Design, Examined, refused, valid, examine}
 use Rattle.classes.specs.Columns.{vertexCount, freeCount}
 use Rattle.classes.specs.Classes.{globalCount}
-use Rattle.classes.specs.Width.{budget}
 use Rattle.network.specs.Network.{Network}
 use Rattle.network.specs.Printer.{printNetwork}
 use Rattle.network.specs.Wellformed.{Wellformed, nodeAt}
-use Rattle.network.specs.Answers.{WithinLimits, Computes, readCount}
+use Rattle.network.specs.Answers.{WithinLimits, Computes}
 use Rattle.network.specs.Value.{lutAt, codeAt}
 
 -- "Map uses the fewest shared tables that serve. Each of its tables is 0 at vertex 0. A composition entry whose code no
--- vertex produces is 0." Each node reads as many tables as its width and their number allow, so that "its length depends
--- on the design and U only".
+-- vertex produces is 0."
 pub record Permitted (d : Design) (w : Network) : Type 0 where
   pub wellformed : Wellformed d w
   pub within : WithinLimits d w
@@ -30,31 +28,39 @@ pub record Permitted (d : Design) (w : Network) : Type 0 where
       → o < length (d .outputs)
       → ((x : ℕ) → x < vertexCount (d .bound) → codeAt w (nodeAt (w .nodes) o .reads) x ≡ j / freeCount (d .inputs) (d .bound) → ⊥)
       → getD (nodeAt (w .nodes) o .digits) j false ≡ false
-  pub full : (o : ℕ) → o < length (d .outputs) → readCount w o ≡ min (budget d (d .bound) o) (length (w .luts))
 
 -- Map's answer: a refusal by number and line, or U and the length
 pub data MapAnswer : Type 0 where
   refused-by : ℕ → ℕ → MapAnswer
   mapped : ℕ → ℕ → MapAnswer
 
--- what Map answers on the sheet s and the buffer b, and the buffer afterwards: on a refusal it is untouched
-pub data Outcome (s b : List ℕ) : MapAnswer → List ℕ → Type 0 where
-  refused-sheet : (q l : ℕ) → examine s ≡ refused q l → Outcome s b (refused-by q l) b
-  too-many-classes : (d : Design) → examine s ≡ valid d → maxClasses < globalCount d (d .bound) → Outcome s b (refused-by 7 0) b
-  no-network : (d : Design)
-      → examine s ≡ valid d
-      → globalCount d (d .bound) ≤ maxClasses
+-- what Map answers on the design d and the buffer b, and the buffer afterwards: on a refusal it is untouched
+pub data OutcomeFor (d : Design) (b : List ℕ) : MapAnswer → List ℕ → Type 0 where
+  too-many-classes : maxClasses < globalCount d (d .bound) → OutcomeFor d b (refused-by 7 0) b
+  no-network : globalCount d (d .bound) ≤ maxClasses
       → ((w : Network) → Wellformed d w → WithinLimits d w → Computes d w → ⊥)
-      → Outcome s b (refused-by 8 0) b
-  buffer-short : (d : Design) (w : Network)
-      → examine s ≡ valid d
+      → OutcomeFor d b (refused-by 8 0) b
+  buffer-short : (w : Network)
       → globalCount d (d .bound) ≤ maxClasses
       → Permitted d w
       → length b < length (printNetwork d w)
-      → Outcome s b (refused-by 9 0) b
-  written : (d : Design) (w : Network)
-      → examine s ≡ valid d
+      → OutcomeFor d b (refused-by 9 0) b
+  written : (w : Network)
       → globalCount d (d .bound) ≤ maxClasses
       → Permitted d w
       → length (printNetwork d w) ≤ length b
-      → Outcome s b (mapped (length (w .luts)) (length (printNetwork d w))) (sets b 0 (printNetwork d w))
+      → OutcomeFor d b (mapped (length (w .luts)) (length (printNetwork d w))) (sets b 0 (printNetwork d w))
+
+-- a refusal of the examination is Map's, and the buffer is untouched
+pub record RefusedSheet (q l : ℕ) (b : List ℕ) (a : MapAnswer) (b' : List ℕ) : Type 0 where
+  pub refusal : a ≡ refused-by q l
+  pub untouched : b' ≡ b
+
+-- what Map answers on what an examination answers
+abbrev pub OutcomeOf : Examined → List ℕ → MapAnswer → List ℕ → Type 0
+OutcomeOf (refused q l) b a b' = RefusedSheet q l b a b'
+OutcomeOf (valid d) b a b' = OutcomeFor d b a b'
+
+-- Map on the sheet s and the buffer b
+abbrev pub Outcome : List ℕ → List ℕ → MapAnswer → List ℕ → Type 0
+Outcome s b a b' = OutcomeOf (examine s) b a b'

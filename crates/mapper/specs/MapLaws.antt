@@ -101,30 +101,6 @@ zero-at rows codes (suc k) j (suc i) z h = ap (on (codes 0)) (shift j i) ∙ zer
     shift : (j i : ℕ) → j + suc i ≡ suc j + i
     shift j i = omega arith
 
--- ---- how many tables a mask lists
-count-shift : (p : ℕ → Bool) (k : ℕ) → count p (suc k) ≡ bit (p 0) + count (λ i. p (suc i)) k
-unfolding count
-count-shift p zero = omega arith
-count-shift p (suc k) = let a = count-shift p k in omega arith
-
-reading-count : (o : ℕ) (rows codes : ℕ → ℕ) (k j : ℕ) → reading o (cellsFrom k j rows codes) ≡ count (λ i. on (rows o) (j + i)) k
-unfolding reading cellsFrom count
-reading-count o rows codes zero j = refl
-reading-count o rows codes (suc k) j =
-    ap₂ (λ (b : Bool) (n : ℕ). bit b + n) (ap (on (rows o)) (sym (plus-zero j)))
-    (reading-count o rows codes k (suc j) ∙ count-alike (λ i. on (rows o) (suc j + i)) (λ i. on (rows o) (j + suc i)) k (λ i _. ap (on (rows o)) (shift j i)))
-    ∙ sym (count-shift (λ i. on (rows o) (j + i)) k)
-  where
-    plus-zero : (j : ℕ) → j + 0 ≡ j
-    plus-zero j = omega arith
-
-    shift : (j i : ℕ) → suc j + i ≡ j + suc i
-    shift j i = omega arith
-
-core-count : (o u : ℕ) (rows codes : ℕ → ℕ) → reading o (coreOf u rows codes) ≡ count (on (rows o)) u
-core-count o u rows codes =
-    reading-count o rows codes u 0 ∙ count-alike (λ i. on (rows o) (0 + i)) (on (rows o)) u (λ i _. ap (on (rows o)) (zero-add i))
-
 -- ---- what was found is permitted
 module _ (d : Design) (cl budgets : List ℕ) (v m limit : ℕ) (g : Given d cl budgets v m limit) (f : WellFormed d)
     (u : ℕ) (rows codes : List ℕ) (a : Answered cl budgets v m limit true u rows codes) where
@@ -187,12 +163,6 @@ module _ (d : Design) (cl budgets : List ℕ) (v m limit : ℕ) (g : Given d cl 
       ∙ values-default (entry d (item codes) o (numbers u 0 (item rows o))) (2 ^ (length (numbers u 0 (item rows o)) + length (free (d .inputs) (d .bound)))) j
       (entry-none o j h (λ x l e. n x l (found-code o x h l ∙ e)))
 
-  found-full : (o : ℕ) → o < length (d .outputs) → readCount (built d u (item rows) (item codes)) o ≡ min (budget d (d .bound) o) (length (built d u (item rows) (item codes) .luts))
-  found-full o h =
-      built-reads d u (item rows) (item codes) o h ∙ core-count o u (item rows) (item codes)
-      ∙ a .full refl o (subst (λ (k : ℕ). o < k) (sym (g .outputs)) h)
-      ∙ ap₂ min (g .budgeted o h) (sym (built-luts d u (item rows) (item codes)))
-
   pub found-permitted : u ≤ maxCells → Permitted d (built d u (item rows) (item codes))
   found-permitted l =
       record {
@@ -202,5 +172,4 @@ module _ (d : Design) (cl budgets : List ℕ) (v m limit : ℕ) (g : Given d cl 
         fewest = found-fewest;
         zero-first = found-zero;
         unproduced = found-unproduced;
-        full = found-full;
       }

@@ -9,14 +9,12 @@ use lib.ListN.{length, getD}
 use lib.Pow.{pow-mono}
 use lib.Seq.{sets}
 use Rattle.bits.specs.LogicLaws.{true-false}
-use Rattle.limits.specs.Limits.{maxCells, maxClasses}
+use Rattle.limits.specs.Limits.{maxBound, maxOutputs, maxRows, maxVertices, maxCells, maxClasses, searchOutputs}
 use Rattle.sheet.specs.Examine as spec
-use Rattle.sheet.specs.Examine.{Design, valid, examine}
 use Rattle.sheet.specs.Known.{Holds}
 use Rattle.sheet.specs.WellFormed.{WellFormed}
-use Rattle.sheet.specs.ExaminationLaws.{valid-well-formed}
 use Rattle.sheet.specs.declared.Sheet.{Sheet}
-use Rattle.design.specs.Answer.{ExaminedIs}
+use Rattle.design.specs.Answer.{ExaminedIs, Right}
 use Rattle.design.specs.TableLaws.{Valid, valid-here, refused-here}
 use Rattle.design.specs.declared.Examined.{Examined}
 use Rattle.classes.specs.ProperLaws.{proper-of}
@@ -30,120 +28,167 @@ use Rattle.classes.specs.JoinLaws.{join-add, join-lt}
 use Rattle.classes.specs.VertexLaws.{local-below, local-most}
 use Rattle.classes.specs.declared.Classes.{Classes}
 use Rattle.classes.specs.declared.Shape.{Shape}
+use Rattle.network.specs.Network.{Network}
 use Rattle.network.specs.Printer.{printNetwork}
 use Rattle.numbering.specs.Given.{Labels, labelAt, item}
 use Rattle.fewest.specs.Count.{Answered}
 use Rattle.serving.specs.Build.{built}
 use Rattle.serving.specs.TheoremA.{built-luts}
-use Rattle.mapper.specs.Map.{Permitted, MapAnswer, refused-by, mapped, Outcome, refused-sheet, too-many-classes, no-network, buffer-short, written}
+use Rattle.mapper.specs.Map.{Permitted, MapAnswer, refused-by, mapped, OutcomeFor, too-many-classes, no-network, buffer-short, written, OutcomeOf}
 use Rattle.mapper.specs.MapLaws.{Given, none-found, found-permitted}
-use Rattle.mapper.specs.Answer.{LabelsAre, BudgetsAre, labelOf}
+use Rattle.mapper.specs.SearchInput.{LabelsAre, BudgetsAre, labelsGiven}
 
-pub map-refused : (s b : List ℕ) (e : Examined) → ExaminedIs (examine s) e → e .ok ≡ false → Outcome s b (refused-by (e .number) (e .line)) b
-map-refused s b e h f = refused-sheet (e .number) (e .line) (sym (refused-here (examine s) e h f))
+pub map-refused : (x : spec.Examined) (b : List ℕ) (e : Examined)
+    → ExaminedIs x e
+    → e .ok ≡ false
+    → OutcomeOf x b (refused-by (e .number) (e .line)) b
+map-refused x b e h f =
+    subst (λ (y : spec.Examined). OutcomeOf y b (refused-by (e .number) (e .line)) b) (refused-here x e h f)
+    (record { refusal = refl; untouched = refl })
 
 -- ---- what was given to the search
-labels-low : (ls : List _) (cl : List ℕ) → LabelsAre ls cl → (i : ℕ) → getD cl i 0 < 32
+labels-low : (ls : List _) (cl : List ℕ) → LabelsAre ls cl → (i : ℕ) → getD cl i 0 < maxVertices
 labels-low ls cl h i =
-    elim (decLt i 128) as (λ _. getD cl i 0 < 32) [
+    elim (decLt i labelsGiven) as (λ _. getD cl i 0 < maxVertices) [
       | yes l ↦ (let e = h .each i l in omega arith)
       | no n ↦ (let e = h .others i (past i n) in omega arith)
     ]
   where
-    past : (i : ℕ) → (i < 128 → ⊥) → 128 ≤ i
+    past : (i : ℕ) → (i < labelsGiven → ⊥) → labelsGiven ≤ i
     past i n = omega arith
 
-module _ (s : List ℕ) (k : Sheet) (v : Valid (examine s) k) where
+-- x is the answer of an examination, and the sheet k holds its design
+module _ (x : spec.Examined) (k : Sheet) (v : Valid x k) (right : Right x) where
   formed : WellFormed (v .design)
-  formed = valid-well-formed s (v .design) (sym (v .answered))
+  formed = right (v .design) (sym (v .answered))
 
-  proper : Proper (v .design)
-  proper = proper-of (v .design) formed
+  pub is-proper : Proper (v .design)
+  is-proper = proper-of (v .design) formed
 
   pub counts : Counts k
-  counts = proper-counts (v .design) k (v .holds) proper
+  counts = proper-counts (v .design) k (v .holds) is-proper
 
   pub holding : Holds (v .design) k
   holding = v .holds
 
-  pub is-proper : Proper (v .design)
-  is-proper = proper
+  -- what the design comes to is what the examination's answer comes to
+  came-to : {b : List ℕ} {a : MapAnswer} {b' : List ℕ} → OutcomeFor (v .design) b a b' → OutcomeOf x b a b'
+  came-to {b = b} {a = a} {b' = b'} o = subst (λ (y : spec.Examined). OutcomeOf y b a b') (v .answered) o
 
-module _ (s : List ℕ) (k : Sheet) (v : Valid (examine s) k) (c : Classes) (q : ClassesAre (v .design) c) where
-  pub map-classes : (b : List ℕ) → maxClasses < c .globals .count → Outcome s b (refused-by 7 0) b
-  map-classes b h = too-many-classes (v .design) (sym (v .answered)) (subst (λ (n : ℕ). maxClasses < n) (q .globals .counted) h)
+  module _ (c : Classes) (q : ClassesAre (v .design) c) where
+    pub map-classes : (b : List ℕ) → maxClasses < c .globals .count → OutcomeOf x b (refused-by 7 0) b
+    map-classes b h = came-to (too-many-classes (subst (λ (n : ℕ). maxClasses < n) (q .globals .counted) h))
 
-  few-classes : c .globals .count ≤ maxClasses → globalCount (v .design) (v .design .bound) ≤ maxClasses
-  few-classes h = subst (λ (n : ℕ). n ≤ maxClasses) (q .globals .counted) h
+    few-classes : c .globals .count ≤ maxClasses → globalCount (v .design) (v .design .bound) ≤ maxClasses
+    few-classes h = subst (λ (n : ℕ). n ≤ maxClasses) (q .globals .counted) h
 
-  pub given : (cl bs : List ℕ) → LabelsAre (c .locals) cl → BudgetsAre (c .widths) bs → Given (v .design) cl bs (c .shape .vertices) (k .outputs) (k .limit % 8)
-  unfolding budget
-  given cl bs lh bh =
-      let d = v .design in
-      let m = v .holds .outputs-counted in
-      let mf = v .holds .outputs-few in
-      record {
-        vertices = q .shaped .vertices;
-        outputs = m;
-        within = (let a = v .holds .limit-is in let b = v .holds .limit-small in omega arith);
-        labels = λ o x h l.
-            (let vf : vertexCount (d .bound) ≤ 32 = subst (λ (n : ℕ). n ≤ 32) (q .shaped .vertices) (q .shaped .few-vertices) in
-            let a = lh .each (o * 32 + x) (omega arith) in
-            let e1 : (o * 32 + x) / 32 ≡ o = omega arith in
-            let e2 : (o * 32 + x) % 32 ≡ x = omega arith in
-            let w = q .locals o h .classes x l in
-            let lb = local-below d (d .bound) o x l in
-            let lm = local-most d (d .bound) o in
-            a ∙ ap₂ (λ (i j : ℕ). localAt (localsAt (c .locals) i .classes) j % 32) e1 e2
-            ∙ ap (λ (n : ℕ). n % 32) w ∙ small (localClass d (d .bound) o x) (omega arith));
-        budgeted = λ o h. (let w = q .widths o h in let x = bh .each o (omega arith) in let y = w .few in let z = w .is in omega arith);
-      }
-    where
-      small : (n : ℕ) → n < 32 → n % 32 ≡ n
-      small n h = omega arith
+    pub budgets-ready : (k .outputs ≤ maxOutputs) × ((o : ℕ) → o < k .outputs → getD (c .widths) o 0 ≤ maxBound)
+    budgets-ready = (
+      v .holds .outputs-few,
+      λ o h. (let w = q .widths o (subst (λ (n : ℕ). o < n) (v .holds .outputs-counted) h) in let z = w .is in let y = w .few in omega arith),
+    )
 
-  pub search-ready : (cl : List ℕ) → LabelsAre (c .locals) cl → Labels cl × (c .shape .vertices ≤ 32) × (k .outputs ≤ 8) × (k .limit % 8 ≤ 6)
-  search-ready cl h = (
-    record { long = h .long; low = λ i _. labels-low (c .locals) cl h i },
-    q .shaped .few-vertices,
-    (let a = v .holds .outputs-few in omega arith),
-    (let a = v .holds .limit-small in omega arith),
-  )
+    given : (cl bs : List ℕ)
+        → LabelsAre (c .locals) cl
+        → BudgetsAre (c .widths) (k .outputs) bs
+        → Given (v .design) cl bs (c .shape .vertices) (k .outputs) (k .limit)
+    unfolding budget
+    given cl bs lh bh =
+        let d = v .design in
+        let m = v .holds .outputs-counted in
+        let mf = v .holds .outputs-few in
+        record {
+          vertices = q .shaped .vertices;
+          outputs = m;
+          within = v .holds .limit-is;
+          labels = λ o y h l.
+              (let vf : vertexCount (d .bound) ≤ maxVertices = subst (λ (n : ℕ). n ≤ maxVertices) (q .shaped .vertices) (q .shaped .few-vertices) in
+              let a = lh .each (o * maxVertices + y) (omega arith) in
+              let e1 : (o * maxVertices + y) / maxVertices ≡ o = omega arith in
+              let e2 : (o * maxVertices + y) % maxVertices ≡ y = omega arith in
+              let w = q .locals o h .classes y l in
+              let lb = local-below d (d .bound) o y l in
+              let lm = local-most d (d .bound) o in
+              a ∙ ap₂ (λ (i j : ℕ). localAt (localsAt (c .locals) i .classes) j % maxVertices) e1 e2
+              ∙ ap (λ (n : ℕ). n % maxVertices) w ∙ small (localClass d (d .bound) o y) (omega arith));
+          budgeted = λ o h. (let w = q .widths o h in bh .each o (subst (λ (n : ℕ). o < n) (sym m) h) ∙ w .is);
+        }
+      where
+        small : (n : ℕ) → n < maxVertices → n % maxVertices ≡ n
+        small n h = omega arith
 
-  pub rows-inside : (x y : ℕ) → x < c .shape .vertices → y < c .shape .frees → getD (c .shape .vertex) x 0 + getD (c .shape .free) y 0 < 1024
-  rows-inside x y a b =
-      let d = v .design in
-      let e = q .shaped .at-vertex x a in
-      let f = q .shaped .at-free y b in
-      let g = join-add (d .inputs) (d .bound) x y in
-      let h = join-lt (d .inputs) (d .bound) x y in
-      let p : 2 ^ length (d .inputs) ≤ 1024 = pow-mono (is-proper s k v .few-inputs) in
-      omega arith
+    pub search-ready : (cl : List ℕ)
+        → LabelsAre (c .locals) cl
+        → Labels cl × (c .shape .vertices ≤ maxVertices) × (k .outputs ≤ searchOutputs) × (k .limit ≤ maxCells)
+    search-ready cl h = (
+      record { long = h .long; low = λ i _. labels-low (c .locals) cl h i },
+      q .shaped .few-vertices,
+      (let a = v .holds .outputs-few in omega arith),
+      (let a = v .holds .limit-small in omega arith),
+    )
 
-  module _ (cl bs : List ℕ) (lh : LabelsAre (c .locals) cl) (bh : BudgetsAre (c .widths) bs) (few : c .globals .count ≤ maxClasses) (u : ℕ) (rows codes : List ℕ) where
-    pub map-none : (b : List ℕ) (found : Bool) → found ≡ false → Answered cl bs (c .shape .vertices) (k .outputs) (k .limit % 8) found u rows codes → Outcome s b (refused-by 8 0) b
-    map-none b true f a = absurd (true-false f)
-    map-none b false f a =
-        no-network (v .design) (sym (v .answered)) (few-classes few)
-        (none-found (v .design) cl bs (c .shape .vertices) (k .outputs) (k .limit % 8) (given cl bs lh bh) u rows codes (formed s k v) a)
+    pub rows-inside : (y z : ℕ)
+        → y < c .shape .vertices
+        → z < c .shape .frees
+        → getD (c .shape .vertex) y 0 + getD (c .shape .free) z 0 < maxRows
+    rows-inside y z a b =
+        let d = v .design in
+        let e = q .shaped .at-vertex y a in
+        let f = q .shaped .at-free z b in
+        let g = join-add (d .inputs) (d .bound) y z in
+        let h = join-lt (d .inputs) (d .bound) y z in
+        let p : 2 ^ length (d .inputs) ≤ maxRows = pow-mono (is-proper .few-inputs) in
+        omega arith
 
-    pub cells-few : (found : Bool) → Answered cl bs (c .shape .vertices) (k .outputs) (k .limit % 8) found u rows codes → u ≤ 6
-    cells-few found a = let e = a .few in let f = v .holds .limit-small in omega arith
+    -- ---- what the search found, beside the labels and budgets that it was given
+    module _ (cl bs : List ℕ) (lh : LabelsAre (c .locals) cl) (bh : BudgetsAre (c .widths) (k .outputs) bs)
+        (few : c .globals .count ≤ maxClasses) (u : ℕ) (rows codes : List ℕ) where
+      abbrev Found : Bool → Type 0
+      Found found = Answered cl bs (c .shape .vertices) (k .outputs) (k .limit) found u rows codes
 
-    permitted : Answered cl bs (c .shape .vertices) (k .outputs) (k .limit % 8) true u rows codes → Permitted (v .design) (built (v .design) u (item rows) (item codes))
-    permitted a =
-        found-permitted (v .design) cl bs (c .shape .vertices) (k .outputs) (k .limit % 8) (given cl bs lh bh) (formed s k v) u rows codes a (cells-few true a)
+      abbrev network : Network
+      network = built (v .design) u (item rows) (item codes)
 
-    pub map-short : (b : List ℕ) (n : ℕ) (found : Bool) → found ≡ true → Answered cl bs (c .shape .vertices) (k .outputs) (k .limit % 8) found u rows codes → n ≡ length (printNetwork (v .design) (built (v .design) u (item rows) (item codes))) → length b < n → Outcome s b (refused-by 9 0) b
-    map-short b n false f a e h = absurd (true-false (sym f))
-    map-short b n true f a e h =
-        buffer-short (v .design) (built (v .design) u (item rows) (item codes)) (sym (v .answered)) (few-classes few) (permitted a) (omega arith)
+      abbrev text : List ℕ
+      text = printNetwork (v .design) network
 
-    pub map-written : (b b' : List ℕ) (m n : ℕ) (found : Bool) → found ≡ true → Answered cl bs (c .shape .vertices) (k .outputs) (k .limit % 8) found u rows codes → m ≡ length (printNetwork (v .design) (built (v .design) u (item rows) (item codes))) → m ≤ length b → n ≡ length (printNetwork (v .design) (built (v .design) u (item rows) (item codes))) → b' ≡ sets b 0 (printNetwork (v .design) (built (v .design) u (item rows) (item codes))) → Outcome s b (mapped u n) b'
-    map-written b b' m n false f a e h g w = absurd (true-false (sym f))
-    map-written b b' m n true f a e h g w =
-        subst (λ (x : List ℕ). Outcome s b (mapped u n) x) (sym w)
-        (subst (λ (i : ℕ). Outcome s b (mapped u i) (sets b 0 (printNetwork (v .design) (built (v .design) u (item rows) (item codes))))) (sym g)
-        (subst (λ (i : ℕ). Outcome s b (mapped i (length (printNetwork (v .design) (built (v .design) u (item rows) (item codes))))) (sets b 0 (printNetwork (v .design) (built (v .design) u (item rows) (item codes)))))
-        (built-luts (v .design) u (item rows) (item codes))
-        (written (v .design) (built (v .design) u (item rows) (item codes)) (sym (v .answered)) (few-classes few) (permitted a) (omega arith))))
+      pub map-none : (b : List ℕ) (found : Bool) → found ≡ false → Found found → OutcomeOf x b (refused-by 8 0) b
+      map-none b true f a = absurd (true-false f)
+      map-none b false f a =
+          came-to
+          (no-network (few-classes few)
+          (none-found (v .design) cl bs (c .shape .vertices) (k .outputs) (k .limit) (given cl bs lh bh) u rows codes formed a))
+
+      pub cells-few : (found : Bool) → Found found → u ≤ maxCells
+      cells-few found a = let e = a .few in let f = v .holds .limit-small in omega arith
+
+      permitted : Found true → Permitted (v .design) network
+      permitted a =
+          found-permitted (v .design) cl bs (c .shape .vertices) (k .outputs) (k .limit) (given cl bs lh bh) formed u rows codes a
+          (cells-few true a)
+
+      pub map-short : (b : List ℕ) (n : ℕ) (found : Bool)
+          → found ≡ true
+          → Found found
+          → n ≡ length text
+          → length b < n
+          → OutcomeOf x b (refused-by 9 0) b
+      map-short b n false f a e h = absurd (true-false (sym f))
+      map-short b n true f a e h = came-to (buffer-short network (few-classes few) (permitted a) (omega arith))
+
+      pub map-written : (b b' : List ℕ) (m n : ℕ) (found : Bool)
+          → found ≡ true
+          → Found found
+          → m ≡ length text
+          → m ≤ length b
+          → n ≡ length text
+          → b' ≡ sets b 0 text
+          → OutcomeOf x b (mapped u n) b'
+      map-written b b' m n false f a e h g w = absurd (true-false (sym f))
+      map-written b b' m n true f a e h g w =
+          let o : OutcomeFor (v .design) b (mapped (length (network .luts)) (length text)) (sets b 0 text) =
+          written network (few-classes few) (permitted a) (omega arith) in
+          came-to
+          (subst (λ (y : List ℕ). OutcomeFor (v .design) b (mapped u n) y) (sym w)
+          (subst (λ (y : MapAnswer). OutcomeFor (v .design) b y (sets b 0 text))
+          (ap₂ mapped (built-luts (v .design) u (item rows) (item codes)) (sym g)) o))

@@ -3,14 +3,16 @@
 use mathlib.Core.Path.{_≡_, refl, sym, ap, ap₂, _∙_, subst}
 use mathlib.Core.List.{List}
 use mathlib.Core.Option.{none}
-use Prim.Native.Nat.{ℕ, suc, _≤_, _<_, min}
+use Prim.Native.Nat.{ℕ, suc, _≤_, _<_}
 use native.Mathlib.Omega.{arith}
 use native.Mathlib.Nat.{le-antisymm}
 use lib.ListN.{length}
 use lib.Seq.{sets}
 use Rattle.limits.specs.Limits.{maxClasses}
 use Rattle.sheet.specs.Examine.{Design, refused, valid, examine}
+use Rattle.sheet.specs.WellFormed.{WellFormed}
 use Rattle.sheet.specs.ExaminationLaws.{valid-well-formed}
+use Rattle.classes.specs.Proper.{Proper}
 use Rattle.classes.specs.ProperLaws.{proper-of}
 use Rattle.classes.specs.Classes.{globalCount}
 use Rattle.classes.specs.Width.{budget}
@@ -25,12 +27,12 @@ use Rattle.network.specs.PrintedLaws.{drawn-wellformed, drawn-within, drawn-pri
 use Rattle.serving.specs.NetworkCore.{networkCore}
 use Rattle.serving.specs.Tells.{core-length}
 use Rattle.serving.specs.TheoremA.{drawn-serves}
-use Rattle.mapper.specs.Map.{Permitted, MapAnswer, refused-by, mapped, Outcome, refused-sheet, too-many-classes, no-network, buffer-short, written}
-use Rattle.mapper.specs.Each.{Each, each-below}
+use Rattle.serving.specs.FullReads.{reads-width}
+use Rattle.mapper.specs.Map.{Permitted, MapAnswer, refused-by, mapped, OutcomeFor, too-many-classes, no-network, buffer-short, written}
 use Rattle.mapper.specs.DesignLaws.{named-of}
 use Rattle.mapper.specs.LengthLaws.{same-length}
 use Rattle.mapper.specs.NeededCells.{AtLeast}
-use Rattle.mapper.specs.OutcomeLaws.{refused-valid, OutcomeFor, many-classes, none-computes, too-short, printed, outcome-for}
+use Rattle.mapper.specs.OutcomeLaws.{outcome-for, outcome-refused}
 use Rattle.mapper.specs.Worked.{Refuses, Maps, Prints}
 
 least-network : (s : List ℕ) (d : Design) (u : ℕ) → examine s ≡ valid d → AtLeast u d → (v : Network) → Wellformed d v → WithinLimits d v → Computes d v → u ≤ length (v .luts)
@@ -46,10 +48,10 @@ module _ (s : List ℕ) (d : Design) (e : examine s ≡ valid d) (few : globalCo
       omega (arith, h, k)
 
   says-8 : {b : List ℕ} {a : MapAnswer} {b' : List ℕ} → OutcomeFor d b a b' → (a ≡ refused-by 8 0) × (b' ≡ b)
-  says-8 (many-classes h) = absurd (omega (arith, h, few))
-  says-8 (none-computes h n) = (refl, refl)
-  says-8 (too-short v h p n) = absurd (none-within v (p .wellformed) (p .within) (p .computes))
-  says-8 (printed v h p n) = absurd (none-within v (p .wellformed) (p .within) (p .computes))
+  says-8 (too-many-classes h) = absurd (omega (arith, h, few))
+  says-8 (no-network h n) = (refl, refl)
+  says-8 (buffer-short v h p n) = absurd (none-within v (p .wellformed) (p .within) (p .computes))
+  says-8 (written v h p n) = absurd (none-within v (p .wellformed) (p .within) (p .computes))
 
   pub refuses-8 : Refuses s 8 0
   refuses-8 =
@@ -58,17 +60,12 @@ module _ (s : List ℕ) (d : Design) (e : examine s ≡ valid d) (few : globalCo
         untouched = λ b a b' o. says-8 (outcome-for d e o) .1;
       }
 
--- output o's node reads as many tables as its width and their number allow
-abbrev pub Full : Design → Network → ℕ → Type 0
-Full d w o = readCount w o ≡ min (budget d (d .bound) o) (length (w .luts))
-
 -- ---- a sheet with a network that is "same" and has no more cells than it needs is mapped
 pub record Fewest (s t : List ℕ) (d : Design) (w : Network) : Type 0 where
   pub is-valid : examine s ≡ valid d
   pub drawn : Drawn d t w
   pub right : compared d w ≡ same
   pub few : globalCount d (d .bound) ≤ maxClasses
-  pub full : (o : ℕ) → o < length (d .outputs) → Full d w o
   pub least : AtLeast (length (w .luts)) d
 
 pub fewest-of : {s t : List ℕ} {d : Design} {w : Network}
@@ -77,16 +74,14 @@ pub fewest-of : {s t : List ℕ} {d : Design} {w : Network}
     → offending d w ≡ none
     → compared d w ≡ same
     → globalCount d (d .bound) ≤ maxClasses
-    → Each (length (d .outputs)) (Full d w)
     → AtLeast (length (w .luts)) d
     → Fewest s t d w
-fewest-of {d = d} {w = w} e f g h k r l =
+fewest-of e f g h k l =
     record {
       is-valid = e;
       drawn = record { is-read = f; passes = g };
       right = h;
       few = k;
-      full = each-below (length (d .outputs)) (Full d w) r;
       least = l;
     }
 
@@ -94,8 +89,14 @@ module _ (s t : List ℕ) (d : Design) (w : Network) (x : Fewest s t d w) where
   e : examine s ≡ valid d
   e = x .is-valid
 
+  formed : WellFormed d
+  formed = valid-well-formed s d e
+
+  proper : Proper d
+  proper = proper-of d formed
+
   named : Named d
-  named = named-of d (valid-well-formed s d e)
+  named = named-of d formed
 
   well : Wellformed d w
   well = drawn-wellformed d w named t (x .drawn)
@@ -111,25 +112,28 @@ module _ (s t : List ℕ) (d : Design) (w : Network) (x : Fewest s t d w) where
       le-antisymm (p .fewest w well inside drawn-computes)
       (least-network s d (length (w .luts)) e (x .least) v (p .wellformed) (p .within) (p .computes))
 
+  pub reads-of : (v : Network) → Permitted d v → (o : ℕ) → o < length (d .outputs) → readCount v o ≡ budget d (d .bound) o
+  reads-of v p = reads-width d v proper (p .wellformed) (p .within) (p .computes)
+
   length-of : (v : Network) → Permitted d v → length (printNetwork d v) ≡ length t
   length-of v p =
       same-length d v w (p .wellformed) well (count-of v p)
       (λ o h.
       (let k = subst (λ (n : ℕ). o < n) (p .wellformed .node-each) h in
-      p .full o k ∙ ap (min (budget d (d .bound) o)) (count-of v p) ∙ sym (x .full o k)))
+      reads-of v p o k ∙ sym (reads-width d w proper well inside drawn-computes o k)))
       ∙ ap length (sym (drawn-print d w named t (x .drawn)))
 
   says-mapped : {b : List ℕ} {a : MapAnswer} {b' : List ℕ} → length t ≤ length b → OutcomeFor d b a b' → a ≡ mapped (length (w .luts)) (length t)
-  says-mapped k (many-classes h) = let f = x .few in absurd (omega (arith, h, f))
-  says-mapped k (none-computes h n) = absurd (n w well inside drawn-computes)
-  says-mapped k (too-short v h p n) = let g = length-of v p in absurd (omega (arith, g, n, k))
-  says-mapped k (printed v h p n) = ap₂ mapped (count-of v p) (length-of v p)
+  says-mapped k (too-many-classes h) = let f = x .few in absurd (omega (arith, h, f))
+  says-mapped k (no-network h n) = absurd (n w well inside drawn-computes)
+  says-mapped k (buffer-short v h p n) = let g = length-of v p in absurd (omega (arith, g, n, k))
+  says-mapped k (written v h p n) = ap₂ mapped (count-of v p) (length-of v p)
 
   says-short : {b : List ℕ} {a : MapAnswer} {b' : List ℕ} → length b < length t → OutcomeFor d b a b' → (a ≡ refused-by 9 0) × (b' ≡ b)
-  says-short k (many-classes h) = let f = x .few in absurd (omega (arith, h, f))
-  says-short k (none-computes h n) = absurd (n w well inside drawn-computes)
-  says-short k (too-short v h p n) = (refl, refl)
-  says-short k (printed v h p n) = let g = length-of v p in absurd (omega (arith, g, n, k))
+  says-short k (too-many-classes h) = let f = x .few in absurd (omega (arith, h, f))
+  says-short k (no-network h n) = absurd (n w well inside drawn-computes)
+  says-short k (buffer-short v h p n) = (refl, refl)
+  says-short k (written v h p n) = let g = length-of v p in absurd (omega (arith, g, n, k))
 
   pub maps-fewest : Maps s (length (w .luts)) (length t)
   maps-fewest =
@@ -140,10 +144,10 @@ module _ (s t : List ℕ) (d : Design) (w : Network) (x : Fewest s t d w) where
       }
 
   says-text : ((v : Network) → Permitted d v → v ≡ w) → {b : List ℕ} {a : MapAnswer} {b' : List ℕ} → length t ≤ length b → OutcomeFor d b a b' → b' ≡ sets b 0 t
-  says-text only k (many-classes h) = let f = x .few in absurd (omega (arith, h, f))
-  says-text only k (none-computes h n) = absurd (n w well inside drawn-computes)
-  says-text only k (too-short v h p n) = let g = length-of v p in absurd (omega (arith, g, n, k))
-  says-text only {b = b} k (printed v h p n) =
+  says-text only k (too-many-classes h) = let f = x .few in absurd (omega (arith, h, f))
+  says-text only k (no-network h n) = absurd (n w well inside drawn-computes)
+  says-text only k (buffer-short v h p n) = let g = length-of v p in absurd (omega (arith, g, n, k))
+  says-text only {b = b} k (written v h p n) =
       ap (λ (y : Network). sets b 0 (printNetwork d y)) (only v p) ∙ ap (sets b 0) (sym (drawn-print d w named t (x .drawn)))
 
   -- where no other network is permitted, its sheet is what is written
@@ -157,14 +161,7 @@ module _ (s t : List ℕ) (d : Design) (w : Network) (x : Fewest s t d w) where
 -- ---- a sheet that the examination refuses
 pub refuses-sheet : (s : List ℕ) (q l : ℕ) → examine s ≡ refused q l → Refuses s q l
 refuses-sheet s q l e =
-    record { answers = λ b a b' o. says q l e o .0; untouched = λ b a b' o. says q l e o .1 }
-  where
-    refused-same : {q l p m : ℕ} → refused p m ≡ refused q l → refused-by p m ≡ refused-by q l
-    refused-same e = cc
-
-    says : {b : List ℕ} {a : MapAnswer} {b' : List ℕ} (q l : ℕ) → examine s ≡ refused q l → Outcome s b a b' → (a ≡ refused-by q l) × (b' ≡ b)
-    says q l e (refused-sheet p m f) = (refused-same (sym f ∙ e), refl)
-    says q l e (too-many-classes c f h) = absurd (refused-valid (sym e ∙ f))
-    says q l e (no-network c f h n) = absurd (refused-valid (sym e ∙ f))
-    says q l e (buffer-short c w f h k n) = absurd (refused-valid (sym e ∙ f))
-    says q l e (written c w f h k n) = absurd (refused-valid (sym e ∙ f))
+    record {
+      answers = λ b a b' o. outcome-refused q l e o .refusal;
+      untouched = λ b a b' o. outcome-refused q l e o .untouched;
+    }

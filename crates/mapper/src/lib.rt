@@ -1,12 +1,17 @@
-// Map: a design sheet to the network sheet with the fewest shared tables, or a refusal. Rests on design for questions 1 to
-// 5, on classes for columns, on fewest for the search, and on writer for the network sheet.
+// Map: what an examination answers to the network sheet with the fewest shared tables, or a refusal. Rests on design for the
+// examination of a sheet, on classes for columns, on fewest for the search, and on writer for the network sheet.
 ghost use mathlib.Core.Path.{_≡_};
-ghost use Rattle.mapper.specs.Map.{Outcome};
-ghost use Rattle.mapper.specs.Answer.{mapAnswer, LabelsAre, BudgetsAre};
+ghost use Prim.Native.Nat.{ℕ, _≤_, _<_, _%_};
+ghost use lib.ListN.{getD};
+ghost use Rattle.limits.specs.Limits.{maxBound, maxOutputs, maxVertices};
+ghost use Rattle.sheet.specs.Examine as spec;
+ghost use Rattle.design.specs.Answer.{ExaminedIs, Right, Examination};
+ghost use Rattle.mapper.specs.Map.{OutcomeOf, Outcome};
+ghost use Rattle.mapper.specs.Answer.{mapAnswer};
+ghost use Rattle.mapper.specs.SearchInput.{LabelsAre, BudgetsAre};
+use classes::LocalClass;
 use classes::Locals;
-
-// The most global classes.
-const MAX_CLASSES: usize = 16;
+use design::Examined;
 
 // Map's answer: the refusal, or how many cells and bytes were written.
 pub enum Mapped {
@@ -14,41 +19,49 @@ pub enum Mapped {
     Written { cells: usize, length: usize },
 }
 
-// Class labels as the search takes them: 32 for each output.
-fn labels(ls: [Locals; 4]) -> [u8; 256]
+// The label of a class: a class number is below MAX_VERTICES, and so is what a label may be.
+fn label_of(c: LocalClass) -> u8
+    ensures { λ r. ⌜ r ≡ c .0 % maxVertices ⌝ }
+{
+    (c.0 % limits::MAX_VERTICES) as u8
+}
+
+// The class labels of the outputs as the search takes them, which knows plain numbers only: this is the one step from local
+// class numbers to labels.
+fn labels(ls: [Locals; limits::MAX_OUTPUTS]) -> [u8; limits::LABELS]
     ensures { λ r. ⌜ LabelsAre ls r ⌝ }
 {
-    let mut cl = [0u8; 256];
+    let mut cl = [0u8; limits::LABELS];
     let mut i = 0;
-    while i < 128 {
-        let l = ls[i / 32];
+    while i < limits::MAX_OUTPUTS * limits::MAX_VERTICES {
+        let l = ls[i / limits::MAX_VERTICES];
         let classes = l.classes;
-        let c = classes[i % 32];
-        cl[i] = (c.0 % 32) as u8;
+        cl[i] = label_of(classes[i % limits::MAX_VERTICES]);
         i += 1;
     }
     cl
 }
 
-// Budgets as the search takes them.
-fn budgets(ws: [usize; 4]) -> [u8; 8]
-    ensures { λ r. ⌜ BudgetsAre ws r ⌝ }
+// The budgets of the outputs as the search takes them.
+fn budgets(ws: [usize; limits::MAX_OUTPUTS], outputs: usize) -> [u8; limits::SEARCH_OUTPUTS]
+    requires { ⌜ (outputs ≤ maxOutputs) × ((o : ℕ) → o < outputs → getD ws o 0 ≤ maxBound) ⌝ }
+    ensures { λ r. ⌜ BudgetsAre ws outputs r ⌝ }
 {
-    let mut r = [0u8; 8];
+    let mut r = [0u8; limits::SEARCH_OUTPUTS];
     let mut o = 0;
-    while o < 4 {
-        r[o] = (ws[o] % 8) as u8;
+    while o < outputs {
+        r[o] = ws[o] as u8;
         o += 1;
     }
     r
 }
 
-// The network sheet with the fewest shared tables, from the buffer's start. Where a question is answered "no" the buffer is
-// left as it was.
-pub fn map(sheet: &[u8], buffer: &mut [u8]) -> Mapped
-    ensures { λ r. ⌜ Outcome (now (sheet .entry)) (now (buffer .entry)) (mapAnswer r) (now (buffer .exit)) ⌝ }
+// The network sheet with the fewest shared tables for what an examination answered, from the buffer's start. Where a question
+// is answered "no" the buffer is left as it was.
+pub fn map_of(e: Examined, buffer: &mut [u8]) -> Mapped
+    requires { ⌜ Examination e ⌝ }
+    ensures { λ r. ⌜ ((x : spec.Examined) → ExaminedIs x e → Right x → OutcomeOf x (now (buffer .entry)) (mapAnswer r) (now (buffer .exit))) ⌝ }
 {
-    let e = design::examine(sheet);
     if !e.ok {
         return Mapped::Refused {
             number: e.number,
@@ -58,20 +71,15 @@ pub fn map(sheet: &[u8], buffer: &mut [u8]) -> Mapped
     let k = e.sheet;
     let c = classes::classes_of(k);
     let g = c.globals;
-    if MAX_CLASSES < g.count {
+    if limits::MAX_CLASSES < g.count {
         return Mapped::Refused { number: 7, line: 0 };
     }
     let ls = c.locals;
     let ws = c.widths;
     let sh = c.shape;
     let cl = labels(ls);
-    let core = fewest::fewest(
-        &cl,
-        budgets(ws),
-        sh.vertices,
-        k.outputs,
-        (k.limit % 8) as u8,
-    );
+    let bs = budgets(ws, k.outputs);
+    let core = fewest::fewest(&cl, bs, sh.vertices, k.outputs, k.limit as u8);
     if !core.found {
         return Mapped::Refused { number: 8, line: 0 };
     }
@@ -85,4 +93,11 @@ pub fn map(sheet: &[u8], buffer: &mut [u8]) -> Mapped
     }
     let length = writer::put_network(buffer, k, sh, u, rows, codes);
     Mapped::Written { cells: u, length }
+}
+
+// Map on a design sheet.
+pub fn map(sheet: &[u8], buffer: &mut [u8]) -> Mapped
+    ensures { λ r. ⌜ Outcome (now (sheet .entry)) (now (buffer .entry)) (mapAnswer r) (now (buffer .exit)) ⌝ }
+{
+    map_of(design::examine(sheet), buffer)
 }

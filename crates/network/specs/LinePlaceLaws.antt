@@ -1,5 +1,5 @@
 -- Which line of the print a shared table or a node stands on: lines count from 1, lut i stands on line i + 2, and the node
--- of output o as far below the lut lines. Assumes nothing.
+-- of output o as far below the lut lines; the count line follows the last node. Assumes nothing.
 use mathlib.Core.Path.{_≡_, refl, sym, ap, _∙_}
 use mathlib.Core.Bool.{Bool}
 use mathlib.Core.List.{List, [], _∷_, _++_}
@@ -10,7 +10,7 @@ use lib.Seq.{getD-append-add}
 use Rattle.names.specs.Name.{Name}
 use Rattle.sheet.specs.Examine.{Design}
 use Rattle.network.specs.Network.{Network, Node}
-use Rattle.network.specs.Printer.{networkLine, printLut, printNode, lutLines, nodeLines, networkLines}
+use Rattle.network.specs.Printer.{networkLine, printLut, printNode, printCount, lutLines, nodeLines, networkLines}
 use Rattle.network.specs.Wellformed.{nodeAt}
 use Rattle.network.specs.Parts.{freeOf, namesOf, lineAt, lastLines, linesFromNode}
 use Rattle.network.specs.PartLaws.{names-count}
@@ -78,3 +78,18 @@ module _ (d : Design) (w : Network) where
       ∙ getD-append-add luts (nodes ++ last) o []
       ∙ List·getD-append nodes last [] o (omega arith)
       ∙ node-at (freeOf d) (namesOf d) (w .nodes) o k h
+
+  pub count-line-at : length (w .nodes) ≡ length (d .outputs)
+      → lineAt (networkLines d w) (length (w .luts) + 2 + length (d .outputs)) ≡ printCount (length (w .luts))
+  unfolding networkLines
+  count-line-at e =
+      let luts = lutLines (d .bound) 0 (w .luts) in
+      let nodes = nodeLines (freeOf d) (namesOf d) (w .nodes) in
+      let last = lastLines (length (w .luts)) in
+      let c = luts-count (d .bound) 0 (w .luts) in
+      let k : length (w .nodes) ≡ length (namesOf d) = e ∙ sym (names-count d) in
+      let m = nodes-count (freeOf d) (namesOf d) (w .nodes) k in
+      let n : length (w .luts) + 2 + length (d .outputs) - 1 ≡ suc (length luts + (length nodes + 0)) = omega arith in
+      ap (λ (a : ℕ). getD (networkLine ∷ (luts ++ (nodes ++ last))) a []) n
+      ∙ getD-append-add luts (nodes ++ last) (length nodes + 0) []
+      ∙ getD-append-add nodes last 0 []

@@ -1,8 +1,9 @@
-use Rattle.mapper.specs.FillLaws.{Filled, filled-more, filled-none}
-use lib.ListN.{getD, getD-replicate}
-use Prim.Native.Nat.{ℕ, _≤_, _-_, _%_}
-use mathlib.Core.Path.{_≡_, refl}
 use native.Mathlib.Omega.{arith}
+use mathlib.Core.Path.{refl}
+use Prim.Native.Nat.{ℕ, _≤_, _-_}
+use lib.ListN.{getD}
+use Rattle.limits.specs.Limits.{searchOutputs}
+use Rattle.mapper.specs.FillLaws.{Filled, filled-more, filled-none}
 use borrow.Author.Needs.{needs}
 use Rattle.mapper.proofs.budgets.Statement.{statement}
 use Rattle.mapper.proofs.budgets.Tie as tie
@@ -10,46 +11,66 @@ use Rattle.mapper.proofs.budgets.Reads as reads
 use Rattle.mapper.proofs.budgets.Lts as lts
 
 abbrev Inv-loop : tie.InvT-loop
-Inv-loop ws r₀ o₀ r o = (o ≤ 4) × Filled (λ k. getD ws k 0 % 8) 8 r o
+Inv-loop outputs ws r₀ o₀ r o = (o ≤ outputs) × Filled (λ k. getD ws k 0) searchOutputs r o
 
 abbrev μ-loop : tie.MeasureT-loop
-μ-loop ws r₀ o₀ r o = 4 - o
+μ-loop outputs ws r₀ o₀ r o = outputs - o
 
--- src/lib.rt:58:5
 loop-holds : tie.Need-loop-holds Inv-loop μ-loop
-loop-holds c = (omega arith, filled-none (λ k. getD (c .args .t1) k 0 % 8) 8)
+loop-holds c =
+    let args = c .args in
+    (omega arith, filled-none (λ k. getD (args .t1) k 0) searchOutputs)
 
--- src/lib.rt:59:17
 mul-r : tie.Need-mul-r Inv-loop μ-loop
 mul-r c = search needs
 
--- src/lib.rt:59:17
 array-read-r : tie.Need-array-read-r Inv-loop μ-loop
-array-read-r c = search needs
+array-read-r c =
+    let loop-test = c .loop-test in
+    let pre = c .before .before .pre in
+    let below = loop-test .taken in
+    let few = pre .0 in
+    omega arith
 
--- src/lib.rt:59:16
 cast-r : tie.Need-cast-r Inv-loop μ-loop
-cast-r c = search needs
+cast-r c =
+    let loop-test = c .loop-test in
+    let loop = c .before .loop in
+    let pre = c .before .before .pre in
+    let small = pre .1 (loop .o) (loop-test .taken) in
+    omega arith
 
--- src/lib.rt:59:9
 array-write-r : tie.Need-array-write-r Inv-loop μ-loop
-array-write-r c = search needs
+array-write-r c =
+    let loop-test = c .loop-test in
+    let pre = c .before .before .pre in
+    let below = loop-test .taken in
+    let few = pre .0 in
+    omega arith
 
--- src/lib.rt:60:9
 add-o : tie.Need-add-o Inv-loop μ-loop
 add-o c = search needs
 
--- src/lib.rt:58:5
 loop-less : tie.Need-loop-less Inv-loop μ-loop
 loop-less c = search needs
 
--- src/lib.rt:58:5
 loop-again : tie.Need-loop-again Inv-loop μ-loop
-loop-again c = (omega arith, filled-more (λ k. getD (c .before .before .args .t1) k 0 % 8) 8 (c .before .loop .r) (c .before .loop .o) _ (let h = c .loop-test .taken in omega arith) refl (c .before .loop .inv .1))
+loop-again c =
+    let loop-test = c .loop-test in
+    let loop = c .before .loop in
+    let pre = c .before .before .pre in
+    let args = c .before .before .args in
+    let below = loop-test .taken in
+    let few = pre .0 in
+    (omega arith, filled-more (λ k. getD (args .t1) k 0) searchOutputs (loop .r) (loop .o) _ (omega arith) refl (loop .inv .1))
 
--- src/lib.rt:53:1
 returns : tie.Need-returns Inv-loop μ-loop
-returns c = record { each = λ o h. c .before .loop .inv .1 .done o (let e = c .loop-test .left in omega arith) }
+returns c =
+    let loop-test = c .loop-test in
+    let loop = c .before .loop in
+    let filled = loop .inv .1 in
+    let past = loop-test .left in
+    record { each = λ o h. filled .done o (omega arith) }
 
 pub budgets-spec : {M : Type 1} → statement M
 budgets-spec =

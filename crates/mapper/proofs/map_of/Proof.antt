@@ -1,0 +1,237 @@
+use native.Mathlib.Omega.{arith}
+use mathlib.Core.Path.{_≡_, sym, refl, ap, _∙_}
+use borrow.Author.Tests.{not-true, not-false}
+use Rattle.sheet.specs.Examine as spec
+use Rattle.design.specs.TableLaws.{valid-here}
+use Rattle.mapper.specs.MapSteps.{map-refused, counts, holding, is-proper, map-classes, budgets-ready, search-ready, rows-inside, map-none, cells-few, map-short, map-written}
+use borrow.Author.Needs.{needs}
+use Rattle.mapper.proofs.map_of.Statement.{statement}
+use Rattle.mapper.proofs.map_of.Tie as tie
+use Rattle.mapper.proofs.map_of.Reads as reads
+use Rattle.mapper.proofs.map_of.Lts as lts
+use Rattle.classes.proofs.classes_of.Reads as classes-of-reads
+use Rattle.fewest.proofs.fewest.Reads as fewest-reads
+use Rattle.mapper.proofs.budgets.Reads as budgets-reads
+use Rattle.mapper.proofs.labels.Reads as labels-reads
+use Rattle.writer.proofs.put_network.Reads as put-network-reads
+
+returns : tie.Need-returns
+returns c =
+    let if1 = c .if1 in
+    let args = c .before .before .before .args in
+    λ x h r. map-refused x (args .buffer .now) (args .e) h (not-true _ (if1 .taken))
+
+classes-of-requires : tie.Need-classes-of-requires
+classes-of-requires c κs =
+    let if1 = c .before .if1 in
+    let pre = c .before .before .before .before .pre in
+    let args = c .before .before .before .before .args in
+    let x = pre .found in
+    let v = valid-here x (args .e) (pre .is) (not-false _ (if1 .left)) in
+    counts x (args .e .sheet) v (pre .right)
+
+returns-2 : tie.Need-returns-2
+returns-2 c =
+    let if2 = c .if2 in
+    let classes-of = c .before .before .before .classes-of in
+    let if1 = c .before .before .before .before .before .if1 in
+    let args = c .before .before .before .before .before .before .before .before .args in
+    let k = args .e .sheet in
+    λ x h r.
+    (let v = valid-here x (args .e) h (not-false _ (if1 .left)) in
+    let q = classes-of .ensures (v .design) (holding x k v r) (is-proper x k v r) in
+    map-classes x k v r (classes-of .result) q (args .buffer .now) (if2 .taken))
+
+labels-requires : tie.Need-labels-requires
+labels-requires c κs = search needs
+
+budgets-requires : tie.Need-budgets-requires
+budgets-requires c κs =
+    let classes-of = c .before .before .before .before .before .before .before .classes-of in
+    let if1 = c .before .before .before .before .before .before .before .before .before .if1 in
+    let args = c .before .before .before .before .before .before .before .before .before .before .before .before .args in
+    let pre = c .before .before .before .before .before .before .before .before .before .before .before .before .pre in
+    let k = args .e .sheet in
+    let x = pre .found in
+    let r = pre .right in
+    let v = valid-here x (args .e) (pre .is) (not-false _ (if1 .left)) in
+    let q = classes-of .ensures (v .design) (holding x k v r) (is-proper x k v r) in
+    budgets-ready x k v r (classes-of .result) q
+
+slice-aggregate-fewest : tie.Need-slice-aggregate-fewest
+slice-aggregate-fewest c = search needs
+
+cast-fewest : tie.Need-cast-fewest
+cast-fewest c =
+    let if1 = c .before .before .before .before .before .before .before .before .before .before .before .before .if1 in
+    let pre = c .before .before .before .before .before .before .before .before .before .before .before .before .before .before .before .pre in
+    let args = c .before .before .before .before .before .before .before .before .before .before .before .before .before .before .before .args in
+    let x = pre .found in
+    let v = valid-here x (args .e) (pre .is) (not-false _ (if1 .left)) in
+    let small = v .holds .limit-small in
+    omega (arith, small)
+
+fewest-requires : tie.Need-fewest-requires
+fewest-requires c κs =
+    let labels = c .before .before .before .labels in
+    let classes-of = c .before .before .before .before .before .before .before .before .before .before .classes-of in
+    let if1 = c .before .before .before .before .before .before .before .before .before .before .before .before .if1 in
+    let args = c .before .before .before .before .before .before .before .before .before .before .before .before .before .before .before .args in
+    let pre = c .before .before .before .before .before .before .before .before .before .before .before .before .before .before .before .pre in
+    let k = args .e .sheet in
+    let x = pre .found in
+    let r = pre .right in
+    let v = valid-here x (args .e) (pre .is) (not-false _ (if1 .left)) in
+    let q = classes-of .ensures (v .design) (holding x k v r) (is-proper x k v r) in
+    search-ready x k v r (classes-of .result) q (labels .result) (labels .ensures)
+
+returns-3 : tie.Need-returns-3
+returns-3 c =
+    let if3 = c .if3 in
+    let fewest = c .before .before .fewest in
+    let budgets = c .before .before .before .before .before .budgets in
+    let labels = c .before .before .before .before .before .before .labels in
+    let if2 = c .before .before .before .before .before .before .before .before .before .before .if2 in
+    let classes-of = c .before .before .before .before .before .before .before .before .before .before .before .before .before .classes-of in
+    let if1 = c .before .before .before .before .before .before .before .before .before .before .before .before .before .before .before .if1 in
+    let args = c .before .before .before .before .before .before .before .before .before .before .before .before .before .before .before .before .before .before .args in
+    let k = args .e .sheet in
+    let found = fewest .result in
+    λ x h r.
+    (let v = valid-here x (args .e) h (not-false _ (if1 .left)) in
+    let q = classes-of .ensures (v .design) (holding x k v r) (is-proper x k v r) in
+    map-none x k v r (classes-of .result) q (labels .result) (budgets .result) (labels .ensures) (budgets .ensures) (if2 .left)
+    (found .count) (found .rows) (found .codes) (args .buffer .now) (found .found) (not-true _ (if3 .taken)) (fewest .ensures))
+
+cast-u : tie.Need-cast-u
+cast-u c = search needs
+
+array-borrow-prefix-nothing : tie.Need-array-borrow-prefix-nothing
+array-borrow-prefix-nothing c = search needs
+
+slice-aggregate-put-network : tie.Need-slice-aggregate-put-network
+slice-aggregate-put-network c = search needs
+
+put-network-requires : tie.Need-put-network-requires
+put-network-requires c κs =
+    let fewest = c .before .before .before .before .before .before .fewest in
+    let budgets = c .before .before .before .before .before .before .before .before .before .budgets in
+    let labels = c .before .before .before .before .before .before .before .before .before .before .labels in
+    let if2 = c .before .before .before .before .before .before .before .before .before .before .before .before .before .before .if2 in
+    let classes-of = c .before .before .before .before .before .before .before .before .before .before .before .before .before .before .before .before .before .classes-of in
+    let if1 = c .before .before .before .before .before .before .before .before .before .before .before .before .before .before .before .before .before .before .before .if1 in
+    let args = c .before .before .before .before .before .before .before .before .before .before .before .before .before .before .before .before .before .before .before .before .before .before .args in
+    let pre = c .before .before .before .before .before .before .before .before .before .before .before .before .before .before .before .before .before .before .before .before .before .before .pre in
+    let k = args .e .sheet in
+    let found = fewest .result in
+    let x = pre .found in
+    let r = pre .right in
+    let v = valid-here x (args .e) (pre .is) (not-false _ (if1 .left)) in
+    let q = classes-of .ensures (v .design) (holding x k v r) (is-proper x k v r) in
+    let few = cells-few x k v r (classes-of .result) q (labels .result) (budgets .result) (labels .ensures) (budgets .ensures)
+    (if2 .left) (found .count) (found .rows) (found .codes) (found .found) (fewest .ensures) in
+    let inside = rows-inside x k v r (classes-of .result) q in (
+      v .holds .inputs-few,
+      v .holds .bound-few,
+      v .holds .outputs-few,
+      few,
+      record { few-vertices = q .shaped .few-vertices; few-free = q .shaped .few-free; inside = inside },
+    )
+
+returns-4 : tie.Need-returns-4
+returns-4 c =
+    let if4 = c .if4 in
+    let put-network = c .before .before .put-network in
+    let if3 = c .before .before .before .before .before .before .before .if3 in
+    let fewest = c .before .before .before .before .before .before .before .before .before .fewest in
+    let budgets = c .before .before .before .before .before .before .before .before .before .before .before .before .budgets in
+    let labels = c .before .before .before .before .before .before .before .before .before .before .before .before .before .labels in
+    let if2 = c .before .before .before .before .before .before .before .before .before .before .before .before .before .before .before .before .before .if2 in
+    let classes-of = c .before .before .before .before .before .before .before .before .before .before .before .before .before .before .before .before .before .before .before .before .classes-of in
+    let if1 = c .before .before .before .before .before .before .before .before .before .before .before .before .before .before .before .before .before .before .before .before .before .before .if1 in
+    let args = c .before .before .before .before .before .before .before .before .before .before .before .before .before .before .before .before .before .before .before .before .before .before .before .before .before .args in
+    let k = args .e .sheet in
+    let found = fewest .result in
+    λ x h r.
+    (let v = valid-here x (args .e) h (not-false _ (if1 .left)) in
+    let q = classes-of .ensures (v .design) (holding x k v r) (is-proper x k v r) in
+    let w = put-network .ensures (v .design) (holding x k v r) (is-proper x k v r) (q .shaped) in
+    map-short x k v r (classes-of .result) q (labels .result) (budgets .result) (labels .ensures) (budgets .ensures) (if2 .left)
+    (found .count) (found .rows) (found .codes) (args .buffer .now) (put-network .result) (found .found) (not-false _ (if3 .left))
+    (fewest .ensures) (w .0) (if4 .taken))
+
+put-network-requires-2 : tie.Need-put-network-requires-2
+put-network-requires-2 c κs =
+    let fewest = c .before .before .before .before .before .before .before .before .before .before .fewest in
+    let budgets = c .before .before .before .before .before .before .before .before .before .before .before .before .before .budgets in
+    let labels = c .before .before .before .before .before .before .before .before .before .before .before .before .before .before .labels in
+    let if2 = c .before .before .before .before .before .before .before .before .before .before .before .before .before .before .before .before .before .before .if2 in
+    let classes-of = c .before .before .before .before .before .before .before .before .before .before .before .before .before .before .before .before .before .before .before .before .before .classes-of in
+    let if1 = c .before .before .before .before .before .before .before .before .before .before .before .before .before .before .before .before .before .before .before .before .before .before .before .if1 in
+    let args = c .before .before .before .before .before .before .before .before .before .before .before .before .before .before .before .before .before .before .before .before .before .before .before .before .before .before .args in
+    let pre = c .before .before .before .before .before .before .before .before .before .before .before .before .before .before .before .before .before .before .before .before .before .before .before .before .before .before .pre in
+    let k = args .e .sheet in
+    let found = fewest .result in
+    let x = pre .found in
+    let r = pre .right in
+    let v = valid-here x (args .e) (pre .is) (not-false _ (if1 .left)) in
+    let q = classes-of .ensures (v .design) (holding x k v r) (is-proper x k v r) in
+    let few = cells-few x k v r (classes-of .result) q (labels .result) (budgets .result) (labels .ensures) (budgets .ensures)
+    (if2 .left) (found .count) (found .rows) (found .codes) (found .found) (fewest .ensures) in
+    let inside = rows-inside x k v r (classes-of .result) q in (
+      v .holds .inputs-few,
+      v .holds .bound-few,
+      v .holds .outputs-few,
+      few,
+      record { few-vertices = q .shaped .few-vertices; few-free = q .shaped .few-free; inside = inside },
+    )
+
+same-length : tie.Need-same-length
+same-length c = search needs
+
+returns-5 : tie.Need-returns-5
+returns-5 c =
+    let put-network2 = c .before .before .put-network2 in
+    let if4 = c .before .before .before .before .if4 in
+    let put-network = c .before .before .before .before .before .before .put-network in
+    let if3 = c .before .before .before .before .before .before .before .before .before .before .before .if3 in
+    let fewest = c .before .before .before .before .before .before .before .before .before .before .before .before .before .fewest in
+    let budgets = c .before .before .before .before .before .before .before .before .before .before .before .before .before .before .before .before .budgets in
+    let labels = c .before .before .before .before .before .before .before .before .before .before .before .before .before .before .before .before .before .labels in
+    let if2 = c .before .before .before .before .before .before .before .before .before .before .before .before .before .before .before .before .before .before .before .before .before .if2 in
+    let classes-of = c .before .before .before .before .before .before .before .before .before .before .before .before .before .before .before .before .before .before .before .before .before .before .before .before .classes-of in
+    let if1 = c .before .before .before .before .before .before .before .before .before .before .before .before .before .before .before .before .before .before .before .before .before .before .before .before .before .before .if1 in
+    let args = c .before .before .before .before .before .before .before .before .before .before .before .before .before .before .before .before .before .before .before .before .before .before .before .before .before .before .before .before .before .args in
+    let k = args .e .sheet in
+    let found = fewest .result in
+    let b = args .buffer .now in
+    λ x h r.
+    (let v = valid-here x (args .e) h (not-false _ (if1 .left)) in
+    let q = classes-of .ensures (v .design) (holding x k v r) (is-proper x k v r) in
+    let tried = put-network .ensures (v .design) (holding x k v r) (is-proper x k v r) (q .shaped) in
+    let w = put-network2 .ensures (v .design) (holding x k v r) (is-proper x k v r) (q .shaped) in
+    map-written x k v r (classes-of .result) q (labels .result) (budgets .result) (labels .ensures) (budgets .ensures) (if2 .left)
+    (found .count) (found .rows) (found .codes) b (put-network2 .last .0) (put-network .result) (put-network2 .result) (found .found)
+    (not-false _ (if3 .left)) (fewest .ensures) (tried .0) (if4 .left) (w .0) (w .1))
+
+pub map-of-spec : {M : Type 1} → statement M
+map-of-spec =
+    tie.close
+    (tie.spec
+    returns
+    classes-of-requires
+    returns-2
+    labels-requires
+    budgets-requires
+    slice-aggregate-fewest
+    cast-fewest
+    fewest-requires
+    returns-3
+    cast-u
+    array-borrow-prefix-nothing
+    slice-aggregate-put-network
+    put-network-requires
+    returns-4
+    put-network-requires-2
+    same-length
+    returns-5)

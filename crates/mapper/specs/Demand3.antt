@@ -1,0 +1,44 @@
+-- Demand 3, one statement about Map, Check and all network sheets: "For every valid sheet with at most 16 global classes: Map
+-- refuses by 8 exactly when Check says "differs" to every network a rival can draw; otherwise Map's network is "same" and no
+-- rival network that is "same" has fewer cells." Assumes nothing.
+use mathlib.Core.Path.{_≡_}
+use mathlib.Core.List.{List}
+use Prim.Native.Nat.{ℕ, _+_, _≤_}
+use lib.ListN.{length, take}
+use Rattle.limits.specs.Limits.{firstLut}
+use Rattle.text.specs.Line.{lines}
+use Rattle.sheet.specs.Examine.{Design, Examined}
+use Rattle.network.specs.Network.{Network}
+use Rattle.network.specs.Printer.{printCount}
+use Rattle.network.specs.Parts.{lineAt}
+use Rattle.network.specs.Check.{Checked, same, differs, checkOf}
+use Rattle.network.specs.Answers.{Drawn}
+use Rattle.mapper.specs.Map.{MapAnswer, refused-by, mapped}
+
+-- Check says "differs"
+pub record Differs (a : Checked) : Type 0 where
+  pub output : ℕ
+  pub row : ℕ
+  pub is : a ≡ differs output row
+
+-- t is a network sheet that passes 10 and 11 beside d; u is the number of its lut lines, and the one that its count line gives
+pub record Cells (d : Design) (t : List ℕ) (u : ℕ) : Type 0 where
+  pub said : Network
+  pub drawn : Drawn d t said
+  pub lut-lines : length (said .luts) ≡ u
+  pub count-line : lineAt (lines t) (firstLut + u + length (d .outputs)) ≡ printCount u
+
+-- x is an examination's answer, the well-formed design d with at most 16 global classes; Map answers a on x and the buffer b,
+-- and leaves the buffer b'. A network the rival can draw is a network sheet t that passes 10 and 11 (Drawn d t w: it says the
+-- network w, whose cells are its lut lines).
+pub record Demand3 (x : Examined) (d : Design) (b : List ℕ) (a : MapAnswer) (b' : List ℕ) : Type 0 where
+  -- Map refuses by 8 exactly when Check says "differs" to every network a rival can draw
+  pub refusal-is-true : a ≡ refused-by 8 0 → (t : List ℕ) (w : Network) → Drawn d t w → Differs (checkOf x t)
+  pub true-refusal : ((t : List ℕ) (w : Network) → Drawn d t w → Differs (checkOf x t)) → a ≡ refused-by 8 0
+  -- otherwise, the buffer long enough, Map's network is the bytes at the buffer's start, as many as the length it returned; "the U
+  -- it returned, the number on its count line and the number of its lut lines are equal"
+  pub otherwise-mapped : (a ≡ refused-by 8 0 → ⊥) → (a ≡ refused-by 9 0 → ⊥) → (u : ℕ) × (n : ℕ) × (a ≡ mapped u n)
+  pub counted : (u n : ℕ) → a ≡ mapped u n → Cells d (take n b') u
+  -- it is "same", and no rival network that is "same" has fewer cells
+  pub same-as-design : (u n : ℕ) → a ≡ mapped u n → checkOf x (take n b') ≡ same
+  pub fewest-cells : (u n : ℕ) → a ≡ mapped u n → (t : List ℕ) (w : Network) → Drawn d t w → checkOf x t ≡ same → u ≤ length (w .luts)

@@ -1,0 +1,187 @@
+-- Demand 3 holds of every outcome on a well-formed design, and so on every sheet that says one. Assumes nothing.
+use mathlib.Core.Path.{_≡_, refl, sym, ap, _∙_, subst}
+use mathlib.Core.List.{List, _++_}
+use mathlib.Core.Logic.{_⊎_, inl, inr, ⊎-elim}
+use mathlib.Core.Option.{Option, some, none}
+use Prim.Native.Nat.{ℕ, zero, suc, _+_, _≤_, _<_}
+use native.Mathlib.Omega.{arith}
+use native.Mathlib.Nat.{zero-add}
+use lib.ListN.{length, take, drop}
+use lib.Seq.{sets, sets-eq, take-at}
+use Rattle.limits.specs.Limits.{maxClasses, firstLut}
+use Rattle.text.specs.Line.{lines}
+use Rattle.sheet.specs.Examine.{Design, Examined, valid, examine}
+use Rattle.sheet.specs.WellFormed.{WellFormed}
+use Rattle.sheet.specs.ExaminationLaws.{valid-well-formed}
+use Rattle.classes.specs.Classes.{globalCount}
+use Rattle.network.specs.Network.{Network}
+use Rattle.network.specs.Printer.{printNetwork, networkLines}
+use Rattle.network.specs.Parts.{lineAt}
+use Rattle.network.specs.Wellformed.{Wellformed}
+use Rattle.network.specs.Answers.{WithinLimits, Computes, Drawn}
+use Rattle.network.specs.Check as c
+use Rattle.network.specs.Check.{Checked, same, differs, checkOf}
+use Rattle.network.specs.LinePlaceLaws.{count-line-at}
+use Rattle.network.specs.SheetReadLaws.{print-lines}
+use Rattle.network.specs.CompareLaws.{compared-same}
+use Rattle.network.specs.CheckLaws.{check-compares}
+use Rattle.network.specs.PrintedLaws.{printed-drawn, printed-same, drawn-wellformed, drawn-within}
+use Rattle.mapper.specs.Map.{Permitted, MapAnswer, refused-by, mapped, OutcomeFor, too-many-classes, no-network, buffer-short, written, OutcomeOf, Outcome}
+use Rattle.mapper.specs.OutcomeLaws.{outcome-for}
+use Rattle.mapper.specs.DesignLaws.{named-of}
+use Rattle.mapper.specs.SizeLaws.{print-fits}
+use Rattle.mapper.specs.Demand3.{Differs, Cells, Demand3}
+
+-- ---- the bytes that Map wrote
+pub written-bytes : (b t : List ℕ) → length t ≤ length b → take (length t) (sets b 0 t) ≡ t
+written-bytes b t h =
+    ap (take (length t)) (sets-eq t b 0 (subst (λ (n : ℕ). n ≤ length b) (sym (zero-add (length t))) h))
+    ∙ take-at t (drop (0 + length t) b) (length t) refl
+
+-- ---- Check on a network that passes 10 and 11 says "same" or "differs"
+at-row : (o : ℕ) (x : Option ℕ) (later : Checked)
+    → (later ≡ same) ⊎ Differs later
+    → (c.atRow o x later ≡ same) ⊎ Differs (c.atRow o x later)
+at-row o (some r) later h = inr (record { output = o; row = r; is = refl })
+at-row o none later h = h
+
+pub never-refused : (d : Design) (w : Network) (k o : ℕ) → (c.compareFrom d w k o ≡ same) ⊎ Differs (c.compareFrom d w k o)
+unfolding c.compareFrom
+never-refused d w zero o = inl refl
+never-refused d w (suc k) o = at-row o (c.differingRow d w o) (c.compareFrom d w k (suc o)) (never-refused d w k (suc o))
+
+same-differs : (a : Checked) → a ≡ same → Differs a → ⊥
+same-differs a e f =
+    let g : same ≡ differs (f .output) (f .row) = sym e ∙ f .is in
+    let z : _≡_ {A = ℕ} 0 1 = cc in
+    omega arith
+
+differs-or-computes : (d : Design) (t : List ℕ) (w : Network) → Drawn d t w → (Computes d w → ⊥) → Differs (checkOf (valid d) t)
+differs-or-computes d t w n h =
+    ⊎-elim
+    (λ f. absurd (h (compared-same d w f)))
+    (λ f. record { output = f .output; row = f .row; is = check-compares d t w n ∙ f .is })
+    (never-refused d w (length (d .outputs)) 0)
+
+-- ---- which answer was given
+pub mapped-not-refused : {q l u n : ℕ} → mapped u n ≡ refused-by q l → ⊥
+mapped-not-refused e = let z : _≡_ {A = ℕ} 0 1 = cc in omega arith
+
+nine-eight : {l m : ℕ} → refused-by 9 l ≡ refused-by 8 m → ⊥
+nine-eight e =
+    let z : _≡_ {A = ℕ} 9 8 = cc in
+    omega arith
+
+pub mapped-count : {u n v m : ℕ} → mapped u n ≡ mapped v m → u ≡ v
+mapped-count e = cc
+
+pub mapped-length : {u n v m : ℕ} → mapped u n ≡ mapped v m → n ≡ m
+mapped-length e = cc
+
+module _ (d : Design) (f : WellFormed d) where
+  -- ---- a permitted network is drawn, and the same as the design
+  module _ (w : Network) (p : Permitted d w) where
+    pub permitted-drawn : Drawn d (printNetwork d w) w
+    permitted-drawn =
+        printed-drawn d w (named-of d f) (p .wellformed) (p .within) (print-fits d w f (p .wellformed) (p .within))
+
+    pub permitted-same : checkOf (valid d) (printNetwork d w) ≡ same
+    permitted-same =
+        printed-same d w (named-of d f) (p .wellformed) (p .within) (print-fits d w f (p .wellformed) (p .within)) (p .computes)
+
+    permitted-cells : Cells d (printNetwork d w) (length (w .luts))
+    permitted-cells =
+        let u = length (w .luts) in
+        let m = length (d .outputs) in
+        let n : firstLut + u + m ≡ u + 2 + m = omega arith in
+        record {
+          said = w;
+          drawn = permitted-drawn;
+          lut-lines = refl;
+          count-line =
+              ap (λ (ls : List (List ℕ)). lineAt ls (firstLut + u + m)) (print-lines d w (named-of d f) (p .wellformed))
+              ∙ ap (lineAt (networkLines d w)) n ∙ count-line-at d w (p .wellformed .node-each);
+        }
+
+    rival : (t : List ℕ) (v : Network) → Drawn d t v → checkOf (valid d) t ≡ same → length (w .luts) ≤ length (v .luts)
+    rival t v r g =
+        let m = named-of d f in
+        p .fewest v (drawn-wellformed d v m t r) (drawn-within d v m t r) (compared-same d v (sym (check-compares d t v r) ∙ g))
+
+  -- ---- each outcome
+  demand-written : (b : List ℕ) (w : Network)
+      → Permitted d w
+      → length (printNetwork d w) ≤ length b
+      → Demand3 (valid d) d b (mapped (length (w .luts)) (length (printNetwork d w))) (sets b 0 (printNetwork d w))
+  demand-written b w p h =
+      let un = length (w .luts) in
+      let nn = length (printNetwork d w) in
+      let t = sets b 0 (printNetwork d w) in
+      let read : take nn t ≡ printNetwork d w = written-bytes b (printNetwork d w) h in
+      record {
+        refusal-is-true = λ e. absurd (mapped-not-refused e);
+        true-refusal = λ g.
+            absurd (same-differs (checkOf (valid d) (printNetwork d w)) (permitted-same w p) (g (printNetwork d w) w (permitted-drawn w p)));
+        otherwise-mapped = λ _ _. (un, nn, refl);
+        counted = λ u n e.
+            (let i = mapped-count e in
+            let j : take n t ≡ printNetwork d w = ap (λ (k : ℕ). take k t) (sym (mapped-length e)) ∙ read in
+            subst (λ (k : ℕ). Cells d (take n t) k) i (subst (λ (y : List ℕ). Cells d y un) (sym j) (permitted-cells w p)));
+        same-as-design = λ u n e.
+            (let j : take n t ≡ printNetwork d w = ap (λ (k : ℕ). take k t) (sym (mapped-length e)) ∙ read in
+            ap (checkOf (valid d)) j ∙ permitted-same w p);
+        fewest-cells = λ u n e y v r g. subst (λ (m : ℕ). m ≤ length (v .luts)) (mapped-count e) (rival w p y v r g);
+      }
+
+  demand-none : (b : List ℕ)
+      → ((w : Network) → Wellformed d w → WithinLimits d w → Computes d w → ⊥)
+      → Demand3 (valid d) d b (refused-by 8 0) b
+  demand-none b h =
+      let m = named-of d f in
+      record {
+        refusal-is-true = λ _ t w r. differs-or-computes d t w r (h w (drawn-wellformed d w m t r) (drawn-within d w m t r));
+        true-refusal = λ _. refl;
+        otherwise-mapped = λ e _. absurd (e refl);
+        counted = λ u n e. absurd (mapped-not-refused (sym e));
+        same-as-design = λ u n e. absurd (mapped-not-refused (sym e));
+        fewest-cells = λ u n e. absurd (mapped-not-refused (sym e));
+      }
+
+  demand-short : (b : List ℕ) (w : Network) → Permitted d w → Demand3 (valid d) d b (refused-by 9 0) b
+  demand-short b w p =
+      record {
+        refusal-is-true = λ e. absurd (nine-eight e);
+        true-refusal = λ g.
+            absurd (same-differs (checkOf (valid d) (printNetwork d w)) (permitted-same w p) (g (printNetwork d w) w (permitted-drawn w p)));
+        otherwise-mapped = λ _ g. absurd (g refl);
+        counted = λ u n e. absurd (mapped-not-refused (sym e));
+        same-as-design = λ u n e. absurd (mapped-not-refused (sym e));
+        fewest-cells = λ u n e. absurd (mapped-not-refused (sym e));
+      }
+
+  design-demand-3 : (b : List ℕ) {a : MapAnswer} {b' : List ℕ}
+      → globalCount d (d .bound) ≤ maxClasses
+      → OutcomeFor d b a b'
+      → Demand3 (valid d) d b a b'
+  design-demand-3 b few (too-many-classes h) = absurd (omega (arith, h, few))
+  design-demand-3 b few (no-network h n) = demand-none b n
+  design-demand-3 b few (buffer-short w h p n) = demand-short b w p
+  design-demand-3 b few (written w h p n) = demand-written b w p n
+
+-- ======== Demand 3 for every examination's answer that is a well-formed design
+pub demand-3 : (x : Examined) (d : Design) (b : List ℕ) (a : MapAnswer) (b' : List ℕ)
+    → x ≡ valid d
+    → WellFormed d
+    → globalCount d (d .bound) ≤ maxClasses
+    → OutcomeOf x b a b'
+    → Demand3 x d b a b'
+demand-3 x d b a b' e f few o =
+    subst (λ (y : Examined). Demand3 y d b a b') (sym e) (design-demand-3 d f b few (outcome-for d e o))
+
+-- ======== and on sheets
+pub sheet-demand-3 : (s : List ℕ) (d : Design) (b : List ℕ) (a : MapAnswer) (b' : List ℕ)
+    → examine s ≡ valid d
+    → globalCount d (d .bound) ≤ maxClasses
+    → Outcome s b a b'
+    → Demand3 (examine s) d b a b'
+sheet-demand-3 s d b a b' e few o = demand-3 (examine s) d b a b' e (valid-well-formed s d e) few o
