@@ -10,6 +10,7 @@ use lib.ListN.{length, getD, length-append, length-map}
 use lib.Pow.{pow-mono}
 use Rattle.bits.specs.Logic.{pick}
 use Rattle.bits.specs.Digit.{on}
+use Rattle.limits.specs.Limits.{maxCells, maxCodes}
 use Rattle.rows.specs.Row.{rowOf, bit}
 use Rattle.rows.specs.RowLaws.{row-lt}
 use Rattle.network.specs.Numbers.{numbersOf}
@@ -109,12 +110,12 @@ module _ (t lutat : List ℕ) (m x : ℕ) where
   code-without u c h e =
       h ∙ ap (λ (l : List ℕ). rowOf (map (λ (i : ℕ). oneAt t (getD lutat i 0 + x)) l)) (sym (numbers-without u m e))
 
-  pub code-small : (u : ℕ) → u ≤ 6 → codeAt t lutat m x u < 64
+  pub code-small : (u : ℕ) → u ≤ maxCells → codeAt t lutat m x u < maxCodes
   unfolding codeAt
   code-small u h =
       let l : List Bool = map (λ (i : ℕ). oneAt t (getD lutat i 0 + x)) (numbersOf u m) in
       let a : rowOf l < 2 ^ length l = row-lt l in
       let e : length l ≡ length (numbersOf u m) = length-map (numbersOf u m) (λ (i : ℕ). oneAt t (getD lutat i 0 + x)) in
       let s = count-most u m in
-      let p : 2 ^ length l ≤ 2 ^ 6 = pow-mono {i = length l} {j = 6} (omega arith) in
+      let p : 2 ^ length l ≤ maxCodes = pow-mono {i = length l} {j = maxCells} (omega arith) in
       omega arith

@@ -9,6 +9,7 @@ use native.Mathlib.Nat.{add-assoc}
 use lib.ListN.{length, getD, drop, length-map, length-append, List·getD-map}
 use lib.Seq.{getD-take, getD-drop}
 use lib.Pow.{pow-mono, pow-pos}
+use Rattle.limits.specs.Limits.{maxRows}
 use Rattle.rows.specs.Row.{rowOf, valuesOf}
 use Rattle.rows.specs.RowLaws.{row-lt, row-values, length-values}
 use Rattle.rows.specs.Digits.{digit}
@@ -103,7 +104,7 @@ module _ {d : Design} {w : Network} {t : List ℕ} {k : Sheet} {n : Places} {sh 
             (let e = row-is x y a b in
             let p = join-lt (d .inputs) (d .bound) x y in
             let i = h .proper .few-inputs in
-            let q : 2 ^ length (d .inputs) ≤ 2 ^ 10 = pow-mono i in
+            let q : 2 ^ length (d .inputs) ≤ maxRows = pow-mono i in
             omega arith);
       }
     where

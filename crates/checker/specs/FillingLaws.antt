@@ -8,6 +8,7 @@ use native.Mathlib.Decide.{ℕ-discrete}
 use borrow.Author.Count.{below-more}
 use lib.ListN.{length, getD, set, length-set}
 use lib.Seq.{getD-set-same, getD-set-other}
+use Rattle.limits.specs.Limits.{maxRows}
 use Rattle.classes.specs.declared.Shape.{Shape}
 use Rattle.checker.specs.Code.{isOne, oneAt, codeAt}
 use Rattle.checker.specs.Filling.{Room, Put, rowAt, Ready, Filled}
@@ -26,12 +27,12 @@ module _ (f : ℕ → Bool) (l : List ℕ) (p v : ℕ) (inside : p < length l) (
 
 -- ---- one vertex
 module _ {t : List ℕ} {at row : ℕ} {free before : List ℕ} where
-  pub put-none : length before ≡ 1024 → Put t at row free 0 before before
+  pub put-none : length before ≡ maxRows → Put t at row free 0 before before
   put-none e = record { size = e; right = λ f h. record { kept = λ q g. g; put = λ y l. absurd (omega arith) } }
 
   pub put-more : {list : List ℕ} (y : ℕ)
       → Put t at row free y before list
-      → row + getD free y 0 < 1024
+      → row + getD free y 0 < maxRows
       → Put t at row free (y + 1) before (set list (row + getD free y 0) (getD t (at + y) 0))
   put-more {list} y s h =
       let a = s .size in
@@ -55,7 +56,7 @@ module _ {t : List ℕ} {at row : ℕ} {free before : List ℕ} where
 
 -- ---- all vertices
 module _ {t lutat : List ℕ} {mask luts at : ℕ} {sh : Shape} where
-  pub filled-none : {list : List ℕ} → length list ≡ 1024 → Filled t lutat mask luts at sh 0 list
+  pub filled-none : {list : List ℕ} → length list ≡ maxRows → Filled t lutat mask luts at sh 0 list
   filled-none e = record { size = e; right = λ f h x y l. absurd (omega arith) }
 
   pub filled-more : {list after : List ℕ} (x c : ℕ)

@@ -4,6 +4,7 @@ use mathlib.Core.List.{List}
 use mathlib.Core.Option.{some, none}
 use Prim.Native.Nat.{ℕ, _≤_, _<_}
 use lib.ListN.{length, getD}
+use Rattle.limits.specs.Limits.{maxLimit, maxCells, maxOutputs}
 use Rattle.sheet.specs.Examine.{Design}
 use Rattle.classes.specs.Width.{budget}
 use Rattle.network.specs.Network.{Network}
@@ -12,9 +13,9 @@ use Rattle.network.specs.Wellformed.{nodeAt}
 use Rattle.network.specs.Numbers.{numbersOf}
 
 pub record Small (limit luts outputs : ℕ) : Type 0 where
-  pub low-limit : limit ≤ 6
-  pub few-luts : luts ≤ 6
-  pub few-outputs : outputs ≤ 4
+  pub low-limit : limit ≤ maxLimit
+  pub few-luts : luts ≤ maxCells
+  pub few-outputs : outputs ≤ maxOutputs
 
 -- the numbers of d and w, and for each output a mask of what it reads and its width
 pub record LimitsAre (d : Design) (w : Network) (limit luts outputs : ℕ) (reads widths : List ℕ) : Type 0 where

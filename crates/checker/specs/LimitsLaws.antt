@@ -6,6 +6,7 @@ use native.Mathlib.Omega.{arith}
 use native.Mathlib.Decide.{decLe}
 use borrow.Author.Count.{below-more}
 use lib.ListN.{length, getD}
+use Rattle.limits.specs.Limits.{firstLut}
 use Rattle.sheet.specs.Examine.{Design}
 use Rattle.classes.specs.Width.{budget}
 use Rattle.network.specs.Network.{Network}
@@ -16,18 +17,18 @@ use Rattle.checker.specs.Limits.{LimitsAre, Judged}
 
 module _ {d : Design} {w : Network} {limit luts outputs : ℕ} {reads widths : List ℕ}
     (h : LimitsAre d w limit luts outputs reads widths) where
-  pub luts-judged : limit < luts → Judged d w (limit + 2)
+  pub luts-judged : limit < luts → Judged d w (limit + firstLut)
   luts-judged l =
       let a = h .limit-is in
       let b = h .luts-counted in
-      let e : d .limit + 2 ≡ limit + 2 = omega arith in
-      let s : Offends d w (d .limit + 2) = lut-over (d .limit) (omega arith) (omega arith) in
+      let e : d .limit + firstLut ≡ limit + firstLut = omega arith in
+      let s : Offends d w (d .limit + firstLut) = lut-over (d .limit) (omega arith) (omega arith) in
       record {
-        at-line = λ _. some-offending d w (limit + 2) (record { offends = rw e at s; first = go });
+        at-line = λ _. some-offending d w (limit + firstLut) (record { offends = rw e at s; first = go });
         at-none = λ z. absurd (omega arith);
       }
     where
-      go : (m : ℕ) → Offends d w m → limit + 2 ≤ m
+      go : (m : ℕ) → Offends d w m → limit + firstLut ≤ m
       go m (lut-over i a b) = omega (arith, h .limit-is)
       go m (node-over o a b) = omega (arith, h .limit-is, h .luts-counted)
 
@@ -40,16 +41,16 @@ module _ {d : Design} {w : Network} {limit luts outputs : ℕ} {reads widths : L
       → ((p : ℕ) → p < o → length (numbersOf luts (getD reads p 0)) ≤ getD widths p 0)
       → n ≡ length (numbersOf luts (getD reads o 0))
       → getD widths o 0 < n
-      → Judged d w (luts + 2 + o)
+      → Judged d w (luts + firstLut + o)
   node-judged o n s l f e g =
       let b = h .luts-counted in
       let c = h .nodes-counted in
       let x = h .wide o l in
       let y = count-is o l in
-      let q : length (w .luts) + 2 + o ≡ luts + 2 + o = omega arith in
-      let k : Offends d w (length (w .luts) + 2 + o) = node-over o (omega arith) (omega arith) in
+      let q : length (w .luts) + firstLut + o ≡ luts + firstLut + o = omega arith in
+      let k : Offends d w (length (w .luts) + firstLut + o) = node-over o (omega arith) (omega arith) in
       record {
-        at-line = λ _. some-offending d w (luts + 2 + o) (record { offends = rw q at k; first = go });
+        at-line = λ _. some-offending d w (luts + firstLut + o) (record { offends = rw q at k; first = go });
         at-none = λ z. absurd (omega arith);
       }
     where
@@ -58,10 +59,10 @@ module _ {d : Design} {w : Network} {limit luts outputs : ℕ} {reads widths : L
           let lt : o < outputs = l in
           omega (arith, f p j, h .wide p (omega arith), count-is p (omega arith))
 
-      go : (m : ℕ) → Offends d w m → luts + 2 + o ≤ m
+      go : (m : ℕ) → Offends d w m → luts + firstLut + o ≤ m
       go m (lut-over i a b) = absurd (omega (arith, h .limit-is, h .luts-counted))
       go m (node-over p a b) =
-          elim (decLe o p) as (λ _. luts + 2 + o ≤ m) [
+          elim (decLe o p) as (λ _. luts + firstLut + o ≤ m) [
             | yes i ↦ omega (arith, h .luts-counted)
             | no i ↦ absurd (below p b (omega arith))
           ]

@@ -1,22 +1,27 @@
-// Check: a design sheet and a network sheet in, "same", "differs" or a refusal out. The network's digits are set in row order
+// Check: a design and a network sheet in, "same", "differs" or a refusal out. The network's digits are set in row order
 // beside the design's tables and compared row by row. Rests on design, netsheet and classes for what the sheets say.
 ghost use mathlib.Core.Path.{_≡_};
 ghost use Prim.Native.Nat.{ℕ, _+_, _^_, _≤_, _<_};
 ghost use lib.ListN.{length, getD};
 ghost use Rattle.bits.specs.Logic.{xorb};
+ghost use Rattle.limits.specs.Limits.{maxCells, maxVertices, maxRows};
 ghost use Rattle.rows.specs.Row as row;
 ghost use Rattle.rows.specs.Words.{rowOn};
+ghost use Rattle.sheet.specs.Examine as sheets;
 ghost use Rattle.sheet.specs.Examine.{Design};
+ghost use Rattle.design.specs.Answer.{ExaminedIs, Right, Examination};
 ghost use Rattle.network.specs.Network.{Network};
 ghost use Rattle.network.specs.Numbers.{numbersOf};
 ghost use Rattle.network.specs.Answers.{compared};
 ghost use Rattle.network.specs.Check as spec;
-ghost use Rattle.checker.specs.Answer.{checkedOf};
+ghost use Rattle.checker.specs.Answer.{checkedOf, RefusedPair, BesideIs};
 ghost use Rattle.checker.specs.Limits.{Small, LimitsAre, Judged};
 ghost use Rattle.checker.specs.Code.{oneAt, codeAt, isOne};
 ghost use Rattle.checker.specs.Filling.{Room, Put, Ready, Filled};
 ghost use Rattle.checker.specs.Drawing.{placesOf, Drawing, SomeDrawing};
 use classes::Shape;
+use classes::Vertex;
+use design::Examined;
 use netsheet::NetworkSheet;
 use sheet::Sheet;
 
@@ -27,9 +32,20 @@ pub enum Checked {
     Differs { output: usize, row: usize },
 }
 
+// What is compared: the question that was answered "no" and its line, or the design, the places where the network's tables
+// stand in its sheet, and the shape of the design's rows.
+pub struct Beside {
+    pub ok: bool,
+    pub number: usize,
+    pub line: usize,
+    pub sheet: Sheet,
+    pub network: NetworkSheet,
+    pub shape: Shape,
+}
+
 // How many numbers below u are in a mask.
 fn count(mask: u8, u: usize) -> usize
-    requires { ⌜ u ≤ 6 ⌝ }
+    requires { ⌜ u ≤ maxCells ⌝ }
     ensures { λ r. ⌜ r ≡ length (numbersOf u mask) ⌝ }
 {
     let mut n: usize = 0;
@@ -44,17 +60,23 @@ fn count(mask: u8, u: usize) -> usize
 }
 
 // Question 11: the first line that offends, or 0 where none does.
-fn offending(limit: usize, luts: usize, outputs: usize, reads: [u8; 4], widths: [usize; 4]) -> usize
+fn offending(
+    limit: usize,
+    luts: usize,
+    outputs: usize,
+    reads: [u8; limits::MAX_OUTPUTS],
+    widths: [usize; limits::MAX_OUTPUTS],
+) -> usize
     requires { ⌜ Small limit luts outputs ⌝ }
     ensures { λ r. ⌜ ((d : Design) (w : Network) → LimitsAre d w limit luts outputs reads widths → Judged d w r) ⌝ }
 {
     if limit < luts {
-        return limit + 2;
+        return limit + limits::FIRST_LUT;
     }
     let mut o = 0;
     while o < outputs {
         if widths[o] < count(reads[o], luts) {
-            return luts + 2 + o;
+            return luts + limits::FIRST_LUT + o;
         }
         o += 1;
     }
@@ -69,16 +91,17 @@ fn one(b: u8) -> usize
 }
 
 // The code of vertex x in the shared tables of a mask: their digits there, the lowest table first.
-fn code(t: &[u8], lutat: [usize; 6], mask: u8, luts: usize, x: usize) -> usize
-    requires { ⌜ (luts ≤ 6) × ((i : ℕ) → i < luts → getD lutat i 0 + x < length (now t)) ⌝ }
-    ensures { λ r. ⌜ r ≡ codeAt (now (t .entry)) lutat mask x luts ⌝ }
+fn code(t: &[u8], lutat: [usize; limits::MAX_CELLS], mask: u8, luts: usize, x: Vertex) -> usize
+    requires { ⌜ (luts ≤ maxCells) × ((i : ℕ) → i < luts → getD lutat i 0 + x .0 < length (now t)) ⌝ }
+    ensures { λ r. ⌜ r ≡ codeAt (now (t .entry)) lutat mask (x .0) luts ⌝ }
 {
+    let v = x.0;
     let mut c: usize = 0;
     let mut i: usize = 0;
     while i < luts {
         if bits::has(mask as u64, i as u32) {
             let p = lutat[i];
-            c = 2 * c + one(t[p + x]);
+            c = 2 * c + one(t[p + v]);
         }
         i += 1;
     }
@@ -87,16 +110,20 @@ fn code(t: &[u8], lutat: [usize; 6], mask: u8, luts: usize, x: usize) -> usize
 
 // Sets the digits that stand in t from a place on at the rows of one vertex, one for each free row.
 fn with_vertex(
-    digits: [u8; 1024],
+    digits: [u8; limits::MAX_ROWS],
     t: &[u8],
     at: usize,
-    row: usize,
-    free: [usize; 512],
-    frees: usize,
-) -> [u8; 1024]
-    requires { ⌜ Room (now t) at row free frees ⌝ }
-    ensures { λ r. ⌜ Put (now (t .entry)) at row free frees digits r ⌝ }
+    shape: Shape,
+    x: Vertex,
+) -> [u8; limits::MAX_ROWS]
+    requires { ⌜ (x .0 < maxVertices) × Room (now t) at (getD (shape .vertex) (x .0) 0) (shape .free) (shape .frees) ⌝ }
+    ensures { λ r. ⌜ Put (now (t .entry)) at (getD (shape .vertex) (x .0) 0) (shape .free) (shape .frees) digits r ⌝ }
 {
+    let v = x.0;
+    let vertex = shape.vertex;
+    let row = vertex[v];
+    let free = shape.free;
+    let frees = shape.frees;
     let mut list = digits;
     let mut y = 0;
     while y < frees {
@@ -111,24 +138,22 @@ fn with_vertex(
 // stands in t from a place on.
 fn in_rows(
     t: &[u8],
-    lutat: [usize; 6],
+    lutat: [usize; limits::MAX_CELLS],
     mask: u8,
     luts: usize,
     at: usize,
     shape: Shape,
-) -> [u8; 1024]
+) -> [u8; limits::MAX_ROWS]
     requires { ⌜ Ready (now t) lutat mask luts at shape ⌝ }
     ensures { λ r. ⌜ Filled (now (t .entry)) lutat mask luts at shape (shape .vertices) r ⌝ }
 {
     let vertices = shape.vertices;
     let frees = shape.frees;
-    let vertex = shape.vertex;
-    let free = shape.free;
-    let mut digits = [b'0'; 1024];
+    let mut digits = [b'0'; limits::MAX_ROWS];
     let mut x = 0;
     while x < vertices {
-        let c = code(t, lutat, mask, luts, x);
-        let next = with_vertex(digits, t, at + c * frees, vertex[x], free, frees);
+        let c = code(t, lutat, mask, luts, Vertex(x));
+        let next = with_vertex(digits, t, at + c * frees, shape, Vertex(x));
         digits = next;
         x += 1;
     }
@@ -136,11 +161,11 @@ fn in_rows(
 }
 
 // Whether a table and digits in row order differ on row r.
-fn differs(words: &[u64; 16], digits: &[u8; 1024], r: usize) -> bool
-    requires { ⌜ r < 1024 ⌝ }
+fn differs(words: &[u64; limits::TABLE_WORDS], digits: &[u8; limits::MAX_ROWS], r: usize) -> bool
+    requires { ⌜ r < maxRows ⌝ }
     ensures { λ v. ⌜ v ≡ xorb (rowOn (now (words .entry)) r) (oneAt (now (digits .entry)) r) ⌝ }
 {
-    bits::has(words[r / 64], (r % 64) as u32) != (digits[r] == b'1')
+    bits::has(words[r / limits::WORD_ROWS], (r % limits::WORD_ROWS) as u32) != (digits[r] == b'1')
 }
 
 // The comparison: the lowest output that differs, and its lowest row.
@@ -175,32 +200,84 @@ fn compare(t: &[u8], k: Sheet, n: NetworkSheet, shape: Shape) -> Checked
     Checked::Same
 }
 
-// Questions 1 to 5, 10 and 11, and then the comparison.
-pub fn check(sheet: &[u8], network: &[u8]) -> Checked
-    ensures { λ r. ⌜ checkedOf r ≡ spec.check (now (sheet .entry)) (now (network .entry)) ⌝ }
+// A "no", at a line.
+fn refusal(number: usize, line: usize, sheet: Sheet) -> Beside
+    ensures { λ r. ⌜ RefusedPair number line r ⌝ }
 {
-    let e = design::examine(sheet);
-    if !e.ok {
-        return Checked::Refused {
-            number: e.number,
-            line: e.line,
-        };
+    Beside {
+        ok: false,
+        number,
+        line,
+        sheet,
+        network: NetworkSheet {
+            ok: false,
+            line,
+            luts: 0,
+            lutat: [0; limits::MAX_CELLS],
+            reads: [0; limits::MAX_OUTPUTS],
+            nodeat: [0; limits::MAX_OUTPUTS],
+        },
+        shape: Shape {
+            vertices: 0,
+            frees: 0,
+            vertex: [0; limits::MAX_VERTICES],
+            free: [0; limits::MAX_FREE_ROWS],
+        },
     }
+}
+
+// Questions 10 and 11, after what the examination of a design answered.
+pub fn examine_pair(e: Examined, network: &[u8]) -> Beside
+    requires { ⌜ Examination e ⌝ }
+    ensures { λ r. ⌜ ((x : sheets.Examined) → ExaminedIs x e → Right x → BesideIs (now (network .entry)) (spec.examinePair x (now (network .entry))) r) ⌝ }
+{
     let k = e.sheet;
+    if !e.ok {
+        return refusal(e.number, e.line, k);
+    }
     let n = netsheet::read_network(network, k);
     if !n.ok {
-        return Checked::Refused {
-            number: 10,
-            line: n.line,
-        };
+        return refusal(10, n.line, k);
     }
     let c = classes::classes_of(k);
     let reads = n.reads;
     let widths = c.widths;
     let line = offending(k.limit, n.luts, k.outputs, reads, widths);
     if 0 < line {
-        return Checked::Refused { number: 11, line };
+        return refusal(11, line, k);
     }
     let shape = c.shape;
+    Beside {
+        ok: true,
+        number: 0,
+        line: 0,
+        sheet: k,
+        network: n,
+        shape,
+    }
+}
+
+// Check, after what the examination of a design answered.
+pub fn check_of(e: Examined, network: &[u8]) -> Checked
+    requires { ⌜ Examination e ⌝ }
+    ensures { λ r. ⌜ ((x : sheets.Examined) → ExaminedIs x e → Right x → checkedOf r ≡ spec.checkOf x (now (network .entry))) ⌝ }
+{
+    let b = examine_pair(e, network);
+    if !b.ok {
+        return Checked::Refused {
+            number: b.number,
+            line: b.line,
+        };
+    }
+    let k = b.sheet;
+    let n = b.network;
+    let shape = b.shape;
     compare(network, k, n, shape)
+}
+
+// Check on a design sheet and a network sheet.
+pub fn check(sheet: &[u8], network: &[u8]) -> Checked
+    ensures { λ r. ⌜ checkedOf r ≡ spec.check (now (sheet .entry)) (now (network .entry)) ⌝ }
+{
+    check_of(design::examine(sheet), network)
 }

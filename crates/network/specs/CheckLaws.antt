@@ -42,12 +42,23 @@ pub check-sheet : (s t : List ℕ) (x : Examined) → examine s ≡ x → check 
 unfolding check
 check-sheet s t x e = ap (λ (y : Examined). checkOf y t) e
 
-pub check-refused : (t : List ℕ) (q l : ℕ) → checkOf (refused q l) t ≡ refused-by q l
-unfolding checkOf examinePair
-check-refused t q l = refl
-
 -- ---- the pair that is examined: just the design, and what is drawn beside it
 module _ (t : List ℕ) where
+  pub pair-refused : (q l : ℕ) → examinePair (refused q l) t ≡ refused-pair q l
+  unfolding examinePair
+  pair-refused q l = refl
+
+  pub pair-bad-line : (d : Design) (l : ℕ) → readNetwork d t ≡ bad-line l → examinePair (valid d) t ≡ refused-pair 10 l
+  unfolding examinePair
+  pair-bad-line d l f = rw f refl
+
+  pub pair-offending : (d : Design) (w : Network) (l : ℕ)
+      → readNetwork d t ≡ network w
+      → offending d w ≡ some l
+      → examinePair (valid d) t ≡ refused-pair 11 l
+  unfolding examinePair
+  pair-offending d w l f g = rw (f, g) refl
+
   record PairOf (x : Examined) (d : Design) (w : Network) : Type 0 where
     pub is-valid : x ≡ valid d
     pub drawn : Drawn d t w
@@ -79,19 +90,23 @@ module _ (t : List ℕ) where
   unfolding examinePair
   drawn-pair x d w e f = rw (e, f .is-read, f .passes) refl
 
+pub check-refused : (t : List ℕ) (q l : ℕ) → checkOf (refused q l) t ≡ refused-by q l
+unfolding checkOf
+check-refused t q l = ap comparePair (pair-refused t q l)
+
 -- ---- beside a design
 module _ (d : Design) (t : List ℕ) where
   -- from the questions to the answer
   pub check-bad-line : (l : ℕ) → readNetwork d t ≡ bad-line l → checkOf (valid d) t ≡ refused-by 10 l
-  unfolding checkOf examinePair
-  check-bad-line l f = rw f refl
+  unfolding checkOf
+  check-bad-line l f = ap comparePair (pair-bad-line t d l f)
 
   pub check-offending : (w : Network) (l : ℕ)
       → readNetwork d t ≡ network w
       → offending d w ≡ some l
       → checkOf (valid d) t ≡ refused-by 11 l
-  unfolding checkOf examinePair
-  check-offending w l f g = rw (f, g) refl
+  unfolding checkOf
+  check-offending w l f g = ap comparePair (pair-offending t d w l f g)
 
   pub check-compares : (w : Network) → Drawn d t w → checkOf (valid d) t ≡ compared d w
   unfolding checkOf

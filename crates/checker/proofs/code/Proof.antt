@@ -11,13 +11,13 @@ use Rattle.checker.proofs.code.Statement.{statement}
 use Rattle.checker.proofs.code.Tie as tie
 
 abbrev Inv-loop : tie.InvT-loop
-Inv-loop t mask luts x lutat c₀ i₀ c i = (i ≤ luts) × (c ≡ codeAt t lutat mask x i)
+Inv-loop t mask luts lutat v c₀ i₀ c i = (i ≤ luts) × (c ≡ codeAt t lutat mask v i)
 
 abbrev μ-loop : tie.MeasureT-loop
-μ-loop t mask luts x lutat c₀ i₀ c i = luts - i
+μ-loop t mask luts lutat v c₀ i₀ c i = luts - i
 
 loop-holds : tie.Need-loop-holds Inv-loop μ-loop
-loop-holds c = (omega arith, code-none (c .before .args .t .now) (c .before .args .t2) (c .before .args .mask) (c .before .args .x))
+loop-holds c = (omega arith, code-none (c .before .args .t .now) (c .before .args .t2) (c .before .args .mask) (c .before .args .x .0))
 
 cast-has : tie.Need-cast-has Inv-loop μ-loop
 cast-has c = search needs
@@ -38,7 +38,7 @@ mul-c c =
     let few = start .pre .0 in
     let turn = c .before .before .loop-test .taken in
     let same = head .loop .inv .1 in
-    omega (arith, code-small (start .args .t .now) (start .args .t2) (start .args .mask) (start .args .x) (head .loop .i) (omega arith))
+    omega (arith, code-small (start .args .t .now) (start .args .t2) (start .args .mask) (start .args .x .0) (head .loop .i) (omega arith))
 
 add-one : tie.Need-add-one Inv-loop μ-loop
 add-one c =
@@ -60,7 +60,7 @@ add-c c =
     let few = start .pre .0 in
     let turn = c .before .before .before .before .loop-test .taken in
     let same = head .loop .inv .1 in
-    omega (arith, c .one .ensures, bit-most (oneAt (start .args .t .now) (getD (start .args .t2) (head .loop .i) 0 + start .args .x)), code-small (start .args .t .now) (start .args .t2) (start .args .mask) (start .args .x) (head .loop .i) (omega arith))
+    omega (arith, c .one .ensures, bit-most (oneAt (start .args .t .now) (getD (start .args .t2) (head .loop .i) 0 + start .args .x .0)), code-small (start .args .t .now) (start .args .t2) (start .args .mask) (start .args .x .0) (head .loop .i) (omega arith))
 
 add-i : tie.Need-add-i Inv-loop μ-loop
 add-i c = search needs
@@ -75,15 +75,15 @@ loop-again c =
     let told = c .before .has .ensures in
     let turn = c .before .before .loop-test .taken in
     ⊎-elim
-    (λ w. (omega arith, w .3 ∙ code-with (start .args .t .now) (start .args .t2) (start .args .mask) (start .args .x) (head .loop .i) (head .loop .c) (w .2 .result) (head .loop .inv .1) (sym told ∙ w .0 .taken) (w .2 .ensures)))
-    (λ w. (omega arith, w .1 ∙ code-without (start .args .t .now) (start .args .t2) (start .args .mask) (start .args .x) (head .loop .i) (head .loop .c) (head .loop .inv .1) (sym told ∙ w .0 .left)))
+    (λ w. (omega arith, w .3 ∙ code-with (start .args .t .now) (start .args .t2) (start .args .mask) (start .args .x .0) (head .loop .i) (head .loop .c) (w .2 .result) (head .loop .inv .1) (sym told ∙ w .0 .taken) (w .2 .ensures)))
+    (λ w. (omega arith, w .1 ∙ code-without (start .args .t .now) (start .args .t2) (start .args .mask) (start .args .x .0) (head .loop .i) (head .loop .c) (head .loop .inv .1) (sym told ∙ w .0 .left)))
     (c .if1 .came)
 
 returns : tie.Need-returns Inv-loop μ-loop
 returns c =
     let start = c .before .before .before in
     let e : c .before .loop .i ≡ start .args .luts = omega (arith, c .before .loop .inv .0, c .loop-test .left) in
-    c .before .loop .inv .1 ∙ ap (codeAt (start .args .t .now) (start .args .t2) (start .args .mask) (start .args .x)) e
+    c .before .loop .inv .1 ∙ ap (codeAt (start .args .t .now) (start .args .t2) (start .args .mask) (start .args .x .0)) e
 
 pub code-spec : {M : Type 1} → statement M
 code-spec =

@@ -8,48 +8,40 @@ use Rattle.checker.proofs.in_rows.Statement.{statement}
 use Rattle.checker.proofs.in_rows.Tie as tie
 
 abbrev Inv-loop : tie.InvT-loop
-Inv-loop t lutat mask luts at vertices frees vertex free digits₀ x₀ digits x =
-    (x ≤ vertices) × Filled t lutat mask luts at (record { vertices = vertices; frees = frees; vertex = vertex; free = free }) x digits
+Inv-loop t lutat mask luts at shape vertices frees digits₀ x₀ digits x =
+    (x ≤ vertices) × Filled t lutat mask luts at shape x digits
 
 abbrev μ-loop : tie.MeasureT-loop
-μ-loop t lutat mask luts at vertices frees vertex free digits₀ x₀ digits x = vertices - x
+μ-loop t lutat mask luts at shape vertices frees digits₀ x₀ digits x = vertices - x
 
 loop-holds : tie.Need-loop-holds Inv-loop μ-loop
 loop-holds c = (omega arith, filled-none (search needs))
 
 code-requires : tie.Need-code-requires Inv-loop μ-loop
 code-requires c κs =
-    let start = c .before .before .before .before .before in
+    let start = c .before .before .before in
     (start .pre .few-luts, λ i l. code-ready (start .pre) (c .before .loop .x) (c .loop-test .taken) i l)
 
 mul-with-vertex : tie.Need-mul-with-vertex Inv-loop μ-loop
 mul-with-vertex c =
-    let start = c .before .before .before .before .before .before in
+    let start = c .before .before .before .before in
     omega (arith, vertex-room (start .pre) (c .before .before .loop .x) (c .code .result) (c .before .loop-test .taken) (c .code .ensures) .readable)
 
 add-with-vertex : tie.Need-add-with-vertex Inv-loop μ-loop
 add-with-vertex c =
-    let start = c .before .before .before .before .before .before in
+    let start = c .before .before .before .before in
     omega (arith, vertex-room (start .pre) (c .before .before .loop .x) (c .code .result) (c .before .loop-test .taken) (c .code .ensures) .readable)
-
-mul-with-vertex-2 : tie.Need-mul-with-vertex-2 Inv-loop μ-loop
-mul-with-vertex-2 c =
-    let start = c .before .before .before .before .before .before in
-    omega (arith, start .pre .few-vertices, c .before .loop-test .taken)
-
-array-read-with-vertex : tie.Need-array-read-with-vertex Inv-loop μ-loop
-array-read-with-vertex c =
-    let start = c .before .before .before .before .before .before in
-    omega (arith, start .pre .few-vertices, c .before .loop-test .taken)
 
 with-vertex-requires : tie.Need-with-vertex-requires Inv-loop μ-loop
 with-vertex-requires c κs =
-    let start = c .before .before .before .before .before .before in
-    vertex-room (start .pre) (c .before .before .loop .x) (c .code .result) (c .before .loop-test .taken) (c .code .ensures)
+    let start = c .before .before .before .before in (
+      omega (arith, start .pre .few-vertices, c .before .loop-test .taken),
+      vertex-room (start .pre) (c .before .before .loop .x) (c .code .result) (c .before .loop-test .taken) (c .code .ensures),
+    )
 
 add-x : tie.Need-add-x Inv-loop μ-loop
 add-x c =
-    let start = c .before .before .before .before .before .before .before in
+    let start = c .before .before .before .before .before in
     omega (arith, start .pre .few-vertices, c .before .before .loop-test .taken)
 
 loop-less : tie.Need-loop-less Inv-loop μ-loop
@@ -74,8 +66,6 @@ in-rows-spec =
     code-requires
     mul-with-vertex
     add-with-vertex
-    mul-with-vertex-2
-    array-read-with-vertex
     with-vertex-requires
     add-x
     loop-less
