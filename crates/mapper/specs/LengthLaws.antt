@@ -9,6 +9,7 @@ use native.Mathlib.Nat.{le-antisymm}
 use lib.ListN.{length, getD, length-append, length-map}
 use borrow.Author.Tests.{lt-ltb}
 use Rattle.text.specs.Bytes.{bytes, newline, closeBracket}
+use Rattle.text.specs.Line.{endedLines}
 use Rattle.text.specs.Number.{printNumber}
 use Rattle.names.specs.Name.{Name}
 use Rattle.rows.specs.Digits.{digit}
@@ -17,7 +18,7 @@ use Rattle.sheet.specs.Examine.{Design, outputNames}
 use Rattle.classes.specs.Columns.{free}
 use Rattle.classes.specs.Width.{budget}
 use Rattle.network.specs.Network.{Network, Node}
-use Rattle.network.specs.Printer.{led, ledAll, lutName, printDigits, networkLine, lutHead, printLut, nodeHead, printNode, printCount, lutLines, nodeLines, networkLines, endedLines, printNetwork}
+use Rattle.network.specs.Printer.{led, ledAll, lutName, printDigits, networkLine, lutHead, printLut, nodeHead, printNode, printCount, lutLines, nodeLines, networkLines, printNetwork}
 use Rattle.network.specs.Reads.{Rising, rising-none, rising-more}
 use Rattle.network.specs.Wellformed.{Wellformed, nodeAt}
 use Rattle.network.specs.Answers.{readCount}

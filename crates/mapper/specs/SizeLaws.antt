@@ -12,6 +12,7 @@ use Rattle.bits.specs.Logic.{pick}
 use Rattle.bits.specs.LogicLaws.{true-false}
 use Rattle.limits.specs.Limits.{maxNetwork, maxCells}
 use Rattle.text.specs.Bytes.{bytes, space, newline, closeBracket}
+use Rattle.text.specs.Line.{endedLines}
 use Rattle.text.specs.Number.{printNumber}
 use Rattle.names.specs.Name.{Name, isName}
 use Rattle.names.specs.Front.{allNames}
@@ -26,7 +27,7 @@ use Rattle.classes.specs.Width.{budget, width}
 use Rattle.classes.specs.VertexLaws.{width-most}
 use Rattle.classes.specs.FreeLaws.{bound-and-free}
 use Rattle.network.specs.Network.{Network, Node}
-use Rattle.network.specs.Printer.{led, ledAll, lutName, printDigits, networkLine, lutHead, printLut, nodeHead, printNode, printCount, lutLines, nodeLines, networkLines, endedLines, printNetwork}
+use Rattle.network.specs.Printer.{led, ledAll, lutName, printDigits, networkLine, lutHead, printLut, nodeHead, printNode, printCount, lutLines, nodeLines, networkLines, printNetwork}
 use Rattle.network.specs.Wellformed.{Wellformed, Named, nodeAt}
 use Rattle.network.specs.PartLaws.{free-named}
 use Rattle.network.specs.Answers.{WithinLimits}
