@@ -28,6 +28,7 @@ pub mod CheckLaws
 pub mod PrintedLaws
 pub mod Computing
 pub mod Worked
+pub mod WorkedBound
 pub mod Numbers
 pub mod LineAnswer
 pub mod ChainLaws
