@@ -18,7 +18,7 @@ use Rattle.mapper.specs.Map.{MapAnswer, Outcome}
 use Rattle.network.specs.Network.{Network}
 use Rattle.network.specs.Examine.{Answer, bad-line, network, readNetwork, offending}
 use Rattle.network.specs.Check as check
-use Rattle.network.specs.Check.{Checked, compareFrom, judge, checkNetwork, checkDesign, atRow, differingRow}
+use Rattle.network.specs.Check.{Checked, compareFrom, judge, beside, comparePair, checkOf, examinePair, atRow, differingRow}
 use Rattle.cellmapper.specs.Numbers.{IsNumber, TableNumber, MapNumber, CheckNumber}
 
 -- a design sheet is refused by 1 to 5
@@ -62,15 +62,16 @@ unfolding compareFrom
 compare-number d w zero o = tt
 compare-number d w (suc k) o = at-row-number o (differingRow d w o) (compareFrom d w k (suc o)) (compare-number d w k (suc o))
 
-judge-number : (d : Design) (w : Network) (x : Option ℕ) → CheckNumber (judge d w x)
+judge-number : (d : Design) (w : Network) (x : Option ℕ) → CheckNumber (comparePair (judge d w x))
 judge-number d w (some l) = record { low = omega arith; high = omega arith }
 judge-number d w none = compare-number d w (length (d .outputs)) 0
 
-network-number : (d : Design) (x : Answer) → CheckNumber (checkNetwork d x)
+network-number : (d : Design) (x : Answer) → CheckNumber (comparePair (beside d x))
 network-number d (bad-line l) = record { low = omega arith; high = omega arith }
 network-number d (network w) = judge-number d w (offending d w)
 
-design-number : (x : Examined) (t : List ℕ) → ((q l : ℕ) → x ≡ refused q l → IsNumber q) → CheckNumber (checkDesign x t)
+design-number : (x : Examined) (t : List ℕ) → ((q l : ℕ) → x ≡ refused q l → IsNumber q) → CheckNumber (checkOf x t)
+unfolding checkOf examinePair
 design-number (refused q l) t h = h q l refl
 design-number (valid d) t h = network-number d (readNetwork d t)
 

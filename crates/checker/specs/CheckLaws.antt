@@ -25,7 +25,7 @@ use Rattle.network.specs.Network.{Network}
 use Rattle.network.specs.Examine.{Answer, bad-line, network, readNetwork}
 use Rattle.network.specs.Check.{Checked, refused-by, check}
 use Rattle.network.specs.Answers.{compared}
-use Rattle.network.specs.CheckLaws.{check-refused, check-bad-line, check-offending, check-compares}
+use Rattle.network.specs.CheckLaws.{check-sheet, check-refused, check-bad-line, check-offending, check-compares}
 use Rattle.netsheet.specs.Answer.{NetworkIs, ReadAs}
 use Rattle.netsheet.specs.Named.{Ranged}
 use Rattle.netsheet.specs.NamedLaws.{holds-ranged}
@@ -40,7 +40,10 @@ refused-by-flag (valid d) e h f = absurd (true-false (sym (h .all-ok) ∙ f))
 
 pub answer-refused : (s t : List ℕ) (e : Examined) → ExaminedIs (sheets.examine s) e → e .ok ≡ false
     → refused-by (e .number) (e .line) ≡ check s t
-answer-refused s t e h f = sym (check-refused s t (e .number) (e .line) (refused-by-flag (sheets.examine s) e h f))
+answer-refused s t e h f =
+    sym
+    (check-sheet s t (refused (e .number) (e .line)) (refused-by-flag (sheets.examine s) e h f)
+    ∙ check-refused t (e .number) (e .line))
 
 -- the sheet s says a proper design, which k holds
 pub record Designed (s : List ℕ) (k : Sheet) : Type 0 where
@@ -84,7 +87,8 @@ module _ {s : List ℕ} {k : Sheet} (g : Designed s k) where
   pub answer-bad-line : (t : List ℕ) (n : NetworkSheet) → ReadBy t n → n .ok ≡ false → refused-by 10 (n .line) ≡ check s t
   answer-bad-line t n r f =
       sym
-      (check-bad-line s t (g .design) (n .line) (g .is-valid)
+      (check-sheet s t (valid (g .design)) (g .is-valid)
+      ∙ check-bad-line (g .design) t (n .line)
       (bad-by-flag (g .design) t (readNetwork (g .design) t) n (is-read-by t n r) f))
 
   -- the network sheet t says a network, whose tables stand as n says
@@ -134,7 +138,8 @@ module _ {s : List ℕ} {k : Sheet} (g : Designed s k) where
     pub answer-offending : (l : ℕ) → JudgedBy l → 0 < l → refused-by 11 l ≡ check s t
     answer-offending l j h =
         sym
-        (check-offending s t (g .design) (w .said) l (g .is-valid) (w .is-network)
+        (check-sheet s t (valid (g .design)) (g .is-valid)
+        ∙ check-offending (g .design) t (w .said) l (w .is-network)
         (j (g .design) (w .said) limits-are .at-line h))
 
     -- ---- the comparison
@@ -158,9 +163,9 @@ module _ {s : List ℕ} {k : Sheet} (g : Designed s k) where
     answer-compared l a j h f =
         f (g .design) (w .said) drawing-here
         ∙ sym
-        (check-compares s t (g .design) (w .said)
+        (check-sheet s t (valid (g .design)) (g .is-valid)
+        ∙ check-compares (g .design) t (w .said)
         (record {
-          is-valid = g .is-valid;
           is-read = w .is-network;
           passes = j (g .design) (w .said) limits-are .at-none (omega arith);
         }))

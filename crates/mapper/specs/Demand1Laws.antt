@@ -21,7 +21,7 @@ use Rattle.network.specs.Network.{Network}
 use Rattle.network.specs.Printer.{printNetwork}
 use Rattle.network.specs.Examine.{Answer, bad-line, network, readNetwork, offending}
 use Rattle.network.specs.Check as checks
-use Rattle.network.specs.Check.{check, checkDesign, checkNetwork, judge, compareFrom}
+use Rattle.network.specs.Check.{check, checkOf, examinePair, comparePair, beside, judge, compareFrom}
 use Rattle.network.specs.Wellformed.{Wellformed}
 use Rattle.network.specs.Answers.{WithinLimits, Computes}
 use Rattle.mapper.specs.Map.{Permitted, MapAnswer, refused-by, mapped, Outcome, refused-sheet, too-many-classes, no-network, buffer-short, written}
@@ -108,24 +108,25 @@ module _ (s t : List ℕ) where
   check-number q l (why.by-limits d w m e h k) = inr (omega arith, omega arith)
 
   check-refuses : (q l : ℕ) → CheckRefuses s t q l → check s t ≡ checks.refused-by q l
-  unfolding check
+  unfolding check checkOf examinePair
   check-refuses q l (why.by-sheet p m e) = rw e refl
   check-refuses q l (why.by-line d m e h) = rw (e, h) refl
   check-refuses q l (why.by-limits d w m e h k) = rw (e, h, k) refl
 
-  check-because : (q l : ℕ) (x : Examined) → examine s ≡ x → checkDesign x t ≡ checks.refused-by q l → CheckRefuses s t q l
+  check-because : (q l : ℕ) (x : Examined) → examine s ≡ x → checkOf x t ≡ checks.refused-by q l → CheckRefuses s t q l
+  unfolding checkOf examinePair
   check-because q l (refused p m) e f =
       let (g, h) = check-same f in
       subst (λ (k : ℕ). CheckRefuses s t k l) g (subst (CheckRefuses s t p) h (why.by-sheet p m e))
   check-because q l (valid e) g f = from-answer (readNetwork e t) refl f
     where
-      from-judge : (w : Network) → readNetwork e t ≡ network w → (i : Option ℕ) → offending e w ≡ i → judge e w i ≡ checks.refused-by q l → CheckRefuses s t q l
+      from-judge : (w : Network) → readNetwork e t ≡ network w → (i : Option ℕ) → offending e w ≡ i → comparePair (judge e w i) ≡ checks.refused-by q l → CheckRefuses s t q l
       from-judge w h (some m) k f =
           let (x, y) = check-same f in
           subst (λ (n : ℕ). CheckRefuses s t n l) x (subst (CheckRefuses s t 11) y (why.by-limits e w m g h k))
       from-judge w h none k f = absurd (compares-never-refuses e w (length (e .outputs)) 0 q l f)
 
-      from-answer : (i : Answer) → readNetwork e t ≡ i → checkNetwork e i ≡ checks.refused-by q l → CheckRefuses s t q l
+      from-answer : (i : Answer) → readNetwork e t ≡ i → comparePair (beside e i) ≡ checks.refused-by q l → CheckRefuses s t q l
       from-answer (bad-line m) h f =
           let (x, y) = check-same f in
           subst (λ (n : ℕ). CheckRefuses s t n l) x (subst (CheckRefuses s t 10) y (why.by-line e m g h))

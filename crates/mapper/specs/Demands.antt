@@ -21,7 +21,7 @@ use Rattle.network.specs.Answers.{WithinLimits, Computes, Drawn, compared}
 use Rattle.network.specs.Check.{Checked, same, differs, check}
 use Rattle.network.specs.Check as c
 use Rattle.network.specs.CompareLaws.{compared-same}
-use Rattle.network.specs.CheckLaws.{check-same-beside, check-compares}
+use Rattle.network.specs.CheckLaws.{check-sheet, check-compares}
 use Rattle.network.specs.PrintedLaws.{printed-drawn, printed-same, drawn-wellformed, drawn-within}
 use Rattle.mapper.specs.Map.{Permitted, MapAnswer, refused-by, mapped, Outcome, refused-sheet, too-many-classes, no-network, buffer-short, written}
 use Rattle.mapper.specs.DesignLaws.{named-of}
@@ -34,15 +34,16 @@ written-bytes b t h =
     ∙ take-at t (drop (0 + length t) b) (length t) refl
 
 -- ---- a permitted network is the same as the design
-permitted-drawn : (s : List ℕ) (d : Design) (w : Network) → examine s ≡ valid d → Permitted d w → Drawn s (printNetwork d w) d w
+permitted-drawn : (s : List ℕ) (d : Design) (w : Network) → examine s ≡ valid d → Permitted d w → Drawn d (printNetwork d w) w
 permitted-drawn s d w e p =
     let v = valid-well-formed s d e in
-    printed-drawn s d w (named-of d v) e (p .wellformed) (p .within) (print-fits d w v (p .wellformed) (p .within))
+    printed-drawn d w (named-of d v) (p .wellformed) (p .within) (print-fits d w v (p .wellformed) (p .within))
 
 pub permitted-same : (s : List ℕ) (d : Design) (w : Network) → examine s ≡ valid d → Permitted d w → check s (printNetwork d w) ≡ same
 permitted-same s d w e p =
     let v = valid-well-formed s d e in
-    printed-same s d w (named-of d v) e (p .wellformed) (p .within) (print-fits d w v (p .wellformed) (p .within)) (p .computes)
+    check-sheet s (printNetwork d w) (valid d) e
+    ∙ printed-same d w (named-of d v) (p .wellformed) (p .within) (print-fits d w v (p .wellformed) (p .within)) (p .computes)
 
 -- ---- Check on a network that passes 10 and 11 says "same" or "differs"
 pub record Differs (a : Checked) : Type 0 where
@@ -65,11 +66,11 @@ same-differs a e f =
     let z : _≡_ {A = ℕ} 0 1 = cc in
     omega arith
 
-differs-or-computes : (s t : List ℕ) (d : Design) (w : Network) → Drawn s t d w → (Computes d w → ⊥) → Differs (check s t)
-differs-or-computes s t d w n h =
+differs-or-computes : (s t : List ℕ) (d : Design) (w : Network) → examine s ≡ valid d → Drawn d t w → (Computes d w → ⊥) → Differs (check s t)
+differs-or-computes s t d w e n h =
     ⊎-elim
-    (λ e. absurd (h (compared-same d w e)))
-    (λ f. record { output = f .output; row = f .row; is = check-compares s t d w n ∙ f .is })
+    (λ f. absurd (h (compared-same d w f)))
+    (λ f. record { output = f .output; row = f .row; is = check-sheet s t (valid d) e ∙ check-compares d t w n ∙ f .is })
     (never-refused d w (length (d .outputs)) 0)
 
 -- ---- which answer was given
@@ -90,16 +91,16 @@ one-design s d e p q = let g : valid d ≡ valid e = sym p ∙ q in cc
 
 -- ======== Demand 3, in document 01's words
 -- s is a valid design sheet that says d, with at most 16 global classes; Map answers a on it and the buffer b, and leaves
--- the buffer b'. A network the rival can draw is a network sheet t that passes 10 and 11 beside s (Drawn s t d w: it says
+-- the buffer b'. A network the rival can draw is a network sheet t that passes 10 and 11 beside d (Drawn d t w: it says
 -- the network w, whose cells are its lut lines).
 pub record Demand3 (s b : List ℕ) (d : Design) (a : MapAnswer) (b' : List ℕ) : Type 0 where
   -- Map refuses by 8 exactly when Check says "differs" to every network a rival can draw
-  pub refusal-is-true : a ≡ refused-by 8 0 → (t : List ℕ) (w : Network) → Drawn s t d w → Differs (check s t)
-  pub true-refusal : ((t : List ℕ) (w : Network) → Drawn s t d w → Differs (check s t)) → a ≡ refused-by 8 0
+  pub refusal-is-true : a ≡ refused-by 8 0 → (t : List ℕ) (w : Network) → Drawn d t w → Differs (check s t)
+  pub true-refusal : ((t : List ℕ) (w : Network) → Drawn d t w → Differs (check s t)) → a ≡ refused-by 8 0
   -- otherwise, the buffer long enough, Map's network is "same" and no rival network that is "same" has fewer cells
   pub otherwise-mapped : (a ≡ refused-by 8 0 → ⊥) → (a ≡ refused-by 9 0 → ⊥) → (u : ℕ) × (n : ℕ) × (a ≡ mapped u n)
   pub same-as-design : (u n : ℕ) → a ≡ mapped u n → check s (take n b') ≡ same
-  pub fewest-cells : (u n : ℕ) → a ≡ mapped u n → (t : List ℕ) (w : Network) → Drawn s t d w → check s t ≡ same → u ≤ length (w .luts)
+  pub fewest-cells : (u n : ℕ) → a ≡ mapped u n → (t : List ℕ) (w : Network) → Drawn d t w → check s t ≡ same → u ≤ length (w .luts)
 
 demand3-written : (s b : List ℕ) (d : Design) (w : Network) → examine s ≡ valid d → Permitted d w → length (printNetwork d w) ≤ length b → Demand3 s b d (mapped (length (w .luts)) (length (printNetwork d w))) (sets b 0 (printNetwork d w))
 demand3-written s b d w e p h =
@@ -121,17 +122,17 @@ demand3-written s b d w e p h =
     mapped-count : (u n v m : ℕ) → mapped u n ≡ mapped v m → u ≡ v
     mapped-count u n v m e = cc
 
-    rival : (s : List ℕ) (d : Design) (w : Network) → examine s ≡ valid d → Permitted d w → (t : List ℕ) (v : Network) → Drawn s t d v → check s t ≡ same → length (w .luts) ≤ length (v .luts)
+    rival : (s : List ℕ) (d : Design) (w : Network) → examine s ≡ valid d → Permitted d w → (t : List ℕ) (v : Network) → Drawn d t v → check s t ≡ same → length (w .luts) ≤ length (v .luts)
     rival s d w e p t v r g =
         let m = named-of d (valid-well-formed s d e) in
-        p .fewest v (drawn-wellformed s d v m t r) (drawn-within s d v m t r) (compared-same d v (sym (check-compares s t d v r) ∙ g))
+        p .fewest v (drawn-wellformed d v m t r) (drawn-within d v m t r) (compared-same d v (sym (check-sheet s t (valid d) e ∙ check-compares d t v r) ∙ g))
 
 demand3-none : (s b : List ℕ) (d : Design) → examine s ≡ valid d → ((w : Network) → Wellformed d w → WithinLimits d w → Computes d w → ⊥) → Demand3 s b d (refused-by 8 0) b
 demand3-none s b d e h =
     record {
       refusal-is-true = λ _ t w r.
           (let m = named-of d (valid-well-formed s d e) in
-          differs-or-computes s t d w r (h w (drawn-wellformed s d w m t r) (drawn-within s d w m t r)));
+          differs-or-computes s t d w e r (h w (drawn-wellformed d w m t r) (drawn-within d w m t r)));
       true-refusal = λ _. refl;
       otherwise-mapped = λ f _. absurd (f refl);
       same-as-design = λ u n f. absurd (mapped-not-refused 8 0 u n (sym f));

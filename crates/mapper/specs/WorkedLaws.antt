@@ -64,7 +64,8 @@ Full d w o = readCount w o ≡ min (budget d (d .bound) o) (length (w .luts))
 
 -- ---- a sheet with a network that is "same" and has no more cells than it needs is mapped
 pub record Fewest (s t : List ℕ) (d : Design) (w : Network) : Type 0 where
-  pub drawn : Drawn s t d w
+  pub is-valid : examine s ≡ valid d
+  pub drawn : Drawn d t w
   pub right : compared d w ≡ same
   pub few : globalCount d (d .bound) ≤ maxClasses
   pub full : (o : ℕ) → o < length (d .outputs) → Full d w o
@@ -81,7 +82,8 @@ pub fewest-of : {s t : List ℕ} {d : Design} {w : Network}
     → Fewest s t d w
 fewest-of {d = d} {w = w} e f g h k r l =
     record {
-      drawn = record { is-valid = e; is-read = f; passes = g };
+      is-valid = e;
+      drawn = record { is-read = f; passes = g };
       right = h;
       few = k;
       full = each-below (length (d .outputs)) (Full d w) r;
@@ -90,16 +92,16 @@ fewest-of {d = d} {w = w} e f g h k r l =
 
 module _ (s t : List ℕ) (d : Design) (w : Network) (x : Fewest s t d w) where
   e : examine s ≡ valid d
-  e = x .drawn .is-valid
+  e = x .is-valid
 
   named : Named d
   named = named-of d (valid-well-formed s d e)
 
   well : Wellformed d w
-  well = drawn-wellformed s d w named t (x .drawn)
+  well = drawn-wellformed d w named t (x .drawn)
 
   inside : WithinLimits d w
-  inside = drawn-within s d w named t (x .drawn)
+  inside = drawn-within d w named t (x .drawn)
 
   pub drawn-computes : Computes d w
   drawn-computes = compared-same d w (x .right)
@@ -115,7 +117,7 @@ module _ (s t : List ℕ) (d : Design) (w : Network) (x : Fewest s t d w) where
       (λ o h.
       (let k = subst (λ (n : ℕ). o < n) (p .wellformed .node-each) h in
       p .full o k ∙ ap (min (budget d (d .bound) o)) (count-of v p) ∙ sym (x .full o k)))
-      ∙ ap length (sym (drawn-print s d w named t (x .drawn)))
+      ∙ ap length (sym (drawn-print d w named t (x .drawn)))
 
   says-mapped : {b : List ℕ} {a : MapAnswer} {b' : List ℕ} → length t ≤ length b → OutcomeFor d b a b' → a ≡ mapped (length (w .luts)) (length t)
   says-mapped k (many-classes h) = let f = x .few in absurd (omega (arith, h, f))
@@ -142,7 +144,7 @@ module _ (s t : List ℕ) (d : Design) (w : Network) (x : Fewest s t d w) where
   says-text only k (none-computes h n) = absurd (n w well inside drawn-computes)
   says-text only k (too-short v h p n) = let g = length-of v p in absurd (omega (arith, g, n, k))
   says-text only {b = b} k (printed v h p n) =
-      ap (λ (y : Network). sets b 0 (printNetwork d y)) (only v p) ∙ ap (sets b 0) (sym (drawn-print s d w named t (x .drawn)))
+      ap (λ (y : Network). sets b 0 (printNetwork d y)) (only v p) ∙ ap (sets b 0) (sym (drawn-print d w named t (x .drawn)))
 
   -- where no other network is permitted, its sheet is what is written
   pub prints-only : ((v : Network) → Permitted d v → v ≡ w) → Prints s (length (w .luts)) t

@@ -5,7 +5,8 @@ use mathlib.Core.List.{List}
 use mathlib.Core.Option.{none}
 use Prim.Native.Nat.{ℕ, _+_, _^_, _≤_, _<_}
 use lib.ListN.{length}
-use Rattle.sheet.specs.Examine.{Design, valid, examine}
+use Rattle.limits.specs.Limits.{firstLut}
+use Rattle.sheet.specs.Examine.{Design}
 use Rattle.sheet.specs.Value.{outputOn}
 use Rattle.classes.specs.Width.{budget}
 use Rattle.network.specs.Network.{Network}
@@ -23,13 +24,13 @@ pub record WithinLimits (d : Design) (w : Network) : Type 0 where
   pub luts-within : length (w .luts) ≤ d .limit
   pub reads-within : (o : ℕ) → o < length (w .nodes) → readCount w o ≤ budget d (d .bound) o
 
--- the lines that offend: lut i stands on line i + 2, and the node of output o as far below the lut lines
+-- the lines that offend: lut i stands i lines below the first, and the node of output o as far below the lut lines
 pub data Offends (d : Design) (w : Network) : ℕ → Type 0 where
-  lut-over : (i : ℕ) → d .limit ≤ i → i < length (w .luts) → Offends d w (i + 2)
+  lut-over : (i : ℕ) → d .limit ≤ i → i < length (w .luts) → Offends d w (i + firstLut)
   node-over : (o : ℕ)
       → o < length (w .nodes)
       → budget d (d .bound) o < readCount w o
-      → Offends d w (length (w .luts) + 2 + o)
+      → Offends d w (length (w .luts) + firstLut + o)
 
 pub record FirstOffending (d : Design) (w : Network) (l : ℕ) : Type 0 where
   pub offends : Offends d w l
@@ -51,8 +52,7 @@ pub record LowestDifference (d : Design) (w : Network) (o r : ℕ) : Type 0 wher
   pub rows-below : (q : ℕ) → q < r → networkOn d w o q ≡ outputOn d o q
   pub outputs-below : (p q : ℕ) → p < o → q < 2 ^ length (d .inputs) → networkOn d w p q ≡ outputOn d p q
 
--- the sheet s says a design, and t a network that passes 10 and 11 beside it
-pub record Drawn (s t : List ℕ) (d : Design) (w : Network) : Type 0 where
-  pub is-valid : examine s ≡ valid d
+-- t is a network sheet that passes 10 and 11 beside d, and says w
+pub record Drawn (d : Design) (t : List ℕ) (w : Network) : Type 0 where
   pub is-read : readNetwork d t ≡ network w
   pub passes : offending d w ≡ none

@@ -1,13 +1,12 @@
--- Check: questions 1 to 5, then 10 and 11; then "same", or "differs" with the lowest output that differs and its lowest
--- row. Assumes nothing.
+-- Check: what the examination of a design answers, then questions 10 and 11; then "same", or "differs" with the lowest
+-- output that differs and its lowest row. Assumes nothing.
 use mathlib.Core.Bool.{Bool, true, false}
 use mathlib.Core.List.{List}
 use mathlib.Core.Option.{Option, some, none}
 use Prim.Native.Nat.{ℕ, zero, suc, _^_}
 use lib.ListN.{length}
 use Rattle.bits.specs.Logic.{pick, xorb}
-use Rattle.sheet.specs.Examine as sheets
-use Rattle.sheet.specs.Examine.{Design}
+use Rattle.sheet.specs.Examine.{Design, Examined, refused, valid, examine}
 use Rattle.sheet.specs.Value.{outputOn}
 use Rattle.network.specs.Network.{Network}
 use Rattle.network.specs.Examine.{Answer, bad-line, network, readNetwork, offending}
@@ -44,19 +43,36 @@ compareFrom d w (suc k) o =
     let later = compareFrom d w k (suc o) in
     atRow o (differingRow d w o) later
 
--- question 11, then the comparison
-abbrev pub judge : Design → Network → Option ℕ → Checked
-judge d w (some l) = refused-by 11 l
-judge d w none = compareFrom d w (length (d .outputs)) 0
+-- ---- the examination: the design's answer, then questions 10 and 11
+-- a refusal, or the design and the network that stand beside each other
+pub data Pair : Type 0 where
+  refused-pair : ℕ → ℕ → Pair
+  pair : Design → Network → Pair
 
-abbrev pub checkNetwork : Design → Answer → Checked
-checkNetwork d (bad-line l) = refused-by 10 l
-checkNetwork d (network w) = judge d w (offending d w)
+-- question 11
+abbrev pub judge : Design → Network → Option ℕ → Pair
+judge d w (some l) = refused-pair 11 l
+judge d w none = pair d w
 
-abbrev pub checkDesign : sheets.Examined → List ℕ → Checked
-checkDesign (sheets.refused q l) t = refused-by q l
-checkDesign (sheets.valid d) t = checkNetwork d (readNetwork d t)
+-- question 10
+abbrev pub beside : Design → Answer → Pair
+beside d (bad-line l) = refused-pair 10 l
+beside d (network w) = judge d w (offending d w)
 
--- Check on a design sheet and a network sheet
+unfoldable pub examinePair : Examined → List ℕ → Pair
+examinePair (refused q l) t = refused-pair q l
+examinePair (valid d) t = beside d (readNetwork d t)
+
+-- ---- Check
+-- a refusal, or the comparison of all outputs
+abbrev pub comparePair : Pair → Checked
+comparePair (refused-pair q l) = refused-by q l
+comparePair (pair d w) = compareFrom d w (length (d .outputs)) 0
+
+-- on what the examination of a design answers, and a network sheet
+unfoldable pub checkOf : Examined → List ℕ → Checked
+checkOf x t = comparePair (examinePair x t)
+
+-- on a design sheet and a network sheet
 unfoldable pub check : List ℕ → List ℕ → Checked
-check s t = checkDesign (sheets.examine s) t
+check s t = checkOf (examine s) t

@@ -1,7 +1,7 @@
--- What each answer of Check says: "same" exactly where the sheets are read, no line offends and the network has the design's
--- value in every output on every row; "differs" exactly at the lowest output that differs and its lowest row.
--- Assumes nothing.
-use mathlib.Core.Path.{_≡_, refl, sym, _∙_}
+-- What each answer of Check says beside a design: "same" exactly where the network sheet is read, no line offends and the
+-- network has the design's value in every output on every row; "differs" exactly at the lowest output that differs and its
+-- lowest row. Assumes nothing.
+use mathlib.Core.Path.{_≡_, refl, sym, ap, _∙_}
 use mathlib.Core.List.{List}
 use mathlib.Core.Option.{Option, some, none}
 use Prim.Native.Nat.{ℕ}
@@ -9,7 +9,7 @@ use native.Mathlib.Omega.{arith}
 use Rattle.sheet.specs.Examine.{Design, Examined, refused, valid, examine}
 use Rattle.network.specs.Network.{Network}
 use Rattle.network.specs.Examine.{Answer, bad-line, network, readNetwork, offending}
-use Rattle.network.specs.Check.{Checked, refused-by, same, differs, judge, checkNetwork, checkDesign, check}
+use Rattle.network.specs.Check.{Checked, refused-by, same, differs, Pair, refused-pair, pair, judge, beside, examinePair, comparePair, checkOf, check}
 use Rattle.network.specs.Answers.{compared, Drawn, Computes, LowestDifference}
 use Rattle.network.specs.CompareLaws.{compared-same, same-compared, compared-differs, differs-compared}
 
@@ -23,116 +23,115 @@ refused-differs e =
     let z : _≡_ {A = ℕ} 0 1 = cc in
     omega arith
 
-module _ (s t : List ℕ) where
-  -- ---- from the questions to the answer
-  pub check-refused : (q l : ℕ) → examine s ≡ refused q l → check s t ≡ refused-by q l
-  unfolding check
-  check-refused q l e = rw e refl
+refused-no-pair : {q l : ℕ} {d : Design} {w : Network} → refused-pair q l ≡ pair d w → ⊥
+refused-no-pair e =
+    let z : _≡_ {A = ℕ} 0 1 = cc in
+    omega arith
 
-  pub check-bad-line : (d : Design) (l : ℕ)
-      → examine s ≡ valid d
-      → readNetwork d t ≡ bad-line l
-      → check s t ≡ refused-by 10 l
-  unfolding check
-  check-bad-line d l e f = rw (e, f) refl
+pair-design : {d e : Design} {w v : Network} → pair d w ≡ pair e v → d ≡ e
+pair-design p = cc
 
-  pub check-offending : (d : Design) (w : Network) (l : ℕ)
-      → examine s ≡ valid d
-      → readNetwork d t ≡ network w
-      → offending d w ≡ some l
-      → check s t ≡ refused-by 11 l
-  unfolding check
-  check-offending d w l e f g = rw (e, f, g) refl
+pair-network : {d e : Design} {w v : Network} → pair d w ≡ pair e v → w ≡ v
+pair-network p = cc
 
-  pub check-compares : (d : Design) (w : Network) → Drawn s t d w → check s t ≡ compared d w
-  unfolding check
-  check-compares d w f = rw (f .is-valid, f .is-read, f .passes) refl
-
-  -- ---- from an answer that is no refusal to the questions
-  record ComparedAs (a : Checked) : Type 0 where
-    pub design : Design
-    pub said : Network
-    pub drawn : Drawn s t design said
-    pub is-answer : compared design said ≡ a
-
-  judged : (x : Option ℕ) (a : Checked) (d : Design) (w : Network)
-      → ((q l : ℕ) → refused-by q l ≡ a → ⊥)
-      → examine s ≡ valid d
-      → readNetwork d t ≡ network w
-      → offending d w ≡ x
-      → judge d w x ≡ a
-      → ComparedAs a
-  judged none a d w h e f g j =
-      record { design = d; said = w; drawn = record { is-valid = e; is-read = f; passes = g }; is-answer = j }
-  judged (some l) a d w h e f g j = absurd (h 11 l j)
-
-  network-judged : (x : Answer) (a : Checked) (d : Design)
-      → ((q l : ℕ) → refused-by q l ≡ a → ⊥)
-      → examine s ≡ valid d
-      → readNetwork d t ≡ x
-      → checkNetwork d x ≡ a
-      → ComparedAs a
-  network-judged (bad-line l) a d h e f j = absurd (h 10 l j)
-  network-judged (network w) a d h e f j = judged (offending d w) a d w h e f refl j
-
-  design-judged : (x : Examined) (a : Checked)
-      → ((q l : ℕ) → refused-by q l ≡ a → ⊥)
-      → examine s ≡ x
-      → checkDesign x t ≡ a
-      → ComparedAs a
-  design-judged (refused q l) a h e j = absurd (h q l j)
-  design-judged (valid d) a h e j = network-judged (readNetwork d t) a d h e refl j
-
-  check-judged : (a : Checked) → ((q l : ℕ) → refused-by q l ≡ a → ⊥) → check s t ≡ a → ComparedAs a
-  unfolding check
-  check-judged a h j = design-judged (examine s) a h refl j
-
-  -- ---- "same"
-  pub check-same : check s t ≡ same → (d : Design) × (w : Network) × Drawn s t d w × Computes d w
-  check-same e =
-      let c = check-judged same (λ q l r. refused-same r) e in
-      (c .design, c .said, c .drawn, compared-same (c .design) (c .said) (c .is-answer))
-
-  pub same-check : (d : Design) (w : Network) → Drawn s t d w → Computes d w → check s t ≡ same
-  same-check d w f g = check-compares d w f ∙ same-compared d w g
-
-  -- ---- "differs"
-  pub check-differs : (o r : ℕ)
-      → check s t ≡ differs o r
-      → (d : Design) × (w : Network) × Drawn s t d w × LowestDifference d w o r
-  check-differs o r e =
-      let c = check-judged (differs o r) (λ q l i. refused-differs i) e in
-      (c .design, c .said, c .drawn, compared-differs (c .design) (c .said) o r (c .is-answer))
-
-  pub differs-check : (d : Design) (w : Network) (o r : ℕ)
-      → Drawn s t d w
-      → LowestDifference d w o r
-      → check s t ≡ differs o r
-  differs-check d w o r f g = check-compares d w f ∙ differs-compared d w o r g
-
--- ---- beside the design that the sheet is known to say
 design-is : {d e : Design} → valid d ≡ valid e → d ≡ e
 design-is p = cc
 
-module _ (s t : List ℕ) (d : Design) (known : examine s ≡ valid d) where
-  drawn-beside : (P : Design → Network → Type 0) (e : Design) (w : Network)
-      → Drawn s t e w
-      → P e w
-      → Drawn s t d w × P d w
-  drawn-beside P e w f p =
-      let q : e ≡ d = design-is (sym (f .is-valid) ∙ known) in
-      (rw q at f, rw q at p)
+-- ---- a sheet, by what its examination answers
+pub check-sheet : (s t : List ℕ) (x : Examined) → examine s ≡ x → check s t ≡ checkOf x t
+unfolding check
+check-sheet s t x e = ap (λ (y : Examined). checkOf y t) e
 
-  pub check-same-beside : check s t ≡ same → (w : Network) × Drawn s t d w × Computes d w
-  check-same-beside e =
-      let (c, w, f, g) = check-same s t e in
-      let (x, y) = drawn-beside Computes c w f g in
-      (w, x, y)
+pub check-refused : (t : List ℕ) (q l : ℕ) → checkOf (refused q l) t ≡ refused-by q l
+unfolding checkOf examinePair
+check-refused t q l = refl
 
-  pub check-differs-beside : (o r : ℕ)
-      → check s t ≡ differs o r
-      → (w : Network) × Drawn s t d w × LowestDifference d w o r
-  check-differs-beside o r e =
-      let (c, w, f, g) = check-differs s t o r e in
-      let (x, y) = drawn-beside (λ a v. LowestDifference a v o r) c w f g in
-      (w, x, y)
+-- ---- the pair that is examined: just the design, and what is drawn beside it
+module _ (t : List ℕ) where
+  record PairOf (x : Examined) (d : Design) (w : Network) : Type 0 where
+    pub is-valid : x ≡ valid d
+    pub drawn : Drawn d t w
+
+  judged : (c : Design) (v : Network) (y : Option ℕ) (d : Design) (w : Network)
+      → readNetwork c t ≡ network v
+      → offending c v ≡ y
+      → judge c v y ≡ pair d w
+      → PairOf (valid c) d w
+  judged c v (some l) d w f g e = absurd (refused-no-pair e)
+  judged c v none d w f g e =
+      rw (sym (pair-design e), sym (pair-network e)) (record { is-valid = refl; drawn = record { is-read = f; passes = g } })
+
+  read-beside : (c : Design) (y : Answer) (d : Design) (w : Network)
+      → readNetwork c t ≡ y
+      → beside c y ≡ pair d w
+      → PairOf (valid c) d w
+  read-beside c (bad-line l) d w f e = absurd (refused-no-pair e)
+  read-beside c (network v) d w f e = judged c v (offending c v) d w f refl e
+
+  pub pair-drawn : (x : Examined) (d : Design) (w : Network) → examinePair x t ≡ pair d w → (x ≡ valid d) × Drawn d t w
+  unfolding examinePair
+  pair-drawn (refused q l) d w e = absurd (refused-no-pair e)
+  pair-drawn (valid c) d w e =
+      let p = read-beside c (readNetwork c t) d w refl e in
+      (p .is-valid, p .drawn)
+
+  pub drawn-pair : (x : Examined) (d : Design) (w : Network) → x ≡ valid d → Drawn d t w → examinePair x t ≡ pair d w
+  unfolding examinePair
+  drawn-pair x d w e f = rw (e, f .is-read, f .passes) refl
+
+-- ---- beside a design
+module _ (d : Design) (t : List ℕ) where
+  -- from the questions to the answer
+  pub check-bad-line : (l : ℕ) → readNetwork d t ≡ bad-line l → checkOf (valid d) t ≡ refused-by 10 l
+  unfolding checkOf examinePair
+  check-bad-line l f = rw f refl
+
+  pub check-offending : (w : Network) (l : ℕ)
+      → readNetwork d t ≡ network w
+      → offending d w ≡ some l
+      → checkOf (valid d) t ≡ refused-by 11 l
+  unfolding checkOf examinePair
+  check-offending w l f g = rw (f, g) refl
+
+  pub check-compares : (w : Network) → Drawn d t w → checkOf (valid d) t ≡ compared d w
+  unfolding checkOf
+  check-compares w f = ap comparePair (drawn-pair t (valid d) d w refl f)
+
+  -- from an answer that is no refusal to the questions
+  record ComparedAs (a : Checked) : Type 0 where
+    pub said : Network
+    pub drawn : Drawn d t said
+    pub is-answer : compared d said ≡ a
+
+  compared-as : (p : Pair) (a : Checked)
+      → ((q l : ℕ) → refused-by q l ≡ a → ⊥)
+      → examinePair (valid d) t ≡ p
+      → comparePair p ≡ a
+      → ComparedAs a
+  compared-as (refused-pair q l) a h e f = absurd (h q l f)
+  compared-as (pair c w) a h e f =
+      let (v, g) = pair-drawn t (valid d) c w e in
+      let i : c ≡ d = sym (design-is v) in
+      record { said = w; drawn = rw (sym i) g; is-answer = rw (sym i) f }
+
+  checked-as : (a : Checked) → ((q l : ℕ) → refused-by q l ≡ a → ⊥) → checkOf (valid d) t ≡ a → ComparedAs a
+  unfolding checkOf
+  checked-as a h e = compared-as (examinePair (valid d) t) a h refl e
+
+  -- "same"
+  pub check-same : checkOf (valid d) t ≡ same → (w : Network) × Drawn d t w × Computes d w
+  check-same e =
+      let c = checked-as same (λ q l r. refused-same r) e in
+      (c .said, c .drawn, compared-same d (c .said) (c .is-answer))
+
+  pub same-check : (w : Network) → Drawn d t w → Computes d w → checkOf (valid d) t ≡ same
+  same-check w f g = check-compares w f ∙ same-compared d w g
+
+  -- "differs"
+  pub check-differs : (o r : ℕ) → checkOf (valid d) t ≡ differs o r → (w : Network) × Drawn d t w × LowestDifference d w o r
+  check-differs o r e =
+      let c = checked-as (differs o r) (λ q l i. refused-differs i) e in
+      (c .said, c .drawn, compared-differs d (c .said) o r (c .is-answer))
+
+  pub differs-check : (w : Network) (o r : ℕ) → Drawn d t w → LowestDifference d w o r → checkOf (valid d) t ≡ differs o r
+  differs-check w o r f g = check-compares w f ∙ differs-compared d w o r g

@@ -10,7 +10,7 @@ use Rattle.network.specs.Printer.{ledAll, lutName, printDigits, lutHead,
 use Rattle.network.specs.Reader.{readDigits, readLut, readReads, readNode}
 use Rattle.network.specs.Examine.{askNode, askLut, askLine, askLines, readNetwork, wideNode, offending}
 use Rattle.network.specs.Value.{lutOn, nodeRow, networkOn}
-use Rattle.network.specs.Check.{firstOf, differsOn, differingRow, compareFrom, check}
+use Rattle.network.specs.Check.{firstOf, differsOn, differingRow, compareFrom, examinePair, checkOf, check}
 
 classes : Unit {0}
 unfolding rowOf free onParts joinRow vertexOf freeRowOf valueAt valuesUpto column apart conflict alikeUpto firstFrom firstLike
@@ -26,7 +26,7 @@ unfolding readDigits readLut readReads readNode askNode askLut askLine askLines 
 reading = tt
 
 checking : Unit {0}
-unfolding lutOn nodeRow networkOn firstOf differsOn differingRow compareFrom check
+unfolding lutOn nodeRow networkOn firstOf differsOn differingRow compareFrom examinePair checkOf check
 checking = tt
 
 unfoldable pub computing : Unit {0}

@@ -5,39 +5,36 @@ use mathlib.Core.List.{List}
 use Prim.Native.Nat.{ℕ, _≤_}
 use lib.ListN.{length}
 use Rattle.limits.specs.Limits.{maxNetwork}
-use Rattle.sheet.specs.Examine.{Design, valid, examine}
+use Rattle.sheet.specs.Examine.{Design, valid}
 use Rattle.network.specs.Network.{Network}
 use Rattle.network.specs.Printer.{printNetwork}
-use Rattle.network.specs.Check.{same, check}
+use Rattle.network.specs.Check.{same, checkOf}
 use Rattle.network.specs.Wellformed.{Wellformed, Named}
 use Rattle.network.specs.Answers.{WithinLimits, Computes, Drawn}
 use Rattle.network.specs.SheetLaws.{network-read-of-print, network-print-of-read}
 use Rattle.network.specs.OffendingLaws.{offending-none, none-offending}
 use Rattle.network.specs.CheckLaws.{same-check}
 
-module _ (s : List ℕ) (d : Design) (w : Network) (named : Named d) where
-  pub printed-drawn : examine s ≡ valid d
-      → Wellformed d w
+module _ (d : Design) (w : Network) (named : Named d) where
+  pub printed-drawn : Wellformed d w
       → WithinLimits d w
       → length (printNetwork d w) ≤ maxNetwork
-      → Drawn s (printNetwork d w) d w
-  printed-drawn e f l k =
-      record { is-valid = e; is-read = network-read-of-print d w named f k; passes = none-offending d w l }
+      → Drawn d (printNetwork d w) w
+  printed-drawn f l k = record { is-read = network-read-of-print d w named f k; passes = none-offending d w l }
 
-  pub printed-same : examine s ≡ valid d
-      → Wellformed d w
+  pub printed-same : Wellformed d w
       → WithinLimits d w
       → length (printNetwork d w) ≤ maxNetwork
       → Computes d w
-      → check s (printNetwork d w) ≡ same
-  printed-same e f l k c = same-check s (printNetwork d w) d w (printed-drawn e f l k) c
+      → checkOf (valid d) (printNetwork d w) ≡ same
+  printed-same f l k c = same-check d (printNetwork d w) w (printed-drawn f l k) c
 
   -- what is drawn is well formed, within the limits, and its sheet is its print
-  pub drawn-wellformed : (t : List ℕ) → Drawn s t d w → Wellformed d w
+  pub drawn-wellformed : (t : List ℕ) → Drawn d t w → Wellformed d w
   drawn-wellformed t f = network-print-of-read d t w (f .is-read) named .0
 
-  pub drawn-within : (t : List ℕ) → Drawn s t d w → WithinLimits d w
+  pub drawn-within : (t : List ℕ) → Drawn d t w → WithinLimits d w
   drawn-within t f = offending-none d w (f .passes)
 
-  pub drawn-print : (t : List ℕ) → Drawn s t d w → t ≡ printNetwork d w
+  pub drawn-print : (t : List ℕ) → Drawn d t w → t ≡ printNetwork d w
   drawn-print t f = network-print-of-read d t w (f .is-read) named .1
