@@ -8,8 +8,10 @@ use native.Mathlib.Omega.{arith}
 use borrow.Author.Count.{below-more}
 use borrow.Author.Tests.{not-false}
 use lib.ListN.{length, getD}
+use lib.Pow.{pow-mono}
 use Rattle.bits.specs.Logic.{xorb}
 use Rattle.bits.specs.LogicLaws.{true-false}
+use Rattle.limits.specs.Limits.{maxInputs, maxRows}
 use Rattle.rows.specs.Words.{rowOn}
 use Rattle.sheet.specs.Examine.{Design}
 use Rattle.sheet.specs.Known.{tableAt}
@@ -69,7 +71,7 @@ module _ {t : List ℕ} {k : Sheet} {n : Places} {sh : Shape} where
   rows-none o = record { right = λ d w h q l. absurd (omega arith) }
 
   -- the values of an output on a row, as the code reads them
-  design-value : {d : Design} {w : Network} → Drawing d w t k n sh → (o r : ℕ) → o < k .outputs → r < 1024
+  design-value : {d : Design} {w : Network} → Drawing d w t k n sh → (o r : ℕ) → o < k .outputs → r < maxRows
       → rowOn (tableAt (k .tables) o) r ≡ outputOn d o r
   design-value h o r l m = h .holds .tabled o l .each r m
 
@@ -77,7 +79,7 @@ module _ {t : List ℕ} {k : Sheet} {n : Places} {sh : Shape} where
   output-is h o l = omega (arith, h .holds .outputs-counted)
 
   module _ (o r rows : ℕ) (words list : List ℕ) (l : o < k .outputs) (below : r < rows) (count : rows ≡ 2 ^ k .inputs)
-      (few : rows ≤ 1024) (table : words ≡ tableAt (k .tables) o)
+      (few : rows ≤ maxRows) (table : words ≡ tableAt (k .tables) o)
       (filled : Filled t (n .lutat) (getD (n .reads) o 0) (n .luts) (getD (n .nodeat) o 0) sh (sh .vertices) list) where
     row-below : {d : Design} {w : Network} → Drawing d w t k n sh → r < 2 ^ length (d .inputs)
     row-below {d} h =
@@ -156,6 +158,11 @@ module _ {t : List ℕ} {k : Sheet} {n : Places} {sh : Shape} where
       (record { agrees = λ p q i j. a .right d w h p q (omega (arith, h .holds .outputs-counted)) j }))
 
   -- ---- what the code is asked for on the way
+  pub rows-few : SomeDrawing t k n sh → (rows : ℕ) → rows ≡ 2 ^ k .inputs → rows ≤ maxRows
+  rows-few s rows e =
+      let few : 2 ^ k .inputs ≤ 2 ^ maxInputs = pow-mono (s .drawing .holds .inputs-few) in
+      omega arith
+
   pub some-ready : SomeDrawing t k n sh → (o : ℕ) → o < k .outputs
       → Ready t (n .lutat) (getD (n .reads) o 0) (n .luts) (getD (n .nodeat) o 0) sh
   some-ready s o l = drawing-ready (s .drawing) o (output-is (s .drawing) o l)

@@ -143,20 +143,12 @@ fn differs(words: &[u64; 16], digits: &[u8; 1024], r: usize) -> bool
     bits::has(words[r / 64], (r % 64) as u32) != (digits[r] == b'1')
 }
 
-// 2 to the number of inputs.
-fn row_count(n: usize) -> usize
-    requires { ⌜ n ≤ 10 ⌝ }
-    ensures { λ r. ⌜ (r ≡ 2 ^ n) × (r ≤ 1024) ⌝ }
-{
-    1 << n
-}
-
 // The comparison: the lowest output that differs, and its lowest row.
 fn compare(t: &[u8], k: Sheet, n: NetworkSheet, shape: Shape) -> Checked
     requires { ⌜ SomeDrawing (now t) k (placesOf n) shape ⌝ }
     ensures { λ r. ⌜ ((d : Design) (w : Network) → Drawing d w (now (t .entry)) k (placesOf n) shape → checkedOf r ≡ compared d w) ⌝ }
 {
-    let rows = row_count(k.inputs);
+    let rows = rows::row_count(k.inputs);
     let outputs = k.outputs;
     let luts = n.luts;
     let lutat = n.lutat;

@@ -5,6 +5,7 @@ use Prim.Native.Nat.{ℕ}
 use Rattle.sheet.specs.Examine as spec
 use Rattle.sheet.specs.Examine.{Design, refused, valid}
 use Rattle.sheet.specs.Known.{Holds}
+use Rattle.sheet.specs.WellFormed.{WellFormed}
 use Rattle.design.specs.Tabulate.{TableAnswer, refused-by, written}
 use Rattle.design.specs.declared.Examined.{Examined}
 use Rattle.design.specs.declared.Tabled.{Tabled}
@@ -21,6 +22,16 @@ pub record ValidAs (d : Design) (e : Examined) : Type 0 where
 abbrev pub ExaminedIs : spec.Examined → Examined → Type 0
 ExaminedIs (refused q l) e = RefusedAs q l e
 ExaminedIs (valid d) e = ValidAs d e
+
+-- what any examination may answer: a refusal, or a well-formed design
+abbrev pub Right : spec.Examined → Type 0
+Right x = (d : Design) → x ≡ valid d → WellFormed d
+
+-- e is the answer of an examination, of whichever text: a refusal, or a well-formed design that the sheet holds
+pub record Examination (e : Examined) : Type 0 where
+  pub found : spec.Examined
+  pub is : ExaminedIs found e
+  pub right : Right found
 
 -- document 01's number and line, or its count of digits, for each case of the code's answer
 abbrev pub tableAnswer : Tabled → TableAnswer

@@ -2,12 +2,10 @@
 use mathlib.Core.Path.{_≡_, refl, sym, ap, _∙_, subst}
 use mathlib.Core.Bool.{Bool, true, false}
 use mathlib.Core.List.{List, [], _∷_}
-use Prim.Native.Nat.{ℕ, suc, _+_, _-_, _*_, _%_, _^_, _≤_, _<_}
+use Prim.Native.Nat.{ℕ, suc, _+_, _-_, _≤_, _<_}
 use native.Mathlib.Omega.{arith}
-use native.Mathlib.Nat.{mod-eq-of-lt, one-mul}
 use native.Mathlib.Numerals.{add-one}
 use lib.ListN.{length, getD, drop, take}
-use lib.Pow.{pow-mono}
 use Rattle.bits.specs.Logic.{pick}
 use Rattle.bits.specs.LogicLaws.{true-false}
 use Rattle.text.specs.Bytes.{newline}
@@ -17,21 +15,15 @@ use Rattle.text.specs.LineEndLaws.{line-end-inside}
 use Rattle.text.specs.LineCountLaws.{lines-past}
 use Rattle.sheet.specs.Examine as spec
 use Rattle.sheet.specs.Examine.{Design, Step, no-to, next, askLine, askLines, atEnd, sized, nothing, follow, at-design}
+use Rattle.sheet.specs.ExaminationLaws.{valid-well-formed}
 use Rattle.sheet.specs.FitLaws.{line-fits}
 use Rattle.sheet.specs.Known.{Holds, Fits, StepIs, StepFits, placeOf}
 use Rattle.sheet.specs.declared.Place.{Place}
 use Rattle.sheet.specs.declared.Sheet.{Sheet}
 use Rattle.sheet.specs.declared.Asked.{Asked}
 use Rattle.design.specs.SizeLaws.{sized-last}
-use Rattle.design.specs.Answer.{ExaminedIs, RefusedAs, ValidAs}
+use Rattle.design.specs.Answer.{ExaminedIs, RefusedAs, ValidAs, Examination}
 use Rattle.design.specs.declared.Examined.{Examined}
-
--- a power of two as the code shifts it
-pub shifted : (n : ℕ) → n ≤ 10 → ((1 * 2 ^ n) % 18446744073709551616 ≡ 2 ^ n) × ((1 * 2 ^ n) % 18446744073709551616 ≤ 1024)
-shifted n h =
-    let a : 2 ^ n ≤ 1024 = pow-mono h in
-    let b : (1 * 2 ^ n) % 18446744073709551616 ≡ 2 ^ n = ap (λ (x : ℕ). x % 18446744073709551616) (one-mul (2 ^ n)) ∙ mod-eq-of-lt (omega arith) in
-    (b, omega arith)
 
 -- ---- after the last line
 pub at-place : (p q : Place) (d : Design) (n : ℕ) (e : Examined) → p ≡ q → ExaminedIs (atEnd (placeOf q) d n) e → ExaminedIs (atEnd (placeOf p) d n) e
@@ -115,3 +107,7 @@ pub along-end : (s : List ℕ) (p : Place) (k : Sheet) (at n : ℕ) (r : Examine
 unfolding askLines
 along-end s p k at n r w h f =
     subst (λ (y : spec.Examined). ExaminedIs y r) (sym (w .here ∙ ap (askLines (placeOf p) (w .known) n) (lines-past s at h))) f
+
+-- ---- what is answered is the answer of an examination
+pub examined : (s : List ℕ) (r : Examined) → ExaminedIs (spec.examine s) r → ExaminedIs (spec.examine s) r × Examination r
+examined s r h = (h, record { found = spec.examine s; is = h; right = valid-well-formed s })

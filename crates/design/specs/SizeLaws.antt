@@ -36,13 +36,13 @@ pub sized-empty : (s : List ℕ) → length s < 1 → false ≡ sized s
 unfolding sized
 sized-empty s h = rw (lt-leb 1 (length s) h) refl
 
-pub sized-long : (s : List ℕ) → 4096 < length s → false ≡ sized s
+pub sized-long : (s : List ℕ) → maxSheet < length s → false ≡ sized s
 unfolding sized
-sized-long s h = rw (le-leb 1 (length s) (omega arith), lt-leb (length s) 4096 h) refl
+sized-long s h = rw (le-leb 1 (length s) (omega arith), lt-leb (length s) maxSheet h) refl
 
-pub sized-rest : (s : List ℕ) → 1 ≤ length s → length s ≤ 4096 → sized s ≡ plainLines s
+pub sized-rest : (s : List ℕ) → 1 ≤ length s → length s ≤ maxSheet → sized s ≡ plainLines s
 unfolding sized
-sized-rest s h l = rw (le-leb 1 (length s) h, le-leb (length s) 4096 l) refl
+sized-rest s h l = rw (le-leb 1 (length s) h, le-leb (length s) maxSheet l) refl
 
 -- ---- the walk
 two-left : (s : List ℕ) (i : ℕ) → i < length s - 1 → drop i s ≡ getD s i 0 ∷ getD s (suc i) 0 ∷ drop (suc (suc i)) s

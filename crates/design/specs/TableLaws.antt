@@ -6,10 +6,12 @@ use Prim.Native.Nat.{ℕ, _^_, _≤_, _<_}
 use native.Mathlib.Omega.{arith}
 use lib.Dec.{leb, ltb}
 use lib.ListN.{length}
+use lib.Pow.{pow-mono}
 use lib.Seq.{sets}
 use borrow.Author.Tests.{le-leb, lt-leb, lt-ltb, le-ltb}
 use Rattle.bits.specs.Logic.{pick}
 use Rattle.bits.specs.LogicLaws.{true-false}
+use Rattle.limits.specs.Limits.{maxInputs, maxRows}
 use Rattle.rows.specs.Words.{rowOn}
 use Rattle.rows.specs.Digits.{digitsUpto}
 use Rattle.rows.specs.DigitLaws.{digits-rowwise}
@@ -22,7 +24,7 @@ use Rattle.design.specs.Tabulate.{Tabulated, TableAnswer, refused-by, wr
 use Rattle.design.specs.Answer.{ExaminedIs, RefusedAs, ValidAs}
 use Rattle.design.specs.declared.Examined.{Examined}
 
--- a sheet that the code answers for, by its flag
+-- ---- what the answer of an examination holds, by its flag
 pub refused-here : (y : spec.Examined) (e : Examined) → ExaminedIs y e → e .ok ≡ false → refused (e .number) (e .line) ≡ y
 refused-here (refused q l) e h f = ap₂ refused (h .number) (h .line)
 refused-here (valid d) e h f = absurd (true-false (sym (h .all-ok) ∙ f))
@@ -36,32 +38,63 @@ pub valid-here : (y : spec.Examined) (e : Examined) → ExaminedIs y e → e .ok
 valid-here (refused q l) e h f = absurd (true-false (sym f ∙ h .not-ok))
 valid-here (valid d) e h f = record { design = d; answered = refl; holds = h .holds }
 
-pub table-refused : (s : List ℕ) (o : ℕ) (b : List ℕ) (e : Examined) → ExaminedIs (spec.examine s) e → e .ok ≡ false → untouched (e .number) (e .line) b ≡ tabulate s o b
-unfolding tabulate tableOf
-table-refused s o b e h f = ap (λ (y : spec.Examined). tableOf y o b) (refused-here (spec.examine s) e h f)
+-- ---- where nothing is written
+pub table-refused : (x : spec.Examined) (o : ℕ) (b : List ℕ) (e : Examined)
+    → ExaminedIs x e
+    → e .ok ≡ false
+    → untouched (e .number) (e .line) b ≡ tableOf x o b
+unfolding tableOf
+table-refused x o b e h f = ap (λ (y : spec.Examined). tableOf y o b) (refused-here x e h f)
 
-module _ (s : List ℕ) (o : ℕ) (b : List ℕ) (k : Sheet) (v : Valid (spec.examine s) k) where
-  pub table-no-output : k .outputs ≤ o → untouched 6 0 b ≡ tabulate s o b
-  unfolding tabulate tableOf
+module _ (x : spec.Examined) (o : ℕ) (b : List ℕ) (k : Sheet) (v : Valid x k) where
+  rows-are : (n : ℕ) → n ≡ 2 ^ k .inputs → n ≡ rowCount (v .design)
+  rows-are n e = e ∙ ap (λ (i : ℕ). 2 ^ i) (v .holds .inputs-counted)
+
+  pub table-no-output : k .outputs ≤ o → untouched 6 0 b ≡ tableOf x o b
+  unfolding tableOf
   table-no-output h =
       let m = v .holds .outputs-counted in
       sym (rw (le-ltb o (length (v .design .outputs)) (omega arith)) refl)
       ∙ ap (λ (y : spec.Examined). tableOf y o b) (v .answered)
 
-  pub table-short : (n : ℕ) → n ≡ 2 ^ k .inputs → o < k .outputs → length b < n → untouched 9 0 b ≡ tabulate s o b
-  unfolding tabulate tableOf
+  pub table-short : (n : ℕ) → n ≡ 2 ^ k .inputs → o < k .outputs → length b < n → untouched 9 0 b ≡ tableOf x o b
+  unfolding tableOf
   table-short n e h l =
       let m = v .holds .outputs-counted in
-      let c : n ≡ 2 ^ length (v .design .inputs) = e ∙ ap (λ (i : ℕ). 2 ^ i) (v .holds .inputs-counted) in
-      sym (rw (lt-ltb o (length (v .design .outputs)) (omega arith), lt-leb (2 ^ length (v .design .inputs)) (length b) (omega arith)) refl)
+      let c = rows-are n e in
+      sym
+      (rw
+      (lt-ltb o (length (v .design .outputs)) (omega arith), lt-leb (rowCount (v .design)) (length b) (omega arith))
+      refl)
       ∙ ap (λ (y : spec.Examined). tableOf y o b) (v .answered)
 
-  pub table-written : (n : ℕ) → n ≡ 2 ^ k .inputs → n ≤ 1024 → o < k .outputs → n ≤ length b → record { answer = written n; buffer = sets b 0 (digitsUpto (rowOn (tableAt (k .tables) o)) n) } ≡ tabulate s o b
-  unfolding tabulate tableOf tableDigits
-  table-written n e q h l =
+  -- ---- where the digits are
+  pub rows-few : (n : ℕ) → n ≡ 2 ^ k .inputs → n ≤ maxRows
+  rows-few n e =
+      let few : 2 ^ k .inputs ≤ 2 ^ maxInputs = pow-mono (v .holds .inputs-few) in
+      omega arith
+
+  pub table-written : (n : ℕ)
+      → n ≡ 2 ^ k .inputs
+      → o < k .outputs
+      → n ≤ length b
+      → record { answer = written n; buffer = sets b 0 (digitsUpto (rowOn (tableAt (k .tables) o)) n) } ≡ tableOf x o b
+  unfolding tableOf tableDigits
+  table-written n e h l =
       let m = v .holds .outputs-counted in
-      let c : n ≡ 2 ^ length (v .design .inputs) = e ∙ ap (λ (i : ℕ). 2 ^ i) (v .holds .inputs-counted) in
-      ap (λ (ds : List ℕ). record { answer = written n; buffer = sets b 0 ds }) (digits-rowwise (v .holds .tabled o h) n q)
+      let c = rows-are n e in
+      ap (λ (ds : List ℕ). record { answer = written n; buffer = sets b 0 ds })
+      (digits-rowwise (v .holds .tabled o h) n (rows-few n e))
       ∙ ap (λ (i : ℕ). record { answer = written i; buffer = sets b 0 (digitsUpto (outputOn (v .design) o) i) }) c
-      ∙ sym (rw (lt-ltb o (length (v .design .outputs)) (omega arith), le-leb (2 ^ length (v .design .inputs)) (length b) (omega arith)) refl)
+      ∙ sym
+      (rw
+      (lt-ltb o (length (v .design .outputs)) (omega arith), le-leb (rowCount (v .design)) (length b) (omega arith))
+      refl)
       ∙ ap (λ (y : spec.Examined). tableOf y o b) (v .answered)
+
+-- ---- on a design sheet
+pub table-of-sheet : (s : List ℕ) (o : ℕ) (b : List ℕ) (t : Tabulated)
+    → t ≡ tableOf (spec.examine s) o b
+    → t ≡ tabulate s o b
+unfolding tabulate
+table-of-sheet s o b t e = e

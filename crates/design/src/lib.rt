@@ -1,19 +1,13 @@
 // The design sheet as a whole: the examination by questions 1 to 5, line by line, and Table. Rests on sheet for what a
 // line is asked, and on rows for tables.
 ghost use mathlib.Core.Path.{_≡_};
-ghost use mathlib.Core.Bool.{Bool, true, false};
-ghost use Prim.Native.Nat.{ℕ, _≤_, _^_};
-ghost use lib.ListN.{length};
 ghost use Rattle.sheet.specs.Examine as spec;
 ghost use Rattle.sheet.specs.Known.{Holds, placeOf};
-ghost use Rattle.design.specs.Tabulate.{Tabulated, tabulate};
-ghost use Rattle.design.specs.Answer.{ExaminedIs, tableAnswer};
+ghost use Rattle.design.specs.Tabulate.{Tabulated, tableOf, tabulate};
+ghost use Rattle.design.specs.Answer.{ExaminedIs, Examination, tableAnswer};
 use sheet::Place;
 use sheet::Rows;
 use sheet::Sheet;
-
-// The most bytes of a design sheet.
-const MAX_SHEET: usize = 4096;
 
 // The examination's answer: the refusal, or what the sheet says.
 pub struct Examined {
@@ -48,7 +42,7 @@ fn sized(s: &[u8]) -> bool
     if n < 1 {
         return false;
     }
-    if MAX_SHEET < n {
+    if limits::MAX_SHEET < n {
         return false;
     }
     let mut i = 0;
@@ -67,13 +61,15 @@ fn blank() -> Sheet
 {
     Sheet {
         inputs: 0,
-        names: [0; 10],
+        names: [0; limits::MAX_INPUTS],
         bounds: 0,
-        bound: [0; 5],
+        bound: [0; limits::MAX_BOUND],
         limit: 0,
         outputs: 0,
-        outs: [0; 4],
-        tables: [Rows { words: [0; 16] }; 4],
+        outs: [0; limits::MAX_OUTPUTS],
+        tables: [Rows {
+            words: [0; limits::TABLE_WORDS],
+        }; limits::MAX_OUTPUTS],
     }
 }
 
@@ -100,6 +96,7 @@ fn ended(p: Place, n: usize, k: Sheet) -> Examined
 // Questions 1 to 5.
 pub fn examine(s: &[u8]) -> Examined
     ensures { λ r. ⌜ ExaminedIs (spec.examine (now (s .entry))) r ⌝ }
+    ensures { λ r. ⌜ Examination r ⌝ }
 {
     let mut k = blank();
     if !sized(s) {
@@ -134,20 +131,12 @@ pub fn examine(s: &[u8]) -> Examined
     ended(p, n, k)
 }
 
-// 2 to the number of inputs.
-fn row_count(n: usize) -> usize
-    requires { ⌜ n ≤ 10 ⌝ }
-    ensures { λ r. ⌜ (r ≡ 2 ^ n) × (r ≤ 1024) ⌝ }
+// Table on what an examination answered: the digits of an output, in row order from the buffer's start. Where a question
+// is answered "no" the buffer is left as it was.
+pub fn table_of(e: Examined, output: usize, buffer: &mut [u8]) -> Tabled
+    requires { ⌜ Examination e ⌝ }
+    ensures { λ r. ⌜ ((x : spec.Examined) → ExaminedIs x e → record { answer = tableAnswer r; buffer = now (buffer .exit) } ≡ tableOf x output (now (buffer .entry))) ⌝ }
 {
-    1 << n
-}
-
-// The digits of an output, in row order from the buffer's start. Where a question is answered "no" the buffer is left
-// as it was.
-pub fn table(s: &[u8], output: usize, buffer: &mut [u8]) -> Tabled
-    ensures { λ r. ⌜ record { answer = tableAnswer r; buffer = now (buffer .exit) } ≡ tabulate (now (s .entry)) output (now (buffer .entry)) ⌝ }
-{
-    let e = examine(s);
     if !e.ok {
         return Tabled::Refused {
             number: e.number,
@@ -158,7 +147,7 @@ pub fn table(s: &[u8], output: usize, buffer: &mut [u8]) -> Tabled
     if k.outputs <= output {
         return Tabled::Refused { number: 6, line: 0 };
     }
-    let n = row_count(k.inputs);
+    let n = rows::row_count(k.inputs);
     if buffer.len() < n {
         return Tabled::Refused { number: 9, line: 0 };
     }
@@ -166,4 +155,11 @@ pub fn table(s: &[u8], output: usize, buffer: &mut [u8]) -> Tabled
     let words = t.words;
     rows::put_digits(buffer, words, n);
     Tabled::Written(n)
+}
+
+// Table on a design sheet.
+pub fn table(s: &[u8], output: usize, buffer: &mut [u8]) -> Tabled
+    ensures { λ r. ⌜ record { answer = tableAnswer r; buffer = now (buffer .exit) } ≡ tabulate (now (s .entry)) output (now (buffer .entry)) ⌝ }
+{
+    table_of(examine(s), output, buffer)
 }

@@ -5,9 +5,8 @@ use mathlib.Core.Logic.{_⊎_, ⊎-elim}
 use mathlib.Core.Bool.{Bool, true, false, _&&_, _||_}
 use mathlib.Core.List.{List, [], _∷_, map}
 use mathlib.Core.Option.{Option, some, none}
-use Prim.Native.Nat.{ℕ, zero, suc, _+_, _-_, _*_, _%_, _^_, _≤_, _<_}
+use Prim.Native.Nat.{ℕ, zero, suc, _+_, _-_, _^_, _≤_, _<_}
 use native.Mathlib.Omega.{arith}
-use native.Mathlib.Nat.{mod-eq-of-lt, one-mul}
 use native.Mathlib.Decide.{decLt, ℕ-discrete}
 use lib.Dec.{eqb}
 use lib.ListN.{length, getD, take, drop, length-drop, length-map}
@@ -192,9 +191,8 @@ module _ (l : List ℕ) (at n : ℕ) (start : at ≤ length l) where
               };
         }
 
--- a power of two as the code shifts it
-pub shifted-rows : (n : ℕ) → n ≤ 16 → ((1 * 2 ^ n) % 18446744073709551616 ≡ 2 ^ n) × ((1 * 2 ^ n) % 18446744073709551616 ≤ 65536)
-shifted-rows n h =
+-- the rows of up to 16 inputs
+pub rows-few : (n r : ℕ) → n ≤ 16 → r ≡ 2 ^ n → r ≤ 65536
+rows-few n r h e =
     let a : 2 ^ n ≤ 2 ^ 16 = pow-mono h in
-    let b : (1 * 2 ^ n) % 18446744073709551616 ≡ 2 ^ n = ap (λ (x : ℕ). x % 18446744073709551616) (one-mul (2 ^ n)) ∙ mod-eq-of-lt (omega arith) in
-    (b, omega arith)
+    omega arith

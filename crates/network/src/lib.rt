@@ -160,14 +160,6 @@ fn table_at(l: &[u8], c: Cursor, n: usize) -> Table
     }
 }
 
-// How many rows n inputs have.
-fn row_count(n: usize) -> usize
-    requires { ⌜ n ≤ 16 ⌝ }
-    ensures { λ r. ⌜ (r ≡ 2 ^ n) × (r ≤ 65536) ⌝ }
-{
-    1 << n
-}
-
 // A lut line up to its digits.
 fn lut_head(l: &[u8], bs: &[u64], i: usize) -> Moved
     requires { ⌜ i < 10 ⌝ }
@@ -197,7 +189,7 @@ pub fn read_lut(l: &[u8], bs: &[u64], i: usize) -> Table
     let Moved::To(c) = m else {
         return Table::Bad;
     };
-    table_at(l, c, row_count(bs.len()))
+    table_at(l, c, rows::row_count(bs.len()))
 }
 
 // The shared tables of a node's list, of those below u: each number is looked for once, after those before it.
@@ -258,7 +250,7 @@ pub fn read_node(l: &[u8], name: u64, fs: &[u64], u: usize) -> NodeLine
     let Moved::To(d) = m else {
         return NodeLine::Bad;
     };
-    let p = table_at(l, d, row_count(w.count + fs.len()));
+    let p = table_at(l, d, rows::row_count(w.count + fs.len()));
     match p {
         Table::At(at) => NodeLine::At(w.mask, at),
         Table::Bad => NodeLine::Bad,

@@ -2,7 +2,7 @@
 // what its table holds on every row.
 ghost use mathlib.Core.Path.{_≡_};
 ghost use mathlib.Core.Bool.{not};
-ghost use Prim.Native.Nat.{ℕ, _<_, _≤_};
+ghost use Prim.Native.Nat.{ℕ, _^_, _<_, _≤_};
 ghost use lib.ListN.{length};
 ghost use lib.Seq.{sets};
 ghost use Rattle.bits.specs.Digit.{on};
@@ -133,4 +133,12 @@ pub fn put_digits(buf: &mut [u8], a: [u64; 16], n: usize)
         buf[i] = digit_of(row(a, i));
         i += 1;
     }
+}
+
+// How many rows n inputs have.
+pub fn row_count(n: usize) -> usize
+    requires { ⌜ n < 64 ⌝ }
+    ensures { λ r. ⌜ r ≡ 2 ^ n ⌝ }
+{
+    1 << n
 }

@@ -17,7 +17,7 @@ networkText c = c .before .before .before .before .before .args .network .now
 
 says : (c : tie.Else1) → Designed (sheetText c) (c .before .before .examine .result .sheet)
 says c =
-    designed (sheetText c) (c .before .before .examine .result) (c .before .before .examine .ensures)
+    designed (sheetText c) (c .before .before .examine .result) (c .before .before .examine .ensures .0)
     (not-false _ (c .if1 .left))
 
 -- what is known where the network sheet is right
@@ -38,7 +38,7 @@ returns : tie.Need-returns
 returns c =
     let examined = c .before .before in
     answer-refused (examined .before .before .before .args .sheet .now) (examined .before .before .before .args .network .now)
-    (examined .examine .result) (examined .examine .ensures) (not-true _ (c .if1 .taken))
+    (examined .examine .result) (examined .examine .ensures .0) (not-true _ (c .if1 .taken))
 
 read-network-requires : tie.Need-read-network-requires
 read-network-requires c κs = designed-ranged (says (c .before))

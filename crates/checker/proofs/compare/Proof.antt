@@ -2,11 +2,12 @@
 -- at the first difference. Assumes nothing.
 use mathlib.Core.Path.{refl, sym, _∙_}
 use mathlib.Core.Logic.{⊎-elim}
-use Prim.Native.Nat.{_-_}
+use Prim.Native.Nat.{_-_, _≤_}
 use native.Mathlib.Omega.{arith}
+use Rattle.limits.specs.Limits.{maxRows}
 use Rattle.sheet.specs.Known.{tableAt}
 use Rattle.checker.specs.Drawing.{placesOf}
-use Rattle.checker.specs.CompareLaws.{Agreed, AgreedRows, Ended, agreed-none, rows-none, rows-more, agreed-more, ended-agreed, ended-differs, answer-differs, answer-same, some-ready}
+use Rattle.checker.specs.CompareLaws.{Agreed, AgreedRows, Ended, rows-few, agreed-none, rows-none, rows-more, agreed-more, ended-agreed, ended-differs, answer-differs, answer-same, some-ready}
 use borrow.Author.Needs.{needs}
 use Rattle.checker.proofs.compare.Statement.{statement}
 use Rattle.checker.proofs.compare.Tie as tie
@@ -26,7 +27,11 @@ abbrev μ-outputs : tie.MeasureT-outputs
 μ-outputs t shape k rows outputs luts lutat reads nodeat o₀ r₀ o r = outputs - o
 
 row-count-requires : tie.Need-row-count-requires Inv-loop μ-loop Inv-outputs μ-outputs
-row-count-requires c κs = c .before .pre .drawing .holds .inputs-few
+row-count-requires c κs = omega (arith, c .before .pre .drawing .holds .inputs-few)
+
+-- how many rows there are
+few : (c : tie.After-row-count Inv-loop μ-loop Inv-outputs μ-outputs) → c .row-count .result ≤ maxRows
+few c = rows-few (c .before .before .pre) (c .row-count .result) (c .row-count .ensures)
 
 outputs-holds : tie.Need-outputs-holds Inv-loop μ-loop Inv-outputs μ-outputs
 outputs-holds c = agreed-none
@@ -55,12 +60,12 @@ loop-holds c = rows-none (c .before .before .before .before .outputs .o)
 differs-requires : tie.Need-differs-requires Inv-loop μ-loop Inv-outputs μ-outputs
 differs-requires c κs =
     let counted = c .before .before .before .before .before .before .before .before .before .before .before .before in
-    omega (arith, counted .row-count .ensures .1, c .before .before .loop-test .taken)
+    omega (arith, few counted, c .before .before .loop-test .taken)
 
 add-r : tie.Need-add-r Inv-loop μ-loop Inv-outputs μ-outputs
 add-r c =
     let counted = c .before .before .before .before .before .before .before .before .before .before .before .before .before .before in
-    omega (arith, counted .row-count .ensures .1, c .before .before .before .before .loop-test .taken)
+    omega (arith, few counted, c .before .before .before .before .loop-test .taken)
 
 loop-less : tie.Need-loop-less Inv-loop μ-loop Inv-outputs μ-outputs
 loop-less c = search needs
@@ -75,7 +80,7 @@ loop-again c =
     let start = counted .before .before in
     rows-more (head .outputs .o) (turn .before .loop .r) (counted .row-count .result)
     (tableAt (start .args .t2 .tables) (head .outputs .o)) (filled .in-rows .result)
-    (output .outputs-test .taken) (turn .loop-test .taken) (counted .row-count .ensures .0) (counted .row-count .ensures .1)
+    (output .outputs-test .taken) (turn .loop-test .taken) (counted .row-count .ensures) (few counted)
     refl (filled .in-rows .ensures) (turn .before .loop .inv) (sym (c .before .differs .ensures) ∙ c .if1 .left)
 
 add-o : tie.Need-add-o Inv-loop μ-loop Inv-outputs μ-outputs
@@ -90,7 +95,7 @@ outputs-again c =
     let head = output .before in
     let counted = head .before .before .before .before in
     agreed-more (head .outputs .o) (c .before .loop .r) (counted .row-count .result) (head .outputs .inv)
-    (output .outputs-test .taken) (counted .row-count .ensures .0) (c .before .loop .inv) (c .loop-test .left)
+    (output .outputs-test .taken) (counted .row-count .ensures) (c .before .loop .inv) (c .loop-test .left)
 
 -- what is known where the ways out of the loops meet
 ended : (c : tie.Left-outputs Inv-loop μ-loop Inv-outputs μ-outputs)
@@ -110,7 +115,7 @@ ended c =
     rw (w .10)
     (ended-differs (head .outputs .o) (w .4 .r) (counted .row-count .result)
     (tableAt (start .args .t2 .tables) (head .outputs .o)) (w .3 .result)
-    (w .0 .taken) (w .5 .taken) (counted .row-count .ensures .0) (counted .row-count .ensures .1)
+    (w .0 .taken) (w .5 .taken) (counted .row-count .ensures) (few counted)
     refl (w .3 .ensures) (head .outputs .inv) (w .4 .inv) (sym (w .8 .ensures) ∙ w .9 .taken)))
     (c .outputs-test .came)
 

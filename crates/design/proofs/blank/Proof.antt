@@ -6,7 +6,6 @@ use Rattle.design.proofs.blank.Tie as tie
 use Rattle.design.proofs.blank.Reads as reads
 use Rattle.design.proofs.blank.Lts as lts
 
--- src/lib.rt:64:1
 returns : tie.Need-returns
 returns c =
     record {

@@ -7,51 +7,39 @@ use Rattle.design.proofs.ended.Tie as tie
 use Rattle.design.proofs.ended.Reads as reads
 use Rattle.design.proofs.ended.Lts as lts
 
--- src/lib.rt:84:24
 enum-told : tie.Need-enum-told
 enum-told c = search needs
 
--- src/lib.rt:85:26
 enum-told-2 : tie.Need-enum-told-2
 enum-told-2 c = search needs
 
--- src/lib.rt:86:22
 enum-told-3 : tie.Need-enum-told-3
 enum-told-3 c = search needs
 
--- src/lib.rt:87:25
 enum-told-4 : tie.Need-enum-told-4
 enum-told-4 c = search needs
 
--- src/lib.rt:88:25
 enum-told-5 : tie.Need-enum-told-5
 enum-told-5 c = search needs
 
--- src/lib.rt:89:23
 enum-told-6 : tie.Need-enum-told-6
 enum-told-6 c = search needs
 
--- src/lib.rt:80:1
 returns : tie.Need-returns
 returns c = λ d h. at-place (c .before .before .args .p) Over d (c .before .before .args .n) _ (c .enum-told .given .1) (record { all-ok = refl; holds = h })
 
--- src/lib.rt:80:1
 returns-2 : tie.Need-returns-2
 returns-2 c = λ d h. at-place (c .before .before .args .p) Design d (c .before .before .args .n) _ (c .enum-told2 .given .1) (record { not-ok = refl; number = refl; line = refl })
 
--- src/lib.rt:80:1
 returns-3 : tie.Need-returns-3
 returns-3 c = λ d h. at-place (c .before .before .args .p) In d (c .before .before .args .n) _ (c .enum-told3 .given .1) (record { not-ok = refl; number = refl; line = refl })
 
--- src/lib.rt:80:1
 returns-4 : tie.Need-returns-4
 returns-4 c = λ d h. at-place (c .before .before .args .p) Bound d (c .before .before .args .n) _ (c .enum-told4 .given .1) (record { not-ok = refl; number = refl; line = refl })
 
--- src/lib.rt:80:1
 returns-5 : tie.Need-returns-5
 returns-5 c = λ d h. at-place (c .before .before .args .p) Limit d (c .before .before .args .n) _ (c .enum-told5 .given .1) (record { not-ok = refl; number = refl; line = refl })
 
--- src/lib.rt:80:1
 returns-6 : tie.Need-returns-6
 returns-6 c = λ d h. at-place (c .before .before .args .p) Out d (c .before .before .args .n) _ (c .enum-told6 .given .1) (record { not-ok = refl; number = refl; line = refl })
 

@@ -1,4 +1,5 @@
-use Rattle.design.specs.ExamineLaws.{Along, along-start, along-end, line-refused, line-passed, not-sized}
+-- `examine`: the lines so far are asked as the whole sheet is, line after line. Assumes nothing.
+use Rattle.design.specs.ExamineLaws.{examined, Along, along-start, along-end, line-refused, line-passed, not-sized}
 use borrow.Author.Tests.{not-true, not-false}
 use lib.ListN.{length, drop}
 use Prim.Native.Nat.{_≤_, _-_, _+_}
@@ -7,13 +8,6 @@ use native.Mathlib.Omega.{arith}
 use borrow.Author.Needs.{needs}
 use Rattle.design.proofs.examine.Statement.{statement}
 use Rattle.design.proofs.examine.Tie as tie
-use Rattle.design.proofs.examine.Reads as reads
-use Rattle.design.proofs.examine.Lts as lts
-use Rattle.design.proofs.blank.Reads as blank-reads
-use Rattle.design.proofs.ended.Reads as ended-reads
-use Rattle.design.proofs.sized.Reads as sized-reads
-use Rattle.sheet.proofs.ask_line.Reads as ask-line-reads
-use Rattle.text.proofs.line_end.Reads as line-end-reads
 
 abbrev Inv-loop : tie.InvT-loop
 Inv-loop s k₀ p₀ at₀ n₀ k p at n = Along s p k at n
@@ -21,69 +15,85 @@ Inv-loop s k₀ p₀ at₀ n₀ k p at n = Along s p k at n
 abbrev μ-loop : tie.MeasureT-loop
 μ-loop s k₀ p₀ at₀ n₀ k p at n = length s - at
 
--- src/lib.rt:103:9
 blank-requires : tie.Need-blank-requires Inv-loop μ-loop
 blank-requires c κs = search needs
 
--- src/lib.rt:104:9
 sized-requires : tie.Need-sized-requires Inv-loop μ-loop
 sized-requires c κs = search needs
 
--- src/lib.rt:105:9
 returns : tie.Need-returns Inv-loop μ-loop
-returns c = not-sized (c .before .before .before .before .args .s .now) _ (sym (not-true _ (c .if1 .taken)) ∙ c .before .sized .ensures) (record { not-ok = refl; number = refl; line = refl })
+returns c =
+    let s = c .before .before .before .before .args .s .now in
+    examined s _
+    (not-sized s _ (sym (not-true _ (c .if1 .taken)) ∙ c .before .sized .ensures)
+    (record { not-ok = refl; number = refl; line = refl }))
 
--- src/lib.rt:115:5
 loop-holds : tie.Need-loop-holds Inv-loop μ-loop
-loop-holds c = along-start (c .before .before .before .before .args .s .now) (c .before .before .blank .result) (sym (not-false _ (c .if1 .left)) ∙ c .before .sized .ensures) (c .before .before .blank .ensures)
+loop-holds c =
+    let sized = c .before .sized in
+    let blank = c .before .before .blank in
+    let args = c .before .before .before .before .args in
+    along-start (args .s .now) (blank .result) (sym (not-false _ (c .if1 .left)) ∙ sized .ensures) (blank .ensures)
 
--- src/lib.rt:116:13
 line-end-requires : tie.Need-line-end-requires Inv-loop μ-loop
 line-end-requires c κs = c .before .loop .inv .inside
 
--- src/lib.rt:117:39
 sub-ask-line : tie.Need-sub-ask-line Inv-loop μ-loop
 sub-ask-line c = omega (arith, c .line-end .ensures .after-start)
 
--- src/lib.rt:117:39
 part-ask-line-start : tie.Need-part-ask-line-start Inv-loop μ-loop
 part-ask-line-start c = omega (arith, c .line-end .ensures .after-start)
 
--- src/lib.rt:117:39
 part-ask-line-end : tie.Need-part-ask-line-end Inv-loop μ-loop
 part-ask-line-end c = omega (arith, c .line-end .ensures .inside)
 
--- src/lib.rt:117:13
 ask-line-requires : tie.Need-ask-line-requires Inv-loop μ-loop
 ask-line-requires c κs = (c .before .before .before .loop .inv .holds .inputs-few, c .before .before .before .loop .inv .holds .outputs-few)
 
--- src/lib.rt:119:13
 returns-2 : tie.Need-returns-2 Inv-loop μ-loop
-returns-2 c = line-refused (c .before .before .before .before .before .before .before .before .before .before .before .args .s .now) (c .before .before .before .before .before .before .loop .p) (c .before .before .before .before .before .before .loop .k) (c .before .before .before .before .before .before .loop .at) (c .before .before .before .before .before .before .loop .n) (c .before .before .before .before .line-end .result) (c .before .before .ask-line .result) (c .before .before .before .before .before .before .loop .inv) (c .before .before .before .before .before .loop-test .taken) (c .before .before .before .before .line-end .ensures) (c .before .before .ask-line .ensures (c .before .before .before .before .before .before .loop .inv .known) (c .before .before .before .before .before .before .loop .inv .holds) (c .before .before .before .before .before .before .loop .inv .fitting)) (not-true _ (c .if2 .taken)) _ (record { not-ok = refl; number = refl; line = refl })
+returns-2 c =
+    let ask-line = c .before .before .ask-line in
+    let line-end = c .before .before .before .before .line-end in
+    let loop-test = c .before .before .before .before .before .loop-test in
+    let loop = c .before .before .before .before .before .before .loop in
+    let args = c .before .before .before .before .before .before .before .before .before .before .before .args in
+    examined (args .s .now) _
+    (line-refused (args .s .now) (loop .p) (loop .k) (loop .at) (loop .n) (line-end .result) (ask-line .result) (loop .inv)
+    (loop-test .taken) (line-end .ensures) (ask-line .ensures (loop .inv .known) (loop .inv .holds) (loop .inv .fitting))
+    (not-true _ (c .if2 .taken)) _ (record { not-ok = refl; number = refl; line = refl }))
 
--- src/lib.rt:130:14
 add-at : tie.Need-add-at Inv-loop μ-loop
 add-at c = omega (arith, c .before .before .before .before .before .line-end .ensures .inside)
 
--- src/lib.rt:131:9
 add-n : tie.Need-add-n Inv-loop μ-loop
 add-n c = omega (arith, c .before .before .before .before .before .before .before .loop .inv .few, c .before .before .before .before .before .before .before .loop .inv .inside)
 
--- src/lib.rt:115:5
 loop-less : tie.Need-loop-less Inv-loop μ-loop
 loop-less c = omega (arith, c .before .before .before .before .before .line-end .ensures .after-start, c .before .before .before .before .before .before .loop-test .taken)
 
--- src/lib.rt:115:5
 loop-again : tie.Need-loop-again Inv-loop μ-loop
-loop-again c = line-passed (c .before .before .before .before .before .before .before .before .before .before .before .before .args .s .now) (c .before .before .before .before .before .before .before .loop .p) (c .before .before .before .before .before .before .before .loop .k) (c .before .before .before .before .before .before .before .loop .at) (c .before .before .before .before .before .before .before .loop .n) (c .before .before .before .before .before .line-end .result) (c .before .before .before .ask-line .result) (c .before .before .before .before .before .before .before .loop .inv) (c .before .before .before .before .before .before .loop-test .taken) (c .before .before .before .before .before .line-end .ensures) (c .before .before .before .ask-line .ensures (c .before .before .before .before .before .before .before .loop .inv .known) (c .before .before .before .before .before .before .before .loop .inv .holds) (c .before .before .before .before .before .before .before .loop .inv .fitting)) (not-false _ (c .before .if2 .left))
+loop-again c =
+    let if2 = c .before .if2 in
+    let ask-line = c .before .before .before .ask-line in
+    let line-end = c .before .before .before .before .before .line-end in
+    let loop-test = c .before .before .before .before .before .before .loop-test in
+    let loop = c .before .before .before .before .before .before .before .loop in
+    let args = c .before .before .before .before .before .before .before .before .before .before .before .before .args in
+    line-passed (args .s .now) (loop .p) (loop .k) (loop .at) (loop .n) (line-end .result) (ask-line .result) (loop .inv)
+    (loop-test .taken) (line-end .ensures) (ask-line .ensures (loop .inv .known) (loop .inv .holds) (loop .inv .fitting))
+    (not-false _ (if2 .left))
 
--- src/lib.rt:133:5
 ended-requires : tie.Need-ended-requires Inv-loop μ-loop
 ended-requires c κs = search needs
 
--- src/lib.rt:100:1
 returns-3 : tie.Need-returns-3 Inv-loop μ-loop
-returns-3 c = along-end (c .before .before .before .before .before .before .before .args .s .now) (c .before .before .loop .p) (c .before .before .loop .k) (c .before .before .loop .at) (c .before .before .loop .n) (c .ended .result) (c .before .before .loop .inv) (c .before .loop-test .left) (c .ended .ensures (c .before .before .loop .inv .known) (c .before .before .loop .inv .holds))
+returns-3 c =
+    let loop-test = c .before .loop-test in
+    let loop = c .before .before .loop in
+    let args = c .before .before .before .before .before .before .before .args in
+    examined (args .s .now) (c .ended .result)
+    (along-end (args .s .now) (loop .p) (loop .k) (loop .at) (loop .n) (c .ended .result) (loop .inv) (loop-test .left)
+    (c .ended .ensures (loop .inv .known) (loop .inv .holds)))
 
 pub examine-spec : {M : Type 1} → statement M
 examine-spec =

@@ -5,19 +5,15 @@ use Rattle.design.proofs.plain.Tie as tie
 use Rattle.design.proofs.plain.Reads as reads
 use Rattle.design.proofs.plain.Lts as lts
 
--- src/lib.rt:32:1
 returns : tie.Need-returns
 returns c = plain-newline (c .before .args .b) (c .match .keys1)
 
--- src/lib.rt:32:1
 returns-2 : tie.Need-returns-2
 returns-2 c = plain-inside (c .before .before .before .args .b) (c .before .if1 .left) (c .if2 .taken)
 
--- src/lib.rt:32:1
 returns-3 : tie.Need-returns-3
 returns-3 c = plain-below (c .before .before .args .b) (c .if1 .taken) (c .before .match .rest .1)
 
--- src/lib.rt:32:1
 returns-4 : tie.Need-returns-4
 returns-4 c = plain-above (c .before .before .before .args .b) (c .if2 .left) (c .before .before .match .rest .1)
 

@@ -18,49 +18,55 @@ Inv-loop s n i₀ i = (i ≤ n - 1) × (plainLines s ≡ plainLines (drop i s))
 abbrev μ-loop : tie.MeasureT-loop
 μ-loop s n i₀ i = n - i
 
--- src/lib.rt:48:9
 returns : tie.Need-returns Inv-loop μ-loop
 returns c = sized-empty (c .before .before .args .s .now) (c .if1 .taken)
 
--- src/lib.rt:51:9
 returns-2 : tie.Need-returns-2 Inv-loop μ-loop
 returns-2 c = sized-long (c .before .before .before .args .s .now) (c .if2 .taken)
 
--- src/lib.rt:54:5
 loop-holds : tie.Need-loop-holds Inv-loop μ-loop
 loop-holds c = (omega arith, refl)
 
--- src/lib.rt:55:19
 shared-slice-read-plain : tie.Need-shared-slice-read-plain Inv-loop μ-loop
 shared-slice-read-plain c = search needs
 
--- src/lib.rt:55:13
 plain-requires : tie.Need-plain-requires Inv-loop μ-loop
 plain-requires c κs = search needs
 
--- src/lib.rt:56:13
 returns-3 : tie.Need-returns-3 Inv-loop μ-loop
-returns-3 c = walk-stopped (c .before .before .before .before .before .before .before .before .args .s .now) (c .before .before .before .before .loop .i) (c .before .before .before .loop-test .taken) (sym (not-true _ (c .if3 .taken)) ∙ c .before .plain .ensures) ∙ sym (c .before .before .before .before .loop .inv .1) ∙ sym (sized-rest (c .before .before .before .before .before .before .before .before .args .s .now) (c .before .before .before .before .before .before .if1 .left) (c .before .before .before .before .before .if2 .left))
+returns-3 c =
+    let plain = c .before .plain in
+    let loop-test = c .before .before .before .loop-test in
+    let loop = c .before .before .before .before .loop in
+    let if2 = c .before .before .before .before .before .if2 in
+    let if1 = c .before .before .before .before .before .before .if1 in
+    let args = c .before .before .before .before .before .before .before .before .args in
+    walk-stopped (args .s .now) (loop .i) (loop-test .taken) (sym (not-true _ (c .if3 .taken)) ∙ plain .ensures) ∙ sym (loop .inv .1) ∙ sym (sized-rest (args .s .now) (if1 .left) (if2 .left))
 
--- src/lib.rt:58:9
 add-i : tie.Need-add-i Inv-loop μ-loop
 add-i c = search needs
 
--- src/lib.rt:54:5
 loop-less : tie.Need-loop-less Inv-loop μ-loop
 loop-less c = search needs
 
--- src/lib.rt:54:5
 loop-again : tie.Need-loop-again Inv-loop μ-loop
-loop-again c = (omega arith, c .before .before .before .before .loop .inv .1 ∙ walk-on (c .before .before .before .before .before .before .before .before .args .s .now) (c .before .before .before .before .loop .i) (c .before .before .before .loop-test .taken) (sym (not-false _ (c .if3 .left)) ∙ c .before .plain .ensures))
+loop-again c =
+    let plain = c .before .plain in
+    let loop-test = c .before .before .before .loop-test in
+    let loop = c .before .before .before .before .loop in
+    let args = c .before .before .before .before .before .before .before .before .args in
+    (omega arith, loop .inv .1 ∙ walk-on (args .s .now) (loop .i) (loop-test .taken) (sym (not-false _ (c .if3 .left)) ∙ plain .ensures))
 
--- src/lib.rt:60:5
 shared-slice-read-result : tie.Need-shared-slice-read-result Inv-loop μ-loop
 shared-slice-read-result c = search needs
 
--- src/lib.rt:43:1
 returns-4 : tie.Need-returns-4 Inv-loop μ-loop
-returns-4 c = sym (sized-rest (c .before .before .before .before .before .before .args .s .now) (c .before .before .before .before .if1 .left) (c .before .before .before .if2 .left) ∙ c .before .before .loop .inv .1 ∙ walk-last (c .before .before .before .before .before .before .args .s .now) (c .before .before .loop .i) (c .before .before .before .before .if1 .left) (omega arith))
+returns-4 c =
+    let loop = c .before .before .loop in
+    let if2 = c .before .before .before .if2 in
+    let if1 = c .before .before .before .before .if1 in
+    let args = c .before .before .before .before .before .before .args in
+    sym (sized-rest (args .s .now) (if1 .left) (if2 .left) ∙ loop .inv .1 ∙ walk-last (args .s .now) (loop .i) (if1 .left) (omega arith))
 
 pub sized-spec : {M : Type 1} → statement M
 sized-spec =

@@ -1,0 +1,27 @@
+-- `row_count`: the shift is the power. Assumes nothing.
+use mathlib.Core.Path.{_≡_, ap, _∙_}
+use Prim.Native.Nat.{ℕ, _*_, _%_, _^_, _≤_, _<_}
+use native.Mathlib.Omega.{arith}
+use native.Mathlib.Nat.{mod-eq-of-lt, one-mul}
+use lib.Pow.{pow-mono}
+use borrow.Author.Needs.{needs}
+use Rattle.rows.proofs.row_count.Statement.{statement}
+use Rattle.rows.proofs.row_count.Tie as tie
+
+abbrev wordEnd : ℕ
+wordEnd = 2 ^ 64
+
+shifted : (n : ℕ) → n < 64 → (1 * 2 ^ n) % wordEnd ≡ 2 ^ n
+shifted n h =
+    let low : n ≤ 63 = omega arith in
+    let a : 2 ^ n ≤ 2 ^ 63 = pow-mono low in
+    ap (λ (x : ℕ). x % wordEnd) (one-mul (2 ^ n)) ∙ mod-eq-of-lt (omega arith)
+
+shl-result : tie.Need-shl-result
+shl-result c = search needs
+
+returns : tie.Need-returns
+returns c = shifted (c .args .n) (c .pre)
+
+pub row-count-spec : {M : Type 1} → statement M
+row-count-spec = tie.close (tie.spec shl-result returns)
