@@ -13,14 +13,19 @@ use Rattle.formula.specs.Tree.{Formula, input, gate, more}
 use Rattle.formula.specs.Value.{value, combine}
 use Rattle.sheet.specs.Lines.{readIn, readOut}
 use Rattle.sheet.specs.Examine.{refused, valid, examine}
+use Rattle.sheet.specs.Printer.{printDesign}
 use Rattle.design.specs.Tabulate.{tabulate, written, untouched}
 use Rattle.design.specs.Sheets.{sheetA, designA, withLimit, afterDesign, afterLimit, nested, negations, withFormula, designOf}
 use Rattle.design.specs.Computing.{computing}
 
--- ---- sheet A: what it says, and the tables of f and g
+-- ---- sheet A: what it says, that this is printed to its text, and the tables of f and g
 a-design : examine sheetA ≡ valid designA
 unfolding computing
 a-design = refl
+
+a-printed : printDesign designA ≡ sheetA
+unfolding computing
+a-printed = refl
 
 a-table-f : tabulate sheetA 0 (bytes "................") ≡ record { answer = written 16; buffer = bytes "0110100110010110" }
 unfolding computing

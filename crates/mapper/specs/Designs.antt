@@ -78,6 +78,16 @@ designG n =
     (or2 (gate and-gate (named "a") (named "b") (more (named "c") none)) (and2 (xor2 (named "a") (named "b")) (named "d")))
     ∷ [])
 
+-- G's output with two more, which ask for (xor a b) and (and a b)
+abbrev pub designForced : Design
+designForced =
+    fourInputs 2
+    (output "f"
+    (or2 (gate and-gate (named "a") (named "b") (more (named "c") none)) (and2 (xor2 (named "a") (named "b")) (named "d")))
+    ∷ output "g" (xor3 (named "a") (named "b") (named "c"))
+    ∷ output "h" (xor2 (and2 (named "a") (named "b")) (named "c"))
+    ∷ [])
+
 abbrev pub designH : Design
 designH =
     record {
@@ -85,6 +95,21 @@ designH =
       bound = bytes "a" ∷ bytes "b" ∷ [];
       limit = 1;
       outputs = output "f" (and2 (named "a") (named "b")) ∷ [];
+    }
+
+-- I with its fourth output
+abbrev pub designI : ℕ → Design
+designI n =
+    record {
+      inputs = bytes "a" ∷ bytes "b" ∷ bytes "c" ∷ bytes "d" ∷ bytes "e" ∷ bytes "x" ∷ bytes "y" ∷ [];
+      bound = bytes "a" ∷ bytes "b" ∷ bytes "c" ∷ bytes "d" ∷ bytes "e" ∷ [];
+      limit = n;
+      outputs =
+          output "p" (or2 (and2 (named "a") (named "x")) (and2 (named "e") (named "y")))
+          ∷ output "q" (xor2 (named "b") (named "x"))
+          ∷ output "r" (xor2 (named "c") (named "x"))
+          ∷ output "s" (xor2 (named "d") (named "x"))
+          ∷ [];
     }
 
 -- digits, and a node by what it reads and its digits

@@ -9,6 +9,7 @@ use native.Mathlib.Nat.{le-antisymm}
 use lib.ListN.{length, getD, length-append, length-map}
 use borrow.Author.Tests.{lt-ltb}
 use Rattle.text.specs.Bytes.{bytes, newline, closeBracket}
+use Rattle.text.specs.Line.{endedLines}
 use Rattle.text.specs.Number.{printNumber}
 use Rattle.names.specs.Name.{Name}
 use Rattle.rows.specs.Digits.{digit}
@@ -17,7 +18,7 @@ use Rattle.sheet.specs.Examine.{Design, outputNames}
 use Rattle.classes.specs.Columns.{free}
 use Rattle.classes.specs.Proper.{Proper}
 use Rattle.network.specs.Network.{Network, Node}
-use Rattle.network.specs.Printer.{led, ledAll, lutName, printDigits, networkLine, lutHead, printLut, nodeHead, printNode, printCount, lutLines, nodeLines, networkLines, endedLines, printNetwork}
+use Rattle.network.specs.Printer.{led, ledAll, lutName, printDigits, networkLine, lutHead, printLut, nodeHead, printNode, printCount, lutLines, nodeLines, networkLines, printNetwork}
 use Rattle.network.specs.Reads.{Rising, rising-none, rising-more}
 use Rattle.network.specs.Wellformed.{Wellformed, nodeAt}
 use Rattle.network.specs.Answers.{readCount}
@@ -84,7 +85,10 @@ lut-alike bs i ds es e =
     append-alike (lutHead bs i) (lutHead bs i) (printDigits ds ++ (closeBracket ∷ [])) (printDigits es ++ (closeBracket ∷ [])) refl
     (append-alike (printDigits ds) (printDigits es) (closeBracket ∷ []) (closeBracket ∷ []) (digits-alike ds es e) refl)
 
-lut-lines-alike : (bs : List Name) (i : ℕ) (ts us : List (List Bool)) → length ts ≡ length us → ((j : ℕ) → j < length ts → length (getD ts j []) ≡ length (getD us j [])) → Alike (lutLines bs i ts) (lutLines bs i us)
+lut-lines-alike : (bs : List Name) (i : ℕ) (ts us : List (List Bool))
+    → length ts ≡ length us
+    → ((j : ℕ) → j < length ts → length (getD ts j []) ≡ length (getD us j []))
+    → Alike (lutLines bs i ts) (lutLines bs i us)
 unfolding lutLines
 lut-lines-alike bs i [] [] e h = alike-none
 lut-lines-alike bs i [] (u ∷ us) e h = absurd (omega (arith, e))
@@ -93,7 +97,10 @@ lut-lines-alike bs i (t ∷ ts) (u ∷ us) e h =
     alike-more {a = printLut bs i t} {b = printLut bs i u} (lut-alike bs i t u (h 0 (omega arith)))
     (lut-lines-alike bs (suc i) ts us (let g : suc (length ts) ≡ suc (length us) = e in omega arith) (λ j k. h (suc j) (omega arith)))
 
-node-alike : (n : Name) (fs : List Name) (x y : Node) → Alike (map lutName (x .reads)) (map lutName (y .reads)) → length (x .digits) ≡ length (y .digits) → length (printNode n fs x) ≡ length (printNode n fs y)
+node-alike : (n : Name) (fs : List Name) (x y : Node)
+    → Alike (map lutName (x .reads)) (map lutName (y .reads))
+    → length (x .digits) ≡ length (y .digits)
+    → length (printNode n fs x) ≡ length (printNode n fs y)
 unfolding printNode
 node-alike n fs x y r e =
     let last : List Bool → List ℕ = λ ds. printDigits ds ++ (closeBracket ∷ []) in
@@ -109,7 +116,10 @@ record NodesAlike (x y : Node) : Type 0 where
   pub names : Alike (map lutName (x .reads)) (map lutName (y .reads))
   pub digits : length (x .digits) ≡ length (y .digits)
 
-node-lines-alike : (fs ns : List Name) (xs ys : List Node) → length xs ≡ length ys → ((o : ℕ) → o < length xs → NodesAlike (nodeAt xs o) (nodeAt ys o)) → Alike (nodeLines fs ns xs) (nodeLines fs ns ys)
+node-lines-alike : (fs ns : List Name) (xs ys : List Node)
+    → length xs ≡ length ys
+    → ((o : ℕ) → o < length xs → NodesAlike (nodeAt xs o) (nodeAt ys o))
+    → Alike (nodeLines fs ns xs) (nodeLines fs ns ys)
 unfolding nodeLines
 node-lines-alike fs [] xs ys e h = alike-none
 node-lines-alike fs (n ∷ ns) [] [] e h = alike-none

@@ -26,3 +26,6 @@ pub mod WorkedLaws
 pub mod CountedSheets
 pub mod ForcedSheets
 pub mod WorkedSheets
+pub mod WorkedUnproduced
+pub mod UnproducedSheets
+pub mod WorkedClasses

@@ -12,6 +12,7 @@ use Rattle.bits.specs.Logic.{pick}
 use Rattle.bits.specs.LogicLaws.{true-false}
 use Rattle.limits.specs.Limits.{maxNetwork, maxCells}
 use Rattle.text.specs.Bytes.{bytes, space, newline, closeBracket}
+use Rattle.text.specs.Line.{endedLines}
 use Rattle.text.specs.Number.{printNumber}
 use Rattle.names.specs.Name.{Name, isName}
 use Rattle.names.specs.Front.{allNames}
@@ -26,7 +27,7 @@ use Rattle.classes.specs.Width.{budget, width}
 use Rattle.classes.specs.VertexLaws.{width-most}
 use Rattle.classes.specs.FreeLaws.{bound-and-free}
 use Rattle.network.specs.Network.{Network, Node}
-use Rattle.network.specs.Printer.{led, ledAll, lutName, printDigits, networkLine, lutHead, printLut, nodeHead, printNode, printCount, lutLines, nodeLines, networkLines, endedLines, printNetwork}
+use Rattle.network.specs.Printer.{led, ledAll, lutName, printDigits, networkLine, lutHead, printLut, nodeHead, printNode, printCount, lutLines, nodeLines, networkLines, printNetwork}
 use Rattle.network.specs.Wellformed.{Wellformed, Named, nodeAt}
 use Rattle.network.specs.PartLaws.{free-named}
 use Rattle.network.specs.Answers.{WithinLimits}
@@ -133,7 +134,11 @@ ended-append (l ∷ ls) ms =
     let c = length-append l (newline ∷ endedLines ls) in
     omega arith
 
-lut-lines : (bs : List Name) (i : ℕ) (ts : List (List Bool)) → allNames bs ≡ true → length bs ≤ 5 → ((j : ℕ) → j < length ts → length (getD ts j []) ≤ 32) → length (endedLines (lutLines bs i ts)) ≤ 92 * length ts
+lut-lines : (bs : List Name) (i : ℕ) (ts : List (List Bool))
+    → allNames bs ≡ true
+    → length bs ≤ 5
+    → ((j : ℕ) → j < length ts → length (getD ts j []) ≤ 32)
+    → length (endedLines (lutLines bs i ts)) ≤ 92 * length ts
 unfolding endedLines lutLines
 lut-lines bs i [] e l h = omega arith
 lut-lines bs i (t ∷ ts) e l h =
@@ -142,7 +147,12 @@ lut-lines bs i (t ∷ ts) e l h =
     let c = length-append (printLut bs i t) (newline ∷ endedLines (lutLines bs (suc i) ts)) in
     omega arith
 
-node-lines : (fs ns : List Name) (xs : List Node) → allNames fs ≡ true → allNames ns ≡ true → ((o : ℕ) → o < length xs → length (nodeAt xs o .reads) + length fs ≤ 10) → ((o : ℕ) → o < length xs → length (nodeAt xs o .digits) ≤ 1024) → length (endedLines (nodeLines fs ns xs)) ≤ 1200 * length ns
+node-lines : (fs ns : List Name) (xs : List Node)
+    → allNames fs ≡ true
+    → allNames ns ≡ true
+    → ((o : ℕ) → o < length xs → length (nodeAt xs o .reads) + length fs ≤ 10)
+    → ((o : ℕ) → o < length xs → length (nodeAt xs o .digits) ≤ 1024)
+    → length (endedLines (nodeLines fs ns xs)) ≤ 1200 * length ns
 unfolding endedLines nodeLines allNames
 node-lines fs [] xs f e l h = omega arith
 node-lines fs (n ∷ ns) [] f e l h = omega arith

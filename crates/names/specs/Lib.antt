@@ -8,6 +8,7 @@ pub mod NamesLaws
 pub mod Pack
 pub mod Word
 pub mod SameLaws
+pub mod AllNamesLaws
 pub mod IsNameLaws
 pub mod PackLaws
 pub mod WordLaws

@@ -15,7 +15,7 @@ use Rattle.bits.specs.Logic.{pick}
 use Rattle.bits.specs.LogicLaws.{true-false}
 use Rattle.text.specs.Bytes.{newline}
 use Rattle.limits.specs.Limits.{maxNetwork}
-use Rattle.text.specs.Line.{lines}
+use Rattle.text.specs.Line.{lines, endsLine}
 use Rattle.text.specs.LineEnd.{LineEnd}
 use Rattle.text.specs.Unbroken.{unbroken}
 use Rattle.text.specs.LineLaws.{lines-unbroken, none-unbroken}
@@ -23,7 +23,7 @@ use Rattle.text.specs.LineCountLaws.{lines-past, lines-some}
 use Rattle.sheet.specs.Examine.{Design}
 use Rattle.network.specs.Network.{Network}
 use Rattle.network.specs.Examine as spec
-use Rattle.network.specs.Examine.{Answer, bad-line, Step, misspelled, next, askLine, askLines, atEnd, follow, isLast, endsLine, nothing, readNetwork}
+use Rattle.network.specs.Examine.{Answer, bad-line, Step, misspelled, next, askLine, askLines, atEnd, follow, isLast, nothing, readNetwork}
 use Rattle.netsheet.specs.Answer.{BadLine, NetworkIs}
 use Rattle.netsheet.specs.Named.{NamedIs}
 use Rattle.netsheet.specs.Reading.{placeOf, isOver, fresh, Safe, PartOf, Known, StepIs, Staged}

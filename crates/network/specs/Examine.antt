@@ -4,11 +4,11 @@ use mathlib.Core.Bool.{Bool, true, false, not, _&&_, _||_}
 use mathlib.Core.List.{List, [], _∷_, _++_}
 use mathlib.Core.Option.{Option, some, none}
 use Prim.Native.Nat.{ℕ, zero, suc, _+_}
-use lib.Dec.{eqb, leb, ltb}
+use lib.Dec.{leb, ltb}
 use lib.ListN.{length, getD}
 use Rattle.bits.specs.Logic.{pick}
-use Rattle.text.specs.Bytes.{same, newline}
-use Rattle.text.specs.Line.{lines}
+use Rattle.text.specs.Bytes.{same}
+use Rattle.text.specs.Line.{lines, endsLine}
 use Rattle.limits.specs.Limits.{maxNetwork, maxCells, firstLut}
 use Rattle.names.specs.Name.{Name}
 use Rattle.sheet.specs.Lines.{endLine}
@@ -96,12 +96,6 @@ askLines d ended p w n (l ∷ ls) =
 
 abbrev pub nothing : Network
 nothing = record { luts = []; nodes = [] }
-
--- whether 0x0A is the last byte
-unfoldable pub endsLine : List ℕ → Bool
-endsLine [] = false
-endsLine (b ∷ []) = eqb b newline
-endsLine (b ∷ c ∷ s) = endsLine (c ∷ s)
 
 -- question 10: the size (line 0), then line by line
 unfoldable pub readNetwork : Design → List ℕ → Answer

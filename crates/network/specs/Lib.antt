@@ -7,7 +7,6 @@ pub mod Value
 pub mod Check
 pub mod Reads
 pub mod Wellformed
-pub mod Unbroken
 pub mod Parts
 pub mod Answers
 pub mod DigitsLaws
@@ -16,7 +15,6 @@ pub mod ReadsLaws
 pub mod NodeListLaws
 pub mod LineLaws
 pub mod UnbrokenLaws
-pub mod EndedLaws
 pub mod PartLaws
 pub mod StepLaws
 pub mod SheetReadLaws
@@ -28,7 +26,9 @@ pub mod LinePlaceLaws
 pub mod CompareLaws
 pub mod CheckLaws
 pub mod PrintedLaws
+pub mod Computing
 pub mod Worked
+pub mod WorkedBound
 pub mod Numbers
 pub mod LineAnswer
 pub mod ChainLaws

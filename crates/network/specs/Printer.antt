@@ -3,7 +3,8 @@ use mathlib.Core.Bool.{Bool, true, false}
 use mathlib.Core.List.{List, [], _∷_, _++_, map}
 use Prim.Native.Nat.{ℕ, suc}
 use lib.ListN.{length}
-use Rattle.text.specs.Bytes.{bytes, space, newline, closeBracket}
+use Rattle.text.specs.Bytes.{bytes, space, closeBracket}
+use Rattle.text.specs.Line.{endedLines}
 use Rattle.text.specs.Number.{printNumber}
 use Rattle.names.specs.Name.{Name}
 use Rattle.rows.specs.Digits.{digit}
@@ -66,10 +67,6 @@ networkLines d w =
     ∷ (lutLines (d .bound) 0 (w .luts)
     ++ (nodeLines (free (d .inputs) (d .bound)) (outputNames (d .outputs)) (w .nodes)
     ++ (printCount (length (w .luts)) ∷ endLine ∷ [])))
-
-unfoldable pub endedLines : List (List ℕ) → List ℕ
-endedLines [] = []
-endedLines (l ∷ ls) = l ++ (newline ∷ endedLines ls)
 
 unfoldable pub printNetwork : Design → Network → List ℕ
 printNetwork d w = endedLines (networkLines d w)

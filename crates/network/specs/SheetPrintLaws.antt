@@ -12,16 +12,16 @@ use borrow.Author.Tests.{leb-true}
 use Rattle.bits.specs.Logic.{pick}
 use Rattle.bits.specs.LogicLaws.{and-right}
 use Rattle.limits.specs.Limits.{maxCells, maxNetwork}
-use Rattle.text.specs.Line.{lines}
+use Rattle.text.specs.Line.{lines, endsLine, endedLines}
+use Rattle.text.specs.EndedLaws.{ended-of-lines}
 use Rattle.sheet.specs.Examine.{Design, within}
 use Rattle.network.specs.Network.{Network, Node}
-use Rattle.network.specs.Printer.{networkLine, lutLines, networkLines, endedLines, printNetwork}
+use Rattle.network.specs.Printer.{networkLine, lutLines, networkLines, printNetwork}
 use Rattle.network.specs.Reader.{readLut}
-use Rattle.network.specs.Examine.{Place, at-network, at-luts, at-node, Step, misspelled, next, withLut, withNode, askLine, network, bad-line, follow, askLines, nothing, endsLine, readNetwork}
+use Rattle.network.specs.Examine.{Place, at-network, at-luts, at-node, Step, misspelled, next, withLut, withNode, askLine, network, bad-line, follow, askLines, nothing, readNetwork}
 use Rattle.network.specs.Wellformed.{NodeFits, nodeAt, Wellformed}
 use Rattle.network.specs.Parts.{freeOf, namesOf, nodeRead, nodePlace, lastLines, linesFromNode, linesFromLut, withNodes, withAll}
 use Rattle.network.specs.LineLaws.{lut-print-of-read, node-print-of-read}
-use Rattle.network.specs.EndedLaws.{ended-of-lines}
 use Rattle.network.specs.PartLaws.{place-node, place-count, no-nodes, node-line}
 use Rattle.network.specs.StepLaws.{bad-network, line-next, line-bad, fixed-line, last-said, node-next, node-bad, lut-next, lut-many, lut-none, same-lines}
 

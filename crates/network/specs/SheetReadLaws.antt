@@ -11,20 +11,19 @@ use Rattle.bits.specs.Logic.{pick}
 use Rattle.bits.specs.LogicLaws.{and-left, and-right, and-both}
 use Rattle.limits.specs.Limits.{maxCells, maxNetwork}
 use Rattle.text.specs.BytesLaws.{same-self}
-use Rattle.text.specs.Line.{lines}
-use Rattle.text.specs.Unbroken.{unbroken}
+use Rattle.text.specs.Line.{lines, endsLine}
+use Rattle.text.specs.Unbroken.{unbroken, allUnbroken}
+use Rattle.text.specs.EndedLaws.{lines-of-ended, ended-ends, ended-some}
 use Rattle.names.specs.Name.{Name, isName}
 use Rattle.names.specs.Front.{allNames}
 use Rattle.sheet.specs.Examine.{Design}
 use Rattle.network.specs.Network.{Network, Node}
 use Rattle.network.specs.Printer.{networkLine, printLut, printNode, lutLines, nodeLines, networkLines, printNetwork}
-use Rattle.network.specs.Examine.{at-network, at-luts, at-node, misspelled, next, withLut, withNode, askLine, network, askLines, nothing, endsLine, readNetwork}
+use Rattle.network.specs.Examine.{at-network, at-luts, at-node, misspelled, next, withLut, withNode, askLine, network, askLines, nothing, readNetwork}
 use Rattle.network.specs.Wellformed.{NodeFits, nodeAt, Wellformed, Named}
-use Rattle.network.specs.Unbroken.{allUnbroken}
 use Rattle.network.specs.Parts.{freeOf, namesOf, nodeRead, nodePlace, lastLines, linesFromNode, linesFromLut, withNodes, withAll}
 use Rattle.network.specs.LineLaws.{lut-read-of-print, node-read-of-print}
 use Rattle.network.specs.UnbrokenLaws.{all-append, lut-unbroken, node-unbroken, count-unbroken, fixed-unbroken}
-use Rattle.network.specs.EndedLaws.{lines-of-ended, ended-ends, ended-some}
 use Rattle.network.specs.PartLaws.{free-named, place-node, place-count, no-nodes, node-line, node-no-lut}
 use Rattle.network.specs.StepLaws.{line-next, last-read, node-next, lut-next, lut-none, same-lines}
 

@@ -8,7 +8,7 @@ use lib.Dec.{eqb}
 use borrow.Author.Tests.{ne-eqb}
 use Rattle.bits.specs.LogicLaws.{true-false, and-left, and-right, and-both}
 use Rattle.text.specs.Bytes.{newline, bytes, closeBracket}
-use Rattle.text.specs.Unbroken.{unbroken}
+use Rattle.text.specs.Unbroken.{unbroken, allUnbroken}
 use Rattle.text.specs.LineLaws.{unbroken-cons, unbroken-append}
 use Rattle.text.specs.Number.{numeral, printNumber}
 use Rattle.text.specs.NumberLaws.{print-unbroken}
@@ -19,7 +19,6 @@ use Rattle.sheet.specs.Lines.{endLine}
 use Rattle.network.specs.Network.{Node}
 use Rattle.network.specs.Printer.{led, ledAll, lutName, printDigits, networkLine, lutHead, printLut, nodeHead, printNode, printCount}
 use Rattle.network.specs.Reads.{Rising, rising-none, rising-more}
-use Rattle.network.specs.Unbroken.{allUnbroken}
 
 -- ---- names
 name-byte-unbroken : (b : ℕ) → nameByte b ≡ true → eqb b newline ≡ false

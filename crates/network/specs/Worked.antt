@@ -3,27 +3,8 @@
 use mathlib.Core.Path.{_≡_, refl}
 use mathlib.Core.List.{List, [], _++_}
 use Prim.Native.Nat.{ℕ}
-use Rattle.bits.specs.Digit.{on, digit}
-use Rattle.rows.specs.Row.{rowOf}
-use Rattle.text.specs.Bytes.{bytes, same, eat}
-use Rattle.text.specs.Line.{lines}
-use Rattle.text.specs.Number.{numeral, numerals, afterNumerals, valueFrom, isNumber, readNumber, printNumber}
-use Rattle.names.specs.Name.{letter, nameByte, word, afterWord, operator, isName, readName, sameName, among, distinct, allAmong}
-use Rattle.names.specs.Names.{namesWithin, readNames}
-use Rattle.cursor.specs.Opening.{readOpening}
-use Rattle.formula.specs.Tree.{depth, knows}
-use Rattle.formula.specs.Reader.{readWithin, readFormula}
-use Rattle.formula.specs.Value.{combine, value, onRow}
-use Rattle.sheet.specs.Lines.{readIn, readBound, readLimit, readOut}
-use Rattle.sheet.specs.Value.{outputOn}
-use Rattle.sheet.specs.Examine.{examine, askIn, askBound, askLimit, askOut, askEnd, askLine, askLines, plain, plainLines, sized}
-use Rattle.classes.specs.Columns.{free, onParts, joinRow, vertexOf, freeRowOf, valueAt, valuesUpto, column, apart, conflict, alikeUpto}
-use Rattle.classes.specs.Classes.{firstFrom, firstLike, classCount, classOf, localCount}
-use Rattle.classes.specs.Width.{widthFrom, widthOf, width, budget}
-use Rattle.network.specs.Printer.{ledAll, lutName, printDigits, lutHead, nodeHead, printCount}
-use Rattle.network.specs.Reader.{readDigits, readLut, readReads, readNode}
-use Rattle.network.specs.Examine as net
-use Rattle.network.specs.Value.{lutOn, nodeRow, networkOn}
+use Rattle.text.specs.Bytes.{bytes}
+use Rattle.network.specs.Computing.{computing}
 use Rattle.network.specs.Check as c
 use Rattle.network.specs.Check.{Checked, check, differs, refused-by}
 
@@ -71,14 +52,7 @@ pub record Worked : Type 0 where
       (start ++ (second ++ (bytes "(lut _2 (a b c) 00000000)\n" ++ (nodes ++ bytes "(count 3)\n(end)\n")))) ≡ refused-by 11 4
 
 pub worked : Worked
-unfolding check c.checkOf c.examinePair c.firstOf c.differsOn c.differingRow c.compareFrom net.askNode net.askLut net.askLine net.askLines
-    net.endsLine net.readNetwork net.wideNode net.offending lutOn nodeRow networkOn ledAll lutName printDigits
-    lutHead nodeHead printCount readDigits readLut readReads readNode free onParts joinRow vertexOf freeRowOf
-    valueAt valuesUpto column apart conflict alikeUpto firstFrom firstLike classCount classOf localCount widthFrom
-    widthOf width budget printNumber rowOf outputOn value combine onRow on digit readFormula readWithin readOpening
-    depth knows examine sized plainLines plain lines askLines askLine askIn askBound askLimit askOut askEnd readIn
-    readBound readLimit readOut readNames namesWithin readName word afterWord nameByte letter numeral operator
-    isName same eat readNumber isNumber numerals afterNumerals valueFrom sameName among distinct allAmong
+unfolding computing
 worked =
     record {
       own-network = refl;

@@ -27,6 +27,11 @@ among-more n m [] e h = rw h refl
 among-more n m (k ∷ ns) e h =
     rw (neither-left (sameName k n) (among n ns) e, among-more n m ns (neither-right (sameName k n) (among n ns) e) h) refl
 
+among-after : (n m : Name) (ns ms : List Name) → among n (ns ++ (m ∷ ms)) ≡ false → sameName m n ≡ false
+unfolding among
+among-after n m [] ms e = neither-left (sameName m n) (among n ms) e
+among-after n m (k ∷ ns) ms e = among-after n m ns ms (neither-right (sameName k n) (among n (ns ++ (m ∷ ms))) e)
+
 pub distinct-more : (ns : List Name) (n : Name) → distinct ns ≡ true → among n ns ≡ false → distinct (ns ++ (n ∷ [])) ≡ true
 unfolding distinct among
 distinct-more [] n e h = refl
@@ -34,6 +39,15 @@ distinct-more (m ∷ ns) n e h =
     let a = not-true (among m ns) (and-left (not (among m ns)) (distinct ns) e) in
     let b = same-name-turned m n (neither-left (sameName m n) (among n ns) h) in
     rw (among-more m n ns a b) (distinct-more ns n (and-right (not (among m ns)) (distinct ns) e) (neither-right (sameName m n) (among n ns) h))
+
+-- of different names none stands before itself
+pub distinct-before : (ns : List Name) (n : Name) (ms : List Name) → distinct (ns ++ (n ∷ ms)) ≡ true → among n ns ≡ false
+unfolding distinct among
+distinct-before [] n ms e = refl
+distinct-before (m ∷ ns) n ms e =
+    let a = not-true (among m (ns ++ (n ∷ ms))) (and-left (not (among m (ns ++ (n ∷ ms)))) (distinct (ns ++ (n ∷ ms))) e) in
+    let b = same-name-turned n m (among-after m n ns ms a) in
+    rw (b, distinct-before ns n ms (and-right (not (among m (ns ++ (n ∷ ms)))) (distinct (ns ++ (n ∷ ms))) e)) refl
 
 last-or-before : (P : Output → Type 0) (os : List Output) (o : Output)
     → ((i : ℕ) → i < length os → P (outputAt os i)) → P o

@@ -17,18 +17,16 @@ use Rattle.names.specs.Name.{Name, among, distinct, allAmong}
 use Rattle.formula.specs.Tree.{depth, knows}
 use Rattle.sheet.specs.Lines.{Output, designLine, endLine, readIn, readBound, readLimit, readOut}
 use Rattle.sheet.specs.LineInverse.{in-inverse, out-inverse}
-use Rattle.sheet.specs.Examine.{Design, Place, at-design, at-in, at-bound, at-limit, at-out, over, Step, no-to, next, ask, within, askIn, askBound, askLimit, askOut, askEnd, askLine, outputNames, newName, withOutput}
+use Rattle.sheet.specs.Examine.{Design, Place, at-design, at-in, at-bound, at-limit, at-out, over, Step, no-to, next}
+use Rattle.sheet.specs.Examine.{ask, within, askIn, askBound, askLimit, askOut, askEnd, askLine, outputNames, newName, withOutput}
 use Rattle.sheet.specs.WellFormed.{LineQuestion, StepRight, RightOutputs, HasInputs, HasBound, HasLimit, Reached}
+use Rattle.sheet.specs.AskedLaws.{AllYes}
 use Rattle.sheet.specs.FurtherOutputLaws.{outputs-more}
 
 -- ---- questions in turn
 abbrev Questions : List (ℕ × Bool) → Type 0
 Questions [] = Unit {0}
 Questions (q ∷ qs) = LineQuestion (q .0) × Questions qs
-
-abbrev AllYes : List (ℕ × Bool) → Type 0
-AllYes [] = Unit {0}
-AllYes (q ∷ qs) = (q .1 ≡ true) × AllYes qs
 
 ask-right : (qs : List (ℕ × Bool)) (t : Step) → Questions qs → (AllYes qs → StepRight t) → StepRight (ask qs t)
 ask-right [] t h k = k tt

@@ -10,6 +10,7 @@ pub mod Numerals
 pub mod BytesLaws
 pub mod EatLaws
 pub mod LineLaws
+pub mod EndedLaws
 pub mod LineEndLaws
 pub mod LineCountLaws
 pub mod NumeralLaws

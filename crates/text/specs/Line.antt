@@ -1,6 +1,6 @@
 -- "One form a line, each line ended by byte 0x0A". Assumes nothing.
 use mathlib.Core.Bool.{Bool, true, false}
-use mathlib.Core.List.{List, [], _∷_}
+use mathlib.Core.List.{List, [], _∷_, _++_}
 use Prim.Native.Nat.{ℕ}
 use lib.Dec.{eqb}
 use Rattle.bits.specs.Logic.{pick}
@@ -17,3 +17,14 @@ lines [] = []
 lines (b ∷ s) =
     let rest = lines s in
     pick (eqb b newline) ([] ∷ rest) (onto b rest)
+
+-- the text of some lines, each ended by 0x0A
+unfoldable pub endedLines : List (List ℕ) → List ℕ
+endedLines [] = []
+endedLines (l ∷ ls) = l ++ (newline ∷ endedLines ls)
+
+-- whether 0x0A is the last byte
+unfoldable pub endsLine : List ℕ → Bool
+endsLine [] = false
+endsLine (b ∷ []) = eqb b newline
+endsLine (b ∷ c ∷ s) = endsLine (c ∷ s)

@@ -176,3 +176,6 @@ number-shorter s n t e =
 
 pub print-unbroken : (n : ℕ) → n < 1000 → unbroken (printNumber n) ≡ true
 print-unbroken n h = numerals-unbroken (printNumber n) (printed n h .all)
+
+pub print-numerals : (n : ℕ) → n < 1000 → allNumerals (printNumber n) ≡ true
+print-numerals n h = printed n h .all

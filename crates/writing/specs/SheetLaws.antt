@@ -8,11 +8,12 @@ use native.Mathlib.Nat.{add-zero, zero-add, add-suc, suc-add}
 use lib.ListN.{length, getD, length-map}
 use Rattle.bits.specs.Digit.{on}
 use Rattle.text.specs.Bytes.{bytes, newline}
+use Rattle.text.specs.Line.{endedLines}
 use Rattle.names.specs.Name.{Name}
 use Rattle.sheet.specs.Lines.{Output, endLine}
 use Rattle.sheet.specs.Examine.{Design, outputNames}
 use Rattle.classes.specs.Columns.{free, valuesUpto, vertexCount}
-use Rattle.network.specs.Printer.{printLut, printNode, printCount, networkLine, lutLines, nodeLines, networkLines, endedLines, printNetwork}
+use Rattle.network.specs.Printer.{printLut, printNode, printCount, networkLine, lutLines, nodeLines, networkLines, printNetwork}
 use Rattle.serving.specs.Build.{numbers, nodeBuilt, lutsBuilt, nodesBuilt, built}
 use Rattle.writing.specs.Lines.{linesUpto, lastLines}
 

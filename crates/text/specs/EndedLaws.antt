@@ -10,13 +10,10 @@ use lib.ListN.{length, length-append}
 use borrow.Author.Tests.{eqb-true}
 use Rattle.bits.specs.Logic.{pick}
 use Rattle.bits.specs.LogicLaws.{true-false, and-left, and-right}
 use Rattle.text.specs.Bytes.{newline}
-use Rattle.text.specs.Line.{lines, onto}
+use Rattle.text.specs.Line.{lines, onto, endedLines, endsLine}
 use Rattle.text.specs.LineLaws.{lines-empty, lines-broken}
-use Rattle.text.specs.Unbroken.{unbroken}
-use Rattle.network.specs.Printer.{endedLines}
-use Rattle.network.specs.Examine.{endsLine}
-use Rattle.network.specs.Unbroken.{allUnbroken}
+use Rattle.text.specs.Unbroken.{unbroken, allUnbroken}
 
 pub lines-of-ended : (ls : List (List ℕ)) → allUnbroken ls ≡ true → lines (endedLines ls) ≡ ls
 unfolding endedLines allUnbroken

@@ -1,0 +1,53 @@
+-- Sheet I of document 01 with its fourth output: "32 classes, 7 even at limit 0", about the definitions. Assumes nothing.
+use mathlib.Core.Path.{_≡_, refl}
+use mathlib.Core.List.{List, _++_}
+use Prim.Native.Nat.{ℕ, _<_}
+use Prim.Native.String.{String}
+use native.Mathlib.Omega.{arith}
+use lib.Dec.{lit<}
+use Rattle.limits.specs.Limits.{maxClasses}
+use Rattle.text.specs.Bytes.{bytes}
+use Rattle.sheet.specs.Examine.{Design, valid, examine}
+use Rattle.classes.specs.Classes.{globalCount}
+use Rattle.mapper.specs.Computing.{computing}
+use Rattle.mapper.specs.Map.{MapAnswer, refused-by}
+use Rattle.mapper.specs.OutcomeLaws.{OutcomeFor, many-classes, none-computes, too-short, printed, outcome-for}
+use Rattle.mapper.specs.Designs.{designI}
+use Rattle.mapper.specs.Worked.{Refuses}
+
+-- by its limit
+abbrev sheetI : String → List ℕ
+sheetI n =
+    bytes "(design 1)\n(in a b c d e x y)\n(bound a b c d e)\n(limit "
+    ++ (bytes n ++ bytes ")\n(out p (or (and a x) (and e y)))\n(out q (xor b x))\n(out r (xor c x))\n(out s (xor d x))\n(end)\n")
+
+-- ---- a sheet with too many classes is refused by 7
+module _ (s : List ℕ) (d : Design) (e : examine s ≡ valid d) (many : maxClasses < globalCount d (d .bound)) where
+  says-7 : {b : List ℕ} {a : MapAnswer} {b' : List ℕ} → OutcomeFor d b a b' → (a ≡ refused-by 7 0) × (b' ≡ b)
+  says-7 (many-classes h) = (refl, refl)
+  says-7 (none-computes h n) = absurd (omega (arith, h, many))
+  says-7 (too-short w h p n) = absurd (omega (arith, h, many))
+  says-7 (printed w h p n) = absurd (omega (arith, h, many))
+
+  refuses-7 : Refuses s 7 0
+  refuses-7 =
+      record {
+        answers = λ b a b' o. says-7 (outcome-for d e o) .0;
+        untouched = λ b a b' o. says-7 (outcome-for d e o) .1;
+      }
+
+pub record WorkedClasses : Type 0 where
+  pub classes-i : (n : ℕ) → globalCount (designI n) (designI n .bound) ≡ 32
+  pub said : examine (sheetI "4") ≡ valid (designI 4)
+  pub sheet-i-4 : Refuses (sheetI "4") 7 0
+  pub sheet-i-0 : Refuses (sheetI "0") 7 0
+
+pub worked-classes : WorkedClasses
+unfolding computing
+worked-classes =
+    record {
+      classes-i = λ n. refl;
+      said = refl;
+      sheet-i-4 = refuses-7 (sheetI "4") (designI 4) refl (lit< tt);
+      sheet-i-0 = refuses-7 (sheetI "0") (designI 0) refl (lit< tt);
+    }
