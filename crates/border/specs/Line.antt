@@ -1,4 +1,4 @@
--- Labels read one after another. Assumes nothing.
+-- A line of input: its length, and its labels read one after another. Assumes nothing.
 use mathlib.Core.Path.{_≡_, sym, _∙_, subst}
 use mathlib.Core.List.{List}
 use mathlib.Core.Logic.{⊎-elim}
@@ -6,12 +6,17 @@ use Prim.Native.Nat.{ℕ, _+_, _≤_, _<_}
 use native.Mathlib.Omega.{arith}
 use lib.ListN.{length, getD, set, length-set}
 use lib.Seq.{getD-set-same, getD-set-other}
+use Rattle.limits.specs.Limits.{searchOutputs, maxVertices, labelCount}
 use Rattle.cells.specs.Lists.{less-or-equal}
 
--- the first i labels are below 32
+-- 11 bytes for the name, three numbers and what parts them; the budgets; a space; the labels; the line feed
+abbrev pub lineLength : ℕ
+lineLength = 11 + searchOutputs + 1 + labelCount + 1
+
+-- the first i labels are below the number of vertices
 pub record Low (i : ℕ) (cl : List ℕ) : Type 0 where
-  pub long : length cl ≡ 256
-  pub below : (k : ℕ) → k < i → getD cl k 0 < 32
+  pub long : length cl ≡ labelCount
+  pub below : (k : ℕ) → k < i → getD cl k 0 < maxVertices
 
 pub low-more : (i x : ℕ) (cl : List ℕ) → i < 256 → x < 32 → Low i cl → Low (i + 1) (set cl i x)
 low-more i x cl h l s = record {

@@ -4,18 +4,22 @@ ghost use mathlib.Core.Bool.{Bool, true, false};
 ghost use mathlib.Core.List.{List};
 ghost use Prim.Native.Nat.{ℕ, _+_, _*_, _<_, _≤_, _^_};
 ghost use lib.ListN.{length, getD};
+ghost use Rattle.limits.specs.Limits.{searchOutputs, maxVertices, maxCodes, maxCells};
 ghost use Rattle.bits.specs.Digit.{on};
 ghost use Rattle.cells.specs.Lists.{count};
 ghost use Rattle.numbering.specs.Given.{Labels, item};
 ghost use Rattle.bounds.specs.Reasons.{Kinds32, Reason, Based};
+use limits::LABELS;
+use limits::MAX_VERTICES;
+use limits::SEARCH_OUTPUTS;
 
-// How many cells a set of cells below 6 has.
+// How many cells a set of cells has.
 pub fn digits(x: u8) -> u8
-    ensures { λ r. ⌜ (r ≡ count (on x) 6) × (r ≤ 6) ⌝ }
+    ensures { λ r. ⌜ (r ≡ count (on x) maxCells) × (r ≤ maxCells) ⌝ }
 {
     let mut n: u8 = 0;
     let mut i: u8 = 0;
-    while i < 6 {
+    while i < cells::MAX_CELLS {
         if cells::in_set(x as u64, i) {
             n += 1;
         }
@@ -26,15 +30,15 @@ pub fn digits(x: u8) -> u8
 
 // 2 to the power k.
 pub fn power(k: u8) -> u8
-    requires { ⌜ k ≤ 6 ⌝ }
-    ensures { λ r. ⌜ (r ≡ 2 ^ k) × (0 < r) × (r ≤ 64) ⌝ }
+    requires { ⌜ k ≤ maxCells ⌝ }
+    ensures { λ r. ⌜ (r ≡ 2 ^ k) × (0 < r) × (r ≤ maxCodes) ⌝ }
 {
     1 << k
 }
 
 // How many classes of q occur in class l of o.
 pub fn kinds(cl: &[u8], v: usize, o: usize, l: u8, q: usize) -> u8
-    requires { ⌜ Labels (now cl) × (v ≤ 32) × (o < 8) × (q < 8) ⌝ }
+    requires { ⌜ Labels (now cl) × (v ≤ maxVertices) × (o < searchOutputs) × (q < searchOutputs) ⌝ }
     ensures { λ r. ⌜ Kinds32 (now (cl .entry)) v o l q r ⌝ }
 {
     let mut seen: u64 = 0;
@@ -55,8 +59,8 @@ pub fn kinds(cl: &[u8], v: usize, o: usize, l: u8, q: usize) -> u8
 }
 
 // How many blocks class l of o needs.
-pub fn need(cl: &[u8], v: usize, j: usize, rows: [u8; 8], o: usize, l: u8) -> u8
-    requires { ⌜ Labels (now cl) × (v ≤ 32) × (j ≤ 8) × (o < j) ⌝ }
+pub fn need(cl: &[u8], v: usize, j: usize, rows: [u8; SEARCH_OUTPUTS], o: usize, l: u8) -> u8
+    requires { ⌜ Labels (now cl) × (v ≤ maxVertices) × (j ≤ searchOutputs) × (o < j) ⌝ }
     ensures { λ r. ⌜ Reason (now (cl .entry)) rows v j o l r ⌝ }
 {
     let mut n: u8 = 0;
@@ -75,7 +79,7 @@ pub fn need(cl: &[u8], v: usize, j: usize, rows: [u8; 8], o: usize, l: u8) -> u8
 
 // The classes of output o.
 pub fn classes(cl: &[u8], v: usize, o: usize) -> u64
-    requires { ⌜ Labels (now cl) × (v ≤ 32) × (o < 8) ⌝ }
+    requires { ⌜ Labels (now cl) × (v ≤ maxVertices) × (o < searchOutputs) ⌝ }
 {
     let mut r: u64 = 0;
     let mut x = 0;
@@ -86,22 +90,22 @@ pub fn classes(cl: &[u8], v: usize, o: usize) -> u64
     r
 }
 
-// The same for each class l of each output o, at o * 32 + l; a class that no vertex has needs none.
-pub fn bases(cl: &[u8], v: usize, j: usize, rows: [u8; 8]) -> [u8; 256]
-    requires { ⌜ Labels (now cl) × (v ≤ 32) × (j ≤ 8) ⌝ }
-    ensures { λ r. ⌜ Based (now (cl .entry)) rows v j (j * 32) r ⌝ }
+// The same for each class l of each output o, at o * MAX_VERTICES + l; a class that no vertex has needs none.
+pub fn bases(cl: &[u8], v: usize, j: usize, rows: [u8; SEARCH_OUTPUTS]) -> [u8; LABELS]
+    requires { ⌜ Labels (now cl) × (v ≤ maxVertices) × (j ≤ searchOutputs) ⌝ }
+    ensures { λ r. ⌜ Based (now (cl .entry)) rows v j (j * maxVertices) r ⌝ }
 {
-    let mut r = [0u8; 256];
-    let end = j * 32;
+    let mut r = [0u8; LABELS];
+    let end = j * MAX_VERTICES;
     let mut here: u64 = 0;
     let mut i = 0;
     while i < end {
-        let l = (i % 32) as u8;
+        let l = (i % MAX_VERTICES) as u8;
         if l == 0 {
-            here = classes(cl, v, i / 32);
+            here = classes(cl, v, i / MAX_VERTICES);
         }
         if cells::in_set(here, l) {
-            r[i] = need(cl, v, j, rows, i / 32, l);
+            r[i] = need(cl, v, j, rows, i / MAX_VERTICES, l);
         }
         i += 1;
     }

@@ -19,13 +19,17 @@ use Rattle.cells.specs.Lists.{never-both, and-off, and-on}
 use Rattle.cells.specs.Codes.{on-half}
 
 -- ======== definitions
+-- the numbers that a set has room for: a word has a digit for each
+abbrev pub setRoom : ℕ
+setRoom = 64
+
 -- r is s with k
 abbrev pub With : ℕ → ℕ → ℕ → Type 0
 With s k r = (i : ℕ) → on r i ≡ orb (on s i) (eqb i k)
 
 -- r is s without k
 pub record Without (s k r : ℕ) : Type 0 where
-  pub others : (i : ℕ) → i < 64 → (i ≡ k → ⊥) → on r i ≡ on s i
+  pub others : (i : ℕ) → i < setRoom → (i ≡ k → ⊥) → on r i ≡ on s i
   pub less : on s k ≡ true → r < s
 
 -- ======== laws

@@ -4,11 +4,28 @@ ghost use mathlib.Core.Path.{_≡_};
 ghost use mathlib.Core.Bool.{true};
 ghost use Prim.Native.Nat.{_<_, _^_};
 ghost use Rattle.bits.specs.Digit.{on};
-ghost use Rattle.cells.specs.Sets.{With, Without};
+ghost use Rattle.cells.specs.Sets.{With, Without, setRoom};
+
+// The most cells and codes, as bytes: sets of cells, codes and labels are kept in bytes.
+pub const MAX_CELLS: u8 = limits::MAX_CELLS as u8;
+
+pub const MAX_CODES: u8 = limits::MAX_CODES as u8;
+
+// Every cell, as a set.
+pub const ALL_CELLS: u8 = MAX_CODES - 1;
+
+// Every code, as a set.
+pub const ALL_CODES: u64 = u64::MAX;
+
+// What stands for the code of a vertex that has none yet.
+pub const NO_CODE: u8 = MAX_CODES;
+
+// What stands for a vertex where there is none.
+pub const NO_VERTEX: usize = limits::MAX_VERTICES;
 
 // Whether c is in the set s.
 pub fn in_set(s: u64, c: u8) -> bool
-    requires { ⌜ c < 64 ⌝ }
+    requires { ⌜ c < setRoom ⌝ }
     ensures { λ r. ⌜ r ≡ on s c ⌝ }
 {
     (s >> c) & 1 == 1
@@ -16,7 +33,7 @@ pub fn in_set(s: u64, c: u8) -> bool
 
 // The set with the one element k.
 pub fn single(k: u8) -> u64
-    requires { ⌜ k < 64 ⌝ }
+    requires { ⌜ k < setRoom ⌝ }
     ensures { λ r. ⌜ r ≡ 2 ^ k ⌝ }
 {
     1 << k
@@ -24,7 +41,7 @@ pub fn single(k: u8) -> u64
 
 // The set s with k.
 pub fn with(s: u64, k: u8) -> u64
-    requires { ⌜ k < 64 ⌝ }
+    requires { ⌜ k < setRoom ⌝ }
     ensures { λ r. ⌜ With s k r ⌝ }
 {
     s | single(k)
@@ -32,7 +49,7 @@ pub fn with(s: u64, k: u8) -> u64
 
 // The set s without k.
 pub fn without(s: u64, k: u8) -> u64
-    requires { ⌜ k < 64 ⌝ }
+    requires { ⌜ k < setRoom ⌝ }
     ensures { λ r. ⌜ Without s k r ⌝ }
 {
     s & !single(k)
@@ -41,7 +58,7 @@ pub fn without(s: u64, k: u8) -> u64
 // The lowest element of s.
 pub fn lowest(s: u64) -> u8
     requires { ⌜ (s ≡ 0 → ⊥) ⌝ }
-    ensures { λ r. ⌜ (r < 64) × (on s r ≡ true) ⌝ }
+    ensures { λ r. ⌜ (r < setRoom) × (on s r ≡ true) ⌝ }
 {
     u64::trailing_zeros(s) as u8
 }

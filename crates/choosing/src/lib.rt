@@ -4,10 +4,14 @@
 ghost use mathlib.Core.Path.{_≡_};
 ghost use mathlib.Core.Bool.{true, false};
 ghost use Prim.Native.Nat.{_+_, _<_, _≤_, _^_, min};
+ghost use Rattle.limits.specs.Limits.{searchOutputs, maxVertices, maxCells};
 ghost use Rattle.numbering.specs.Given.{Labels};
 ghost use Rattle.readers.specs.Masks.{Short, Decided};
 ghost use Rattle.memory.specs.Memory.{Honest};
 ghost use Rattle.choosing.specs.Choice.{Rows, Alike, Chosen, Suits};
+use limits::MAX_VERTICES;
+use limits::SEARCH_OUTPUTS;
+use memory::WORDS;
 
 // The smaller of two numbers.
 pub fn smaller(a: u8, b: u8) -> u8
@@ -30,8 +34,8 @@ pub fn suits(r: u8, want: u8, same: u8) -> bool
 
 // Whether the rows of the first n + 1 outputs may go on: nothing rules them out that a count or the memory shows. A set of
 // outputs without the last of them was looked up before.
-pub fn alive(cl: &[u8], v: usize, n: usize, rows: [u8; 8], mem: [u64; 256]) -> bool
-    requires { ⌜ Labels (now cl) × (v ≤ 32) × (n < 8) × Short rows (n + 1) × Honest (now cl) v mem ⌝ }
+pub fn alive(cl: &[u8], v: usize, n: usize, rows: [u8; SEARCH_OUTPUTS], mem: [u64; WORDS]) -> bool
+    requires { ⌜ Labels (now cl) × (v ≤ maxVertices) × (n < searchOutputs) × Short rows (n + 1) × Honest (now cl) v mem ⌝ }
     ensures { λ r. ⌜ (r ≡ false → Decided (now (cl .entry)) v (n + 1) rows false rows) ⌝ }
 {
     if !readers::possible(cl, v, n + 1, rows) {
@@ -44,15 +48,22 @@ pub fn alive(cl: &[u8], v: usize, n: usize, rows: [u8; 8], mem: [u64; 256]) -> b
 // search gave a vertex a code.
 pub struct Choice {
     pub ok: bool,
-    pub rows: [u8; 8],
-    pub codes: [u8; 32],
-    pub mem: [u64; 256],
+    pub rows: [u8; SEARCH_OUTPUTS],
+    pub codes: [u8; MAX_VERTICES],
+    pub mem: [u64; WORDS],
     pub nodes: u64,
 }
 
 // Codes for the rows of all outputs. Sets of some of them are asked first: what they show rules out other rows too.
-pub fn finish(cl: &[u8], v: usize, m: usize, rows: [u8; 8], mem: [u64; 256], nodes: u64) -> Choice
-    requires { ⌜ Labels (now cl) × (v ≤ 32) × (m ≤ 8) × Short rows m × Honest (now cl) v mem ⌝ }
+pub fn finish(
+    cl: &[u8],
+    v: usize,
+    m: usize,
+    rows: [u8; SEARCH_OUTPUTS],
+    mem: [u64; WORDS],
+    nodes: u64,
+) -> Choice
+    requires { ⌜ Labels (now cl) × (v ≤ maxVertices) × (m ≤ searchOutputs) × Short rows m × Honest (now cl) v mem ⌝ }
     ensures { λ r. ⌜ (r .rows ≡ rows) × Decided (now (cl .entry)) v m rows (r .ok) (r .codes) × Honest (now (cl .entry)) v (r .mem) ⌝ }
 {
     let s = memory::settle(cl, v, m, rows, mem);
@@ -62,7 +73,7 @@ pub fn finish(cl: &[u8], v: usize, m: usize, rows: [u8; 8], mem: [u64; 256], nod
         return Choice {
             ok: false,
             rows,
-            codes: [0u8; 32],
+            codes: [0u8; MAX_VERTICES],
             mem: known,
             nodes: asked,
         };
@@ -82,17 +93,17 @@ pub fn finish(cl: &[u8], v: usize, m: usize, rows: [u8; 8], mem: [u64; 256], nod
 // rows left to try is of use.
 pub fn choose(
     cl: &[u8],
-    budgets: [u8; 8],
+    budgets: [u8; SEARCH_OUTPUTS],
     v: usize,
     m: usize,
     u: u8,
-    rows: [u8; 8],
+    rows: [u8; SEARCH_OUTPUTS],
     n: usize,
     same: u8,
-    mem: [u64; 256],
+    mem: [u64; WORDS],
     nodes: u64,
 ) -> Choice
-    requires { ⌜ Labels (now cl) × (v ≤ 32) × (m ≤ 8) × (u ≤ 6) × (n ≤ m) × Rows budgets u n rows × Alike rows n same × Honest (now cl) v mem ⌝ }
+    requires { ⌜ Labels (now cl) × (v ≤ maxVertices) × (m ≤ searchOutputs) × (u ≤ maxCells) × (n ≤ m) × Rows budgets u n rows × Alike rows n same × Honest (now cl) v mem ⌝ }
     ensures { λ r. ⌜ Chosen (now (cl .entry)) budgets v m u n rows (r .ok) (r .rows) (r .codes) × Honest (now (cl .entry)) v (r .mem) ⌝ }
 {
     if n == m {
@@ -130,7 +141,7 @@ pub fn choose(
                     return Choice {
                         ok: false,
                         rows,
-                        codes: [0u8; 32],
+                        codes: [0u8; MAX_VERTICES],
                         mem: known,
                         nodes: total,
                     };
@@ -142,7 +153,7 @@ pub fn choose(
     Choice {
         ok: false,
         rows,
-        codes: [0u8; 32],
+        codes: [0u8; MAX_VERTICES],
         mem: known,
         nodes: total,
     }

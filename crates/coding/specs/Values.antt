@@ -5,7 +5,7 @@ use mathlib.Core.Path.{_≡_, refl, sym, ap, ap₂, _∙_, subst}
 use mathlib.Core.Bool.{Bool, true, false, not}
 use mathlib.Core.List.{List, [], _∷_}
 use mathlib.Core.Logic.{_⊎_, inl, inr, ⊎-elim}
-use Prim.Native.Nat.{ℕ, zero, suc, _+_, _-_, _*_, _^_, _≤_, _<_}
+use Prim.Native.Nat.{ℕ, zero, suc, _+_, _-_, _*_, _/_, _^_, _≤_, _<_}
 use native.Mathlib.Decide.{ℕ-discrete, decLt}
 use native.Mathlib.Omega.{arith}
 use lib.Bits.{bitAnd, bitOr, and-le-l}
@@ -13,6 +13,7 @@ use lib.Dec.{eqb}
 use lib.ListN.{length, getD, set, length-set}
 use lib.Seq.{getD-set-same, getD-set-other}
 use borrow.Author.Tests.{eq-eqb, ne-eqb, eqb-true}
+use Rattle.limits.specs.Limits.{maxCodes, maxCells}
 use Rattle.bits.specs.Logic.{andb, orb, pick}
 use Rattle.bits.specs.LogicLaws.{true-false, and-left, and-right}
 use Rattle.bits.specs.Digit.{on}
@@ -25,65 +26,69 @@ use Rattle.holding.specs.Blocks.{on-both}
 use Rattle.coding.specs.Exchange.{Uniform, SameBlocks, swap, swap-blocks, swap-small, swap-stays, swap-first, swap-outside, solves-alike}
 
 -- ======== definitions
--- three groups of cells of sh, none in two of them
+-- groups of cells: of two cells or more there are no more
+abbrev pub groupCount : ℕ
+groupCount = maxCells / 2
+
+-- groups of cells of sh, none in two of them
 pub record Groups (gs : List ℕ) (sh : ℕ) : Type 0 where
-  pub low : (k : ℕ) → k < 3 → item gs k < 64
-  pub among : (k i : ℕ) → k < 3 → on (item gs k) i ≡ true → on sh i ≡ true
-  pub disjoint : (k l i : ℕ) → k < 3 → l < 3 → (k ≡ l → ⊥) → on (item gs k) i ≡ true → on (item gs l) i ≡ false
+  pub low : (k : ℕ) → k < groupCount → item gs k < maxCodes
+  pub among : (k i : ℕ) → k < groupCount → on (item gs k) i ≡ true → on sh i ≡ true
+  pub disjoint : (k l i : ℕ) → k < groupCount → l < groupCount → (k ≡ l → ⊥) → on (item gs k) i ≡ true → on (item gs l) i ≡ false
 
 -- each of j outputs, which read the cells of ms, reads cells of sh, and all cells of a group or none
 pub record Alike (ms gs : List ℕ) (sh j : ℕ) : Type 0 where
-  pub short : (o : ℕ) → o < j → item ms o < 64
+  pub short : (o : ℕ) → o < j → item ms o < maxCodes
   pub masked : (o i : ℕ) → o < j → on (item ms o) i ≡ true → on sh i ≡ true
-  pub uniform : (k o : ℕ) → k < 3 → o < j → Uniform (item ms o) (item gs k)
+  pub uniform : (k o : ℕ) → k < groupCount → o < j → Uniform (item ms o) (item gs k)
 
 -- all has the codes over the cells of sh
 pub record Over (sh all : ℕ) : Type 0 where
-  pub low : sh < 64
+  pub low : sh < maxCodes
   pub is : Block (2 ^ 8 - 1 - sh) 0 all
 
 -- a has with a code all codes of one value of the group
 abbrev pub Closed : ℕ → ℕ → Type 0
-Closed g a = (c d : ℕ) → c < 64 → d < 64 → bitAnd c g ≡ bitAnd d g → on a c ≡ true → on a d ≡ true
+Closed g a = (c d : ℕ) → c < maxCodes → d < maxCodes → bitAnd c g ≡ bitAnd d g → on a c ≡ true → on a d ≡ true
 
 -- for each group a set of codes that is closed
 pub record Marks (gs used : List ℕ) : Type 0 where
-  pub long : length used ≡ 3
-  pub closed : (k : ℕ) → k < 3 → Closed (item gs k) (item used k)
+  pub long : length used ≡ groupCount
+  pub closed : (k : ℕ) → k < groupCount → Closed (item gs k) (item used k)
 
 -- for each group the codes whose value some vertex with a code has
 pub record Used (gs codes : List ℕ) (v : ℕ) (used : List ℕ) : Type 0 where
   pub marks : Marks gs used
-  pub has : (k y : ℕ) → k < 3 → y < v → item codes y < 64 → on (item used k) (item codes y) ≡ true
+  pub has : (k y : ℕ) → k < groupCount → y < v → item codes y < maxCodes → on (item used k) (item codes y) ≡ true
 
--- all has the codes over the cells that two outputs read, gb the blocks of three groups of these cells, and used their values
+-- all has the codes over the cells that two outputs read, gb the blocks of groups of these cells, and used their values
 -- in use
 pub record Valued (ms gb : List ℕ) (all j : ℕ) (codes : List ℕ) (v : ℕ) (used : List ℕ) : Type 0 where
   pub gs : List ℕ
   pub sh : ℕ
   pub over : Over sh all
-  pub blocks : Blocks gs gb 3
+  pub blocks : Blocks gs gb groupCount
   pub groups : Groups gs sh
   pub alike : Alike ms gs sh j
   pub values : Used gs codes v used
 
 -- b is the codes with the value of a code that is not in a, unless a has every code
 abbrev pub Fresh : ℕ → ℕ → ℕ → Type 0
-Fresh g a b = ((c : ℕ) × (c < 64) × (on a c ≡ false) × Block g c b) ⊎ ((c : ℕ) → c < 64 → on a c ≡ true)
+Fresh g a b = ((c : ℕ) × (c < maxCodes) × (on a c ≡ false) × Block g c b) ⊎ ((c : ℕ) → c < maxCodes → on a c ≡ true)
 
 -- g has the codes given so far
 abbrev pub Agrees : List ℕ → ℕ → (ℕ → ℕ) → Type 0
-Agrees codes v g = (x : ℕ) → x < v → item codes x < 64 → g x ≡ item codes x
+Agrees codes v g = (x : ℕ) → x < v → item codes x < maxCodes → g x ≡ item codes x
 
 -- where a solution goes on from the codes given, there is one whose code at a vertex without a code is in can; the first n
 -- groups have narrowed it, and it does not look at the others
 pub record Canon (gs used : List ℕ) (sh n can : ℕ) : Type 0 where
-  pub reach : (cl base ms caps spots codes : List ℕ) (v j x : ℕ) → 64 ≤ item codes x → Alike ms gs sh j → ((k y : ℕ) → k < 3 → y < v → item codes y < 64 → on (item used k) (item codes y) ≡ true) → (g : ℕ → ℕ) → Solves cl base ms caps spots v j g → Agrees codes v g → x < v → (g' : ℕ → ℕ) × Solves cl base ms caps spots v j g' × Agrees codes v g' × (on can (g' x) ≡ true)
-  pub blind : (k c d : ℕ) → n ≤ k → k < 3 → c < 64 → d < 64 → ((i : ℕ) → i < 6 → on (item gs k) i ≡ false → on c i ≡ on d i) → on can c ≡ true → on can d ≡ true
+  pub reach : (cl base ms caps spots codes : List ℕ) (v j x : ℕ) → maxCodes ≤ item codes x → Alike ms gs sh j → ((k y : ℕ) → k < groupCount → y < v → item codes y < maxCodes → on (item used k) (item codes y) ≡ true) → (g : ℕ → ℕ) → Solves cl base ms caps spots v j g → Agrees codes v g → x < v → (g' : ℕ → ℕ) × Solves cl base ms caps spots v j g' × Agrees codes v g' × (on can (g' x) ≡ true)
+  pub blind : (k c d : ℕ) → n ≤ k → k < groupCount → c < maxCodes → d < maxCodes → ((i : ℕ) → i < maxCells → on (item gs k) i ≡ false → on c i ≡ on d i) → on can c ≡ true → on can d ≡ true
 
 -- the sets with the value of c in each of the first n groups
 pub record Marked (gs used : List ℕ) (c n : ℕ) (r : List ℕ) : Type 0 where
-  pub long : length r ≡ 3
+  pub long : length r ≡ groupCount
   pub done : (k : ℕ) → k < n → (b : ℕ) × Block (item gs k) c b × (item r k ≡ bitOr (item used k) b)
   pub rest : (k : ℕ) → n ≤ k → item r k ≡ item used k
 

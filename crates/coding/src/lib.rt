@@ -7,14 +7,22 @@ ghost use mathlib.Core.Bool.{Bool, true, false};
 ghost use mathlib.Core.List.{List};
 ghost use Prim.Native.Nat.{ℕ, _+_, _*_, _<_, _≤_};
 ghost use lib.ListN.{length, getD};
+ghost use Rattle.limits.specs.Limits.{searchOutputs, maxVertices, labelCount, blockCount, maxCodes};
 ghost use Rattle.numbering.specs.Given.{Labels, Blocks, Plan, Kept, Told, item};
 ghost use Rattle.holding.specs.Search.{Seeking, Empty};
-ghost use Rattle.coding.specs.Values.{Groups, Marks, Over, Fresh, Canon, Marked, Valued};
+ghost use Rattle.coding.specs.Values.{groupCount, Groups, Marks, Over, Fresh, Canon, Marked, Valued};
 ghost use Rattle.coding.specs.Tried.{Covers};
+use limits::MAX_CELLS;
+use limits::MAX_CODES;
+use limits::MAX_VERTICES;
+use limits::SEARCH_OUTPUTS;
+
+// Groups of cells with the same readers that are looked at: more groups of two or more cells there are not.
+pub const GROUPS: usize = MAX_CELLS / 2;
 
 // Whether some vertex has no code left.
-pub fn empty(dom: [u64; 32], v: usize) -> bool
-    requires { ⌜ v ≤ 32 ⌝ }
+pub fn empty(dom: [u64; MAX_VERTICES], v: usize) -> bool
+    requires { ⌜ v ≤ maxVertices ⌝ }
     ensures { λ r. ⌜ (r ≡ true → Empty dom v) ⌝ }
 {
     let mut y = 0;
@@ -31,20 +39,20 @@ pub fn empty(dom: [u64; 32], v: usize) -> bool
 pub fn bar_all(
     cl: &[u8],
     bs: &[u64],
-    caps: [u8; 8],
+    caps: [u8; SEARCH_OUTPUTS],
     v: usize,
     j: usize,
-    codes: [u8; 32],
-    dom: [u64; 32],
+    codes: [u8; MAX_VERTICES],
+    dom: [u64; MAX_VERTICES],
     c: u8,
-) -> [u64; 32]
-    requires { ⌜ Labels (now cl) × (length (now bs) ≡ 512) × (v ≤ 32) × (j ≤ 8) × (c < 64) ⌝ }
+) -> [u64; MAX_VERTICES]
+    requires { ⌜ Labels (now cl) × (length (now bs) ≡ blockCount) × (v ≤ maxVertices) × (j ≤ searchOutputs) × (c < maxCodes) ⌝ }
     ensures { λ r. ⌜ ((base ms spots : List ℕ) → Blocks ms (now (bs .entry)) j → Kept (now (cl .entry)) base ms caps spots v j codes dom r) ⌝ }
 {
     let mut r = dom;
     let mut o = 0;
     while o < j {
-        let b = bs[o * 64 + c as usize];
+        let b = bs[o * MAX_CODES + c as usize];
         let k = holding::crowd(cl, v, o, codes, b);
         if caps[o] <= k.count {
             let s = holding::shut(cl, v, o, k.seen, codes, r, b);
@@ -61,16 +69,16 @@ pub fn settle_all(
     cl: &[u8],
     base: &[u8],
     bs: &[u64],
-    ms: [u8; 8],
-    caps: [u8; 8],
-    spots: [u8; 8],
+    ms: [u8; SEARCH_OUTPUTS],
+    caps: [u8; SEARCH_OUTPUTS],
+    spots: [u8; SEARCH_OUTPUTS],
     v: usize,
     j: usize,
-    codes: [u8; 32],
-    dom: [u64; 32],
+    codes: [u8; MAX_VERTICES],
+    dom: [u64; MAX_VERTICES],
     c: u8,
-) -> [u64; 32]
-    requires { ⌜ Labels (now cl) × (length (now base) ≡ 256) × Blocks ms (now bs) j × (v ≤ 32) × (j ≤ 8) × (c < 64) ⌝ }
+) -> [u64; MAX_VERTICES]
+    requires { ⌜ Labels (now cl) × (length (now base) ≡ labelCount) × Blocks ms (now bs) j × (v ≤ maxVertices) × (j ≤ searchOutputs) × (c < maxCodes) ⌝ }
     ensures { λ r. ⌜ Kept (now (cl .entry)) (now (base .entry)) ms caps spots v j codes dom r ⌝ }
 {
     let mut r = bar_all(cl, bs, caps, v, j, codes, dom, c);
@@ -86,23 +94,27 @@ pub fn settle_all(
     r
 }
 
-// Whether a vertex with n codes left is to be preferred to the best so far; none so far is 32.
+// Whether a vertex with n codes left is to be preferred to the best so far; none so far is no vertex.
 pub fn better(best: usize, least: u32, n: u32) -> bool
-    ensures { λ r. ⌜ (r ≡ false → best ≡ 32 → ⊥) ⌝ }
+    ensures { λ r. ⌜ (r ≡ false → best ≡ maxVertices → ⊥) ⌝ }
 {
-    if best == 32 { true } else { n < least }
+    if best == cells::NO_VERTEX {
+        true
+    } else {
+        n < least
+    }
 }
 
-// A vertex without a code that has the fewest codes left in can, or 32 where all have a code.
-pub fn pick(dom: [u64; 32], codes: [u8; 32], v: usize, can: u64) -> usize
-    requires { ⌜ v ≤ 32 ⌝ }
+// A vertex without a code that has the fewest codes left in can, or no vertex where all have a code.
+pub fn pick(dom: [u64; MAX_VERTICES], codes: [u8; MAX_VERTICES], v: usize, can: u64) -> usize
+    requires { ⌜ v ≤ maxVertices ⌝ }
     ensures { λ r. ⌜ Seeking codes v r ⌝ }
 {
-    let mut best: usize = 32;
+    let mut best: usize = cells::NO_VERTEX;
     let mut least: u32 = 0;
     let mut y = 0;
     while y < v {
-        if codes[y] >= 64 {
+        if codes[y] >= cells::NO_CODE {
             let n = u64::count_ones(dom[y] & can);
             if better(best, least, n) {
                 best = y;
@@ -116,25 +128,25 @@ pub fn pick(dom: [u64; 32], codes: [u8; 32], v: usize, can: u64) -> usize
 
 // The codes with one value of group k that a does not have, for the groups whose blocks gb has.
 pub fn fresh(gb: &[u64], k: usize, a: u64) -> u64
-    requires { ⌜ (length (now gb) ≡ 512) × (k < 3) ⌝ }
-    ensures { λ r. ⌜ ((gs : List ℕ) → Blocks gs (now (gb .entry)) 3 → Fresh (item gs k) a r) ⌝ }
+    requires { ⌜ (length (now gb) ≡ blockCount) × (k < groupCount) ⌝ }
+    ensures { λ r. ⌜ ((gs : List ℕ) → Blocks gs (now (gb .entry)) groupCount → Fresh (item gs k) a r) ⌝ }
 {
     let rest = !a;
     if rest == 0 {
         return 0;
     }
     let c = cells::lowest(rest);
-    gb[k * 64 + c as usize]
+    gb[k * MAX_CODES + c as usize]
 }
 
 // The codes of all that the next vertex may be asked to take: of each group a value in use, or one new one.
-pub fn allowed(gb: &[u64], all: u64, used: [u64; 3]) -> u64
-    requires { ⌜ length (now gb) ≡ 512 ⌝ }
-    ensures { λ r. ⌜ ((gs : List ℕ) (sh : ℕ) → Over sh all → Blocks gs (now (gb .entry)) 3 → Groups gs sh → Marks gs used → Canon gs used sh 3 r) ⌝ }
+pub fn allowed(gb: &[u64], all: u64, used: [u64; GROUPS]) -> u64
+    requires { ⌜ length (now gb) ≡ blockCount ⌝ }
+    ensures { λ r. ⌜ ((gs : List ℕ) (sh : ℕ) → Over sh all → Blocks gs (now (gb .entry)) groupCount → Groups gs sh → Marks gs used → Canon gs used sh groupCount r) ⌝ }
 {
     let mut can = all;
     let mut k = 0;
-    while k < 3 {
+    while k < GROUPS {
         let a = used[k];
         let b = fresh(gb, k, a);
         can = can & (a | b);
@@ -144,14 +156,14 @@ pub fn allowed(gb: &[u64], all: u64, used: [u64; 3]) -> u64
 }
 
 // The values in use once some vertex has code c.
-pub fn mark(gb: &[u64], used: [u64; 3], c: u8) -> [u64; 3]
-    requires { ⌜ (length (now gb) ≡ 512) × (c < 64) ⌝ }
-    ensures { λ r. ⌜ ((gs : List ℕ) → Blocks gs (now (gb .entry)) 3 → Marked gs used c 3 r) ⌝ }
+pub fn mark(gb: &[u64], used: [u64; GROUPS], c: u8) -> [u64; GROUPS]
+    requires { ⌜ (length (now gb) ≡ blockCount) × (c < maxCodes) ⌝ }
+    ensures { λ r. ⌜ ((gs : List ℕ) → Blocks gs (now (gb .entry)) groupCount → Marked gs used c groupCount r) ⌝ }
 {
     let mut r = used;
     let mut k = 0;
-    while k < 3 {
-        r[k] = r[k] | gb[k * 64 + c as usize];
+    while k < GROUPS {
+        r[k] = r[k] | gb[k * MAX_CODES + c as usize];
         k += 1;
     }
     r
@@ -160,7 +172,7 @@ pub fn mark(gb: &[u64], used: [u64; 3], c: u8) -> [u64; 3]
 // Codes of the vertices, whether they are right, and how often a vertex was given a code to find out.
 pub struct Search {
     pub ok: bool,
-    pub codes: [u8; 32],
+    pub codes: [u8; MAX_VERTICES],
     pub nodes: u64,
 }
 
@@ -172,22 +184,22 @@ pub fn find(
     bs: &[u64],
     gb: &[u64],
     all: u64,
-    ms: [u8; 8],
-    ps: [u8; 8],
-    caps: [u8; 8],
-    spots: [u8; 8],
+    ms: [u8; SEARCH_OUTPUTS],
+    ps: [u8; SEARCH_OUTPUTS],
+    caps: [u8; SEARCH_OUTPUTS],
+    spots: [u8; SEARCH_OUTPUTS],
     v: usize,
     j: usize,
-    codes: [u8; 32],
-    dom: [u64; 32],
-    used: [u64; 3],
+    codes: [u8; MAX_VERTICES],
+    dom: [u64; MAX_VERTICES],
+    used: [u64; GROUPS],
 ) -> Search
-    requires { ⌜ Labels (now cl) × (length (now base) ≡ 256) × Blocks ms (now bs) j × (v ≤ 32) × (j ≤ 8) × Plan ms ps caps j × Valued ms (now gb) all j codes v used × Covers (now cl) (now base) ms caps spots v j codes dom ⌝ }
+    requires { ⌜ Labels (now cl) × (length (now base) ≡ labelCount) × Blocks ms (now bs) j × (v ≤ maxVertices) × (j ≤ searchOutputs) × Plan ms ps caps j × Valued ms (now gb) all j codes v used × Covers (now cl) (now base) ms caps spots v j codes dom ⌝ }
     ensures { λ r. ⌜ Told (now (cl .entry)) (now (base .entry)) ms ps caps spots v j codes dom (r .ok) (r .codes) ⌝ }
 {
     let can = allowed(gb, all, used);
     let x = pick(dom, codes, v, can);
-    if x == 32 {
+    if x == cells::NO_VERTEX {
         let f = numbering::finish(cl, j, ms, ps, caps, v, codes);
         let all_codes = f.codes;
         return Search {

@@ -3,19 +3,22 @@
 // where nothing is found every core that serves has more cells than the limit: the contract of `fewest` is Theorem B.
 ghost use mathlib.Core.Bool.{true, false};
 ghost use Prim.Native.Nat.{_<_, _≤_, _^_};
+ghost use Rattle.limits.specs.Limits.{searchOutputs, maxVertices, maxCells};
 ghost use Rattle.numbering.specs.Given.{Labels};
 ghost use Rattle.orders.specs.Order.{Eight};
 ghost use Rattle.fewest.specs.Count.{Zeroed, Answered};
 ghost use Rattle.fewest.specs.Outputs.{Picked, Returned};
+use limits::MAX_VERTICES;
+use limits::SEARCH_OUTPUTS;
 
 // Every table complemented where it is 1 at vertex 0.
-pub fn zero_first(codes: [u8; 32]) -> [u8; 32]
-    ensures { λ r. ⌜ Zeroed codes 32 r ⌝ }
+pub fn zero_first(codes: [u8; MAX_VERTICES]) -> [u8; MAX_VERTICES]
+    ensures { λ r. ⌜ Zeroed codes maxVertices r ⌝ }
 {
     let first = codes[0];
-    let mut r = [0u8; 32];
+    let mut r = [0u8; MAX_VERTICES];
     let mut x = 0;
-    while x < 32 {
+    while x < MAX_VERTICES {
         r[x] = codes[x] ^ first;
         x += 1;
     }
@@ -27,23 +30,34 @@ pub fn zero_first(codes: [u8; 32]) -> [u8; 32]
 pub struct Core {
     pub found: bool,
     pub count: u8,
-    pub rows: [u8; 8],
-    pub codes: [u8; 32],
+    pub rows: [u8; SEARCH_OUTPUTS],
+    pub codes: [u8; MAX_VERTICES],
     pub nodes: u64,
 }
 
 // The fewest cells, up to the limit, that serve m outputs with these classes of v vertices and these budgets, with the
 // outputs in the order given.
-pub fn least(cl: &[u8], budgets: [u8; 8], v: usize, m: usize, limit: u8) -> Core
-    requires { ⌜ Labels (now cl) × (v ≤ 32) × (m ≤ 8) × (limit ≤ 6) ⌝ }
+pub fn least(cl: &[u8], budgets: [u8; SEARCH_OUTPUTS], v: usize, m: usize, limit: u8) -> Core
+    requires { ⌜ Labels (now cl) × (v ≤ maxVertices) × (m ≤ searchOutputs) × (limit ≤ maxCells) ⌝ }
     ensures { λ r. ⌜ Answered (now (cl .entry)) budgets v m limit (r .found) (r .count) (r .rows) (r .codes) ⌝ }
 {
-    let none = [0u8; 8];
-    let mut known = [0u64; 256];
+    let none = [0u8; SEARCH_OUTPUTS];
+    let mut known = [0u64; memory::WORDS];
     let mut nodes: u64 = 0;
     let mut u: u8 = 0;
     while u <= limit {
-        let k = choosing::choose(cl, budgets, v, m, u, none, 0, 63, known, nodes);
+        let k = choosing::choose(
+            cl,
+            budgets,
+            v,
+            m,
+            u,
+            none,
+            0,
+            cells::ALL_CELLS,
+            known,
+            nodes,
+        );
         known = k.mem;
         nodes = k.nodes;
         if k.ok {
@@ -64,14 +78,14 @@ pub fn least(cl: &[u8], budgets: [u8; 8], v: usize, m: usize, limit: u8) -> Core
         found: false,
         count: 0,
         rows: none,
-        codes: [0u8; 32],
+        codes: [0u8; MAX_VERTICES],
         nodes,
     }
 }
 
 // How many classes output o has.
 pub fn classes(cl: &[u8], v: usize, o: usize) -> u64
-    requires { ⌜ Labels (now cl) × (v ≤ 32) × (o < 8) ⌝ }
+    requires { ⌜ Labels (now cl) × (v ≤ maxVertices) × (o < searchOutputs) ⌝ }
 {
     let mut seen: u64 = 0;
     let mut n: u64 = 0;
@@ -88,10 +102,10 @@ pub fn classes(cl: &[u8], v: usize, o: usize) -> u64
 }
 
 // How many classes each output has.
-pub fn sizes(cl: &[u8], v: usize, m: usize) -> [u64; 8]
-    requires { ⌜ Labels (now cl) × (v ≤ 32) × (m ≤ 8) ⌝ }
+pub fn sizes(cl: &[u8], v: usize, m: usize) -> [u64; SEARCH_OUTPUTS]
+    requires { ⌜ Labels (now cl) × (v ≤ maxVertices) × (m ≤ searchOutputs) ⌝ }
 {
-    let mut r = [0u64; 8];
+    let mut r = [0u64; SEARCH_OUTPUTS];
     let mut o: usize = 0;
     while o < m {
         r[o] = classes(cl, v, o);
@@ -101,13 +115,13 @@ pub fn sizes(cl: &[u8], v: usize, m: usize) -> [u64; 8]
 }
 
 // The budgets in the order from.
-pub fn picked(budgets: [u8; 8], from: [u8; 8]) -> [u8; 8]
+pub fn picked(budgets: [u8; SEARCH_OUTPUTS], from: [u8; SEARCH_OUTPUTS]) -> [u8; SEARCH_OUTPUTS]
     requires { ⌜ Eight from ⌝ }
-    ensures { λ r. ⌜ Picked budgets from 8 r ⌝ }
+    ensures { λ r. ⌜ Picked budgets from searchOutputs r ⌝ }
 {
-    let mut r = [0u8; 8];
+    let mut r = [0u8; SEARCH_OUTPUTS];
     let mut i: usize = 0;
-    while i < 8 {
+    while i < SEARCH_OUTPUTS {
         r[i] = budgets[from[i] as usize];
         i += 1;
     }
@@ -115,11 +129,15 @@ pub fn picked(budgets: [u8; 8], from: [u8; 8]) -> [u8; 8]
 }
 
 // The rows, which stand in the order from, back in their places.
-pub fn returned(rows: [u8; 8], from: [u8; 8], m: usize) -> [u8; 8]
-    requires { ⌜ (m ≤ 8) × Eight from ⌝ }
+pub fn returned(
+    rows: [u8; SEARCH_OUTPUTS],
+    from: [u8; SEARCH_OUTPUTS],
+    m: usize,
+) -> [u8; SEARCH_OUTPUTS]
+    requires { ⌜ (m ≤ searchOutputs) × Eight from ⌝ }
     ensures { λ r. ⌜ Returned rows from m r ⌝ }
 {
-    let mut r = [0u8; 8];
+    let mut r = [0u8; SEARCH_OUTPUTS];
     let mut i: usize = 0;
     while i < m {
         r[from[i] as usize] = rows[i];
@@ -130,8 +148,8 @@ pub fn returned(rows: [u8; 8], from: [u8; 8], m: usize) -> [u8; 8]
 
 // The fewest cells, up to the limit, that serve m outputs with these classes of v vertices and these budgets. Outputs with
 // more classes are given their cells first: they leave less choice.
-pub fn fewest(cl: &[u8], budgets: [u8; 8], v: usize, m: usize, limit: u8) -> Core
-    requires { ⌜ Labels (now cl) × (v ≤ 32) × (m ≤ 8) × (limit ≤ 6) ⌝ }
+pub fn fewest(cl: &[u8], budgets: [u8; SEARCH_OUTPUTS], v: usize, m: usize, limit: u8) -> Core
+    requires { ⌜ Labels (now cl) × (v ≤ maxVertices) × (m ≤ searchOutputs) × (limit ≤ maxCells) ⌝ }
     ensures { λ r. ⌜ Answered (now (cl .entry)) budgets v m limit (r .found) (r .count) (r .rows) (r .codes) ⌝ }
 {
     let from = orders::falling(sizes(cl, v, m), m);

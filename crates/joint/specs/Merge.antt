@@ -10,8 +10,11 @@ use Prim.Native.Nat.{ℕ, zero, suc, _+_, _-_, _*_, _/_, _%_, _≤_, _<_}
 use native.Mathlib.Decide.{ℕ-discrete, decLt}
 use native.Mathlib.Omega.{arith}
 use lib.Bits.{bitAnd}
-use lib.ListN.{length, getD, set, length-set}
+use lib.ListN.{length, getD, set, length-set, replicate}
 use lib.Seq.{getD-set-same, getD-set-other}
+use Rattle.limits.specs.Limits.{maxVertices, labelCount}
+use Rattle.limits.specs.declared.Vertex.{Vertex}
+use Rattle.joint.specs.declared.JointClass.{JointClass}
 use Rattle.bits.specs.LogicLaws.{true-false}
 use Rattle.cells.specs.Core.{Differ}
 use Rattle.cells.specs.Lists.{less-or-equal}
@@ -20,37 +23,50 @@ use Rattle.numbering.specs.Given.{labelAt, item, Labels}
 use Rattle.readers.specs.Masks.{Decided}
 
 -- ======== definitions
+-- the vertex, and the joint class, at a place of an array
+abbrev pub vertexAt : List Vertex → ℕ → ℕ
+vertexAt l i = getD l i (record { 0 = 0 }) .0
+
+abbrev pub jointAt : List JointClass → ℕ → ℕ
+jointAt l x = getD l x (record { 0 = 0 }) .0
+
 -- x and y have the same classes for the first n outputs
 abbrev pub Alike : List ℕ → ℕ → ℕ → ℕ → Type 0
 Alike cl n x y = (o : ℕ) → o < n → labelAt cl o x ≡ labelAt cl o y
 
 -- the first x vertices belong to n joint classes: vertex y to class place y, whose first vertex is first of it
-pub record Merged (cl : List ℕ) (j x n : ℕ) (first place : List ℕ) : Type 0 where
-  pub first-long : length first ≡ 32
-  pub place-long : length place ≡ 32
+pub record Merged (cl : List ℕ) (j x n : ℕ) (first : List Vertex) (place : List JointClass) : Type 0 where
+  pub first-long : length first ≡ maxVertices
+  pub place-long : length place ≡ maxVertices
   pub few : n ≤ x
-  pub low : (i : ℕ) → i < n → item first i < x
-  pub small : (i : ℕ) → i < 32 → item first i < 32
-  pub start : item first 0 ≡ 0
-  pub within : (y : ℕ) → y < x → item place y < n
-  pub same : (y : ℕ) → y < x → Alike cl j y (item first (item place y))
+  pub low : (i : ℕ) → i < n → vertexAt first i < x
+  pub small : (i : ℕ) → i < maxVertices → vertexAt first i < maxVertices
+  pub start : vertexAt first 0 ≡ 0
+  pub within : (y : ℕ) → y < x → jointAt place y < n
+  pub same : (y : ℕ) → y < x → Alike cl j y (vertexAt first (jointAt place y))
 
 -- labels of the classes, the first n of them: class i has the labels of its first vertex
-pub record Picked (cl first : List ℕ) (n : ℕ) (r : List ℕ) : Type 0 where
-  pub long : length r ≡ 256
-  pub done : (i : ℕ) → i < n → getD r i 0 ≡ labelAt cl (i / 32) (item first (i % 32))
+pub record Picked (cl : List ℕ) (first : List Vertex) (n : ℕ) (r : List ℕ) : Type 0 where
+  pub long : length r ≡ labelCount
+  pub done : (i : ℕ) → i < n → getD r i 0 ≡ labelAt cl (i / maxVertices) (vertexAt first (i % maxVertices))
   pub rest : (i : ℕ) → n ≤ i → getD r i 0 ≡ 0
 
 -- each vertex with the code of its class
-pub record Spread (place codes : List ℕ) (n : ℕ) (r : List ℕ) : Type 0 where
-  pub long : length r ≡ 32
-  pub done : (x : ℕ) → x < n → item r x ≡ item codes (item place x)
+pub record Spread (place : List JointClass) (codes : List ℕ) (n : ℕ) (r : List ℕ) : Type 0 where
+  pub long : length r ≡ maxVertices
+  pub done : (x : ℕ) → x < n → item r x ≡ item codes (jointAt place x)
 
 -- ======== laws
 pub alike-more : (cl : List ℕ) (n x y : ℕ) → labelAt cl n x ≡ labelAt cl n y → Alike cl n x y → Alike cl (n + 1) x y
 alike-more cl n x y e a o h = ⊎-elim (a o) (λ q. subst (λ (o : ℕ). labelAt cl o x ≡ labelAt cl o y) (sym q) e) (less-or-equal o n (omega arith))
 
-pub merged-start : (cl : List ℕ) (j : ℕ) (first place : List ℕ) → length first ≡ 32 → length place ≡ 32 → ((i : ℕ) → item first i ≡ 0) → Merged cl j 0 0 first place
+pub vertices-zero : (n i : ℕ) → vertexAt (replicate n (record { 0 = 0 })) i ≡ 0
+vertices-zero zero i = refl
+vertices-zero (suc n) zero = refl
+vertices-zero (suc n) (suc i) = vertices-zero n i
+
+pub merged-start : (cl : List ℕ) (j : ℕ) (first : List Vertex) (place : List JointClass)
+    → length first ≡ 32 → length place ≡ 32 → ((i : ℕ) → vertexAt first i ≡ 0) → Merged cl j 0 0 first place
 merged-start cl j first place a b z = record {
   first-long = a;
   place-long = b;
@@ -62,117 +78,141 @@ merged-start cl j first place a b z = record {
   same = λ y h. absurd (omega arith);
 }
 
-module _ (cl : List ℕ) (j x n : ℕ) (first place : List ℕ) (h : x < 32) where
-  -- x belongs to class q already
-  pub merged-old : (q : ℕ) → q < n → Alike cl j x (item first q) → Merged cl j x n first place → Merged cl j (x + 1) n first (set place x q)
-  merged-old q l a s = record {
+-- x gets class q
+module _ (cl : List ℕ) (j x n : ℕ) (first : List Vertex) (place : List JointClass) (q : JointClass) (h : x < 32) (s : Merged cl j x n first place) where
+  new : jointAt (set place x q) x ≡ q .0
+  new = ap (λ (z : JointClass). z .0) (getD-set-same place x q (record { 0 = 0 }) (let z = s .place-long in omega arith))
+
+  old : (y : ℕ) → y < x → jointAt (set place x q) y ≡ jointAt place y
+  old y k = ap (λ (z : JointClass). z .0) (getD-set-other place x y q (record { 0 = 0 }) (λ e. let z : y ≡ x = e in omega arith))
+
+  -- q has vertices already
+  pub merged-old : q .0 < n → Alike cl j x (vertexAt first (q .0)) → Merged cl j (x + 1) n first (set place x q)
+  merged-old l a = record {
     first-long = s .first-long;
     place-long = length-set place x q ∙ s .place-long;
     few = (let z = s .few in omega arith);
     low = λ i b. let z = s .low i b in omega arith;
     small = s .small;
     start = s .start;
-    within = λ y b. ⊎-elim (λ k. subst (λ (z : ℕ). z < n) (sym (old y k)) (s .within y k)) (λ e. subst (λ (y : ℕ). item (set place x q) y < n) (sym e) (subst (λ (z : ℕ). z < n) (sym new) l)) (less-or-equal y x (omega arith));
-    same = λ y b. ⊎-elim (λ k. subst (λ (z : ℕ). Alike cl j y (item first z)) (sym (old y k)) (s .same y k)) (λ e. subst (λ (y : ℕ). Alike cl j y (item first (item (set place x q) y))) (sym e) (subst (λ (z : ℕ). Alike cl j x (item first z)) (sym new) a)) (less-or-equal y x (omega arith));
+    within = λ y b. ⊎-elim
+        (λ k. subst (λ (z : ℕ). z < n) (sym (old y k)) (s .within y k))
+        (λ e. subst (λ (y : ℕ). jointAt (set place x q) y < n) (sym e) (subst (λ (z : ℕ). z < n) (sym new) l))
+        (less-or-equal y x (omega arith));
+    same = λ y b. ⊎-elim
+        (λ k. subst (λ (z : ℕ). Alike cl j y (vertexAt first z)) (sym (old y k)) (s .same y k))
+        (λ e. subst (λ (y : ℕ). Alike cl j y (vertexAt first (jointAt (set place x q) y))) (sym e)
+        (subst (λ (z : ℕ). Alike cl j x (vertexAt first z)) (sym new) a))
+        (less-or-equal y x (omega arith));
   }
-    where
-      new : item (set place x q) x ≡ q
-      new = getD-set-same place x q 0 (let z = s .place-long in omega arith)
-
-      old : (y : ℕ) → y < x → item (set place x q) y ≡ item place y
-      old y k = getD-set-other place x y q 0 (λ e. let z : y ≡ x = e in omega arith)
 
   -- x is the first of a new class
-  pub merged-new : Merged cl j x n first place → Merged cl j (x + 1) (n + 1) (set first n x) (set place x n)
-  merged-new s = record {
-    first-long = length-set first n x ∙ s .first-long;
-    place-long = length-set place x n ∙ s .place-long;
+  pub merged-new : q .0 ≡ n → Merged cl j (x + 1) (n + 1) (set first n (record { 0 = x })) (set place x q)
+  merged-new f = record {
+    first-long = length-set first n (record { 0 = x }) ∙ s .first-long;
+    place-long = length-set place x q ∙ s .place-long;
     few = (let z = s .few in omega arith);
-    low = λ i b. ⊎-elim (λ k. let z = s .low i k in let w = kept i k in omega arith) (λ e. subst (λ (i : ℕ). item (set first n x) i < x + 1) (sym e) (let w = here in omega arith)) (less-or-equal i n (omega arith));
+    low = λ i b. ⊎-elim
+        (λ k. let z = s .low i k in let w = kept i k in omega arith)
+        (λ e. subst (λ (i : ℕ). vertexAt first' i < x + 1) (sym e) (let w = here in omega arith))
+        (less-or-equal i n (omega arith));
     small = λ i b. small i b (ℕ-discrete i n);
     start = start-of (ℕ-discrete 0 n);
-    within = λ y b. ⊎-elim (λ k. let z = s .within y k in let w = old y k in omega arith) (λ e. subst (λ (y : ℕ). item (set place x n) y < n + 1) (sym e) (let w = new in omega arith)) (less-or-equal y x (omega arith));
-    same = λ y b. ⊎-elim (λ k. subst (λ (z : ℕ). Alike cl j y (item (set first n x) z)) (sym (old y k)) (subst (λ (z : ℕ). Alike cl j y z) (sym (kept (item place y) (s .within y k))) (s .same y k)))
-        (λ e. subst (λ (y : ℕ). Alike cl j y (item (set first n x) (item (set place x n) y))) (sym e) (subst (λ (z : ℕ). Alike cl j x (item (set first n x) z)) (sym new) (subst (λ (z : ℕ). Alike cl j x z) (sym here) (λ o l. refl)))) (less-or-equal y x (omega arith));
+    within = λ y b. ⊎-elim
+        (λ k. let z = s .within y k in let w = old y k in omega arith)
+        (λ e. subst (λ (y : ℕ). jointAt (set place x q) y < n + 1) (sym e) (let w = new in omega arith))
+        (less-or-equal y x (omega arith));
+    same = λ y b. ⊎-elim
+        (λ k. subst (λ (z : ℕ). Alike cl j y (vertexAt first' z)) (sym (old y k))
+        (subst (λ (z : ℕ). Alike cl j y z) (sym (kept (jointAt place y) (s .within y k))) (s .same y k)))
+        (λ e. subst (λ (y : ℕ). Alike cl j y (vertexAt first' (jointAt (set place x q) y))) (sym e)
+        (subst (λ (z : ℕ). Alike cl j x (vertexAt first' z)) (sym (new ∙ f)) (subst (λ (z : ℕ). Alike cl j x z) (sym here) (λ o l. refl))))
+        (less-or-equal y x (omega arith));
   }
     where
-      room : n < length first
-      room = let z = s .first-long in let w = s .few in omega arith
+      first' : List Vertex
+      first' = set first n (record { 0 = x })
 
-      here : item (set first n x) n ≡ x
-      here = getD-set-same first n x 0 room
+      here : vertexAt first' n ≡ x
+      here = ap (λ (z : Vertex). z .0) (getD-set-same first n (record { 0 = x }) (record { 0 = 0 }) (let z = s .first-long in let w = s .few in omega arith))
 
-      kept : (i : ℕ) → i < n → item (set first n x) i ≡ item first i
-      kept i k = getD-set-other first n i x 0 (λ e. let z : i ≡ n = e in omega arith)
+      other : (i : ℕ) → (i ≡ n → ⊥) → vertexAt first' i ≡ vertexAt first i
+      other i e = ap (λ (z : Vertex). z .0) (getD-set-other first n i (record { 0 = x }) (record { 0 = 0 }) e)
 
-      new : item (set place x n) x ≡ n
-      new = getD-set-same place x n 0 (let z = s .place-long in omega arith)
+      kept : (i : ℕ) → i < n → vertexAt first' i ≡ vertexAt first i
+      kept i k = other i (λ e. let z : i ≡ n = e in omega arith)
 
-      old : (y : ℕ) → y < x → item (set place x n) y ≡ item place y
-      old y k = getD-set-other place x y n 0 (λ e. let z : y ≡ x = e in omega arith)
-
-      small : (i : ℕ) → i < 32 → Dec (i ≡ n) → item (set first n x) i < 32
-      small i b (yes e) = subst (λ (i : ℕ). item (set first n x) i < 32) (sym e) (let w = here in omega arith)
-      small i b (no e) = let w = getD-set-other first n i x 0 e in let z = s .small i b in omega arith
+      small : (i : ℕ) → i < 32 → Dec (i ≡ n) → vertexAt first' i < 32
+      small i b (yes e) = subst (λ (i : ℕ). vertexAt first' i < 32) (sym e) (let w = here in omega arith)
+      small i b (no e) = let w = other i e in let z = s .small i b in omega arith
 
       -- the first class is that of vertex 0
-      start-of : Dec (0 ≡ n) → item (set first n x) 0 ≡ 0
-      start-of (yes e) = subst (λ (i : ℕ). item (set first n x) i ≡ 0) (sym e) (here ∙ zero-x (s .within) e)
+      start-of : Dec (0 ≡ n) → vertexAt first' 0 ≡ 0
+      start-of (yes e) = subst (λ (i : ℕ). vertexAt first' i ≡ 0) (sym e) (here ∙ zero-x (s .within) e)
         where
-          zero-x : ((y : ℕ) → y < x → item place y < n) → 0 ≡ n → x ≡ 0
+          zero-x : ((y : ℕ) → y < x → jointAt place y < n) → 0 ≡ n → x ≡ 0
           zero-x w e = elim (decLt 0 x) as (λ _. x ≡ 0) [ yes l ↦ absurd (let z = w 0 l in omega arith) | no l ↦ omega arith ]
-      start-of (no e) = getD-set-other first n 0 x 0 e ∙ s .start
+      start-of (no e) = other 0 e ∙ s .start
 
 -- the same as the code says it
-module _ (cl : List ℕ) (j x n : ℕ) (first place first' place' : List ℕ) (n' : ℕ) (h : x < 32) where
-  pub at-new : first' ≡ set first n x → place' ≡ set place x n → n' ≡ n + 1 → Merged cl j x n first place → Merged cl j (x + 1) n' first' place'
-  at-new a b c s = subst (λ (z : ℕ). Merged cl j (x + 1) z first' place') (sym c) (subst (λ (z : List ℕ). Merged cl j (x + 1) (n + 1) z place') (sym a) (subst (Merged cl j (x + 1) (n + 1) (set first n x)) (sym b) (merged-new cl j x n first place h s)))
+module _ (cl : List ℕ) (j x n : ℕ) (first first' : List Vertex) (place : List JointClass) (n' : ℕ) (q : JointClass) (h : x < 32) (s : Merged cl j x n first place) where
+  pub at-new : q .0 ≡ n → first' ≡ set first n (record { 0 = x }) → n' ≡ n + 1 → Merged cl j (x + 1) n' first' (set place x q)
+  at-new e a c =
+      subst (λ (z : ℕ). Merged cl j (x + 1) z first' (set place x q)) (sym c)
+      (subst (λ (z : List Vertex). Merged cl j (x + 1) (n + 1) z (set place x q)) (sym a) (merged-new cl j x n first place q h s e))
 
-  pub at-old : (q : ℕ) → (q ≤ n) × (q < n → Alike cl j x (item first q)) → (q ≡ n → ⊥) → first' ≡ first → place' ≡ set place x q → n' ≡ n → Merged cl j x n first place → Merged cl j (x + 1) n' first' place'
-  at-old q r ne a b c s =
-      let l : q < n = (let z = r .0 in omega arith) in
-      subst (λ (z : ℕ). Merged cl j (x + 1) z first' place') (sym c) (subst (λ (z : List ℕ). Merged cl j (x + 1) n z place') (sym a) (subst (Merged cl j (x + 1) n first) (sym b) (merged-old cl j x n first place h q l (r .1 l) s)))
+  pub at-old : (q .0 ≤ n) × (q .0 < n → Alike cl j x (vertexAt first (q .0))) → (q .0 ≡ n → ⊥) → first' ≡ first → n' ≡ n
+      → Merged cl j (x + 1) n' first' (set place x q)
+  at-old r ne a c =
+      let l : q .0 < n = (let z = r .0 in omega arith) in
+      subst (λ (z : ℕ). Merged cl j (x + 1) z first' (set place x q)) (sym c)
+      (subst (λ (z : List Vertex). Merged cl j (x + 1) n z (set place x q)) (sym a) (merged-old cl j x n first place q h s l (r .1 l)))
 
-pub picked-more : (cl first : List ℕ) (i x : ℕ) (r : List ℕ) → i < 256 → x ≡ labelAt cl (i / 32) (item first (i % 32)) → Picked cl first i r → Picked cl first (i + 1) (set r i x)
+pub picked-more : (cl : List ℕ) (first : List Vertex) (i x : ℕ) (r : List ℕ) → i < 256 → x ≡ labelAt cl (i / 32) (vertexAt first (i % 32)) → Picked cl first i r → Picked cl first (i + 1) (set r i x)
 picked-more cl first i x r h e s = record {
   long = length-set r i x ∙ s .long;
-  done = λ k b. ⊎-elim (λ a. getD-set-other r i k x 0 (λ q. let z : k ≡ i = q in omega arith) ∙ s .done k a) (λ q. subst (λ (k : ℕ). getD (set r i x) k 0 ≡ labelAt cl (k / 32) (item first (k % 32))) (sym q) (getD-set-same r i x 0 (let z = s .long in omega arith) ∙ e)) (less-or-equal k i (omega arith));
+  done = λ k b. ⊎-elim (λ a. getD-set-other r i k x 0 (λ q. let z : k ≡ i = q in omega arith) ∙ s .done k a)
+      (λ q. subst (λ (k : ℕ). getD (set r i x) k 0 ≡ labelAt cl (k / 32) (vertexAt first (k % 32))) (sym q) (getD-set-same r i x 0 (let z = s .long in omega arith) ∙ e))
+      (less-or-equal k i (omega arith));
   rest = λ k b. getD-set-other r i k x 0 (λ q. let z : k ≡ i = q in omega arith) ∙ s .rest k (omega arith);
 }
 
-pub spread-more : (place codes : List ℕ) (n x : ℕ) (r : List ℕ) → n < 32 → x ≡ item codes (item place n) → Spread place codes n r → Spread place codes (n + 1) (set r n x)
+pub spread-more : (place : List JointClass) (codes : List ℕ) (n x : ℕ) (r : List ℕ) → n < 32 → x ≡ item codes (jointAt place n) → Spread place codes n r → Spread place codes (n + 1) (set r n x)
 spread-more place codes n x r h e s = record {
   long = length-set r n x ∙ s .long;
-  done = λ k b. ⊎-elim (λ a. getD-set-other r n k x 0 (λ q. let z : k ≡ n = q in omega arith) ∙ s .done k a) (λ q. subst (λ (k : ℕ). item (set r n x) k ≡ item codes (item place k)) (sym q) (getD-set-same r n x 0 (let z = s .long in omega arith) ∙ e)) (less-or-equal k n (omega arith));
+  done = λ k b. ⊎-elim (λ a. getD-set-other r n k x 0 (λ q. let z : k ≡ n = q in omega arith) ∙ s .done k a)
+      (λ q. subst (λ (k : ℕ). item (set r n x) k ≡ item codes (jointAt place k)) (sym q) (getD-set-same r n x 0 (let z = s .long in omega arith) ∙ e)) (less-or-equal k n (omega arith));
 }
 
 -- the labels of the classes are labels
-module _ (cl first r : List ℕ) (j : ℕ) (outs : j ≤ 8) (labels : Labels cl) (small : (i : ℕ) → i < 32 → item first i < 32) (p : Picked cl first (j * 32) r) where
+module _ (cl : List ℕ) (first : List Vertex) (r : List ℕ) (j : ℕ) (outs : j ≤ 8) (labels : Labels cl) (small : (i : ℕ) → i < 32 → vertexAt first i < 32) (p : Picked cl first (j * 32) r) where
   pub picked-labels : Labels r
   picked-labels = record { long = p .long; low = λ k h. low k h (decLt k (j * 32)) }
     where
       low : (k : ℕ) → k < 256 → Dec (k < j * 32) → getD r k 0 < 32
-      low k h (yes l) = subst (λ (z : ℕ). z < 32) (sym (p .done k l)) (labels .low (k / 32 * 32 + item first (k % 32)) (let z = small (k % 32) (omega arith) in omega arith))
+      low k h (yes l) = subst (λ (z : ℕ). z < 32) (sym (p .done k l)) (labels .low (k / 32 * 32 + vertexAt first (k % 32)) (let z = small (k % 32) (omega arith) in omega arith))
       low k h (no l) = let z = p .rest k (omega arith) in omega arith
 
-  pub picked-at : (o i : ℕ) → o < j → i < 32 → labelAt r o i ≡ labelAt cl o (item first i)
-  picked-at o i h k = p .done (o * 32 + i) (omega arith) ∙ ap (λ (z : ℕ). labelAt cl z (item first ((o * 32 + i) % 32))) (let e : (o * 32 + i) / 32 ≡ o = omega arith in e) ∙ ap (λ (z : ℕ). labelAt cl o (item first z)) (let e : (o * 32 + i) % 32 ≡ i = omega arith in e)
+  pub picked-at : (o i : ℕ) → o < j → i < 32 → labelAt r o i ≡ labelAt cl o (vertexAt first i)
+  picked-at o i h k = p .done (o * 32 + i) (omega arith) ∙ ap (λ (z : ℕ). labelAt cl z (vertexAt first ((o * 32 + i) % 32))) (let e : (o * 32 + i) / 32 ≡ o = omega arith in e) ∙ ap
+      (λ (z : ℕ). labelAt cl o (vertexAt first z)) (let e : (o * 32 + i) % 32 ≡ i = omega arith in e)
 
 -- the answer for the classes is the answer for the vertices
-module _ (cl : List ℕ) (v j n : ℕ) (rows first place r codes codes' : List ℕ) (labels : Labels cl) (few : v ≤ 32) (outs : j ≤ 8) (m : Merged cl j v n first place) (p : Picked cl first (j * 32) r) (s : Spread place codes v codes') where
+module _ (cl : List ℕ) (v j n : ℕ) (rows : List ℕ) (first : List Vertex) (place : List JointClass) (r codes codes' : List ℕ) (labels : Labels cl) (few : v ≤ 32) (outs : j ≤ 8)
+    (m : Merged cl j v n first place) (p : Picked cl first (j * 32) r) (s : Spread place codes v codes') where
   -- the label of class i
-  class-label : (o i : ℕ) → o < j → i < n → labelAt r o i ≡ labelAt cl o (item first i)
+  class-label : (o i : ℕ) → o < j → i < n → labelAt r o i ≡ labelAt cl o (vertexAt first i)
   class-label o i h k = picked-at cl first r j outs labels (m .small) p o i h (let z = m .few in omega arith)
 
-  vertex-label : (o x : ℕ) → o < j → x < v → labelAt cl o x ≡ labelAt r o (item place x)
-  vertex-label o x h a = m .same x a o h ∙ sym (class-label o (item place x) h (m .within x a))
+  vertex-label : (o x : ℕ) → o < j → x < v → labelAt cl o x ≡ labelAt r o (jointAt place x)
+  vertex-label o x h a = m .same x a o h ∙ sym (class-label o (jointAt place x) h (m .within x a))
 
   pub decided-merged : (ok : Bool) → Decided r n j rows ok codes → Decided cl v j rows ok codes'
   decided-merged true d = record {
-    tells = λ o x y h a b c e. d .tells o (item place x) (item place y) h (m .within x a) (m .within y b)
+    tells = λ o x y h a b c e. d .tells o (jointAt place x) (jointAt place y) h (m .within x a) (m .within y b)
         (λ q. c (vertex-label o x h a ∙ q ∙ sym (vertex-label o y h b)))
         (sym (ap (λ (z : ℕ). bitAnd z (item rows o)) (s .done x a)) ∙ e ∙ ap (λ (z : ℕ). bitAnd z (item rows o)) (s .done y b));
   }
-  decided-merged false d = λ f c z. d (λ (i : ℕ). f (item first i))
-      (record { tells = λ o x y h a b k e. c .tells o (item first x) (item first y) h (m .low x a) (m .low y b) (λ q. k (class-label o x h a ∙ q ∙ sym (class-label o y h b))) e })
+  decided-merged false d = λ f c z. d (λ (i : ℕ). f (vertexAt first i))
+      (record { tells = λ o x y h a b k e. c .tells o (vertexAt first x) (vertexAt first y) h (m .low x a) (m .low y b) (λ q. k (class-label o x h a ∙ q ∙ sym (class-label o y h b))) e })
       (ap f (m .start) ∙ z)

@@ -1,23 +1,33 @@
 // One vertex for each joint class of the outputs in question: the vertices are merged, the search for codes runs on the
-// classes, and each vertex takes the code of its class. The contract is that of the search on all vertices.
+// classes, and each vertex takes the code of its class. The contract is that of the search on all vertices. Here vertices
+// and joint classes are numbers of two types; the crates below search for codes of plain numbers, whatever these stand for,
+// and `codes_for` is where joint classes become such numbers and their codes come back.
 ghost use mathlib.Core.Path.{_≡_};
 ghost use mathlib.Core.Bool.{Bool, true, false};
 ghost use mathlib.Core.List.{List};
 ghost use Prim.Native.Nat.{ℕ, _+_, _*_, _<_, _≤_};
 ghost use lib.ListN.{length, getD};
+ghost use Rattle.limits.specs.Limits.{searchOutputs, maxVertices};
 ghost use Rattle.numbering.specs.Given.{Labels, item};
 ghost use Rattle.readers.specs.Masks.{Short, Decided};
-ghost use Rattle.joint.specs.Merge.{Alike, Merged, Picked, Spread};
+ghost use Rattle.joint.specs.Merge.{Alike, Merged, Picked, Spread, vertexAt, jointAt};
+use limits::LABELS;
+use limits::MAX_VERTICES;
+use limits::SEARCH_OUTPUTS;
+use limits::Vertex;
+
+// The number of a joint class of the outputs in question: vertices that have the same class for each of them.
+pub struct JointClass(pub usize);
 
 // Whether x and y have the same classes for the first j outputs.
-pub fn alike(cl: &[u8], j: usize, x: usize, y: usize) -> bool
-    requires { ⌜ Labels (now cl) × (j ≤ 8) × (x < 32) × (y < 32) ⌝ }
-    ensures { λ r. ⌜ (r ≡ true → Alike (now (cl .entry)) j x y) ⌝ }
+pub fn alike(cl: &[u8], j: usize, x: Vertex, y: Vertex) -> bool
+    requires { ⌜ Labels (now cl) × (j ≤ searchOutputs) × (x .0 < maxVertices) × (y .0 < maxVertices) ⌝ }
+    ensures { λ r. ⌜ (r ≡ true → Alike (now (cl .entry)) j (x .0) (y .0)) ⌝ }
 {
     let mut o = 0;
     while o < j {
-        let a = numbering::label(cl, o, x);
-        let b = numbering::label(cl, o, y);
+        let a = numbering::label(cl, o, x.0);
+        let b = numbering::label(cl, o, y.0);
         if a != b {
             return false;
         }
@@ -26,44 +36,49 @@ pub fn alike(cl: &[u8], j: usize, x: usize, y: usize) -> bool
     true
 }
 
-// The class of x among the first n, or n where it is in none of them.
-pub fn class_of(cl: &[u8], j: usize, first: [u8; 32], n: usize, x: usize) -> usize
-    requires { ⌜ Labels (now cl) × (j ≤ 8) × (x < 32) × (n ≤ 32) × ((i : ℕ) → i < 32 → item first i < 32) ⌝ }
-    ensures { λ r. ⌜ (r ≤ n) × (r < n → Alike (now (cl .entry)) j x (item first r)) ⌝ }
+// The class of x: one of the first n, each of which has a first vertex, or the next where it is in none of them.
+pub fn class_of(
+    cl: &[u8],
+    j: usize,
+    first: [Vertex; MAX_VERTICES],
+    n: usize,
+    x: Vertex,
+) -> JointClass
+    requires { ⌜ Labels (now cl) × (j ≤ searchOutputs) × (x .0 < maxVertices) × (n ≤ maxVertices) × ((i : ℕ) → i < maxVertices → vertexAt first i < maxVertices) ⌝ }
+    ensures { λ r. ⌜ (r .0 ≤ n) × (r .0 < n → Alike (now (cl .entry)) j (x .0) (vertexAt first (r .0))) ⌝ }
 {
     let mut i = 0;
     while i < n {
-        if alike(cl, j, x, first[i] as usize) {
-            return i;
+        let y = first[i];
+        if alike(cl, j, x, y) {
+            return JointClass(i);
         }
         i += 1;
     }
-    n
+    JointClass(n)
 }
 
 // The number of joint classes, the first vertex of each class, and the class of each vertex.
 pub struct Classes {
     pub count: usize,
-    pub first: [u8; 32],
-    pub place: [u8; 32],
+    pub first: [Vertex; MAX_VERTICES],
+    pub place: [JointClass; MAX_VERTICES],
 }
 
 pub fn merge(cl: &[u8], v: usize, j: usize) -> Classes
-    requires { ⌜ Labels (now cl) × (v ≤ 32) × (j ≤ 8) ⌝ }
+    requires { ⌜ Labels (now cl) × (v ≤ maxVertices) × (j ≤ searchOutputs) ⌝ }
     ensures { λ r. ⌜ Merged (now (cl .entry)) j v (r .count) (r .first) (r .place) ⌝ }
 {
-    let mut first = [0u8; 32];
-    let mut place = [0u8; 32];
+    let mut first = [Vertex(0); MAX_VERTICES];
+    let mut place = [JointClass(0); MAX_VERTICES];
     let mut n: usize = 0;
     let mut x: usize = 0;
     while x < v {
-        let q = class_of(cl, j, first, n, x);
-        if q == n {
-            first[n] = x as u8;
-            place[x] = n as u8;
+        let q = class_of(cl, j, first, n, Vertex(x));
+        place[x] = q;
+        if q.0 == n {
+            first[n] = Vertex(x);
             n += 1;
-        } else {
-            place[x] = q as u8;
         }
         x += 1;
     }
@@ -75,37 +90,44 @@ pub fn merge(cl: &[u8], v: usize, j: usize) -> Classes
 }
 
 // The labels of the classes, for the first j outputs.
-pub fn relabel(cl: &[u8], first: [u8; 32], j: usize) -> [u8; 256]
-    requires { ⌜ Labels (now cl) × (j ≤ 8) × ((i : ℕ) → i < 32 → item first i < 32) ⌝ }
-    ensures { λ r. ⌜ Picked (now (cl .entry)) first (j * 32) r ⌝ }
+pub fn relabel(cl: &[u8], first: [Vertex; MAX_VERTICES], j: usize) -> [u8; LABELS]
+    requires { ⌜ Labels (now cl) × (j ≤ searchOutputs) × ((i : ℕ) → i < maxVertices → vertexAt first i < maxVertices) ⌝ }
+    ensures { λ r. ⌜ Picked (now (cl .entry)) first (j * maxVertices) r ⌝ }
 {
-    let mut r = [0u8; 256];
-    let end = j * 32;
+    let mut r = [0u8; LABELS];
+    let end = j * MAX_VERTICES;
     let mut i = 0;
     while i < end {
-        r[i] = numbering::label(cl, i / 32, first[i % 32] as usize);
+        let x = first[i % MAX_VERTICES];
+        r[i] = numbering::label(cl, i / MAX_VERTICES, x.0);
         i += 1;
     }
     r
 }
 
 // Each vertex with the code of its class.
-pub fn expand(codes: [u8; 32], place: [u8; 32], v: usize) -> [u8; 32]
-    requires { ⌜ (v ≤ 32) × ((x : ℕ) → x < v → item place x < 32) ⌝ }
+pub fn expand(
+    codes: [u8; MAX_VERTICES],
+    place: [JointClass; MAX_VERTICES],
+    v: usize,
+) -> [u8; MAX_VERTICES]
+    requires { ⌜ (v ≤ maxVertices) × ((x : ℕ) → x < v → jointAt place x < maxVertices) ⌝ }
     ensures { λ r. ⌜ Spread place codes v r ⌝ }
 {
-    let mut r = [0u8; 32];
+    let mut r = [0u8; MAX_VERTICES];
     let mut x = 0;
     while x < v {
-        r[x] = codes[place[x] as usize];
+        let q = place[x];
+        let i = q.0;
+        r[x] = codes[i];
         x += 1;
     }
     r
 }
 
 // Codes for v vertices that tell the classes of the first j outputs apart, each reading its row of cells.
-pub fn codes_for(cl: &[u8], v: usize, j: usize, rows: [u8; 8]) -> coding::Search
-    requires { ⌜ Labels (now cl) × (v ≤ 32) × (j ≤ 8) × Short rows j ⌝ }
+pub fn codes_for(cl: &[u8], v: usize, j: usize, rows: [u8; SEARCH_OUTPUTS]) -> coding::Search
+    requires { ⌜ Labels (now cl) × (v ≤ maxVertices) × (j ≤ searchOutputs) × Short rows j ⌝ }
     ensures { λ r. ⌜ Decided (now (cl .entry)) v j rows (r .ok) (r .codes) ⌝ }
 {
     let m = merge(cl, v, j);

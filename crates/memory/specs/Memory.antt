@@ -10,14 +10,25 @@ use native.Mathlib.Nat.{one-mul, mod-eq-of-lt, mul-le-mul}
 use lib.Pow.{pow-lt, pow-pos, pow-mono}
 use lib.ListN.{length, getD, set, length-set}
 use lib.Seq.{getD-set-same, getD-set-other}
+use Rattle.limits.specs.Limits.{searchOutputs}
 use Rattle.numbering.specs.Given.{item}
 use Rattle.questions.specs.Question.{Barred}
 
 -- ======== definitions
+-- words of a memory; the questions that have a word are below questionEnd; sets of outputs
+abbrev pub wordCount : ℕ
+wordCount = 256
+
+abbrev pub questionEnd : ℕ
+questionEnd = 2 ^ 62
+
+abbrev pub setCount : ℕ
+setCount = 2 ^ searchOutputs
+
 -- an odd word says that no codes answer the question of its half
 pub record Honest (cl : List ℕ) (v : ℕ) (mem : List ℕ) : Type 0 where
-  pub long : length mem ≡ 256
-  pub bad : (i : ℕ) → i < 256 → item mem i % 2 ≡ 1 → Barred cl v (item mem i / 2)
+  pub long : length mem ≡ wordCount
+  pub bad : (i : ℕ) → i < wordCount → item mem i % 2 ≡ 1 → Barred cl v (item mem i / 2)
 
 -- w is odd only where it is k's word and k was not answered
 pub record Word (k : ℕ) (ok : Bool) (w : ℕ) : Type 0 where
@@ -54,14 +65,14 @@ pub word-bad : (k : ℕ) → Word k false (k * 2 + 1)
 word-bad k = record { not-ok = λ e. refl; half = λ e. (let z : (k * 2 + 1) / 2 ≡ k = omega arith in z) }
 
 -- ---- sets of outputs
-pub sets-are : (n : ℕ) → n ≤ 8 → (0 < 1 * 2 ^ n % 2 ^ 64) × (1 * 2 ^ n % 2 ^ 64 ≤ 256)
+pub sets-are : (n : ℕ) → n ≤ searchOutputs → (0 < 1 * 2 ^ n % 2 ^ 64) × (1 * 2 ^ n % 2 ^ 64 ≤ setCount)
 sets-are n h =
     let l : n < 64 = omega arith in
     let e : 1 * 2 ^ n % 2 ^ 64 ≡ 2 ^ n = rw one-mul (mod-eq-of-lt (pow-lt l)) in
     let p : 0 < 2 ^ n = pow-pos n in
-    let m : 2 ^ n ≤ 2 ^ 8 = pow-mono h in
+    let m : 2 ^ n ≤ setCount = pow-mono h in
     (omega arith, omega arith)
 
--- the sets of each size are at most 256, and m sizes are at most 8
-pub sizes-few : (end m : ℕ) → end ≤ 256 → m ≤ 8 → end * m ≤ 2048
-sizes-few end m h k = let p : end * m ≤ 256 * 8 = mul-le-mul h k in omega arith
+-- the sets of outputs, once for each of m sizes
+pub sizes-few : (end m : ℕ) → end ≤ setCount → m ≤ searchOutputs → end * m ≤ setCount * searchOutputs
+sizes-few end m h k = mul-le-mul h k

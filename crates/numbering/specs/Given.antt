@@ -1,5 +1,5 @@
--- What the search for codes is given, and what it is to find. Labels: output o's class at vertex x stands at o * 32 + x.
--- A vertex without a code has 64. A set of codes is a number of 64 digits. Assumes nothing.
+-- What the search for codes is given, and what it is to find. Labels: output o's class at vertex x stands at
+-- o * maxVertices + x. A vertex without a code has maxCodes. A set of codes is a number of as many digits. Assumes nothing.
 use mathlib.Core.Path.{_≡_}
 use mathlib.Core.Bool.{Bool, true, false}
 use mathlib.Core.List.{List}
@@ -7,46 +7,47 @@ use Prim.Native.Nat.{ℕ, _+_, _*_, _^_, _≤_, _<_}
 use lib.Bits.{bitAnd}
 use lib.Dec.{eqb}
 use lib.ListN.{length, getD}
+use Rattle.limits.specs.Limits.{maxVertices, labelCount, blockCount, maxCodes, maxCells}
 use Rattle.bits.specs.Digit.{on}
 use Rattle.cells.specs.Lists.{count}
 use Rattle.cells.specs.Shared.{Fits}
 
 abbrev pub labelAt : List ℕ → ℕ → ℕ → ℕ
-labelAt cl o x = getD cl (o * 32 + x) 0
+labelAt cl o x = getD cl (o * maxVertices + x) 0
 
 abbrev pub item : List ℕ → ℕ → ℕ
 item l o = getD l o 0
 
 -- the set of codes in one block with c, for a mask
 abbrev pub Block : ℕ → ℕ → ℕ → Type 0
-Block mask c s = (k : ℕ) → k < 64 → on s k ≡ eqb (bitAnd k mask) (bitAnd c mask)
+Block mask c s = (k : ℕ) → k < maxCodes → on s k ≡ eqb (bitAnd k mask) (bitAnd c mask)
 
--- the labels of up to 8 outputs at up to 32 vertices
+-- the labels of the outputs at the vertices; an output has no more classes than there are vertices
 pub record Labels (cl : List ℕ) : Type 0 where
-  pub long : length cl ≡ 256
-  pub low : (k : ℕ) → k < 256 → getD cl k 0 < 32
+  pub long : length cl ≡ labelCount
+  pub low : (k : ℕ) → k < labelCount → getD cl k 0 < maxVertices
 
 -- for each output and code the block of the code
 pub record Blocks (ms bs : List ℕ) (j : ℕ) : Type 0 where
-  pub long : length bs ≡ 512
-  pub each : (o c : ℕ) → o < j → c < 64 → Block (item ms o) c (getD bs (o * 64 + c) 0)
+  pub long : length bs ≡ blockCount
+  pub each : (o c : ℕ) → o < j → c < maxCodes → Block (item ms o) c (getD bs (o * maxCodes + c) 0)
 
 -- shared and private cells of each output: a private cell is no other output's, and cap is 2 to their number
 pub record Plan (ms ps caps : List ℕ) (j : ℕ) : Type 0 where
   pub private : (o q i : ℕ) → o < j → q < j → on (item ps o) i ≡ true → on (item ms q) i ≡ false
   pub single : (o q i : ℕ) → o < j → q < j → (o ≡ q → ⊥) → on (item ps o) i ≡ true → on (item ps q) i ≡ false
-  pub room : (o : ℕ) → o < j → item caps o ≡ 2 ^ count (on (item ps o)) 6
-  pub short : (o : ℕ) → o < j → item ps o < 64
-  pub short-shared : (o : ℕ) → o < j → item ms o < 64
+  pub room : (o : ℕ) → o < j → item caps o ≡ 2 ^ count (on (item ps o)) maxCells
+  pub short : (o : ℕ) → o < j → item ps o < maxCodes
+  pub short-shared : (o : ℕ) → o < j → item ms o < maxCodes
 
 -- codes over the shared cells that stand for a core
 pub record Solves (cl base ms caps spots : List ℕ) (v j : ℕ) (g : ℕ → ℕ) : Type 0 where
-  pub fits : Fits v j 32 (labelAt cl) (item ms) (item caps) (item spots) (labelAt base) g
-  pub small : (x : ℕ) → x < v → g x < 64
+  pub fits : Fits v j maxVertices (labelAt cl) (item ms) (item caps) (item spots) (labelAt base) g
+  pub small : (x : ℕ) → x < v → g x < maxCodes
 
 -- g has the codes given so far, and keeps to the sets that are left
 pub record Extends (codes dom : List ℕ) (v : ℕ) (g : ℕ → ℕ) : Type 0 where
-  pub coded : (x : ℕ) → x < v → item codes x < 64 → g x ≡ item codes x
+  pub coded : (x : ℕ) → x < v → item codes x < maxCodes → g x ≡ item codes x
   pub within : (x : ℕ) → x < v → on (item dom x) (g x) ≡ true
 
 -- each solution that keeps to dom keeps to r

@@ -10,7 +10,6 @@ use native.Mathlib.Decide.{ℕ-discrete, decLt}
 use native.Mathlib.Omega.{arith}
 use native.Mathlib.Numerals.{add-one}
 use lib.Bits.{bitAnd, bitOr, and-le-r}
-use native.Mathlib.Nat.{mod-eq-of-lt}
 use borrow.Author.Tests.{eq-eqb, ne-eqb}
 use Rattle.cells.specs.Sets.{With}
 use lib.ListN.{length, getD, set, length-set}
@@ -194,9 +193,9 @@ spread-one n p i r r' e f w s = record {
   rest = λ k h. w k ∙ ap (λ (b : Bool). orb (on r k) b) (ne-eqb k i (λ q. omega arith)) ∙ or-off (on r k) ∙ s .rest k (omega arith);
 }
 
--- what is spread over six digits is below 64
-pub spread-low : (n p r : ℕ) → Spread n p 6 r → r % 256 ≡ r
-spread-low n p r s = mod-eq-of-lt (low-of r (equal-digits (bitAnd r 255) r (λ k. on-and r 255 k ∙ go k (decLt k 8))))
+-- what is spread over six digits fits in a byte
+pub spread-low : (n p r : ℕ) → Spread n p 6 r → r < 256
+spread-low n p r s = low-of r (equal-digits (bitAnd r 255) r (λ k. on-and r 255 k ∙ go k (decLt k 8)))
   where
     low-of : (r : ℕ) → bitAnd r 255 ≡ r → r < 256
     low-of r e = let h = and-le-r r 255 in omega arith
@@ -236,8 +235,8 @@ spreading-zero n p i r k r' k' e f a b s = record {
   low = (let z = s .low in omega arith);
 }
 
-pub spreading-end : (n p i r k : ℕ) → 6 ≤ i → i ≤ 6 → Spreading n p i r k → Spread n p 6 (r % 256)
-spreading-end n p i r k a b s = let e : i ≡ 6 = omega arith in let t = subst (λ (z : ℕ). Spread n p z r) e (s .spread) in subst (Spread n p 6) (sym (spread-low n p r t)) t
+pub spreading-end : (n p i r k : ℕ) → 6 ≤ i → i ≤ 6 → Spreading n p i r k → Spread n p 6 r
+spreading-end n p i r k a b s = let e : i ≡ 6 = omega arith in subst (λ (z : ℕ). Spread n p z r) e (s .spread)
 
 -- ======== writing one output's private cells
 -- the first x codes have their numbers in the digits of p, and are as before elsewhere

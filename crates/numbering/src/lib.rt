@@ -1,25 +1,36 @@
 // Private cells written out: given codes over the shared cells, each output's classes are numbered inside its blocks and
-// the numbers are spread over the digits of its private cells. It rests on the laws of specs/Number.
+// the numbers are spread over the digits of its private cells. It rests on the laws of specs/Number. From here up to readers
+// vertices are plain numbers, whatever they stand for: the crate joint hands in joint classes.
 ghost use mathlib.Core.Path.{_≡_};
 ghost use mathlib.Core.Bool.{Bool, true, false};
 ghost use Prim.Native.Nat.{ℕ, _+_, _*_, _<_, _≤_};
 ghost use mathlib.Core.List.{List};
 ghost use lib.ListN.{length, getD};
+ghost use Rattle.limits.specs.Limits.{searchOutputs, maxVertices, labelCount, maxCodes, maxCells};
 ghost use Rattle.bits.specs.Digit.{on};
 ghost use Rattle.numbering.specs.Given.{labelAt, item, Plan, Told};
 ghost use Rattle.numbering.specs.Number.{Numbered, Number, Spread, Written};
+use limits::MAX_VERTICES;
+use limits::SEARCH_OUTPUTS;
 
 // The class of vertex x for output o.
 pub fn label(cl: &[u8], o: usize, x: usize) -> u8
-    requires { ⌜ (length (now cl) ≡ 256) × (o < 8) × (x < 32) ⌝ }
+    requires { ⌜ (length (now cl) ≡ labelCount) × (o < searchOutputs) × (x < maxVertices) ⌝ }
     ensures { λ r. ⌜ r ≡ labelAt (now (cl .entry)) o x ⌝ }
 {
-    cl[o * 32 + x]
+    cl[o * MAX_VERTICES + x]
 }
 
 // A number for x's class inside its block: the one that it has, or the next after the highest.
-pub fn number(cl: &[u8], o: usize, mask: u8, codes: [u8; 32], nums: [u8; 32], x: usize) -> u8
-    requires { ⌜ (length (now cl) ≡ 256) × (o < 8) × (x < 32) × Numbered (now cl) codes o mask x nums ⌝ }
+pub fn number(
+    cl: &[u8],
+    o: usize,
+    mask: u8,
+    codes: [u8; MAX_VERTICES],
+    nums: [u8; MAX_VERTICES],
+    x: usize,
+) -> u8
+    requires { ⌜ (length (now cl) ≡ labelCount) × (o < searchOutputs) × (x < maxVertices) × Numbered (now cl) codes o mask x nums ⌝ }
     ensures { λ r. ⌜ Number (now (cl .entry)) codes o mask x nums r ⌝ }
 {
     let block = codes[x] & mask;
@@ -43,11 +54,17 @@ pub fn number(cl: &[u8], o: usize, mask: u8, codes: [u8; 32], nums: [u8; 32], x:
 }
 
 // The numbers of all v vertices.
-pub fn numbers(cl: &[u8], o: usize, mask: u8, codes: [u8; 32], v: usize) -> [u8; 32]
-    requires { ⌜ (length (now cl) ≡ 256) × (o < 8) × (v ≤ 32) ⌝ }
+pub fn numbers(
+    cl: &[u8],
+    o: usize,
+    mask: u8,
+    codes: [u8; MAX_VERTICES],
+    v: usize,
+) -> [u8; MAX_VERTICES]
+    requires { ⌜ (length (now cl) ≡ labelCount) × (o < searchOutputs) × (v ≤ maxVertices) ⌝ }
     ensures { λ r. ⌜ Numbered (now (cl .entry)) codes o mask v r ⌝ }
 {
-    let mut nums = [0u8; 32];
+    let mut nums = [0u8; MAX_VERTICES];
     let mut x = 0;
     while x < v {
         nums[x] = number(cl, o, mask, codes, nums, x);
@@ -58,12 +75,12 @@ pub fn numbers(cl: &[u8], o: usize, mask: u8, codes: [u8; 32], v: usize) -> [u8;
 
 // The digits of n, lowest first, at the digits of p.
 pub fn spread(n: u8, p: u8) -> u8
-    ensures { λ r. ⌜ Spread n p 6 r ⌝ }
+    ensures { λ r. ⌜ Spread n p maxCells r ⌝ }
 {
     let mut r: u64 = 0;
     let mut k: u8 = 0;
     let mut i: u8 = 0;
-    while i < 6 {
+    while i < cells::MAX_CELLS {
         if cells::in_set(p as u64, i) {
             if cells::in_set(n as u64, k) {
                 r = cells::with(r, i);
@@ -72,18 +89,18 @@ pub fn spread(n: u8, p: u8) -> u8
         }
         i += 1;
     }
-    (r % 256) as u8
+    r as u8
 }
 
 // Codes of the vertices, and whether they are right.
 pub struct Codes {
     pub ok: bool,
-    pub codes: [u8; 32],
+    pub codes: [u8; MAX_VERTICES],
 }
 
 // The codes with the numbers in the digits of p, unless a number is too large for them.
-pub fn write(nums: [u8; 32], cap: u8, p: u8, v: usize, codes: [u8; 32]) -> Codes
-    requires { ⌜ v ≤ 32 ⌝ }
+pub fn write(nums: [u8; MAX_VERTICES], cap: u8, p: u8, v: usize, codes: [u8; MAX_VERTICES]) -> Codes
+    requires { ⌜ v ≤ maxVertices ⌝ }
     ensures { λ r. ⌜ Written nums p cap v codes (r .ok) (r .codes) ⌝ }
 {
     let mut r = codes;
@@ -103,13 +120,13 @@ pub fn write(nums: [u8; 32], cap: u8, p: u8, v: usize, codes: [u8; 32]) -> Codes
 pub fn finish(
     cl: &[u8],
     j: usize,
-    ms: [u8; 8],
-    ps: [u8; 8],
-    caps: [u8; 8],
+    ms: [u8; SEARCH_OUTPUTS],
+    ps: [u8; SEARCH_OUTPUTS],
+    caps: [u8; SEARCH_OUTPUTS],
     v: usize,
-    codes: [u8; 32],
+    codes: [u8; MAX_VERTICES],
 ) -> Codes
-    requires { ⌜ (length (now cl) ≡ 256) × (j ≤ 8) × (v ≤ 32) × Plan ms ps caps j × ((x : ℕ) → x < v → item codes x < 64) ⌝ }
+    requires { ⌜ (length (now cl) ≡ labelCount) × (j ≤ searchOutputs) × (v ≤ maxVertices) × Plan ms ps caps j × ((x : ℕ) → x < v → item codes x < maxCodes) ⌝ }
     ensures { λ r. ⌜ ((base spots dom : List ℕ) → Told (now (cl .entry)) base ms ps caps spots v j codes dom (r .ok) (r .codes)) ⌝ }
 {
     let mut r = codes;

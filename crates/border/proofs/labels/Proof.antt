@@ -1,49 +1,48 @@
-use Rattle.border.specs.Line.{Low, low-more}
-use lib.ListN.{length, getD, set}
+use Prim.Native.Nat.{_≤_, _-_}
+use mathlib.Core.Path.{refl}
 use native.Mathlib.Omega.{arith}
-use Prim.Native.Nat.{ℕ, _<_, _≤_, _+_, _-_, _*_, _^_}
-use mathlib.Core.Path.{_≡_, refl, sym, ap, _∙_, subst}
+use Rattle.limits.specs.Limits.{labelCount}
+use Rattle.border.specs.Line.{Low, low-more}
 use borrow.Author.Needs.{needs}
 use Rattle.border.proofs.labels.Statement.{statement}
 use Rattle.border.proofs.labels.Tie as tie
 use Rattle.border.proofs.labels.Reads as reads
 use Rattle.border.proofs.labels.Lts as lts
+use Rattle.border.proofs.label.Reads as label-reads
 
 abbrev Inv-loop : tie.InvT-loop
-Inv-loop line cl₀ i₀ cl i = (i ≤ 256) × Low i cl
+Inv-loop line cl₀ i₀ cl i = (i ≤ labelCount) × Low i cl
 
 abbrev μ-loop : tie.MeasureT-loop
-μ-loop line cl₀ i₀ cl i = 256 - i
+μ-loop line cl₀ i₀ cl i = labelCount - i
 
--- src/main.rt:17:5
 loop-holds : tie.Need-loop-holds Inv-loop μ-loop
 loop-holds c = (omega arith, record { long = refl; below = λ k h. absurd (omega arith) })
 
--- src/main.rt:18:22
-add-cl : tie.Need-add-cl Inv-loop μ-loop
-add-cl c = let h = c .loop-test .taken in omega arith
+add-label : tie.Need-add-label Inv-loop μ-loop
+add-label c = let h = c .loop-test .taken in omega arith
 
--- src/main.rt:18:17
-shared-slice-read-cl : tie.Need-shared-slice-read-cl Inv-loop μ-loop
-shared-slice-read-cl c = let h = c .before .loop-test .taken in let p = c .before .before .before .pre in search needs
+shared-slice-read-label : tie.Need-shared-slice-read-label Inv-loop μ-loop
+shared-slice-read-label c = let h = c .before .loop-test .taken in let p = c .before .before .before .before .pre in search needs
 
--- src/main.rt:18:9
+label-requires : tie.Need-label-requires Inv-loop μ-loop
+label-requires c κs = search needs
+
 array-write-cl : tie.Need-array-write-cl Inv-loop μ-loop
 array-write-cl c = search needs
 
--- src/main.rt:19:9
 add-i : tie.Need-add-i Inv-loop μ-loop
 add-i c = search needs
 
--- src/main.rt:17:5
 loop-less : tie.Need-loop-less Inv-loop μ-loop
 loop-less c = search needs
 
--- src/main.rt:17:5
 loop-again : tie.Need-loop-again Inv-loop μ-loop
-loop-again c = let h = c .before .loop-test .taken in (omega arith, low-more (c .before .before .loop .i) _ (c .before .before .loop .cl) h (omega arith) (c .before .before .loop .inv .1))
+loop-again c =
+    let h = c .before .before .loop-test .taken in
+    let l = c .before .before .before .loop in
+    (omega arith, low-more (l .i) _ (l .cl) h (c .label .ensures) (l .inv .1))
 
--- src/main.rt:11:1
 returns : tie.Need-returns Inv-loop μ-loop
 returns c = let h = c .loop-test .left in let s = c .before .loop .inv .1 in record { long = s .long; low = λ k l. s .below k (omega arith) }
 
@@ -54,8 +53,9 @@ labels-spec =
     Inv-loop
     μ-loop
     loop-holds
-    add-cl
-    shared-slice-read-cl
+    add-label
+    shared-slice-read-label
+    label-requires
     array-write-cl
     add-i
     loop-less

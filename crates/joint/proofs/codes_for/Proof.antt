@@ -13,29 +13,38 @@ use Rattle.joint.proofs.merge.Reads as merge-reads
 use Rattle.joint.proofs.relabel.Reads as relabel-reads
 use Rattle.readers.proofs.codes_for.Reads as codes-for-reads
 
--- src/lib.rt:110:9
 merge-requires : tie.Need-merge-requires
 merge-requires c κs = (c .before .pre .0, c .before .pre .1, c .before .pre .2)
 
--- src/lib.rt:114:18
 relabel-requires : tie.Need-relabel-requires
 relabel-requires c κs = (c .before .before .before .before .pre .0, c .before .before .before .before .pre .2, c .before .before .merge .ensures .small)
 
--- src/lib.rt:115:32
 slice-aggregate-codes-for : tie.Need-slice-aggregate-codes-for
 slice-aggregate-codes-for c = sym (c .before .relabel .ensures .long)
 
--- src/lib.rt:115:9
 codes-for-requires : tie.Need-codes-for-requires
-codes-for-requires c κs = let z = c .before .before .before .before .merge .ensures .few in let w = c .before .before .before .before .before .before .pre .1 in (picked-labels (c .before .before .before .before .before .before .args .cl .now) _ _ (c .before .before .before .before .before .before .args .j) (c .before .before .before .before .before .before .pre .2) (c .before .before .before .before .before .before .pre .0) (c .before .before .before .before .merge .ensures .small) (c .before .relabel .ensures), omega arith, c .before .before .before .before .before .before .pre .2, c .before .before .before .before .before .before .pre .3)
+codes-for-requires c κs =
+    let relabel = c .before .relabel in
+    let merge = c .before .before .before .before .merge in
+    let args = c .before .before .before .before .before .before .args in
+    let pre = c .before .before .before .before .before .before .pre in
+    let z = merge .ensures .few in let w = pre .1 in (picked-labels (args .cl .now) _ _ (args .j) (pre .2) (pre .0) (merge .ensures .small) (relabel .ensures), omega arith, pre .2, pre .3)
 
--- src/lib.rt:117:9
 expand-requires : tie.Need-expand-requires
-expand-requires c κs = (c .before .before .before .before .before .before .before .before .pre .1, λ x h. let z = c .before .before .before .before .before .before .merge .ensures .within x h in let f = c .before .before .before .before .before .before .merge .ensures .few in let w = c .before .before .before .before .before .before .before .before .pre .1 in omega arith)
+expand-requires c κs =
+    let merge = c .before .before .before .before .before .before .merge in
+    let pre = c .before .before .before .before .before .before .before .before .pre in
+    (pre .1, λ x h. let z = merge .ensures .within x h in let f = merge .ensures .few in let w = pre .1 in omega arith)
 
--- src/lib.rt:106:1
 returns : tie.Need-returns
-returns c = decided-merged (c .before .before .before .before .before .before .before .before .before .args .cl .now) (c .before .before .before .before .before .before .before .before .before .args .v) (c .before .before .before .before .before .before .before .before .before .args .j) (c .before .before .before .before .before .before .before .merge .result .count) (c .before .before .before .before .before .before .before .before .before .args .rows) _ _ (c .before .before .before .before .relabel .result) _ _ (c .before .before .before .before .before .before .before .before .before .pre .0) (c .before .before .before .before .before .before .before .before .before .pre .1) (c .before .before .before .before .before .before .before .before .before .pre .2) (c .before .before .before .before .before .before .before .merge .ensures) (c .before .before .before .before .relabel .ensures) (c .expand .ensures) (c .before .before .codes-for .result .ok) (c .before .before .codes-for .ensures)
+returns c =
+    let codes-for = c .before .before .codes-for in
+    let relabel = c .before .before .before .before .relabel in
+    let merge = c .before .before .before .before .before .before .before .merge in
+    let args = c .before .before .before .before .before .before .before .before .before .args in
+    let pre = c .before .before .before .before .before .before .before .before .before .pre in
+    decided-merged (args .cl .now) (args .v) (args .j) (merge .result .count) (args .rows) _ _ (relabel .result) _ _ (pre .0) (pre .1) (pre .2) (merge .ensures) (relabel .ensures)
+    (c .expand .ensures) (codes-for .result .ok) (codes-for .ensures)
 
 pub codes-for-spec : {M : Type 1} → statement M
 codes-for-spec =

@@ -1,11 +1,9 @@
-use Rattle.cells.specs.Lists.{zeros-are}
-use Rattle.joint.specs.Merge.{Merged, merged-start, at-new, at-old}
-use lib.ListN.{length, getD, set}
-use native.Mathlib.Omega.{arith}
-use Prim.Native.Nat.{ℕ, _<_, _≤_, _+_, _-_, _*_, _/_, _%_}
 use mathlib.Core.Logic.{⊎-elim}
-use mathlib.Core.Bool.{Bool, true, false}
-use mathlib.Core.Path.{_≡_, refl, sym, ap, _∙_, subst}
+use mathlib.Core.Path.{refl, subst}
+use Prim.Native.Nat.{ℕ, _≤_, _-_}
+use native.Mathlib.Omega.{arith}
+use Rattle.limits.specs.Limits.{maxVertices}
+use Rattle.joint.specs.Merge.{Merged, vertices-zero, merged-start, at-new, at-old}
 use borrow.Author.Needs.{needs}
 use Rattle.joint.proofs.merge.Statement.{statement}
 use Rattle.joint.proofs.merge.Tie as tie
@@ -19,65 +17,80 @@ Inv-loop cl v j first₀ place₀ n₀ x₀ first place n x = (x ≤ v) × Merge
 abbrev μ-loop : tie.MeasureT-loop
 μ-loop cl v j first₀ place₀ n₀ x₀ first place n x = v - x
 
--- src/lib.rt:59:5
 loop-holds : tie.Need-loop-holds Inv-loop μ-loop
-loop-holds c = (omega arith, merged-start (c .before .args .cl .now) (c .before .args .j) _ _ refl refl (zeros-are 32))
+loop-holds c = (omega arith, merged-start (c .before .args .cl .now) (c .before .args .j) _ _ refl refl (vertices-zero maxVertices))
 
--- src/lib.rt:60:13
 class-of-requires : tie.Need-class-of-requires Inv-loop μ-loop
-class-of-requires c κs = let h = c .loop-test .taken in let p = c .before .before .before .pre .1 in let f = c .before .loop .inv .1 .few in (c .before .before .before .pre .0, c .before .before .before .pre .2, omega arith, omega arith, c .before .loop .inv .1 .small)
+class-of-requires c κs =
+    let p = c .before .before .before .pre in
+    let l = c .before .loop in
+    let h = c .loop-test .taken in
+    let few = p .1 in
+    let f = l .inv .1 .few in
+    (p .0, p .2, omega arith, omega arith, l .inv .1 .small)
 
--- src/lib.rt:62:24
-cast-first : tie.Need-cast-first Inv-loop μ-loop
-cast-first c = let h = c .before .before .loop-test .taken in let p = c .before .before .before .before .before .pre .1 in let f = c .before .before .before .loop .inv .1 .few in record { fits = omega arith }
+mul-place : tie.Need-mul-place Inv-loop μ-loop
+mul-place c =
+    let h = c .before .loop-test .taken in
+    let p = c .before .before .before .before .pre .1 in
+    let f = c .before .before .loop .inv .1 .few in
+    search needs
 
--- src/lib.rt:62:13
-array-write-first : tie.Need-array-write-first Inv-loop μ-loop
-array-write-first c = let h = c .before .before .loop-test .taken in let p = c .before .before .before .before .before .pre .1 in let f = c .before .before .before .loop .inv .1 .few in search needs
+array-set-from-place : tie.Need-array-set-from-place Inv-loop μ-loop
+array-set-from-place c =
+    let h = c .before .loop-test .taken in
+    let p = c .before .before .before .before .pre .1 in
+    let f = c .before .before .loop .inv .1 .few in
+    search needs
 
--- src/lib.rt:63:24
-cast-place : tie.Need-cast-place Inv-loop μ-loop
-cast-place c = let h = c .before .before .loop-test .taken in let p = c .before .before .before .before .before .pre .1 in let f = c .before .before .before .loop .inv .1 .few in record { fits = omega arith }
+mul-first : tie.Need-mul-first Inv-loop μ-loop
+mul-first c =
+    let h = c .before .before .before .loop-test .taken in
+    let p = c .before .before .before .before .before .before .pre .1 in
+    let f = c .before .before .before .before .loop .inv .1 .few in
+    search needs
 
--- src/lib.rt:63:13
-array-write-place : tie.Need-array-write-place Inv-loop μ-loop
-array-write-place c = let h = c .before .before .loop-test .taken in let p = c .before .before .before .before .before .pre .1 in let f = c .before .before .before .loop .inv .1 .few in search needs
+array-set-from-first : tie.Need-array-set-from-first Inv-loop μ-loop
+array-set-from-first c =
+    let h = c .before .before .before .loop-test .taken in
+    let p = c .before .before .before .before .before .before .pre .1 in
+    let f = c .before .before .before .before .loop .inv .1 .few in
+    search needs
 
--- src/lib.rt:64:13
 add-n : tie.Need-add-n Inv-loop μ-loop
-add-n c = let h = c .before .before .loop-test .taken in let p = c .before .before .before .before .before .pre .1 in let f = c .before .before .before .loop .inv .1 .few in omega arith
+add-n c =
+    let h = c .before .before .before .loop-test .taken in
+    let p = c .before .before .before .before .before .before .pre .1 in
+    let f = c .before .before .before .before .loop .inv .1 .few in
+    omega arith
 
--- src/lib.rt:66:24
-cast-place-2 : tie.Need-cast-place-2 Inv-loop μ-loop
-cast-place-2 c = let h = c .before .before .loop-test .taken in let p = c .before .before .before .before .before .pre .1 in let f = c .before .before .before .loop .inv .1 .few in let q = c .before .class-of .ensures .0 in record { fits = omega arith }
-
--- src/lib.rt:66:13
-array-write-place-2 : tie.Need-array-write-place-2 Inv-loop μ-loop
-array-write-place-2 c = let h = c .before .before .loop-test .taken in let p = c .before .before .before .before .before .pre .1 in let f = c .before .before .before .loop .inv .1 .few in search needs
-
--- src/lib.rt:68:9
 add-x : tie.Need-add-x Inv-loop μ-loop
 add-x c = search needs
 
--- src/lib.rt:59:5
 loop-less : tie.Need-loop-less Inv-loop μ-loop
 loop-less c = search needs
 
--- src/lib.rt:59:5
 loop-again : tie.Need-loop-again Inv-loop μ-loop
 loop-again c =
-    let h = c .before .before .loop-test .taken in
-    let p = c .before .before .before .before .before .pre .1 in (
+    let start = c .before .before .before .before .before .before in
+    let l = c .before .before .before .before .loop in
+    let q = c .before .before .class-of in
+    let h = c .before .before .before .loop-test .taken in
+    let p = start .pre .1 in (
       omega arith,
       ⊎-elim
-          (λ w. at-new (c .before .before .before .before .before .args .cl .now) (c .before .before .before .before .before .args .j) (c .before .before .before .loop .x) (c .before .before .before .loop .n) (c .before .before .before .loop .first) (c .before .before .before .loop .place) _ _ _ (omega arith) (w .1) (w .2) (w .3) (c .before .before .before .loop .inv .1))
-          (λ w. at-old (c .before .before .before .before .before .args .cl .now) (c .before .before .before .before .before .args .j) (c .before .before .before .loop .x) (c .before .before .before .loop .n) (c .before .before .before .loop .first) (c .before .before .before .loop .place) _ _ _ (omega arith) (c .before .class-of .result) (c .before .class-of .ensures) (w .0 .left) (w .1) (w .2) (w .3) (c .before .before .before .loop .inv .1))
+          (λ w. at-new (start .args .cl .now) (start .args .j) (l .x) (l .n) (l .first) _ (l .place) _ (q .result) (omega arith) (l .inv .1) (w .0 .taken) (w .1) (w .2))
+          (λ w. at-old (start .args .cl .now) (start .args .j) (l .x) (l .n) (l .first) _ (l .place) _ (q .result) (omega arith) (l .inv .1) (q .ensures) (w .0 .left) (w .1) (w .2))
           (c .if1 .came),
     )
 
--- src/lib.rt:51:1
 returns : tie.Need-returns Inv-loop μ-loop
-returns c = subst (λ (z : ℕ). Merged (c .before .before .before .args .cl .now) (c .before .before .before .args .j) z (c .before .loop .n) (c .before .loop .first) (c .before .loop .place)) (let h = c .loop-test .left in let z = c .before .loop .inv .0 in omega arith) (c .before .loop .inv .1)
+returns c =
+    let start = c .before .before .before in
+    let l = c .before .loop in
+    subst (λ (z : ℕ). Merged (start .args .cl .now) (start .args .j) z (l .n) (l .first) (l .place))
+    (let h = c .loop-test .left in let z = l .inv .0 in omega arith)
+    (l .inv .1)
 
 pub merge-spec : {M : Type 1} → statement M
 merge-spec =
@@ -87,13 +100,11 @@ merge-spec =
     μ-loop
     loop-holds
     class-of-requires
-    cast-first
-    array-write-first
-    cast-place
-    array-write-place
+    mul-place
+    array-set-from-place
+    mul-first
+    array-set-from-first
     add-n
-    cast-place-2
-    array-write-place-2
     add-x
     loop-less
     loop-again
