@@ -5,3 +5,5 @@ pub mod Tells
 pub mod Build
 pub mod Compose
 pub mod TheoremA
+pub mod ClassCodes
+pub mod FullReads

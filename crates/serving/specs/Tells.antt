@@ -95,25 +95,28 @@ module _ (d : Design) (w : Network) (p : Parts (d .inputs) (d .bound)) where
       (λ i. ap (λ (v : ℕ). getD (getD (w .luts) i []) v false) (p .vertex-of x z a b)))
       (free-values x z a b)
 
--- ---- every value right: conflicting vertices are apart
-module _ (d : Design) (w : Network) (p : Parts (d .inputs) (d .bound)) (q : Columns d)
-    (right : (o r : ℕ) → o < length (d .outputs) → r < 2 ^ length (d .inputs) → networkOn d w o r ≡ outputOn d o r)
-    (known : (o i : ℕ) → o < length (d .outputs) → has i (nodeOf w o .reads) ≡ true → i < length (w .luts)) where
+-- ---- every value right: one code, one column
+module _ (d : Design) (w : Network) (p : Parts (d .inputs) (d .bound))
+    (right : (o r : ℕ) → o < length (d .outputs) → r < 2 ^ length (d .inputs) → networkOn d w o r ≡ outputOn d o r) where
   value-right : (o x z : ℕ) → o < length (d .outputs) → valueAt d (d .bound) o x z ≡ networkOn d w o (joinRow (d .inputs) (d .bound) x z)
   unfolding valueAt
   value-right o x z h = sym (right o (joinRow (d .inputs) (d .bound) x z) h (p .inside x z))
 
-  one-column : (o x y : ℕ) → o < length (d .outputs) → x < vertexCount (d .bound) → y < vertexCount (d .bound) → map (λ i. lutAt w i x) (nodeOf w o .reads) ≡ map (λ i. lutAt w i y) (nodeOf w o .reads) → (z : ℕ) → z < freeCount (d .inputs) (d .bound) → valueAt d (d .bound) o x z ≡ valueAt d (d .bound) o y z
+  pub one-column : (o x y : ℕ) → o < length (d .outputs) → x < vertexCount (d .bound) → y < vertexCount (d .bound) → map (λ i. lutAt w i x) (nodeOf w o .reads) ≡ map (λ i. lutAt w i y) (nodeOf w o .reads) → (z : ℕ) → z < freeCount (d .inputs) (d .bound) → valueAt d (d .bound) o x z ≡ valueAt d (d .bound) o y z
   one-column o x y h a b e z c =
       value-right o x z h ∙ node-at d w p o x z a c
       ∙ ap (λ (l : List Bool). getD (nodeOf w o .digits) (rowOf (l ++ valuesOf (length (free (d .inputs) (d .bound))) z)) false) e
       ∙ sym (node-at d w p o y z b c) ∙ sym (value-right o y z h)
 
+-- ---- every value right: conflicting vertices are apart
+module _ (d : Design) (w : Network) (p : Parts (d .inputs) (d .bound)) (q : Columns d)
+    (right : (o r : ℕ) → o < length (d .outputs) → r < 2 ^ length (d .inputs) → networkOn d w o r ≡ outputOn d o r)
+    (known : (o i : ℕ) → o < length (d .outputs) → has i (nodeOf w o .reads) ≡ true → i < length (w .luts)) where
   pub network-tells : (o x y : ℕ) → o < length (d .outputs) → x < vertexCount (d .bound) → y < vertexCount (d .bound) → Conflicts d o x y → Apart o x y (networkCore w)
   unfolding networkCore
   network-tells o x y h a b f =
       ⊎-elim
-      (λ e. absurd (q .conflict-at o x y f .2 (one-column o x y h a b e (q .conflict-at o x y f .0) (q .conflict-at o x y f .1))))
+      (λ e. absurd (q .conflict-at o x y f .2 (one-column d w p right o x y h a b e (q .conflict-at o x y f .0) (q .conflict-at o x y f .1))))
       (λ n. apart-cell w o x y (length (w .luts)) 0 (n .0) (omega arith) (subst (λ (k : ℕ). n .0 < k) (sym (zero-plus (length (w .luts)))) (known o (n .0) h (n .1))) (n .1) (n .2))
       (codes-or-apart w (nodeOf w o .reads) x y)
     where
