@@ -43,11 +43,12 @@ use denote.Signature.Struct.{makes}
 use Rattle.putting.specs.Written.{Written}
 use Rattle.putting.specs.PutLaws.{put-then}
 use Rattle.writing.specs.Lines.{headLine, lastLines}
+use Rattle.writing.specs.Room.{headRoom, lutsRoom, nodesRoom, endRoom, sheetRoom}
 use Rattle.writer.specs.declared.Plan.{Plan}
 use Rattle.writer.specs.declared.Writer.{Writer}
 use Rattle.writer.specs.Appended.{after}
 use Rattle.writer.specs.AppendedLaws.{after-written}
-use Rattle.writer.specs.Plans.{Fit, lutLines, nodeLines, allLines}
+use Rattle.writer.specs.Plans.{Fit, edition, lutLines, nodeLines, allLines}
 use Rattle.writer.proofs.Plan as P
 use Rattle.writer.proofs.Plan.Laws as P′
 use Rattle.writer.proofs.Writer as T
@@ -79,7 +80,7 @@ module _ (b o : ℕ) (γ : GName) (ys : List ℕ) (p : Plan) where
   h₀ = record { out = bytes-at b o γ ys; at = 0 }
 
   abbrev h₁ : Writer
-  h₁ = after h₀ (headLine 1)
+  h₁ = after h₀ (headLine edition)
 
   abbrev h₂ : Writer
   h₂ = after h₁ (lutLines p)
@@ -93,17 +94,17 @@ module _ (b o : ℕ) (γ : GName) (ys : List ℕ) (p : Plan) where
   abbrev zs : List ℕ
   zs = h₄ .out .now
 
-  all-written : length (headLine 1) ≤ 12 → length (lutLines p) ≤ 1200 → length (nodeLines p) ≤ 132000 → length (lastLines (p .tables)) ≤ 16
-      → Written 133228 ys zs 0 (h₄ .at) (allLines p)
+  all-written : length (headLine edition) ≤ headRoom → length (lutLines p) ≤ lutsRoom → length (nodeLines p) ≤ nodesRoom → length (lastLines (p .tables)) ≤ endRoom
+      → Written sheetRoom ys zs 0 (h₄ .at) (allLines p)
   unfolding allLines
   all-written s₁ s₂ s₃ s₄ =
-      put-then (after-written h₀ (headLine 1) s₁)
+      put-then (after-written h₀ (headLine edition) s₁)
       (put-then (after-written h₁ (lutLines p) s₂) (put-then (after-written h₂ (nodeLines p) s₃) (after-written h₃ (lastLines (p .tables)) s₄)))
 
   same-length : length zs ≡ length ys
   same-length =
       length-sets (h₃ .out .now) (h₃ .at) (lastLines (p .tables)) ∙ length-sets (h₂ .out .now) (h₂ .at) (nodeLines p)
-      ∙ length-sets (h₁ .out .now) (h₁ .at) (lutLines p) ∙ length-sets ys 0 (headLine 1)
+      ∙ length-sets (h₁ .out .now) (h₁ .at) (lutLines p) ∙ length-sets ys 0 (headLine edition)
 
   module _ {M : Type 1} (𝓤 : URA M) (H : Heap 𝓤) (A : Atoms 𝓤) (W : Given 𝓤 H A) (mem : Memory → SProp 𝓤) (run : Routine → Fun 𝓤)
       (κ : Lft) (q : Share) (p-is : Is P.the-row p (plan .val p ∷ [])) (fit : Fit p) where
@@ -144,7 +145,7 @@ module _ (b o : ℕ) (γ : GName) (ys : List ℕ) (p : Plan) where
     abbrev Rest : Fml
     Rest = owns (P.the-row ∷ []) (p, tt) (plan .val p ∷ [], tt)
 
-    exits : (w : Val) → Written 133228 ys zs 0 (h₄ .at) (allLines p)
+    exits : (w : Val) → Written sheetRoom ys zs 0 (h₄ .at) (allLines p)
         → ent 𝓤 (⋆ 𝓤 H A ((‵ (flft κ q) ⊛ ‵ ftrue) ∷ ‵ (T.the-row α .own h₄ (w ∷ [])) ∷ ‵ Rest ∷ [])) (Post (vint w64 (h₄ .at)))
     exits w all =
         qed W ((‵ (flft κ q) ⊛ ‵ ftrue) ∷ ‵ (T.the-row α .own h₄ (w ∷ [])) ∷ ‵ Rest ∷ []) ∵
@@ -171,7 +172,7 @@ module _ (b o : ℕ) (γ : GName) (ys : List ℕ) (p : Plan) where
           use1 W (‵ (T.the-row α .own h₀ (start ∷ []))) (makes 𝓤 H A W (MutSlice (named 0) κ u8 ∷ usize ∷ []) first (s ∷ [], (vint w64 0 ∷ [], tt))) $
           -- [the token; what the writer owns; what the plan owns; _10; …; _0; …]: each method is called on the writer before
           move ! (24 ∷ 0 ∷ []) $
-          appends κ ! fm q kind.head head h₀ 1 start (refl, lit< tt) (omega arith, lit< tt) (and-then ! (load ! (from ! (stop !)) (look ! 2 refl)) (and-then ! (lit ! tt) (no-more !))) (λ w₁ s₁ is₁.
+          appends κ ! fm q kind.head head h₀ edition start (refl, lit< tt) (omega arith, lit< tt) (and-then ! (load ! (from ! (stop !)) (look ! 2 refl)) (and-then ! (lit ! tt) (no-more !))) (λ w₁ s₁ is₁.
           land ! (from ! (stop !)) (init ! 5 refl (writer-typed κ h₁ w₁ is₁)) $
           appends κ ! fm q kind.luts luts h₁ p w₁ p-is (omega (arith, s₁), fit) (and-then ! (load ! (from ! (stop !)) (look ! 4 refl)) (and-then ! (load ! (from ! (stop !)) (look ! 18 refl)) (no-more !))) (λ w₂ s₂ is₂.
           land ! (from ! (stop !)) (init ! 7 refl (writer-typed κ h₂ w₂ is₂)) $
