@@ -4,8 +4,9 @@ use mathlib.Core.List.{List}
 use lib.ListN.{length, length-map}
 use mir.Val.{Val}
 use denote.Laws.{Is}
+use Rattle.listing.specs.Listed.{maxNames}
 use Rattle.listing.specs.declared.Names.{Names}
 use Rattle.listing.proofs.Names as names
 
-pub list-sized : (n : Names) {vs : List Val} → Is names.the-row n vs → length (n .list) ≡ 16
+pub list-sized : (n : Names) {vs : List Val} → Is names.the-row n vs → length (n .list) ≡ maxNames
 list-sized n g = sym (length-map (n .list) _) ∙ g .1 .1 .1 .0 .1 .0 .1

@@ -12,42 +12,62 @@ use lib.Seq.{getD-set-same, getD-set-other}
 use borrow.Author.Tests.{eq-eqb, ne-eqb}
 use Rattle.bits.specs.Logic.{pick}
 use Rattle.network.specs.Check.{firstOf}
-use Rattle.listing.specs.Listed.{FirstIs, Firsts}
+use Rattle.limits.specs.Limits.{maxVertices, maxCodes}
+use Rattle.classes.specs.declared.Vertex.{Vertex}
+use Rattle.listing.specs.Listed.{vertexAt, FirstIs, Firsts}
 
-pub firsts-none : (code : ℕ → ℕ) (i : ℕ) → Firsts code 0 i (replicate 64 32)
+abbrev vertex : ℕ → Vertex
+vertex x = record { 0 = x }
+
+-- an array without a vertex
+abbrev pub noVertices : List Vertex
+noVertices = replicate maxCodes (vertex maxVertices)
+
+pub firsts-none : (code : ℕ → ℕ) (i : ℕ) → Firsts code 0 i noVertices
 unfolding firstOf
-firsts-none code i = record { size = refl; each = λ c l. subst (λ (v : ℕ). 32 ≤ v) (sym (getD-replicate 64 c 32 0 l)) (omega arith) }
+firsts-none code i =
+    record {
+      size = refl;
+      each = λ c l. subst (λ (v : Vertex). maxVertices ≤ v .0) (sym (getD-replicate maxCodes c (vertex maxVertices) (vertex 0) l)) (omega arith);
+    }
 
-module _ {code : ℕ → ℕ} {n i : ℕ} {l : List ℕ} (g : Firsts code n (suc i) l) (small : code i < 64) where
-  first-one-more : (c : ℕ) → c < 64 → FirstIs (firstOf (λ x. eqb (code x) c) (suc n) i) (getD (set l (code i) i) c 0)
+module _ {code : ℕ → ℕ} {n i : ℕ} {l : List Vertex} (g : Firsts code n (suc i) l) (small : code i < maxCodes) where
+  abbrev stored : List Vertex
+  stored = set l (code i) (vertex i)
+
+  first-one-more : (c : ℕ) → c < maxCodes → FirstIs (firstOf (λ x. eqb (code x) c) (suc n) i) (vertexAt stored c)
   unfolding firstOf
   first-one-more c h =
       let later : Option ℕ = firstOf (λ x. eqb (code x) c) n (suc i) in
-      let size : length l ≡ 64 = g .size in
-      elim (ℕ-discrete (code i) c) as (λ _. FirstIs (pick (eqb (code i) c) (some i) later) (getD (set l (code i) i) c 0)) [
+      let size : length l ≡ maxCodes = g .size in
+      elim (ℕ-discrete (code i) c) as (λ _. FirstIs (pick (eqb (code i) c) (some i) later) (vertexAt stored c)) [
         | yes e ↦
-            subst (λ (t : Bool). FirstIs (pick t (some i) later) (getD (set l (code i) i) c 0)) (sym (eq-eqb (code i) c e))
-            (ap (λ (k : ℕ). getD (set l (code i) i) k 0) (sym e) ∙ getD-set-same l (code i) i 0 (omega arith))
+            subst (λ (t : Bool). FirstIs (pick t (some i) later) (vertexAt stored c)) (sym (eq-eqb (code i) c e))
+            (ap (vertexAt stored) (sym e) ∙ ap (λ (v : Vertex). v .0) (getD-set-same l (code i) (vertex i) (vertex 0) (omega arith)))
         | no d ↦
-            subst (λ (t : Bool). FirstIs (pick t (some i) later) (getD (set l (code i) i) c 0)) (sym (ne-eqb (code i) c d))
-            (subst (λ (v : ℕ). FirstIs later v) (sym (getD-set-other l (code i) c i 0 (λ e. d (sym e)))) (g .each c h))
+            subst (λ (t : Bool). FirstIs (pick t (some i) later) (vertexAt stored c)) (sym (ne-eqb (code i) c d))
+            (subst (λ (v : Vertex). FirstIs later (v .0)) (sym (getD-set-other l (code i) c (vertex i) (vertex 0) (λ e. d (sym e)))) (g .each c h))
       ]
 
-  pub firsts-suc : Firsts code (suc n) i (set l (code i) i)
-  firsts-suc = record { size = length-set l (code i) i ∙ g .size; each = first-one-more }
+  pub firsts-suc : Firsts code (suc n) i stored
+  firsts-suc = record { size = length-set l (code i) (vertex i) ∙ g .size; each = first-one-more }
 
 -- x vertices are still to come
-pub record Filling (code : ℕ → ℕ) (n x : ℕ) (l : List ℕ) : Type 0 where
+pub record Filling (code : ℕ → ℕ) (n x : ℕ) (l : List Vertex) : Type 0 where
   pub within : x ≤ n
   pub so-far : Firsts code (n - x) x l
 
-pub filling-none : (code : ℕ → ℕ) (n : ℕ) → Filling code n n (replicate 64 32)
+pub filling-none : (code : ℕ → ℕ) (n : ℕ) → Filling code n n noVertices
 filling-none code n =
     let e : 0 ≡ n - n = omega arith in
-    record { within = omega arith; so-far = subst (λ (k : ℕ). Firsts code k n (replicate 64 32)) e (firsts-none code n) }
+    record { within = omega arith; so-far = subst (λ (k : ℕ). Firsts code k n noVertices) e (firsts-none code n) }
 
-pub filling-more : {code : ℕ → ℕ} {n x k : ℕ} {l : List ℕ} → Filling code n x l → 0 < x → k ≡ code (x - 1) → k < 64
-    → Filling code n (x - 1) (set l k (x - 1))
+pub filling-more : {code : ℕ → ℕ} {n x k : ℕ} {l : List Vertex}
+    → Filling code n x l
+    → 0 < x
+    → k ≡ code (x - 1)
+    → k < maxCodes
+    → Filling code n (x - 1) (set l k (vertex (x - 1)))
 filling-more {code} {n} {x} {k} {l} g p e small =
     let w : x ≤ n = g .within in
     let up : x ≡ suc (x - 1) = omega arith in
@@ -55,12 +75,12 @@ filling-more {code} {n} {x} {k} {l} g p e small =
     record {
       within = omega arith;
       so-far =
-          subst (λ (m : ℕ). Firsts code m (x - 1) (set l k (x - 1))) left
-          (subst (λ (j : ℕ). Firsts code (suc (n - x)) (x - 1) (set l j (x - 1))) (sym e)
-          (firsts-suc (subst (λ (m : ℕ). Firsts code (n - x) m l) up (g .so-far)) (subst (λ (m : ℕ). m < 64) e small)));
+          subst (λ (m : ℕ). Firsts code m (x - 1) (set l k (vertex (x - 1)))) left
+          (subst (λ (j : ℕ). Firsts code (suc (n - x)) (x - 1) (set l j (vertex (x - 1)))) (sym e)
+          (firsts-suc (subst (λ (m : ℕ). Firsts code (n - x) m l) up (g .so-far)) (subst (λ (m : ℕ). m < maxCodes) e small)));
     }
 
-pub filling-all : {code : ℕ → ℕ} {n x : ℕ} {l : List ℕ} → Filling code n x l → x ≤ 0 → Firsts code n 0 l
+pub filling-all : {code : ℕ → ℕ} {n x : ℕ} {l : List Vertex} → Filling code n x l → x ≤ 0 → Firsts code n 0 l
 filling-all {code} {n} {x} {l} g z =
     let w : x ≤ n = g .within in
     let e : x ≡ 0 = omega arith in

@@ -10,6 +10,7 @@ use native.Mathlib.Numerals.{add-one}
 use lib.Pow.{pow-mono}
 use lib.ListN.{length, length-append}
 use borrow.Author.Tests.{lt-ltb}
+use Rattle.limits.specs.Limits.{maxCells, maxCodes}
 use Rattle.bits.specs.Logic.{pick}
 use Rattle.bits.specs.Digit.{on}
 use Rattle.rows.specs.Row.{bit, rowOf}
@@ -19,6 +20,7 @@ use Rattle.names.specs.Pack.{pack, nameOf}
 use Rattle.names.specs.PackLaws.{name-of-pack}
 use Rattle.network.specs.Printer.{lutName}
 use Rattle.serving.specs.Build.{numbers, codeIn}
+use Rattle.listing.specs.Listed.{underscore, zeroByte, oneDigit}
 
 -- what the test of a digit says
 pub digit-read : (i : ℕ) {h b : Bool} {m x : ℕ} → h ≡ on m i → m ≡ x → h ≡ b → on x i ≡ b
@@ -102,22 +104,23 @@ reading-all {mask} {u} {i} {count} {now} g l =
     let e : i ≡ u = omega arith in
     subst (λ (k : ℕ). Reading mask u k count now) e g
 
--- the number that holds the name of table i
-pub one-digit : (i : ℕ) → i < 10 → printNumber i ≡ (48 + i) ∷ []
+-- ---- the number that holds the name of table i
+pub one-digit : (i : ℕ) → i < oneDigit → printNumber i ≡ (zeroByte + i) ∷ []
 unfolding printNumber
 one-digit i l =
-    let e : 0x30 + i % 10 ≡ 48 + i = omega arith in
-    rw (lt-ltb i 10 l, e)
+    let e : zeroByte + i % oneDigit ≡ zeroByte + i = omega arith in
+    rw (lt-ltb i oneDigit l, e)
 
-table-bytes : (i : ℕ) → i < 10 → lutName i ≡ 95 ∷ (48 + i) ∷ []
+table-bytes : (i : ℕ) → i < oneDigit → lutName i ≡ underscore ∷ (zeroByte + i) ∷ []
 unfolding lutName
-table-bytes i l = ap (λ (t : List ℕ). 95 ∷ t) (one-digit i l)
+table-bytes i l = ap (λ (t : List ℕ). underscore ∷ t) (one-digit i l)
 
-pub table-name : (i : ℕ) → i < 10 → nameOf ((i + 48) * 256 + 95) ≡ lutName i
+pub table-name : (i : ℕ) → i < oneDigit → nameOf ((i + zeroByte) * 256 + underscore) ≡ lutName i
 unfolding pack
 table-name i l =
-    let e : (i + 48) * 256 + 95 ≡ pack (95 ∷ (48 + i) ∷ []) = omega arith in
-    ap nameOf e ∙ name-of-pack (95 ∷ (48 + i) ∷ []) (omega arith) (omega arith, omega arith, (omega arith, omega arith, tt)) ∙ sym (table-bytes i l)
+    let name : Name = underscore ∷ (zeroByte + i) ∷ [] in
+    let e : (i + zeroByte) * 256 + underscore ≡ pack name = omega arith in
+    ap nameOf e ∙ name-of-pack name (omega arith) (omega arith, omega arith, (omega arith, omega arith, tt)) ∙ sym (table-bytes i l)
 
 -- ---- the code in the tables
 row-step : (a : Bool) (p q r s d : ℕ) → p ≡ q * 2 → r ≡ s * 2 + d → bit a * p + r ≡ (bit a * q + s) * 2 + d
@@ -166,14 +169,14 @@ module _ {mask n u i code : ℕ} (g : Coding mask n u i code) (l : i < u) where
         small = subst (λ (k : ℕ). code * 2 + k < 2 ^ (i + 1)) (sym v) (small-more (on n i));
       }
 
--- a code in at most six tables
-pub coding-below : {mask n u i code : ℕ} → Coding mask n u i code → u ≤ 6 → code < 64
+-- a code in as many tables as there may be
+pub coding-below : {mask n u i code : ℕ} → Coding mask n u i code → u ≤ maxCells → code < maxCodes
 coding-below {i = i} g few =
-    let w : i ≤ 6 = omega (arith, g .within) in
-    let s : 2 ^ i ≤ 2 ^ 6 = pow-mono w in
+    let w : i ≤ maxCells = omega (arith, g .within) in
+    let s : 2 ^ i ≤ maxCodes = pow-mono w in
     omega (arith, g .small)
 
-pub coding-all : {mask n u i code : ℕ} → Coding mask n u i code → u ≤ i → u ≤ 6 → (code ≡ codeIn (numbers u 0 mask) n) × (code < 64)
+pub coding-all : {mask n u i code : ℕ} → Coding mask n u i code → u ≤ i → u ≤ maxCells → (code ≡ codeIn (numbers u 0 mask) n) × (code < maxCodes)
 coding-all {mask} {n} {u} {i} g l few =
     let w : i ≤ u = g .within in
     let e : i ≡ u = omega arith in

@@ -8,6 +8,9 @@ ghost use Rattle.names.specs.Name as names;
 ghost use Rattle.names.specs.Pack.{pack, nameOf};
 ghost use Rattle.names.specs.Word.{WordEnd, operatorOf, PositionIs};
 
+// A name's bytes are the digits of its number to this base, the first byte lowest.
+pub const BASE: u64 = 256;
+
 // Whether a byte may stand in a name.
 pub fn name_byte(b: u8) -> bool
     ensures { λ r. ⌜ r ≡ nameByte b ⌝ }
@@ -43,7 +46,7 @@ pub fn packed(s: &[u8], a: usize, e: usize) -> u64
     let mut i = e;
     while a < i {
         i -= 1;
-        v = v * 256 + s[i] as u64;
+        v = v * BASE + s[i] as u64;
     }
     v
 }

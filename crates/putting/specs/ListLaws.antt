@@ -10,7 +10,7 @@ use lib.Seq.{length-take-le}
 use borrow.Author.Tests.{ne-eqb}
 use Rattle.names.specs.Pack.{nameOf}
 use Rattle.network.specs.Printer.{led, ledAll}
-use Rattle.putting.specs.Written.{Written}
+use Rattle.putting.specs.Written.{itemRoom, Written}
 use Rattle.putting.specs.PutLaws.{put-none, put-next, put-same, taken-more, taken-all}
 
 led-later : (l : List (List ℕ)) (x : List ℕ) → ledAll false (l ++ (x ∷ [])) ≡ ledAll false l ++ led false x
@@ -28,7 +28,7 @@ led-last (y ∷ l) x =
 -- the names up to i are put down
 pub record Listing (ns : List ℕ) (a b : List ℕ) (at p i : ℕ) : Type 0 where
   pub within : i ≤ length ns
-  pub so-far : Written (9 * i) a b at p (ledAll true (map nameOf (take i ns)))
+  pub so-far : Written (itemRoom * i) a b at p (ledAll true (map nameOf (take i ns)))
 
 items-more : (ns : List ℕ) (i : ℕ) → i < length ns
     → ledAll true (map nameOf (take i ns)) ++ led (eqb i 0) (nameOf (getD ns i 0)) ≡ ledAll true (map nameOf (take (i + 1) ns))
@@ -39,7 +39,7 @@ items-more ns i l =
     ∙ ap (ledAll true) (sym (map-append nameOf (take i ns) (getD ns i 0 ∷ [])) ∙ ap (map nameOf) (taken-more ns i l))
 
 pub listing-more : {ns a b e : List ℕ} {at p q i : ℕ} → Listing ns a b at p i → i < length ns
-    → Written 9 b e p q (led (eqb i 0) (nameOf (getD ns i 0))) → Listing ns a e at q (i + 1)
+    → Written itemRoom b e p q (led (eqb i 0) (nameOf (getD ns i 0))) → Listing ns a e at q (i + 1)
 listing-more {ns} {i = i} n l w =
     record { within = omega arith; so-far = put-next (n .so-far) w (items-more ns i l) (omega arith) }
 
@@ -48,7 +48,7 @@ unfolding ledAll
 listing-none ns a at = record { within = omega arith; so-far = put-none a at }
 
 pub listing-all : {ns a b : List ℕ} {at p i : ℕ} → Listing ns a b at p i → length ns ≤ i
-    → Written (9 * length ns) a b at p (ledAll true (map nameOf ns))
+    → Written (itemRoom * length ns) a b at p (ledAll true (map nameOf ns))
 listing-all {ns} {i = i} n l =
     let w : i ≤ length ns = n .within in
     put-same (n .so-far) (ap (λ (t : List ℕ). ledAll true (map nameOf t)) (taken-all ns i l)) (omega arith)

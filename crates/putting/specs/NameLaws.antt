@@ -5,6 +5,7 @@ use mathlib.Core.List.{List, [], _∷_, _++_, append-nil, append-assoc}
 use Prim.Native.Nat.{ℕ, zero, suc, _+_, _-_, _/_, _%_, _≤_, _<_}
 use native.Mathlib.Omega.{arith}
 use borrow.Author.Tests.{eq-eqb, ne-eqb}
+use Rattle.limits.specs.Limits.{maxName}
 use Rattle.bits.specs.Logic.{pick}
 use Rattle.names.specs.Pack.{unpackWithin, nameOf}
 use Rattle.putting.specs.Written.{Written}
@@ -12,12 +13,12 @@ use Rattle.putting.specs.PutLaws.{put-none, put-next, put-same}
 
 -- of the name v the bytes are put down up to the place p; at most left bytes come, those of rest
 pub record Naming (a b : List ℕ) (at v p rest left : ℕ) : Type 0 where
-  pub few : left ≤ 8
+  pub few : left ≤ maxName
   pub done : List ℕ
-  pub so-far : Written (8 - left) a b at p done
+  pub so-far : Written (maxName - left) a b at p done
   pub to-come : done ++ unpackWithin left rest ≡ nameOf v
 
-pub naming-none : (a : List ℕ) (at v : ℕ) → Naming a a at v at v 8
+pub naming-none : (a : List ℕ) (at v : ℕ) → Naming a a at v at v maxName
 unfolding nameOf
 naming-none a at v = record { few = omega arith; done = []; so-far = put-none a at; to-come = refl }
 
@@ -36,23 +37,23 @@ unpack-byte (suc k) v l d =
     ∙ ap (λ (j : ℕ). v % 256 ∷ unpackWithin j (v / 256)) e
 
 module _ {a b : List ℕ} {at v p rest left : ℕ} (n : Naming a b at v p rest left) where
-  pub naming-end : unpackWithin left rest ≡ [] → Written 8 a b at p (nameOf v)
+  pub naming-end : unpackWithin left rest ≡ [] → Written maxName a b at p (nameOf v)
   naming-end e =
       put-same (n .so-far)
       (sym (append-nil (n .done)) ∙ ap (λ (t : List ℕ). n .done ++ t) (sym e) ∙ n .to-come)
       (omega arith)
 
-  pub naming-over : rest ≡ 0 → Written 8 a b at p (nameOf v)
+  pub naming-over : rest ≡ 0 → Written maxName a b at p (nameOf v)
   naming-over e = naming-end (unpack-end left rest e)
 
-  pub naming-full : left ≤ 0 → Written 8 a b at p (nameOf v)
+  pub naming-full : left ≤ 0 → Written maxName a b at p (nameOf v)
   unfolding unpackWithin
   naming-full l = let e : left ≡ 0 = omega arith in naming-end (ap (λ (k : ℕ). unpackWithin k rest) e)
 
   pub naming-more : {e : List ℕ} {q : ℕ} → 0 < left → (rest ≡ 0 → ⊥) → Written 1 b e p q (rest % 256 ∷ [])
       → Naming a e at v q (rest / 256) (left - 1)
   naming-more l d w =
-      let f : left ≤ 8 = n .few in
+      let f : left ≤ maxName = n .few in
       record {
         few = omega arith;
         done = n .done ++ (rest % 256 ∷ []);
@@ -62,5 +63,5 @@ module _ {a b : List ℕ} {at v p rest left : ℕ} (n : Naming a b at v p rest l
       }
 
   -- how far the name has come
-  pub naming-place : p ≤ at + (8 - left)
+  pub naming-place : p ≤ at + (maxName - left)
   naming-place = omega (arith, n .so-far .place, n .so-far .short)

@@ -4,13 +4,11 @@ ghost use mathlib.Core.List.{[], _∷_, map};
 ghost use mathlib.Core.Bool.{true};
 ghost use Prim.Native.Nat.{_+_, _*_, _≤_};
 ghost use lib.ListN.{length};
+ghost use Rattle.limits.specs.Limits.{maxName};
 ghost use Rattle.names.specs.Pack.{nameOf};
 ghost use Rattle.rows.specs.Digits.{digit};
 ghost use Rattle.network.specs.Printer.{led, ledAll};
-ghost use Rattle.putting.specs.Written.{reach, Written};
-
-// The most bytes of a name.
-const MAX_NAME: usize = 8;
+ghost use Rattle.putting.specs.Written.{reach, itemRoom, Written};
 
 pub fn put_byte(buf: &mut [u8], at: usize, b: u8) -> usize
     requires { ⌜ at + 1 ≤ reach ⌝ }
@@ -49,18 +47,18 @@ pub fn put_digit(buf: &mut [u8], at: usize, b: bool) -> usize
 
 // The name v.
 pub fn put_name(buf: &mut [u8], at: usize, v: u64) -> usize
-    requires { ⌜ at + 8 ≤ reach ⌝ }
-    ensures { λ r. ⌜ Written 8 (now (buf .entry)) (now (buf .exit)) at r (nameOf v) ⌝ }
+    requires { ⌜ at + maxName ≤ reach ⌝ }
+    ensures { λ r. ⌜ Written maxName (now (buf .entry)) (now (buf .exit)) at r (nameOf v) ⌝ }
 {
     let mut p = at;
     let mut rest = v;
-    let mut left = MAX_NAME;
+    let mut left = limits::MAX_NAME;
     while 0 < left {
         if rest == 0 {
             return p;
         }
-        p = put_byte(buf, p, (rest % 256) as u8);
-        rest = rest / 256;
+        p = put_byte(buf, p, (rest % names::BASE) as u8);
+        rest = rest / names::BASE;
         left -= 1;
     }
     p
@@ -68,8 +66,8 @@ pub fn put_name(buf: &mut [u8], at: usize, v: u64) -> usize
 
 // The name v as an item of a list: a space stands before it unless it is the first.
 fn put_led(buf: &mut [u8], at: usize, first: bool, v: u64) -> usize
-    requires { ⌜ at + 9 ≤ reach ⌝ }
-    ensures { λ r. ⌜ Written 9 (now (buf .entry)) (now (buf .exit)) at r (led first (nameOf v)) ⌝ }
+    requires { ⌜ at + itemRoom ≤ reach ⌝ }
+    ensures { λ r. ⌜ Written itemRoom (now (buf .entry)) (now (buf .exit)) at r (led first (nameOf v)) ⌝ }
 {
     if first {
         return put_name(buf, at, v);
@@ -80,8 +78,8 @@ fn put_led(buf: &mut [u8], at: usize, first: bool, v: u64) -> usize
 
 // The names ns as the items of a list.
 pub fn put_names(buf: &mut [u8], at: usize, ns: &[u64]) -> usize
-    requires { ⌜ at + 9 * length (now ns) ≤ reach ⌝ }
-    ensures { λ r. ⌜ Written (9 * length (now (ns .entry))) (now (buf .entry)) (now (buf .exit)) at r (ledAll true (map nameOf (now (ns .entry)))) ⌝ }
+    requires { ⌜ at + itemRoom * length (now ns) ≤ reach ⌝ }
+    ensures { λ r. ⌜ Written (itemRoom * length (now (ns .entry))) (now (buf .entry)) (now (buf .exit)) at r (ledAll true (map nameOf (now (ns .entry)))) ⌝ }
 {
     let mut p = at;
     let mut i = 0;

@@ -7,6 +7,7 @@ use lib.ListN.{length, length-map}
 use mir.Val.{Val}
 use denote.Laws.{Is}
 use denote.Struct.Laws as LL
+use Rattle.limits.specs.Limits.{maxVertices, maxFreeRows}
 use Rattle.classes.specs.declared.Shape.{Shape}
 use Rattle.classes.proofs.Shape as shape
 use Rattle.writing.specs.Lines.{Fitting}
@@ -15,10 +16,10 @@ use Rattle.writer.proofs.Plan as P
 use Rattle.writer.proofs.Plan.Laws as P′
 
 module _ (s : Shape) {vs : List Val} (g : Is shape.the-row s vs) (fit : Fitting s) where
-  vertex-sized : length (s .vertex) ≡ 32
+  vertex-sized : length (s .vertex) ≡ maxVertices
   vertex-sized = sym (length-map (s .vertex) _) ∙ g .1 .1 .1 .1 .0 .1 .0 .1
 
-  free-sized : length (s .free) ≡ 512
+  free-sized : length (s .free) ≡ maxFreeRows
   free-sized = sym (length-map (s .free) _) ∙ g .1 .1 .1 .1 .1 .0 .1 .0 .1
 
   pub vertices-held : s .vertices ≤ length (s .vertex)

@@ -5,7 +5,9 @@ use Prim.Native.Nat.{ℕ, _+_, _≤_, _<_}
 use denote.RattleType.{RattleType}
 use denote.Builtin.{usize}
 use Rattle.putting.specs.Written.{reach}
+use Rattle.listing.specs.Listed.{oneDigit}
 use Rattle.writing.specs.Lines.{headLine, lastLines}
+use Rattle.writing.specs.Room.{headRoom, lutsRoom, nodesRoom, endRoom}
 use Rattle.writer.specs.Plans.{Fit, lutLines, nodeLines}
 use Rattle.writer.proofs.Plan as P
 use Rattle.writer.proofs.Plain.{Plain, number, plan}
@@ -18,13 +20,13 @@ pub record Kind : Type 2 where
   pub text : R .Denot → List ℕ
 
 abbrev pub head : Kind
-head = record { R = usize; plain = number; need = λ at e. (at + 12 ≤ reach) × (e < 10); most = 12; text = headLine }
+head = record { R = usize; plain = number; need = λ at e. (at + headRoom ≤ reach) × (e < oneDigit); most = headRoom; text = headLine }
 
 abbrev pub luts : Kind
-luts = record { R = P.the-row; plain = plan; need = λ at p. (at + 1200 ≤ reach) × Fit p; most = 1200; text = lutLines }
+luts = record { R = P.the-row; plain = plan; need = λ at p. (at + lutsRoom ≤ reach) × Fit p; most = lutsRoom; text = lutLines }
 
 abbrev pub nodes : Kind
-nodes = record { R = P.the-row; plain = plan; need = λ at p. (at + 132000 ≤ reach) × Fit p; most = 132000; text = nodeLines }
+nodes = record { R = P.the-row; plain = plan; need = λ at p. (at + nodesRoom ≤ reach) × Fit p; most = nodesRoom; text = nodeLines }
 
 abbrev pub last : Kind
-last = record { R = usize; plain = number; need = λ at u. (at + 16 ≤ reach) × (u < 10); most = 16; text = lastLines }
+last = record { R = usize; plain = number; need = λ at u. (at + endRoom ≤ reach) × (u < oneDigit); most = endRoom; text = lastLines }

@@ -2,22 +2,23 @@
 use mathlib.Core.List.{List, _++_}
 use Prim.Native.Nat.{ℕ, _≤_}
 use lib.ListN.{take}
+use Rattle.limits.specs.Limits.{maxInputs, maxOutputs, maxCells}
 use Rattle.bits.specs.Digit.{on}
 use Rattle.names.specs.Pack.{nameOf}
 use Rattle.sheet.specs.Known.{tableAt}
 use Rattle.classes.specs.Columns.{valuesUpto}
 use Rattle.network.specs.Printer.{printLut, printNode}
 use Rattle.serving.specs.Build.{numbers}
-use Rattle.listing.specs.Listed.{shown, item}
+use Rattle.listing.specs.Listed.{maxNames, shown, item}
 use Rattle.writing.specs.Lines.{headLine, linesUpto, lastLines, nodeBy, Fitting}
 use Rattle.writer.specs.declared.Plan.{Plan}
 
 -- as many names, outputs and tables as there may be
 pub record Fit (p : Plan) : Type 0 where
-  pub few-bound : p .bound .count ≤ 16
-  pub few-free : p .free .count ≤ 10
-  pub few-outputs : p .sheet .outputs ≤ 4
-  pub few-tables : p .tables ≤ 6
+  pub few-bound : p .bound .count ≤ maxNames
+  pub few-free : p .free .count ≤ maxInputs
+  pub few-outputs : p .sheet .outputs ≤ maxOutputs
+  pub few-tables : p .tables ≤ maxCells
   pub fitting : Fitting (p .shape)
 
 unfoldable pub lutLines : Plan → List ℕ
@@ -33,5 +34,9 @@ nodeLines p =
     (numbers (p .tables) 0 (item (p .rows) o))))
     (p .sheet .outputs)
 
+-- the edition of network sheets
+abbrev pub edition : ℕ
+edition = 1
+
 unfoldable pub allLines : Plan → List ℕ
-allLines p = headLine 1 ++ (lutLines p ++ (nodeLines p ++ lastLines (p .tables)))
+allLines p = headLine edition ++ (lutLines p ++ (nodeLines p ++ lastLines (p .tables)))

@@ -5,6 +5,7 @@ ghost use mathlib.Core.Path.{_≡_};
 ghost use Prim.Native.Nat.{_+_, _≤_, _<_};
 ghost use lib.ListN.{length};
 ghost use lib.Seq.{sets};
+ghost use Rattle.limits.specs.Limits.{maxInputs, maxBound, maxOutputs, maxCells};
 ghost use Rattle.sheet.specs.Examine.{Design};
 ghost use Rattle.sheet.specs.Known.{Holds};
 ghost use Rattle.classes.specs.Proper.{Proper};
@@ -12,7 +13,8 @@ ghost use Rattle.classes.specs.Answer.{ShapeIs};
 ghost use Rattle.network.specs.Printer.{printNetwork};
 ghost use Rattle.serving.specs.Build.{built};
 ghost use Rattle.putting.specs.Written.{reach, Written};
-ghost use Rattle.listing.specs.Listed.{item};
+ghost use Rattle.listing.specs.Listed.{oneDigit, item};
+ghost use Rattle.writing.specs.Room.{headRoom, lutsRoom, nodesRoom, endRoom, sheetRoom};
 ghost use Rattle.writing.specs.Lines.{headLine, lastLines, Fitting};
 ghost use Rattle.writer.specs.Plans.{Fit, lutLines, nodeLines, allLines};
 ghost use Rattle.writer.specs.Appended.{Appended};
@@ -31,8 +33,8 @@ struct Plan {
     bound: Names,
     free: Names,
     tables: usize,
-    rows: [u8; 8],
-    codes: [u8; 32],
+    rows: [u8; limits::SEARCH_OUTPUTS],
+    codes: [u8; limits::MAX_VERTICES],
 }
 
 // The lent buffer, and the place of the next byte.
@@ -43,8 +45,8 @@ struct Writer<'a> {
 
 // The lines of a plan's shared tables.
 fn put_lut_lines(buf: &mut [u8], at: usize, p: Plan) -> usize
-    requires { ⌜ (at + 1200 ≤ reach) × Fit p ⌝ }
-    ensures { λ r. ⌜ Written 1200 (now (buf .entry)) (now (buf .exit)) at r (lutLines p) ⌝ }
+    requires { ⌜ (at + lutsRoom ≤ reach) × Fit p ⌝ }
+    ensures { λ r. ⌜ Written lutsRoom (now (buf .entry)) (now (buf .exit)) at r (lutLines p) ⌝ }
 {
     let sh = p.shape;
     let codes = p.codes;
@@ -53,8 +55,8 @@ fn put_lut_lines(buf: &mut [u8], at: usize, p: Plan) -> usize
 
 // The lines of a plan's outputs.
 fn put_node_lines(buf: &mut [u8], at: usize, p: Plan) -> usize
-    requires { ⌜ (at + 132000 ≤ reach) × Fit p ⌝ }
-    ensures { λ r. ⌜ Written 132000 (now (buf .entry)) (now (buf .exit)) at r (nodeLines p) ⌝ }
+    requires { ⌜ (at + nodesRoom ≤ reach) × Fit p ⌝ }
+    ensures { λ r. ⌜ Written nodesRoom (now (buf .entry)) (now (buf .exit)) at r (nodeLines p) ⌝ }
 {
     let sh = p.shape;
     let vertex = sh.vertex;
@@ -79,8 +81,8 @@ fn put_node_lines(buf: &mut [u8], at: usize, p: Plan) -> usize
 impl<'a> Writer<'a> {
     // The first line.
     fn head(self, edition: usize) -> Writer<'a>
-        requires { ⌜ (self .at + 12 ≤ reach) × (edition < 10) ⌝ }
-        ensures { λ r. ⌜ Appended 12 (self .entry) r (headLine edition) ⌝ }
+        requires { ⌜ (self .at + headRoom ≤ reach) × (edition < oneDigit) ⌝ }
+        ensures { λ r. ⌜ Appended headRoom (self .entry) r (headLine edition) ⌝ }
     {
         let at = self.at;
         let next = writing::put_head(&mut *self.out, at, edition);
@@ -92,8 +94,8 @@ impl<'a> Writer<'a> {
 
     // The lut lines.
     fn luts(self, p: Plan) -> Writer<'a>
-        requires { ⌜ (self .at + 1200 ≤ reach) × Fit p ⌝ }
-        ensures { λ r. ⌜ Appended 1200 (self .entry) r (lutLines p) ⌝ }
+        requires { ⌜ (self .at + lutsRoom ≤ reach) × Fit p ⌝ }
+        ensures { λ r. ⌜ Appended lutsRoom (self .entry) r (lutLines p) ⌝ }
     {
         let at = self.at;
         let next = put_lut_lines(&mut *self.out, at, p);
@@ -105,8 +107,8 @@ impl<'a> Writer<'a> {
 
     // The node lines.
     fn nodes(self, p: Plan) -> Writer<'a>
-        requires { ⌜ (self .at + 132000 ≤ reach) × Fit p ⌝ }
-        ensures { λ r. ⌜ Appended 132000 (self .entry) r (nodeLines p) ⌝ }
+        requires { ⌜ (self .at + nodesRoom ≤ reach) × Fit p ⌝ }
+        ensures { λ r. ⌜ Appended nodesRoom (self .entry) r (nodeLines p) ⌝ }
     {
         let at = self.at;
         let next = put_node_lines(&mut *self.out, at, p);
@@ -118,8 +120,8 @@ impl<'a> Writer<'a> {
 
     // The count line and the last line.
     fn last(self, u: usize) -> Writer<'a>
-        requires { ⌜ (self .at + 16 ≤ reach) × (u < 10) ⌝ }
-        ensures { λ r. ⌜ Appended 16 (self .entry) r (lastLines u) ⌝ }
+        requires { ⌜ (self .at + endRoom ≤ reach) × (u < oneDigit) ⌝ }
+        ensures { λ r. ⌜ Appended endRoom (self .entry) r (lastLines u) ⌝ }
     {
         let at = self.at;
         let next = writing::put_end(&mut *self.out, at, u);
@@ -133,7 +135,7 @@ impl<'a> Writer<'a> {
 // All lines of a plan, from the buffer's start. Its parameters hold no writer, so whoever calls it needs none.
 fn put_sheet(buf: &mut [u8], p: Plan) -> usize
     requires { ⌜ Fit p ⌝ }
-    ensures { λ r. ⌜ Written 133228 (now (buf .entry)) (now (buf .exit)) 0 r (allLines p) ⌝ }
+    ensures { λ r. ⌜ Written sheetRoom (now (buf .entry)) (now (buf .exit)) 0 r (allLines p) ⌝ }
 {
     let start = Writer { out: buf, at: 0 };
     let end = start.head(EDITION).luts(p).nodes(p).last(p.tables);
@@ -147,10 +149,10 @@ pub fn put_network(
     k: Sheet,
     sh: Shape,
     u: usize,
-    rows: [u8; 8],
-    codes: [u8; 32],
+    rows: [u8; limits::SEARCH_OUTPUTS],
+    codes: [u8; limits::MAX_VERTICES],
 ) -> usize
-    requires { ⌜ (k .inputs ≤ 10) × (k .bounds ≤ 5) × (k .outputs ≤ 4) × (u ≤ 6) × Fitting sh ⌝ }
+    requires { ⌜ (k .inputs ≤ maxInputs) × (k .bounds ≤ maxBound) × (k .outputs ≤ maxOutputs) × (u ≤ maxCells) × Fitting sh ⌝ }
     ensures { λ r. ⌜ ((d : Design) → Holds d k → Proper d → ShapeIs d sh → (r ≡ length (printNetwork d (built d u (item rows) (item codes)))) × (now (buf .exit) ≡ sets (now (buf .entry)) 0 (printNetwork d (built d u (item rows) (item codes))))) ⌝ }
 {
     let names = k.names;

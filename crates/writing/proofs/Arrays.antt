@@ -1,11 +1,17 @@
--- How long a list of names is: what a function is told of a value that it owns says so. Assumes nothing.
-use mathlib.Core.Path.{_≡_, sym, _∙_}
+-- How long the used part of a row of names is: what a function is told of a value that it owns says how long its array is.
+-- Assumes nothing.
+use mathlib.Core.Path.{_≡_}
 use mathlib.Core.List.{List}
-use lib.ListN.{length, length-map}
+use Prim.Native.Nat.{_≤_}
+use native.Mathlib.Omega.{arith}
+use lib.ListN.{length, take}
+use lib.Seq.{length-take-le}
 use mir.Val.{Val}
 use denote.Laws.{Is}
+use Rattle.listing.specs.Listed.{maxNames}
 use Rattle.listing.specs.declared.Names.{Names}
 use Rattle.listing.proofs.Names as names
+use Rattle.listing.proofs.Arrays.{list-sized}
 
-pub list-sized : (n : Names) {vs : List Val} → Is names.the-row n vs → length (n .list) ≡ 16
-list-sized n g = sym (length-map (n .list) _) ∙ g .1 .1 .1 .0 .1 .0 .1
+pub items-counted : (n : Names) {vs : List Val} → Is names.the-row n vs → n .count ≤ maxNames → length (take (n .count) (n .list)) ≡ n .count
+items-counted n g few = length-take-le (n .count) (n .list) (omega (arith, few, list-sized n g))

@@ -11,17 +11,20 @@ use lib.Dec.{eqb, ltb}
 use lib.Pow.{pow-mono}
 use lib.ListN.{length, getD}
 use borrow.Author.Tests.{lt-ltb, le-ltb}
+use Rattle.limits.specs.Limits.{maxCells, maxVertices, maxFreeRows, maxCodes}
 use Rattle.bits.specs.Logic.{pick}
 use Rattle.rows.specs.Digits.{digit}
 use Rattle.rows.specs.Words.{rowOn}
 use Rattle.classes.specs.Columns.{valuesUpto}
 use Rattle.classes.specs.Seen.{seen}
+use Rattle.classes.specs.declared.Vertex.{Vertex}
 use Rattle.network.specs.Printer.{printDigits}
 use Rattle.network.specs.Check.{firstOf}
 use Rattle.serving.specs.Build.{codeIn}
 use Rattle.putting.specs.Written.{Written}
 use Rattle.putting.specs.PutLaws.{put-none, put-next, put-same}
-use Rattle.listing.specs.Listed.{FirstIs, Firsts}
+use Rattle.listing.specs.Listed.{vertexAt, FirstIs, Firsts}
+use Rattle.writing.specs.Room.{entriesRoom}
 use Rattle.writing.specs.Lines.{chosen, entryBy, cellOn, cellBy}
 
 -- ---- one digit after the other
@@ -61,26 +64,29 @@ digits-all {f} {n} {i = i} g l =
     put-same (g .so-far) (ap (λ (k : ℕ). printDigits (valuesUpto f k)) e) (omega arith)
 
 -- ---- codes and free rows of a number
-pub some-free : (j n m : ℕ) → j < n → n ≤ 64 * m → 0 < m
+pub some-free : (j n m : ℕ) → j < n → n ≤ maxCodes * m → 0 < m
 some-free j n m l h = omega arith
 
-pub code-below : (j n m : ℕ) → j < n → n ≤ 64 * m → j / m < 64
+pub code-below : (j n m : ℕ) → j < n → n ≤ maxCodes * m → j / m < maxCodes
 code-below j n m l h = div-lt-iff-lt-mul (some-free j n m l h) .1 (omega arith)
 
-pub free-below : (j n m : ℕ) → j < n → n ≤ 64 * m → j % m < m
+pub free-below : (j n m : ℕ) → j < n → n ≤ maxCodes * m → j % m < m
 free-below j n m l h = mod-lt j (some-free j n m l h)
 
-pub power-shifted : (n : ℕ) → n ≤ 6 → ((1 * 2 ^ n) % 18446744073709551616 ≡ 2 ^ n) × ((1 * 2 ^ n) % 18446744073709551616 ≤ 64)
+-- a shift drops what is past a word
+abbrev word : ℕ
+word = 2 ^ 64
+
+pub power-shifted : (n : ℕ) → n ≤ maxCells → ((1 * 2 ^ n) % word ≡ 2 ^ n) × ((1 * 2 ^ n) % word ≤ maxCodes)
 power-shifted n h =
-    let a : 2 ^ n ≤ 2 ^ 6 = pow-mono h in
-    let b : (1 * 2 ^ n) % 18446744073709551616 ≡ 2 ^ n
-    = ap (λ (x : ℕ). x % 18446744073709551616) (one-mul (2 ^ n)) ∙ mod-eq-of-lt (omega arith) in
+    let a : 2 ^ n ≤ maxCodes = pow-mono h in
+    let b : (1 * 2 ^ n) % word ≡ 2 ^ n = ap (λ (x : ℕ). x % word) (one-mul (2 ^ n)) ∙ mod-eq-of-lt (omega arith) in
     (b, omega arith)
 
-pub entries-few : (p m : ℕ) → p ≤ 64 → m ≤ 512 → p * m ≤ 32768
+pub entries-few : (p m : ℕ) → p ≤ maxCodes → m ≤ maxFreeRows → p * m ≤ entriesRoom
 entries-few p m h g = mul-le-mul h g
 
-pub entries-within : (p m : ℕ) → p ≤ 64 → p * m ≤ 64 * m
+pub entries-within : (p m : ℕ) → p ≤ maxCodes → p * m ≤ maxCodes * m
 entries-within p m h = mul-le-mul h (omega arith)
 
 -- ---- the entry of a code is that of the vertex that the array has
@@ -98,14 +104,14 @@ first-within f zero i n e = tt
 first-within f (suc k) i n e =
     either-within n (f i) i (firstOf f k (suc i)) (omega arith) (first-within f k (suc i) n (omega arith))
 
-module _ (g : ℕ → Bool) (n : ℕ) (few : n ≤ 32) where
+module _ (g : ℕ → Bool) (n : ℕ) (few : n ≤ maxVertices) where
   chosen-at : (q : Option ℕ) (v : ℕ) → FirstIs q v → Within n q → pick (ltb v n) (g v) false ≡ chosen g q
   chosen-at (some x) v e h =
       ap (λ (k : ℕ). pick (ltb k n) (g k) false) e ∙ ap (λ (t : Bool). pick t (g x) false) (lt-ltb x n h)
   chosen-at none v l h = ap (λ (t : Bool). pick t (g v) false) (le-ltb v n (omega arith))
 
-pub cells-are : (t vertex free l : List ℕ) (codes : ℕ → ℕ) (is : List ℕ) (n : ℕ) → Firsts (λ x. codeIn is (codes x)) (length vertex) 0 l
-    → length vertex ≤ 32 → n ≤ 64 * length free → valuesUpto (cellBy t vertex free l) n ≡ valuesUpto (entryBy t vertex free codes is) n
+pub cells-are : (t vertex free : List ℕ) (l : List Vertex) (codes : ℕ → ℕ) (is : List ℕ) (n : ℕ) → Firsts (λ x. codeIn is (codes x)) (length vertex) 0 l
+    → length vertex ≤ maxVertices → n ≤ maxCodes * length free → valuesUpto (cellBy t vertex free l) n ≡ valuesUpto (entryBy t vertex free codes is) n
 unfolding cellBy cellOn entryBy
 cells-are t vertex free l codes is n g few h =
     values-same (cellBy t vertex free l) (entryBy t vertex free codes is) n
@@ -113,7 +119,7 @@ cells-are t vertex free l codes is n g few h =
     let m : ℕ = length free in
     let f : ℕ → Bool = λ x. eqb (codeIn is (codes x)) (j / m) in
     chosen-at (λ x. seen t vertex free x (j % m)) (length vertex) few
-    (firstOf f (length vertex) 0) (getD l (j / m) 0)
+    (firstOf f (length vertex) 0) (vertexAt l (j / m))
     (g .each (j / m) (code-below j n m lt h))
     (first-within f (length vertex) 0 (length vertex) (omega arith)))
 
@@ -127,7 +133,7 @@ pub cell-there : (t vertex free : List ℕ) (x z : ℕ) → x < length vertex
 unfolding cellOn seen
 cell-there t vertex free x z l = sym (ap (λ (b : Bool). pick b (seen t vertex free x z) false) (lt-ltb x (length vertex) l))
 
-pub cell-by : (t vertex free firsts : List ℕ) (j : ℕ)
-    → cellOn t vertex free (getD firsts (j / length free) 0) (j % length free) ≡ cellBy t vertex free firsts j
+pub cell-by : (t vertex free : List ℕ) (firsts : List Vertex) (j : ℕ)
+    → cellOn t vertex free (vertexAt firsts (j / length free)) (j % length free) ≡ cellBy t vertex free firsts j
 unfolding cellBy
 cell-by t vertex free firsts j = refl

@@ -1,4 +1,5 @@
 -- The lines of a network sheet as the code puts them down, and laws about these.
+pub mod Room
 pub mod Lines
 pub mod DigitLaws
 pub mod TextLaws

@@ -6,20 +6,23 @@ use mathlib.Core.Option.{Option, some, none}
 use Prim.Native.Nat.{ℕ, zero, suc, _+_, _*_, _/_, _%_, _^_, _≤_, _<_}
 use lib.Dec.{eqb, ltb}
 use lib.ListN.{length, getD}
+use Rattle.limits.specs.Limits.{maxRows, maxVertices, maxFreeRows}
 use Rattle.bits.specs.Logic.{pick}
 use Rattle.text.specs.Bytes.{bytes, newline}
 use Rattle.sheet.specs.Lines.{endLine}
 use Rattle.classes.specs.Columns.{valuesUpto}
 use Rattle.classes.specs.Seen.{Inside, seen}
 use Rattle.classes.specs.declared.Shape.{Shape}
+use Rattle.classes.specs.declared.Vertex.{Vertex}
 use Rattle.network.specs.Network.{Node}
 use Rattle.network.specs.Printer.{printCount}
 use Rattle.network.specs.Check.{firstOf}
 use Rattle.serving.specs.Build.{codeIn}
+use Rattle.listing.specs.Listed.{zeroByte, vertexAt}
 
--- the first line, of an edition below 10
+-- the first line, of an edition of one digit
 unfoldable pub headLine : ℕ → List ℕ
-headLine edition = bytes "(network " ++ (((48 + edition) ∷ []) ++ bytes ")\n")
+headLine edition = bytes "(network " ++ (((zeroByte + edition) ∷ []) ++ bytes ")\n")
 
 -- the first n lines that f says
 unfoldable pub linesUpto : (ℕ → List ℕ) → ℕ → List ℕ
@@ -49,17 +52,17 @@ nodeBy t vertex free codes is =
 unfoldable pub cellOn : List ℕ → List ℕ → List ℕ → ℕ → ℕ → Bool
 cellOn t vertex free x z = pick (ltb x (length vertex)) (seen t vertex free x z) false
 
-unfoldable pub cellBy : List ℕ → List ℕ → List ℕ → List ℕ → ℕ → Bool
-cellBy t vertex free firsts j = cellOn t vertex free (getD firsts (j / length free) 0) (j % length free)
+unfoldable pub cellBy : List ℕ → List ℕ → List ℕ → List Vertex → ℕ → Bool
+cellBy t vertex free firsts j = cellOn t vertex free (vertexAt firsts (j / length free)) (j % length free)
 
 -- as many vertices and free rows as there may be, on rows of a table
 pub record Bounded (vertex free : List ℕ) : Type 0 where
-  pub few-vertices : length vertex ≤ 32
-  pub few-free : length free ≤ 512
+  pub few-vertices : length vertex ≤ maxVertices
+  pub few-free : length free ≤ maxFreeRows
   pub inside : Inside vertex free
 
 -- the same of a shape
 pub record Fitting (sh : Shape) : Type 0 where
-  pub few-vertices : sh .vertices ≤ 32
-  pub few-free : sh .frees ≤ 512
-  pub inside : (x y : ℕ) → x < sh .vertices → y < sh .frees → getD (sh .vertex) x 0 + getD (sh .free) y 0 < 1024
+  pub few-vertices : sh .vertices ≤ maxVertices
+  pub few-free : sh .frees ≤ maxFreeRows
+  pub inside : (x y : ℕ) → x < sh .vertices → y < sh .frees → getD (sh .vertex) x 0 + getD (sh .free) y 0 < maxRows

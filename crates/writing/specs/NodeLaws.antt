@@ -11,6 +11,7 @@ use lib.Dec.{eqb}
 use lib.Pow.{pow-add, pow-mono, pow-pos}
 use lib.ListN.{length, getD, take}
 use lib.Seq.{getD-take, length-take-le}
+use Rattle.limits.specs.Limits.{maxInputs, maxRows}
 use Rattle.bits.specs.Logic.{pick}
 use Rattle.rows.specs.Words.{rowOn, Rowwise}
 use Rattle.sheet.specs.Examine.{Design}
@@ -49,11 +50,11 @@ module _ (d : Design) (sh : Shape) (s : ShapeIs d sh) where
   join-of x y a b =
       ap₂ (λ (m n : ℕ). m + n) (s .at-vertex x a) (s .at-free y b) ∙ sym (join-add (d .inputs) (d .bound) x y)
 
-  module _ (few : length (d .inputs) ≤ 10) where
-    row-small : (x y : ℕ) → joinRow (d .inputs) (d .bound) x y < 1024
+  module _ (few : length (d .inputs) ≤ maxInputs) where
+    row-small : (x y : ℕ) → joinRow (d .inputs) (d .bound) x y < maxRows
     row-small x y =
         let l : joinRow (d .inputs) (d .bound) x y < 2 ^ length (d .inputs) = join-lt (d .inputs) (d .bound) x y in
-        let m : 2 ^ length (d .inputs) ≤ 2 ^ 10 = pow-mono few in
+        let m : 2 ^ length (d .inputs) ≤ maxRows = pow-mono few in
         omega arith
 
     -- the shape of a design fits
@@ -62,7 +63,7 @@ module _ (d : Design) (sh : Shape) (s : ShapeIs d sh) where
         record {
           few-vertices = s .few-vertices;
           few-free = s .few-free;
-          inside = λ x y a b. subst (λ (r : ℕ). r < 1024) (sym (join-of x y a b)) (row-small x y);
+          inside = λ x y a b. subst (λ (r : ℕ). r < maxRows) (sym (join-of x y a b)) (row-small x y);
         }
 
     module _ (v-long : sh .vertices ≤ length (sh .vertex)) (f-long : sh .frees ≤ length (sh .free)) (t : List ℕ) (o : ℕ) (table : Rowwise (outputOn d o) t) where

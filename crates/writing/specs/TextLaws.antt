@@ -4,14 +4,16 @@ use mathlib.Core.Bool.{Bool, true}
 use mathlib.Core.List.{List, [], _∷_, _++_, map, append-assoc}
 use Prim.Native.Nat.{ℕ, _+_, _*_, _^_, _≤_, _<_}
 use lib.ListN.{length}
+use Rattle.limits.specs.Limits.{maxVertices, maxCodes}
 use Rattle.text.specs.Bytes.{bytes, newline, closeBracket}
 use Rattle.names.specs.Name.{Name}
 use Rattle.sheet.specs.Lines.{endLine}
 use Rattle.classes.specs.Columns.{valuesUpto}
+use Rattle.classes.specs.declared.Vertex.{Vertex}
 use Rattle.network.specs.Network.{Node}
 use Rattle.network.specs.Printer.{ledAll, lutName, printDigits, lutHead, printLut, nodeHead, printNode, printCount}
 use Rattle.serving.specs.Build.{codeIn}
-use Rattle.listing.specs.Listed.{Firsts}
+use Rattle.listing.specs.Listed.{zeroByte, oneDigit, Firsts}
 use Rattle.listing.specs.NumbersLaws.{one-digit}
 use Rattle.writing.specs.Lines.{headLine, lastLines, entryBy, cellBy, nodeBy}
 use Rattle.writing.specs.DigitLaws.{cells-are, entries-within}
@@ -44,19 +46,19 @@ node-text n fs ns x ds e f =
     ap₂ (λ (l : List Name) (v : List Bool). nodeHead n ++ ((ledAll true l ++ bytes ") ") ++ (printDigits v ++ bytes ")\n"))) e f
     ∙ joined (nodeHead n) (ledAll true (map lutName (x .reads) ++ fs)) (bytes ") ") (printDigits (x .digits))
 
-pub head-text : (e : ℕ) → bytes "(network " ++ (((48 + e) ∷ []) ++ bytes ")\n") ≡ headLine e
+pub head-text : (e : ℕ) → bytes "(network " ++ (((zeroByte + e) ∷ []) ++ bytes ")\n") ≡ headLine e
 unfolding headLine
 head-text e = refl
 
-pub last-text : (u : ℕ) → u < 10 → bytes "(count " ++ (((48 + u) ∷ []) ++ bytes ")\n(end)\n") ≡ lastLines u
+pub last-text : (u : ℕ) → u < oneDigit → bytes "(count " ++ (((zeroByte + u) ∷ []) ++ bytes ")\n(end)\n") ≡ lastLines u
 unfolding lastLines printCount
 last-text u l =
     ap (λ (t : List ℕ). (bytes "(count " ++ (t ++ (closeBracket ∷ []))) ++ (newline ∷ (endLine ++ (newline ∷ [])))) (sym (one-digit u l))
 
 -- a node line whose digits were looked up by an array of first vertices
-pub node-line : (n : Name) (fs ns rs : List Name) (t vertex free l : List ℕ) (codes : ℕ → ℕ) (is : List ℕ) (p c : ℕ)
+pub node-line : (n : Name) (fs ns rs : List Name) (t vertex free : List ℕ) (l : List Vertex) (codes : ℕ → ℕ) (is : List ℕ) (p c : ℕ)
     → ns ≡ rs ++ fs → rs ≡ map lutName is → Firsts (λ x. codeIn is (codes x)) (length vertex) 0 l
-    → length vertex ≤ 32 → p ≡ 2 ^ c → c ≡ length is → p ≤ 64
+    → length vertex ≤ maxVertices → p ≡ 2 ^ c → c ≡ length is → p ≤ maxCodes
     → nodeHead n ++ ((ledAll true ns ++ bytes ") ") ++ (printDigits (valuesUpto (cellBy t vertex free l) (p * length free)) ++ bytes ")\n"))
     ≡ printNode n fs (nodeBy t vertex free codes is) ++ (newline ∷ [])
 unfolding nodeBy

@@ -5,6 +5,7 @@ ghost use mathlib.Core.Path.{_≡_};
 ghost use mathlib.Core.List.{_++_, _∷_, []};
 ghost use Prim.Native.Nat.{ℕ, _+_, _*_, _≤_, _<_, _^_};
 ghost use lib.ListN.{length};
+ghost use Rattle.limits.specs.Limits.{maxInputs, maxOutputs, maxCells, maxVertices, maxCodes};
 ghost use Rattle.bits.specs.Digit.{on};
 ghost use Rattle.text.specs.Bytes.{bytes, newline};
 ghost use Rattle.names.specs.Pack.{nameOf};
@@ -14,16 +15,18 @@ ghost use Rattle.classes.specs.Seen.{Inside};
 ghost use Rattle.network.specs.Printer.{ledAll, printDigits, lutHead, printLut, nodeHead, printNode};
 ghost use Rattle.serving.specs.Build.{numbers};
 ghost use Rattle.putting.specs.Written.{reach, Written};
-ghost use Rattle.listing.specs.Listed.{shown, item};
+ghost use Rattle.listing.specs.Listed.{maxNames, oneDigit, shown, item};
 ghost use Rattle.writing.specs.Lines.{headLine, linesUpto, lastLines, cellOn, cellBy, nodeBy, Bounded};
+ghost use Rattle.writing.specs.Room.{headRoom, listRoom, lutHeadRoom, lutRoom, lutsRoom, nodeHeadRoom, nodeRoom, nodesRoom, endRoom};
 ghost use mathlib.Core.Bool.{true};
+use classes::Vertex;
 use listing::Names;
 use sheet::Sheet;
 
 // The first line, of an edition.
 pub fn put_head(buf: &mut [u8], at: usize, edition: usize) -> usize
-    requires { ⌜ (at + 12 ≤ reach) × (edition < 10) ⌝ }
-    ensures { λ r. ⌜ Written 12 (now (buf .entry)) (now (buf .exit)) at r (headLine edition) ⌝ }
+    requires { ⌜ (at + headRoom ≤ reach) × (edition < oneDigit) ⌝ }
+    ensures { λ r. ⌜ Written headRoom (now (buf .entry)) (now (buf .exit)) at r (headLine edition) ⌝ }
 {
     let p = putting::put_text(buf, at, b"(network ");
     let q = putting::put_byte(buf, p, b'0' + edition as u8);
@@ -32,8 +35,8 @@ pub fn put_head(buf: &mut [u8], at: usize, edition: usize) -> usize
 
 // The names ns as the items of a list, its closing bracket and a space.
 fn put_list(buf: &mut [u8], at: usize, ns: Names) -> usize
-    requires { ⌜ (at + 146 ≤ reach) × (ns .count ≤ 16) ⌝ }
-    ensures { λ r. ⌜ Written 146 (now (buf .entry)) (now (buf .exit)) at r (ledAll true (shown ns) ++ bytes ") ") ⌝ }
+    requires { ⌜ (at + listRoom ≤ reach) × (ns .count ≤ maxNames) ⌝ }
+    ensures { λ r. ⌜ Written listRoom (now (buf .entry)) (now (buf .exit)) at r (ledAll true (shown ns) ++ bytes ") ") ⌝ }
 {
     let list = ns.list;
     let n = ns.count;
@@ -43,8 +46,8 @@ fn put_list(buf: &mut [u8], at: usize, ns: Names) -> usize
 
 // A lut line up to its digits.
 fn put_lut_head(buf: &mut [u8], at: usize, bs: Names, i: usize) -> usize
-    requires { ⌜ (at + 161 ≤ reach) × (bs .count ≤ 16) × (i < 10) ⌝ }
-    ensures { λ r. ⌜ Written 161 (now (buf .entry)) (now (buf .exit)) at r (lutHead (shown bs) i) ⌝ }
+    requires { ⌜ (at + lutHeadRoom ≤ reach) × (bs .count ≤ maxNames) × (i < oneDigit) ⌝ }
+    ensures { λ r. ⌜ Written lutHeadRoom (now (buf .entry)) (now (buf .exit)) at r (lutHead (shown bs) i) ⌝ }
 {
     let p = putting::put_text(buf, at, b"(lut ");
     let q = putting::put_name(buf, p, listing::lut_name(i));
@@ -53,8 +56,14 @@ fn put_lut_head(buf: &mut [u8], at: usize, bs: Names, i: usize) -> usize
 }
 
 // The digits of shared table i: digit i of the code of each of the n vertices.
-fn put_table(buf: &mut [u8], at: usize, codes: [u8; 32], i: usize, n: usize) -> usize
-    requires { ⌜ (at + n ≤ reach) × (n ≤ 32) × (i < 10) ⌝ }
+fn put_table(
+    buf: &mut [u8],
+    at: usize,
+    codes: [u8; limits::MAX_VERTICES],
+    i: usize,
+    n: usize,
+) -> usize
+    requires { ⌜ (at + n ≤ reach) × (n ≤ maxVertices) × (i < oneDigit) ⌝ }
     ensures { λ r. ⌜ Written n (now (buf .entry)) (now (buf .exit)) at r (printDigits (valuesUpto (λ (x : ℕ). on (item codes x) i) n)) ⌝ }
 {
     let mut p = at;
@@ -67,9 +76,16 @@ fn put_table(buf: &mut [u8], at: usize, codes: [u8; 32], i: usize, n: usize) -> 
 }
 
 // The line of shared table i.
-fn put_lut(buf: &mut [u8], at: usize, bs: Names, i: usize, codes: [u8; 32], n: usize) -> usize
-    requires { ⌜ (at + 200 ≤ reach) × (bs .count ≤ 16) × (n ≤ 32) × (i < 10) ⌝ }
-    ensures { λ r. ⌜ Written 200 (now (buf .entry)) (now (buf .exit)) at r (printLut (shown bs) i (valuesUpto (λ (x : ℕ). on (item codes x) i) n) ++ (newline ∷ [])) ⌝ }
+fn put_lut(
+    buf: &mut [u8],
+    at: usize,
+    bs: Names,
+    i: usize,
+    codes: [u8; limits::MAX_VERTICES],
+    n: usize,
+) -> usize
+    requires { ⌜ (at + lutRoom ≤ reach) × (bs .count ≤ maxNames) × (n ≤ maxVertices) × (i < oneDigit) ⌝ }
+    ensures { λ r. ⌜ Written lutRoom (now (buf .entry)) (now (buf .exit)) at r (printLut (shown bs) i (valuesUpto (λ (x : ℕ). on (item codes x) i) n) ++ (newline ∷ [])) ⌝ }
 {
     let p = put_lut_head(buf, at, bs, i);
     let q = put_table(buf, p, codes, i, n);
@@ -77,9 +93,16 @@ fn put_lut(buf: &mut [u8], at: usize, bs: Names, i: usize, codes: [u8; 32], n: u
 }
 
 // The lines of the u shared tables.
-pub fn put_luts(buf: &mut [u8], at: usize, bs: Names, u: usize, codes: [u8; 32], n: usize) -> usize
-    requires { ⌜ (at + 1200 ≤ reach) × (bs .count ≤ 16) × (n ≤ 32) × (u ≤ 6) ⌝ }
-    ensures { λ r. ⌜ Written 1200 (now (buf .entry)) (now (buf .exit)) at r (linesUpto (λ (i : ℕ). printLut (shown bs) i (valuesUpto (λ (x : ℕ). on (item codes x) i) n)) u) ⌝ }
+pub fn put_luts(
+    buf: &mut [u8],
+    at: usize,
+    bs: Names,
+    u: usize,
+    codes: [u8; limits::MAX_VERTICES],
+    n: usize,
+) -> usize
+    requires { ⌜ (at + lutsRoom ≤ reach) × (bs .count ≤ maxNames) × (n ≤ maxVertices) × (u ≤ maxCells) ⌝ }
+    ensures { λ r. ⌜ Written lutsRoom (now (buf .entry)) (now (buf .exit)) at r (linesUpto (λ (i : ℕ). printLut (shown bs) i (valuesUpto (λ (x : ℕ). on (item codes x) i) n)) u) ⌝ }
 {
     let mut p = at;
     let mut i = 0;
@@ -92,8 +115,8 @@ pub fn put_luts(buf: &mut [u8], at: usize, bs: Names, u: usize, codes: [u8; 32],
 
 // A node line up to its list of inputs.
 fn put_node_head(buf: &mut [u8], at: usize, name: u64) -> usize
-    requires { ⌜ at + 16 ≤ reach ⌝ }
-    ensures { λ r. ⌜ Written 16 (now (buf .entry)) (now (buf .exit)) at r (nodeHead (nameOf name)) ⌝ }
+    requires { ⌜ at + nodeHeadRoom ≤ reach ⌝ }
+    ensures { λ r. ⌜ Written nodeHeadRoom (now (buf .entry)) (now (buf .exit)) at r (nodeHead (nameOf name)) ⌝ }
 {
     let p = putting::put_text(buf, at, b"(node ");
     let q = putting::put_name(buf, p, name);
@@ -101,27 +124,34 @@ fn put_node_head(buf: &mut [u8], at: usize, name: u64) -> usize
 }
 
 // The value of the table t at vertex x and free row z, and 0 where x is no vertex.
-fn cell<'a>(t: [u64; 16], vertex: &'a [usize], free: &'a [usize], x: usize, z: usize) -> bool
+fn cell<'a>(
+    t: [u64; limits::TABLE_WORDS],
+    vertex: &'a [usize],
+    free: &'a [usize],
+    x: Vertex,
+    z: usize,
+) -> bool
     requires { ⌜ (z < length (now free)) × Inside (now vertex) (now free) ⌝ }
-    ensures { λ r. ⌜ r ≡ cellOn t (now (vertex .entry)) (now (free .entry)) x z ⌝ }
+    ensures { λ r. ⌜ r ≡ cellOn t (now (vertex .entry)) (now (free .entry)) (x .0) z ⌝ }
 {
-    if vertex.len() <= x {
+    let i = x.0;
+    if vertex.len() <= i {
         return false;
     }
-    rows::row(t, vertex[x] + free[z])
+    rows::row(t, vertex[i] + free[z])
 }
 
 // The first n digits of a composition table: code by code, and for each code free row by free row.
 fn put_entries<'a>(
     buf: &mut [u8],
     at: usize,
-    t: [u64; 16],
+    t: [u64; limits::TABLE_WORDS],
     vertex: &'a [usize],
     free: &'a [usize],
-    firsts: [usize; 64],
+    firsts: [Vertex; limits::MAX_CODES],
     n: usize,
 ) -> usize
-    requires { ⌜ (at + n ≤ reach) × (n ≤ 64 * length (now free)) × Inside (now vertex) (now free) ⌝ }
+    requires { ⌜ (at + n ≤ reach) × (n ≤ maxCodes * length (now free)) × Inside (now vertex) (now free) ⌝ }
     ensures { λ r. ⌜ Written n (now (buf .entry)) (now (buf .exit)) at r (printDigits (valuesUpto (cellBy t (now (vertex .entry)) (now (free .entry)) firsts) n)) ⌝ }
 {
     let m = free.len();
@@ -137,8 +167,8 @@ fn put_entries<'a>(
 
 // How many codes n tables have.
 fn power(n: usize) -> usize
-    requires { ⌜ n ≤ 6 ⌝ }
-    ensures { λ r. ⌜ (r ≡ 2 ^ n) × (r ≤ 64) ⌝ }
+    requires { ⌜ n ≤ maxCells ⌝ }
+    ensures { λ r. ⌜ (r ≡ 2 ^ n) × (r ≤ maxCodes) ⌝ }
 {
     1 << n
 }
@@ -151,13 +181,13 @@ fn put_node<'a>(
     fs: Names,
     u: usize,
     mask: u8,
-    codes: [u8; 32],
-    t: [u64; 16],
+    codes: [u8; limits::MAX_VERTICES],
+    t: [u64; limits::TABLE_WORDS],
     vertex: &'a [usize],
     free: &'a [usize],
 ) -> usize
-    requires { ⌜ (at + 33000 ≤ reach) × (fs .count ≤ 10) × (u ≤ 6) × Bounded (now vertex) (now free) ⌝ }
-    ensures { λ r. ⌜ Written 33000 (now (buf .entry)) (now (buf .exit)) at r (printNode (nameOf name) (shown fs) (nodeBy t (now (vertex .entry)) (now (free .entry)) (item codes) (numbers u 0 mask)) ++ (newline ∷ [])) ⌝ }
+    requires { ⌜ (at + nodeRoom ≤ reach) × (fs .count ≤ maxInputs) × (u ≤ maxCells) × Bounded (now vertex) (now free) ⌝ }
+    ensures { λ r. ⌜ Written nodeRoom (now (buf .entry)) (now (buf .exit)) at r (printNode (nameOf name) (shown fs) (nodeBy t (now (vertex .entry)) (now (free .entry)) (item codes) (numbers u 0 mask)) ++ (newline ∷ [])) ⌝ }
 {
     let reads = listing::read_names(u, mask);
     let n = power(reads.count) * free.len();
@@ -175,13 +205,13 @@ pub fn put_nodes<'a>(
     k: Sheet,
     fs: Names,
     u: usize,
-    rows: [u8; 8],
-    codes: [u8; 32],
+    rows: [u8; limits::SEARCH_OUTPUTS],
+    codes: [u8; limits::MAX_VERTICES],
     vertex: &'a [usize],
     free: &'a [usize],
 ) -> usize
-    requires { ⌜ (at + 132000 ≤ reach) × (k .outputs ≤ 4) × (fs .count ≤ 10) × (u ≤ 6) × Bounded (now vertex) (now free) ⌝ }
-    ensures { λ r. ⌜ Written 132000 (now (buf .entry)) (now (buf .exit)) at r (linesUpto (λ (o : ℕ). printNode (nameOf (item (k .outs) o)) (shown fs) (nodeBy (tableAt (k .tables) o) (now (vertex .entry)) (now (free .entry)) (item codes) (numbers u 0 (item rows o)))) (k .outputs)) ⌝ }
+    requires { ⌜ (at + nodesRoom ≤ reach) × (k .outputs ≤ maxOutputs) × (fs .count ≤ maxInputs) × (u ≤ maxCells) × Bounded (now vertex) (now free) ⌝ }
+    ensures { λ r. ⌜ Written nodesRoom (now (buf .entry)) (now (buf .exit)) at r (linesUpto (λ (o : ℕ). printNode (nameOf (item (k .outs) o)) (shown fs) (nodeBy (tableAt (k .tables) o) (now (vertex .entry)) (now (free .entry)) (item codes) (numbers u 0 (item rows o)))) (k .outputs)) ⌝ }
 {
     let outputs = k.outputs;
     let outs = k.outs;
@@ -199,8 +229,8 @@ pub fn put_nodes<'a>(
 
 // The count line and the last line.
 pub fn put_end(buf: &mut [u8], at: usize, u: usize) -> usize
-    requires { ⌜ (at + 16 ≤ reach) × (u < 10) ⌝ }
-    ensures { λ r. ⌜ Written 16 (now (buf .entry)) (now (buf .exit)) at r (lastLines u) ⌝ }
+    requires { ⌜ (at + endRoom ≤ reach) × (u < oneDigit) ⌝ }
+    ensures { λ r. ⌜ Written endRoom (now (buf .entry)) (now (buf .exit)) at r (lastLines u) ⌝ }
 {
     let p = putting::put_text(buf, at, b"(count ");
     let q = putting::put_byte(buf, p, b'0' + u as u8);

@@ -20,7 +20,7 @@ no-names-requires : tie.Need-no-names-requires Inv-loop μ-loop
 no-names-requires c κs = search needs
 
 loop-holds : tie.Need-loop-holds Inv-loop μ-loop
-loop-holds c = (growing-none ((c .no-names .ensures .0)), (c .no-names .ensures .1))
+loop-holds c = (growing-none (c .no-names .ensures .0), c .no-names .ensures .1)
 
 mul-name-at : tie.Need-mul-name-at Inv-loop μ-loop
 mul-name-at c = search needs
@@ -32,7 +32,7 @@ name-at-requires : tie.Need-name-at-requires Inv-loop μ-loop
 name-at-requires c κs = search needs
 
 pushed-requires : tie.Need-pushed-requires Inv-loop μ-loop
-pushed-requires c κs = omega (arith, (c .before .before .before .before .pre))
+pushed-requires c κs = omega (arith, c .before .before .before .before .pre)
 
 add-i : tie.Need-add-i Inv-loop μ-loop
 add-i c = search needs
@@ -41,10 +41,14 @@ loop-less : tie.Need-loop-less Inv-loop μ-loop
 loop-less c = search needs
 
 loop-again : tie.Need-loop-again Inv-loop μ-loop
-loop-again c = (growing-more ((c .before .before .before .loop .inv .0)) (c .before .before .loop-test .taken) (omega arith) ((c .pushed .ensures .0)) (ap nameOf (c .before .name-at .ensures)), omega arith)
+loop-again c =
+    let name-at = c .before .name-at in
+    let loop-test = c .before .before .loop-test in
+    let loop = c .before .before .before .loop in
+    (growing-more (loop .inv .0) (loop-test .taken) (omega arith) (c .pushed .ensures .0) (ap nameOf (name-at .ensures)), omega arith)
 
 returns : tie.Need-returns Inv-loop μ-loop
-returns c = (growing-all ((c .before .loop .inv .0)) (c .loop-test .left), omega (arith, (c .before .loop .inv .0 .within)))
+returns c = (growing-all (c .before .loop .inv .0) (c .loop-test .left), omega (arith, c .before .loop .inv .0 .within))
 
 pub bound-names-spec : {M : Type 1} → statement M
 bound-names-spec =

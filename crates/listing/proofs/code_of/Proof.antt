@@ -29,7 +29,9 @@ has-requires : tie.Need-has-requires Inv-loop μ-loop
 has-requires c κs = search needs
 
 mul-code : tie.Need-mul-code Inv-loop μ-loop
-mul-code c = record { fits = omega (arith, coding-below (c .before .before .before .before .loop .inv) (c .before .before .before .before .before .pre)) }
+mul-code c =
+    let head = c .before .before .before .before in
+    record { fits = omega (arith, coding-below (head .loop .inv) (head .before .pre)) }
 
 wide-requires-2 : tie.Need-wide-requires-2 Inv-loop μ-loop
 wide-requires-2 c κs = search needs
@@ -44,7 +46,10 @@ bit-of-requires : tie.Need-bit-of-requires Inv-loop μ-loop
 bit-of-requires c κs = search needs
 
 add-code : tie.Need-add-code Inv-loop μ-loop
-add-code c = record { fits = omega (arith, coding-below (c .before .before .before .before .before .before .before .loop .inv) (c .before .before .before .before .before .before .before .before .pre), (c .bit-of .ensures .1)) }
+add-code c =
+    let loop = c .before .before .before .before .before .before .before .loop in
+    let pre = c .before .before .before .before .before .before .before .before .pre in
+    record { fits = omega (arith, coding-below (loop .inv) pre, c .bit-of .ensures .1) }
 
 add-i : tie.Need-add-i Inv-loop μ-loop
 add-i c = search needs
@@ -54,9 +59,17 @@ loop-less c = search needs
 
 loop-again : tie.Need-loop-again Inv-loop μ-loop
 loop-again c =
+    let has = c .before .has in
+    let wide = c .before .before .wide in
+    let loop-test = c .before .before .before .loop-test in
+    let loop = c .before .before .before .before .loop in
+    let args = c .before .before .before .before .before .args in
     ⊎-elim
-    (λ w. subst (λ (k : ℕ). Coding (c .before .before .before .before .before .args .mask) (c .before .before .before .before .before .args .n) (c .before .before .before .before .before .args .u) ((c .before .before .before .before .loop .i) + 1) k) (sym (w .4)) (coding-with (c .before .before .before .before .loop .inv) (c .before .before .before .loop-test .taken) (digit-read (c .before .before .before .before .loop .i) (c .before .has .ensures) (c .before .before .wide .ensures) (w .0 .taken)) (w .3 .ensures .0 ∙ ap bit (w .2 .ensures ∙ ap (λ (k : ℕ). on k (c .before .before .before .before .loop .i)) (w .1 .ensures)))))
-    (λ w. subst (λ (k : ℕ). Coding (c .before .before .before .before .before .args .mask) (c .before .before .before .before .before .args .n) (c .before .before .before .before .before .args .u) ((c .before .before .before .before .loop .i) + 1) k) (sym (w .1)) (coding-without (c .before .before .before .before .loop .inv) (c .before .before .before .loop-test .taken) (digit-read (c .before .before .before .before .loop .i) (c .before .has .ensures) (c .before .before .wide .ensures) (w .0 .left))))
+    (λ w. subst (λ (k : ℕ). Coding (args .mask) (args .n) (args .u) ((loop .i) + 1) k) (sym (w .4))
+    (coding-with (loop .inv) (loop-test .taken) (digit-read (loop .i) (has .ensures) (wide .ensures) (w .0 .taken))
+    (w .3 .ensures .0 ∙ ap bit (w .2 .ensures ∙ ap (λ (k : ℕ). on k (loop .i)) (w .1 .ensures)))))
+    (λ w. subst (λ (k : ℕ). Coding (args .mask) (args .n) (args .u) ((loop .i) + 1) k) (sym (w .1))
+    (coding-without (loop .inv) (loop-test .taken) (digit-read (loop .i) (has .ensures) (wide .ensures) (w .0 .left))))
     (c .if1 .came)
 
 returns : tie.Need-returns Inv-loop μ-loop

@@ -28,14 +28,14 @@ code-of-requires c κs = search needs
 mul-r : tie.Need-mul-r Inv-loop μ-loop
 mul-r c = search needs
 
-array-write-r : tie.Need-array-write-r Inv-loop μ-loop
-array-write-r c = search needs
+array-set-from-r : tie.Need-array-set-from-r Inv-loop μ-loop
+array-set-from-r c = search needs
 
 loop-less : tie.Need-loop-less Inv-loop μ-loop
 loop-less c = search needs
 
 loop-again : tie.Need-loop-again Inv-loop μ-loop
-loop-again c = filling-more (c .before .before .loop .inv) (c .before .loop-test .taken) ((c .code-of .ensures .0)) ((c .code-of .ensures .1))
+loop-again c = filling-more (c .before .before .loop .inv) (c .before .loop-test .taken) (c .code-of .ensures .0) (c .code-of .ensures .1)
 
 returns : tie.Need-returns Inv-loop μ-loop
 returns c = filling-all (c .before .loop .inv) (c .loop-test .left)
@@ -51,7 +51,7 @@ firsts-spec =
     array-read-code-of
     code-of-requires
     mul-r
-    array-write-r
+    array-set-from-r
     loop-less
     loop-again
     returns)

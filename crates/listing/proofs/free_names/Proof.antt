@@ -25,13 +25,17 @@ no-names-requires : tie.Need-no-names-requires Inv-loop μ-loop
 no-names-requires c κs = search needs
 
 loop-holds : tie.Need-loop-holds Inv-loop μ-loop
-loop-holds c = freeing-none _ _ _ ((c .no-names .ensures .0)) ((c .no-names .ensures .1))
+loop-holds c = freeing-none _ _ _ (c .no-names .ensures .0) (c .no-names .ensures .1)
 
 array-share-prefix-list : tie.Need-array-share-prefix-list Inv-loop μ-loop
-array-share-prefix-list c = omega (arith, (c .before .before .before .before .pre .1), list-sized (c .before .before .before .before .args .bs) ((c .before .before .before .before .good .1 .1 .0)))
+array-share-prefix-list c = omega (arith, c .before .before .before .before .pre .1, list-sized (c .before .before .before .before .args .bs) (c .before .before .before .before .good .1 .1 .0))
 
 slice-aggregate-find : tie.Need-slice-aggregate-find Inv-loop μ-loop
-slice-aggregate-find c = sym (length-take-le (c .before .before .before .before .before .args .bs .count) (c .before .before .before .before .before .args .bs .list) (omega (arith, (c .before .before .before .before .before .pre .1), list-sized (c .before .before .before .before .before .args .bs) ((c .before .before .before .before .before .good .1 .1 .0)))))
+slice-aggregate-find c =
+    let args = c .before .before .before .before .before .args in
+    let good = c .before .before .before .before .before .good in
+    let pre = c .before .before .before .before .before .pre in
+    sym (length-take-le (args .bs .count) (args .bs .list) (omega (arith, pre .1, list-sized (args .bs) (good .1 .1 .0))))
 
 mul-find : tie.Need-mul-find Inv-loop μ-loop
 mul-find c = search needs
@@ -55,7 +59,10 @@ array-read-pushed : tie.Need-array-read-pushed Inv-loop μ-loop
 array-read-pushed c = search needs
 
 pushed-requires : tie.Need-pushed-requires Inv-loop μ-loop
-pushed-requires c κs = omega (arith, (c .before .before .before .before .before .loop .inv .few), (c .before .before .before .before .before .before .before .before .pre .0))
+pushed-requires c κs =
+    let head = c .before .before .before .before .before in
+    let start = head .before .before .before in
+    omega (arith, head .loop .inv .few, start .pre .0)
 
 add-i : tie.Need-add-i Inv-loop μ-loop
 add-i c = search needs
@@ -65,11 +72,17 @@ loop-less c = search needs
 
 loop-again : tie.Need-loop-again Inv-loop μ-loop
 loop-again c =
-    let few : (c .before .before .before .before .before .before .before .args .n) ≤ length (c .before .before .before .before .before .before .before .args .t1) = omega (arith, (c .before .before .before .before .before .before .before .pre .0)) in
-    let vs = take (c .before .before .before .before .before .before .before .args .bs .count) (c .before .before .before .before .before .before .before .args .bs .list) in
+    let find = c .before .find in
+    let loop-test = c .before .before .before .loop-test in
+    let loop = c .before .before .before .before .loop in
+    let args = c .before .before .before .before .before .before .before .args in
+    let pre = c .before .before .before .before .before .before .before .pre in
+    let few : (args .n) ≤ length (args .t1) = omega (arith, pre .0) in
+    let vs = take (args .bs .count) (args .bs .list) in
     ⊎-elim
-    (λ w. subst (λ (q : Names). Freeing (c .before .before .before .before .before .before .before .args .t1) (map nameOf vs) (c .before .before .before .before .before .before .before .args .n) ((c .before .before .before .before .loop .i) + 1) (q .count) (shown q)) (sym (w .2)) (freeing-bound vs (c .before .before .before .before .loop .inv) (c .before .before .before .loop-test .taken) few (c .before .find .ensures) (w .1 .given .1)))
-    (λ w. freeing-free vs (c .before .before .before .before .loop .inv) (c .before .before .before .loop-test .taken) few (c .before .find .ensures) (w .1 .given .1) (ap shown (w .3) ∙ w .2 .ensures .0) (ap (λ (q : Names). q .count) (w .3) ∙ w .2 .ensures .1))
+    (λ w. subst (λ (q : Names). Freeing (args .t1) (map nameOf vs) (args .n) ((loop .i) + 1) (q .count) (shown q)) (sym (w .2))
+    (freeing-bound vs (loop .inv) (loop-test .taken) few (find .ensures) (w .1 .given .1)))
+    (λ w. freeing-free vs (loop .inv) (loop-test .taken) few (find .ensures) (w .1 .given .1) (ap shown (w .3) ∙ w .2 .ensures .0) (ap (λ (q : Names). q .count) (w .3) ∙ w .2 .ensures .1))
     (c .match .came)
 
 returns : tie.Need-returns Inv-loop μ-loop

@@ -35,10 +35,16 @@ loop-less : tie.Need-loop-less Inv-loop μ-loop
 loop-less c = search needs
 
 loop-again : tie.Need-loop-again Inv-loop μ-loop
-loop-again c = (growing-more ((c .before .before .loop .inv .0)) (c .before .loop-test .taken) (omega (arith, (c .before .before .before .before .pre), list-sized (c .before .before .before .before .args .b) ((c .before .before .before .before .good .1 .0)))) ((c .pushed .ensures .0)) refl, omega arith)
+loop-again c =
+    let loop-test = c .before .loop-test in
+    let loop = c .before .before .loop in
+    let args = c .before .before .before .before .args in
+    let good = c .before .before .before .before .good in
+    let pre = c .before .before .before .before .pre in
+    (growing-more (loop .inv .0) (loop-test .taken) (omega (arith, pre, list-sized (args .b) (good .1 .0))) (c .pushed .ensures .0) refl, omega arith)
 
 returns : tie.Need-returns Inv-loop μ-loop
-returns c = (growing-all ((c .before .loop .inv .0)) (c .loop-test .left), omega (arith, (c .before .loop .inv .0 .within)))
+returns c = (growing-all (c .before .loop .inv .0) (c .loop-test .left), omega (arith, c .before .loop .inv .0 .within))
 
 pub joined-spec : {M : Type 1} → statement M
 joined-spec =

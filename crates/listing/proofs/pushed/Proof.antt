@@ -17,7 +17,7 @@ add-t5 : tie.Need-add-t5
 add-t5 c = search needs
 
 returns : tie.Need-returns
-returns c = (named-more (c .before .args .ns .list) (c .before .args .ns .count) (c .before .args .v) (omega (arith, (c .before .pre), list-sized (c .before .args .ns) ((c .before .good .0)))), refl)
+returns c = (named-more (c .before .args .ns .list) (c .before .args .ns .count) (c .before .args .v) (omega (arith, c .before .pre, list-sized (c .before .args .ns) (c .before .good .0))), refl)
 
 pub pushed-spec : {M : Type 1} → statement M
 pushed-spec = tie.close (tie.spec mul-list array-write-list add-t5 returns)

@@ -19,7 +19,7 @@ no-names-requires : tie.Need-no-names-requires Inv-loop μ-loop
 no-names-requires c κs = search needs
 
 loop-holds : tie.Need-loop-holds Inv-loop μ-loop
-loop-holds c = reading-none _ _ ((c .no-names .ensures .0)) ((c .no-names .ensures .1))
+loop-holds c = reading-none _ _ (c .no-names .ensures .0) (c .no-names .ensures .1)
 
 wide-requires : tie.Need-wide-requires Inv-loop μ-loop
 wide-requires c κs = search needs
@@ -44,9 +44,16 @@ loop-less c = search needs
 
 loop-again : tie.Need-loop-again Inv-loop μ-loop
 loop-again c =
+    let has = c .before .has in
+    let wide = c .before .before .wide in
+    let loop-test = c .before .before .before .loop-test in
+    let loop = c .before .before .before .before .loop in
+    let args = c .before .before .before .before .before .before .args in
     ⊎-elim
-    (λ w. reading-with (c .before .before .before .before .loop .inv) (c .before .before .before .loop-test .taken) (digit-read (c .before .before .before .before .loop .i) (c .before .has .ensures) (c .before .before .wide .ensures) (w .0 .taken)) (ap shown (w .3) ∙ w .2 .ensures .0) (w .1 .ensures) (ap (λ (q : Names). q .count) (w .3) ∙ w .2 .ensures .1))
-    (λ w. subst (λ (q : Names). Reading (c .before .before .before .before .before .before .args .mask) (c .before .before .before .before .before .before .args .u) ((c .before .before .before .before .loop .i) + 1) (q .count) (shown q)) (sym (w .1)) (reading-without (c .before .before .before .before .loop .inv) (c .before .before .before .loop-test .taken) (digit-read (c .before .before .before .before .loop .i) (c .before .has .ensures) (c .before .before .wide .ensures) (w .0 .left))))
+    (λ w. reading-with (loop .inv) (loop-test .taken) (digit-read (loop .i) (has .ensures) (wide .ensures) (w .0 .taken)) (ap shown (w .3) ∙ w .2 .ensures .0) (w .1 .ensures)
+    (ap (λ (q : Names). q .count) (w .3) ∙ w .2 .ensures .1))
+    (λ w. subst (λ (q : Names). Reading (args .mask) (args .u) ((loop .i) + 1) (q .count) (shown q)) (sym (w .1))
+    (reading-without (loop .inv) (loop-test .taken) (digit-read (loop .i) (has .ensures) (wide .ensures) (w .0 .left))))
     (c .if1 .came)
 
 returns : tie.Need-returns Inv-loop μ-loop

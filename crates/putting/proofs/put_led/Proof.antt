@@ -16,7 +16,11 @@ same-length : tie.Need-same-length
 same-length c = put-length (c .before .before .put-name .ensures)
 
 returns : tie.Need-returns
-returns c = put-same (c .before .before .put-name .ensures) (ap (λ (b : Bool). led b (nameOf (c .before .before .before .before .before .before .args .v))) (sym (c .before .before .before .before .if1 .taken))) (omega arith)
+returns c =
+    let put-name = c .before .before .put-name in
+    let if1 = c .before .before .before .before .if1 in
+    let args = c .before .before .before .before .before .before .args in
+    put-same (put-name .ensures) (ap (λ (b : Bool). led b (nameOf (args .v))) (sym (if1 .taken))) (omega arith)
 
 put-byte-requires : tie.Need-put-byte-requires
 put-byte-requires c κs = search needs
@@ -25,10 +29,17 @@ put-name-requires-2 : tie.Need-put-name-requires-2
 put-name-requires-2 c κs = search needs
 
 same-length-2 : tie.Need-same-length-2
-same-length-2 c = put-length (put-then (c .before .before .before .before .before .before .put-byte .ensures) (c .before .before .put-name2 .ensures))
+same-length-2 c =
+    let name = c .before .before in
+    put-length (put-then (name .before .before .before .before .put-byte .ensures) (name .put-name2 .ensures))
 
 returns-2 : tie.Need-returns-2
-returns-2 c = put-next (c .before .before .before .before .before .before .put-byte .ensures) (c .before .before .put-name2 .ensures) (ap (λ (b : Bool). led b (nameOf (c .before .before .before .before .before .before .before .before .before .before .args .v))) (sym (c .before .before .before .before .before .before .before .before .if1 .left))) (omega arith)
+returns-2 c =
+    let put-name2 = c .before .before .put-name2 in
+    let put-byte = c .before .before .before .before .before .before .put-byte in
+    let if1 = c .before .before .before .before .before .before .before .before .if1 in
+    let args = c .before .before .before .before .before .before .before .before .before .before .args in
+    put-next (put-byte .ensures) (put-name2 .ensures) (ap (λ (b : Bool). led b (nameOf (args .v))) (sym (if1 .left))) (omega arith)
 
 pub put-led-spec : {M : Type 1} → statement M
 put-led-spec =

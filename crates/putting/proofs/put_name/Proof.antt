@@ -25,7 +25,7 @@ cast-put-byte : tie.Need-cast-put-byte Inv-loop μ-loop
 cast-put-byte c = search needs
 
 put-byte-requires : tie.Need-put-byte-requires Inv-loop μ-loop
-put-byte-requires c κs = omega (arith, (c .before .before .before .loop .inv .so-far .place), (c .before .before .before .loop .inv .so-far .short))
+put-byte-requires c κs = omega (arith, c .before .before .before .loop .inv .so-far .place, c .before .before .before .loop .inv .so-far .short)
 
 sub-left : tie.Need-sub-left Inv-loop μ-loop
 sub-left c = search needs
@@ -34,7 +34,12 @@ loop-less : tie.Need-loop-less Inv-loop μ-loop
 loop-less c = search needs
 
 loop-again : tie.Need-loop-again Inv-loop μ-loop
-loop-again c = naming-more (c .before .before .before .before .before .before .loop .inv) (c .before .before .before .before .before .loop-test .taken) (c .before .before .before .before .if1 .left) (c .before .before .put-byte .ensures)
+loop-again c =
+    let put-byte = c .before .before .put-byte in
+    let if1 = c .before .before .before .before .if1 in
+    let loop-test = c .before .before .before .before .before .loop-test in
+    let loop = c .before .before .before .before .before .before .loop in
+    naming-more (loop .inv) (loop-test .taken) (if1 .left) (put-byte .ensures)
 
 same-length-2 : tie.Need-same-length-2 Inv-loop μ-loop
 same-length-2 c = put-length (naming-full (c .before .loop .inv) (c .loop-test .left))

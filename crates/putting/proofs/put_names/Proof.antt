@@ -32,10 +32,13 @@ loop-less : tie.Need-loop-less Inv-loop μ-loop
 loop-less c = search needs
 
 loop-again : tie.Need-loop-again Inv-loop μ-loop
-loop-again c = listing-more (c .before .before .before .before .before .before .loop .inv) (c .before .before .before .before .before .loop-test .taken) (c .before .before .put-led .ensures)
+loop-again c =
+    let put = c .before .before in
+    let turn = put .before .before .before in
+    listing-more (turn .before .loop .inv) (turn .loop-test .taken) (put .put-led .ensures)
 
 same-length : tie.Need-same-length Inv-loop μ-loop
-same-length c = put-length ((c .before .loop .inv .so-far))
+same-length c = put-length (c .before .loop .inv .so-far)
 
 returns : tie.Need-returns Inv-loop μ-loop
 returns c = listing-all (c .before .loop .inv) (c .loop-test .left)

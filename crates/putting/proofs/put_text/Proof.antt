@@ -30,13 +30,17 @@ loop-less : tie.Need-loop-less Inv-loop μ-loop
 loop-less c = search needs
 
 loop-again : tie.Need-loop-again Inv-loop μ-loop
-loop-again c = (search needs, put-next ((c .before .before .before .before .before .before .loop .inv .1)) (c .before .before .put-byte .ensures) (taken-more _ _ (c .before .before .before .before .before .loop-test .taken)) (omega arith))
+loop-again c =
+    let put-byte = c .before .before .put-byte in
+    let loop-test = c .before .before .before .before .before .loop-test in
+    let loop = c .before .before .before .before .before .before .loop in
+    (search needs, put-next (loop .inv .1) (put-byte .ensures) (taken-more _ _ (loop-test .taken)) (omega arith))
 
 same-length : tie.Need-same-length Inv-loop μ-loop
-same-length c = put-length ((c .before .loop .inv .1))
+same-length c = put-length (c .before .loop .inv .1)
 
 returns : tie.Need-returns Inv-loop μ-loop
-returns c = put-same ((c .before .loop .inv .1)) (taken-all _ _ (c .loop-test .left)) (search needs)
+returns c = put-same (c .before .loop .inv .1) (taken-all _ _ (c .loop-test .left)) (search needs)
 
 pub put-text-spec : {M : Type 1} → statement M
 put-text-spec =

@@ -2,6 +2,7 @@
 use native.Mathlib.Omega.{arith}
 use borrow.Author.Needs.{needs}
 use Rattle.putting.specs.PutLaws.{put-same}
+use Rattle.writing.specs.Room.{sheetRoom}
 use Rattle.writer.specs.PlanLaws.{lines-are-sheet}
 use Rattle.writer.proofs.Arrays.{vertices-held, frees-held}
 use Rattle.writer.proofs.put_network.Statement.{statement}
@@ -21,11 +22,13 @@ same-length c = search needs
 
 returns : tie.Need-returns
 returns c = λ d h proper s.
-    let sh = c .before .before .before .before .before .before .before .before .before .args .sh in
-    let good = c .before .before .before .before .before .before .before .before .before .good .1 .1 .0 in
-    let fit = c .before .before .before .before .before .before .before .before .before .pre .4 in
-    let w = put-same {k = 133228} (c .before .before .put-sheet .ensures)
-    (lines-are-sheet _ (c .before .before .before .before .before .bound-names .ensures .0) (c .before .before .before .before .free-names .ensures .0) (vertices-held sh good fit) (frees-held sh good fit) d h proper s)
+    let split = c .before .before .before .before in
+    let start = split .before .before .before .before .before in
+    let sh = start .args .sh in
+    let good = start .good .1 .1 .0 in
+    let fit = start .pre .4 in
+    let w = put-same {k = sheetRoom} (c .before .before .put-sheet .ensures)
+    (lines-are-sheet _ (split .before .bound-names .ensures .0) (split .free-names .ensures .0) (vertices-held sh good fit) (frees-held sh good fit) d h proper s)
     (omega arith) in
     (omega (arith, w .place), w .bytes)
 

@@ -9,21 +9,34 @@ use Rattle.writer.proofs.put_node_lines.Statement.{statement}
 use Rattle.writer.proofs.put_node_lines.Tie as tie
 
 array-share-prefix-vertex : tie.Need-array-share-prefix-vertex
-array-share-prefix-vertex c = plan-vertices-held (c .before .before .before .before .before .before .before .args .p) (c .before .before .before .before .before .before .before .good .1 .1 .0) (c .before .before .before .before .before .before .before .pre .1 .fitting)
+array-share-prefix-vertex c =
+    let start = c .before .before .before .before .before .before .before in
+    plan-vertices-held (start .args .p) (start .good .1 .1 .0) (start .pre .1 .fitting)
 
 slice-aggregate-put-nodes : tie.Need-slice-aggregate-put-nodes
-slice-aggregate-put-nodes c = sym (length-take-le (c .before .before .before .before .before .before .before .before .args .p .shape .vertices) (c .before .before .before .before .before .before .before .before .args .p .shape .vertex) (plan-vertices-held (c .before .before .before .before .before .before .before .before .args .p) (c .before .before .before .before .before .before .before .before .good .1 .1 .0) (c .before .before .before .before .before .before .before .before .pre .1 .fitting)))
+slice-aggregate-put-nodes c =
+    let start = c .before .before .before .before .before .before .before .before in
+    let sh = start .args .p .shape in
+    sym (length-take-le (sh .vertices) (sh .vertex) (plan-vertices-held (start .args .p) (start .good .1 .1 .0) (start .pre .1 .fitting)))
 
 array-share-prefix-free : tie.Need-array-share-prefix-free
-array-share-prefix-free c = plan-frees-held (c .before .before .before .before .before .before .before .before .args .p) (c .before .before .before .before .before .before .before .before .good .1 .1 .0) (c .before .before .before .before .before .before .before .before .pre .1 .fitting)
+array-share-prefix-free c =
+    let start = c .before .before .before .before .before .before .before .before in
+    plan-frees-held (start .args .p) (start .good .1 .1 .0) (start .pre .1 .fitting)
 
 slice-aggregate-put-nodes-2 : tie.Need-slice-aggregate-put-nodes-2
-slice-aggregate-put-nodes-2 c = sym (length-take-le (c .before .before .before .before .before .before .before .before .before .args .p .shape .frees) (c .before .before .before .before .before .before .before .before .before .args .p .shape .free) (plan-frees-held (c .before .before .before .before .before .before .before .before .before .args .p) (c .before .before .before .before .before .before .before .before .before .good .1 .1 .0) (c .before .before .before .before .before .before .before .before .before .pre .1 .fitting)))
+slice-aggregate-put-nodes-2 c =
+    let start = c .before .before .before .before .before .before .before .before .before in
+    let sh = start .args .p .shape in
+    sym (length-take-le (sh .frees) (sh .free) (plan-frees-held (start .args .p) (start .good .1 .1 .0) (start .pre .1 .fitting)))
 
 put-nodes-requires : tie.Need-put-nodes-requires
 put-nodes-requires c κs =
-    let pre = c .before .before .before .before .before .before .before .before .before .pre in
-    (pre .0, pre .1 .few-outputs, pre .1 .few-free, pre .1 .few-tables, fitting-bounded (c .before .before .before .before .before .before .before .before .before .args .p .shape) (pre .1 .fitting) (plan-vertices-held (c .before .before .before .before .before .before .before .before .before .args .p) (c .before .before .before .before .before .before .before .before .before .good .1 .1 .0) (c .before .before .before .before .before .before .before .before .before .pre .1 .fitting)) (plan-frees-held (c .before .before .before .before .before .before .before .before .before .args .p) (c .before .before .before .before .before .before .before .before .before .good .1 .1 .0) (c .before .before .before .before .before .before .before .before .before .pre .1 .fitting)))
+    let start = c .before .before .before .before .before .before .before .before .before in
+    let pre = start .pre in
+    let v = plan-vertices-held (start .args .p) (start .good .1 .1 .0) (pre .1 .fitting) in
+    let f = plan-frees-held (start .args .p) (start .good .1 .1 .0) (pre .1 .fitting) in
+    (pre .0, pre .1 .few-outputs, pre .1 .few-free, pre .1 .few-tables, fitting-bounded (start .args .p .shape) (pre .1 .fitting) v f)
 
 same-length : tie.Need-same-length
 same-length c = search needs

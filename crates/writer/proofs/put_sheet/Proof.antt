@@ -43,11 +43,12 @@ use denote.Signature.Struct.{makes}
 use Rattle.putting.specs.Written.{Written}
 use Rattle.putting.specs.PutLaws.{put-then}
 use Rattle.writing.specs.Lines.{headLine, lastLines}
+use Rattle.writing.specs.Room.{headRoom, lutsRoom, nodesRoom, endRoom, sheetRoom}
 use Rattle.writer.specs.declared.Plan.{Plan}
 use Rattle.writer.specs.declared.Writer.{Writer}
 use Rattle.writer.specs.Appended.{after}
 use Rattle.writer.specs.AppendedLaws.{after-written}
-use Rattle.writer.specs.Plans.{Fit, lutLines, nodeLines, allLines}
+use Rattle.writer.specs.Plans.{Fit, edition, lutLines, nodeLines, allLines}
 use Rattle.writer.proofs.Plan as P
 use Rattle.writer.proofs.Plan.Laws as P′
 use Rattle.writer.proofs.Writer as T
@@ -79,7 +80,7 @@ module _ (b o : ℕ) (γ : GName) (ys : List ℕ) (p : Plan) where
   h₀ = record { out = bytes-at b o γ ys; at = 0 }
 
   abbrev h₁ : Writer
-  h₁ = after h₀ (headLine 1)
+  h₁ = after h₀ (headLine edition)
 
   abbrev h₂ : Writer
   h₂ = after h₁ (lutLines p)
@@ -93,17 +94,17 @@ module _ (b o : ℕ) (γ : GName) (ys : List ℕ) (p : Plan) where
   abbrev zs : List ℕ
   zs = h₄ .out .now
 
-  all-written : length (headLine 1) ≤ 12 → length (lutLines p) ≤ 1200 → length (nodeLines p) ≤ 132000 → length (lastLines (p .tables)) ≤ 16
-      → Written 133228 ys zs 0 (h₄ .at) (allLines p)
+  all-written : length (headLine edition) ≤ headRoom → length (lutLines p) ≤ lutsRoom → length (nodeLines p) ≤ nodesRoom → length (lastLines (p .tables)) ≤ endRoom
+      → Written sheetRoom ys zs 0 (h₄ .at) (allLines p)
   unfolding allLines
   all-written s₁ s₂ s₃ s₄ =
-      put-then (after-written h₀ (headLine 1) s₁)
+      put-then (after-written h₀ (headLine edition) s₁)
       (put-then (after-written h₁ (lutLines p) s₂) (put-then (after-written h₂ (nodeLines p) s₃) (after-written h₃ (lastLines (p .tables)) s₄)))
 
   same-length : length zs ≡ length ys
   same-length =
       length-sets (h₃ .out .now) (h₃ .at) (lastLines (p .tables)) ∙ length-sets (h₂ .out .now) (h₂ .at) (nodeLines p)
-      ∙ length-sets (h₁ .out .now) (h₁ .at) (lutLines p) ∙ length-sets ys 0 (headLine 1)
+      ∙ length-sets (h₁ .out .now) (h₁ .at) (lutLines p) ∙ length-sets ys 0 (headLine edition)
 
   module _ {M : Type 1} (𝓤 : URA M) (H : Heap 𝓤) (A : Atoms 𝓤) (W : Given 𝓤 H A) (mem : Memory → SProp 𝓤) (run : Routine → Fun 𝓤)
       (κ : Lft) (q : Share) (p-is : Is P.the-row p (plan .val p ∷ [])) (fit : Fit p) where
@@ -144,11 +145,12 @@ module _ (b o : ℕ) (γ : GName) (ys : List ℕ) (p : Plan) where
     abbrev Rest : Fml
     Rest = owns (P.the-row ∷ []) (p, tt) (plan .val p ∷ [], tt)
 
-    exits : (w : Val) → Written 133228 ys zs 0 (h₄ .at) (allLines p)
+    exits : (w : Val) → Written sheetRoom ys zs 0 (h₄ .at) (allLines p)
         → ent 𝓤 (⋆ 𝓤 H A ((‵ (flft κ q) ⊛ ‵ ftrue) ∷ ‵ (T.the-row α .own h₄ (w ∷ [])) ∷ ‵ Rest ∷ [])) (Post (vint w64 (h₄ .at)))
     exits w all =
         qed W ((‵ (flft κ q) ⊛ ‵ ftrue) ∷ ‵ (T.the-row α .own h₄ (w ∷ [])) ∷ ‵ Rest ∷ []) ∵
-        suffices ! _ (ends-at 𝓤 H A put-sheet.ended stayed (put-sheet.clauses 𝓤 H A mem run) W (((κ, tt), (q, tt), tt, a, vals), tt) (vint w64 (h₄ .at)) (h₄ .at) (zs, (tt, tt)) (same-length, (tt, tt))) $
+        suffices ! _ (ends-at 𝓤 H A put-sheet.ended stayed (put-sheet.clauses 𝓤 H A mem run) W (((κ, tt), (q, tt), tt, a, vals), tt) (vint w64 (h₄ .at)) (h₄ .at) (zs, (tt, tt))
+        (same-length, (tt, tt))) $
         says ! all $ frame ! $
         use1 W (given (w ∷ [] ≡ end ∷ []) (‵ (all-own (T.the-type α .parts) (T′.the-laws α) (h₄ .out, (h₄ .at, tt))))) (own-open 𝓤 H A W (T.the-type α) (T′.the-laws α) (h₄ .out, (h₄ .at, tt)) w) $
         learn ! (λ _. fsplit ! $ rewrite ! 0 (λ (n : ℕ). ‵ (MutSlice (named 0) κ u8 .own (h₄ .out) (sliceVal (b, o) n ∷ []))) same-length refl $
@@ -164,30 +166,41 @@ module _ (b o : ℕ) (γ : GName) (ys : List ℕ) (p : Plan) where
           pass1 ! (init ! 18 refl (tt, (tt, (record { fits = room .0 }, tt)))) $ pass1 ! (init ! 16 refl (plan .typed 𝓤 H A W p p-is)) $ pass0 ! $
           -- [_10; …; _0; …; the token; what the parameters own]: a writer is made of the buffer
           assigns ! (addr ! (from ! (fld ! refl (hop ! (look-in ! 18 (sub ! 0 refl (whole !))) (stop !))))) (from ! (stop !)) (init ! 10 refl (tt, tt)) $
-          assigns ! (agg ! (and-then ! (load ! (from ! (stop !)) (look ! 10 refl)) (and-then ! (load ! (from ! (fld ! refl (stop !))) (look-in ! 18 (sub ! 1 refl (whole !)))) (no-more !)))) (from ! (stop !)) (init ! 8 refl (tt, (tt, (record { fits = room .0 }, tt)))) $
-          assigns ! (agg ! (and-then ! (load ! (from ! (stop !)) (look ! 8 refl)) (and-then ! (lit ! tt) (no-more !)))) (from ! (stop !)) (init ! 14 refl (tt, ((tt, (record { fits = room .0 }, tt)), (record { fits = lit< tt }, tt)))) $
+          assigns ! (agg ! (and-then ! (load ! (from ! (stop !)) (look ! 10 refl))
+          (and-then ! (load ! (from ! (fld ! refl (stop !))) (look-in ! 18 (sub ! 1 refl (whole !)))) (no-more !)))) (from ! (stop !)) (init ! 8 refl (tt, (tt, (record { fits = room .0 }, tt)))) $
+          assigns ! (agg ! (and-then ! (load ! (from ! (stop !)) (look ! 8 refl)) (and-then ! (lit ! tt) (no-more !)))) (from ! (stop !))
+          (init ! 14 refl (tt, ((tt, (record { fits = room .0 }, tt)), (record { fits = lit< tt }, tt)))) $
           assigns ! (of-opd ! (load ! (from ! (stop !)) (look ! 14 refl))) (from ! (stop !)) (init ! 0 refl (tt, ((tt, (record { fits = room .0 }, tt)), (record { fits = lit< tt }, tt)))) $
           move ! (23 ∷ []) $ fsplit ! $ nothing ! $ owned ! usize (Is usize) (uint-makes 𝓤 H A W w64) 0 _ (refl, lit< tt) $ fjoin ! $ move ! (1 ∷ 0 ∷ []) $ fjoin ! $
           use1 W (‵ (T.the-row α .own h₀ (start ∷ []))) (makes 𝓤 H A W (MutSlice (named 0) κ u8 ∷ usize ∷ []) first (s ∷ [], (vint w64 0 ∷ [], tt))) $
           -- [the token; what the writer owns; what the plan owns; _10; …; _0; …]: each method is called on the writer before
           move ! (24 ∷ 0 ∷ []) $
-          appends κ ! fm q kind.head head h₀ 1 start (refl, lit< tt) (omega arith, lit< tt) (and-then ! (load ! (from ! (stop !)) (look ! 2 refl)) (and-then ! (lit ! tt) (no-more !))) (λ w₁ s₁ is₁.
+          appends κ ! fm q kind.head head h₀ edition start (refl, lit< tt) (omega arith, lit< tt)
+          (and-then ! (load ! (from ! (stop !)) (look ! 2 refl)) (and-then ! (lit ! tt) (no-more !))) (λ w₁ s₁ is₁.
           land ! (from ! (stop !)) (init ! 5 refl (writer-typed κ h₁ w₁ is₁)) $
-          appends κ ! fm q kind.luts luts h₁ p w₁ p-is (omega (arith, s₁), fit) (and-then ! (load ! (from ! (stop !)) (look ! 4 refl)) (and-then ! (load ! (from ! (stop !)) (look ! 18 refl)) (no-more !))) (λ w₂ s₂ is₂.
+          appends κ ! fm q kind.luts luts h₁ p w₁ p-is (omega (arith, s₁), fit)
+          (and-then ! (load ! (from ! (stop !)) (look ! 4 refl)) (and-then ! (load ! (from ! (stop !)) (look ! 18 refl)) (no-more !))) (λ w₂ s₂ is₂.
           land ! (from ! (stop !)) (init ! 7 refl (writer-typed κ h₂ w₂ is₂)) $
-          appends κ ! fm q kind.nodes nodes h₂ p w₂ p-is (omega (arith, s₁, s₂), fit) (and-then ! (load ! (from ! (stop !)) (look ! 6 refl)) (and-then ! (load ! (from ! (stop !)) (look ! 18 refl)) (no-more !))) (λ w₃ s₃ is₃.
+          appends κ ! fm q kind.nodes nodes h₂ p w₂ p-is (omega (arith, s₁, s₂), fit)
+          (and-then ! (load ! (from ! (stop !)) (look ! 6 refl)) (and-then ! (load ! (from ! (stop !)) (look ! 18 refl)) (no-more !))) (λ w₃ s₃ is₃.
           land ! (from ! (stop !)) (init ! 9 refl (writer-typed κ h₃ w₃ is₃)) $
-          appends κ ! fm q kind.last last h₃ (p .tables) w₃ (refl, u-fits) (omega (arith, s₁, s₂, s₃), omega (arith, fit .few-tables)) (and-then ! (load ! (from ! (stop !)) (look ! 8 refl)) (and-then ! (load ! (from ! (fld ! refl (stop !))) (look-in ! 18 (sub ! 4 refl (whole !)))) (no-more !))) (λ w₄ s₄ is₄.
+          appends κ ! fm q kind.last last h₃ (p .tables) w₃ (refl, u-fits) (omega (arith, s₁, s₂, s₃), omega (arith, fit .few-tables))
+          (and-then ! (load ! (from ! (stop !)) (look ! 8 refl)) (and-then ! (load ! (from ! (fld ! refl (stop !))) (look-in ! 18 (sub ! 4 refl (whole !)))) (no-more !))) (λ w₄ s₄ is₄.
           land ! (from ! (stop !)) (init ! 15 refl (writer-typed κ h₄ w₄ is₄)) $
           -- the last writer's place
           rewrite ! 15 (λ (u : Val). ‵ (fat fullShare (T′.mir erased) l₄ 0 u)) (ap only (LL.tells (T.the-type α) (T′.the-laws α) h₄ _ is₄)) refl $
-          assigns ! (of-opd ! (load ! (from ! (fld ! refl (stop !))) (look-in ! 15 (sub ! 1 refl (whole !))))) (from ! (stop !)) (init ! 23 refl (tt, record { fits = LL.owed (T.the-type α) (T′.the-laws α) h₄ _ is₄ .1 .0 .1 })) $
-          returns ! (look ! 23 refl) $ forget ! 3 refl $ forget ! 5 refl $ forget ! 7 refl $ forget ! 9 refl $ forget ! 11 refl $ forget ! 13 refl $ forget ! 15 refl $ forget ! 17 refl $ forget ! 19 refl $ forget ! 21 refl $ forget ! 23 refl $
-          move ! (23 ∷ 24 ∷ []) $ free1 ! $ move ! (21 ∷ 22 ∷ []) $ free1 ! $ move ! (19 ∷ 20 ∷ []) $ free1 ! $ move ! (17 ∷ 18 ∷ []) $ free1 ! $ move ! (15 ∷ 16 ∷ []) $ free1 ! $ move ! (13 ∷ 14 ∷ []) $ free1 ! $ move ! (11 ∷ 12 ∷ []) $ free1 ! $ move ! (9 ∷ 10 ∷ []) $ free1 ! $ move ! (7 ∷ 8 ∷ []) $ free1 ! $ move ! (5 ∷ 6 ∷ []) $ free1 ! $ move ! (3 ∷ 4 ∷ []) $ free1 ! $ free0 ! $
+          assigns ! (of-opd ! (load ! (from ! (fld ! refl (stop !))) (look-in ! 15 (sub ! 1 refl (whole !))))) (from ! (stop !))
+          (init ! 23 refl (tt, record { fits = LL.owed (T.the-type α) (T′.the-laws α) h₄ _ is₄ .1 .0 .1 })) $
+          returns ! (look ! 23 refl) $ forget ! 3 refl $ forget ! 5 refl $ forget ! 7 refl $ forget ! 9 refl $ forget ! 11 refl $ forget ! 13 refl $ forget ! 15 refl $
+          forget ! 17 refl $ forget ! 19 refl $ forget ! 21 refl $ forget ! 23 refl $
+          move ! (23 ∷ 24 ∷ []) $ free1 ! $ move ! (21 ∷ 22 ∷ []) $ free1 ! $ move ! (19 ∷ 20 ∷ []) $ free1 ! $ move ! (17 ∷ 18 ∷ []) $ free1 ! $ move ! (15 ∷ 16 ∷ []) $ free1 ! $
+          move ! (13 ∷ 14 ∷ []) $ free1 ! $ move ! (11 ∷ 12 ∷ []) $ free1 ! $ move ! (9 ∷ 10 ∷ []) $ free1 ! $ move ! (7 ∷ 8 ∷ []) $ free1 ! $ move ! (5 ∷ 6 ∷ []) $ free1 ! $
+          move ! (3 ∷ 4 ∷ []) $ free1 ! $ free0 ! $
           keep ! (0 ∷ 1 ∷ 2 ∷ []) $ by ! (exits w₄ (all-written s₁ s₂ s₃ s₄)))))))))))))))))
 
 put-sheet-meets : {M : Type 1} (𝓤 : URA M) (H : Heap 𝓤) (A : Atoms 𝓤) → Given 𝓤 H A → (mem : Memory → SProp 𝓤) (run : Routine → Fun 𝓤) (𝓣 : Tables 𝓤 H)
-    → Triple 𝓤 (𝓣 .C head-def.name) (Method kind.head 𝓤 H A) → Triple 𝓤 (𝓣 .C luts-def.name) (Method kind.luts 𝓤 H A) → Triple 𝓤 (𝓣 .C nodes-def.name) (Method kind.nodes 𝓤 H A) → Triple 𝓤 (𝓣 .C last-def.name) (Method kind.last 𝓤 H A)
+    → Triple 𝓤 (𝓣 .C head-def.name) (Method kind.head 𝓤 H A) → Triple 𝓤 (𝓣 .C luts-def.name) (Method kind.luts 𝓤 H A) → Triple 𝓤 (𝓣 .C nodes-def.name) (Method kind.nodes 𝓤 H A)
+    → Triple 𝓤 (𝓣 .C last-def.name) (Method kind.last 𝓤 H A)
     → Meets 𝓤 H A put-sheet.signature (WpFn 𝓤 H (𝓣 .C) (𝓣 .Λ) code.function) (put-sheet.spec 𝓤 H A mem run)
 put-sheet-meets 𝓤 H A W mem run 𝓣 head luts nodes last =
     walk-meets 𝓤 H A put-sheet.ended stayed W (goes-slice 𝓤 H A W 1 0 tt (plain (λ _. u8)), (goes-none 𝓤 H A W 1 (λ _. P.the-row) yes (λ κs x f. refl), tt)) (put-sheet.clauses 𝓤 H A mem run)

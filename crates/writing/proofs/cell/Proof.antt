@@ -7,7 +7,9 @@ use Rattle.writing.proofs.cell.Statement.{statement}
 use Rattle.writing.proofs.cell.Tie as tie
 
 returns : tie.Need-returns
-returns c = cell-past (c .before .before .before .args .t) (c .before .before .before .args .vertex .now) (c .before .before .before .args .free .now) (c .before .before .before .args .x) (c .before .before .before .args .z) (c .if1 .taken)
+returns c =
+    let args = c .before .before .before .args in
+    cell-past (args .t) (args .vertex .now) (args .free .now) (args .x .0) (args .z) (c .if1 .taken)
 
 mul-row : tie.Need-mul-row
 mul-row c = search needs
@@ -22,13 +24,22 @@ shared-slice-read-row-2 : tie.Need-shared-slice-read-row-2
 shared-slice-read-row-2 c = search needs
 
 add-row : tie.Need-add-row
-add-row c = record { fits = omega (arith, (c .before .before .before .before .before .pre .1 .each) (c .before .before .before .before .before .args .x) (c .before .before .before .before .before .args .z) (c .before .before .if1 .left) ((c .before .before .before .before .before .pre .0))) }
+add-row c =
+    let test = c .before .before in
+    let start = test .before .before .before in
+    record { fits = omega (arith, start .pre .1 .each (start .args .x .0) (start .args .z) (test .if1 .left) (start .pre .0)) }
 
 row-requires : tie.Need-row-requires
-row-requires c κs = (c .before .before .before .before .before .pre .1 .each) (c .before .before .before .before .before .args .x) (c .before .before .before .before .before .args .z) (c .before .before .if1 .left) ((c .before .before .before .before .before .pre .0))
+row-requires c κs =
+    let test = c .before .before in
+    let start = test .before .before .before in
+    start .pre .1 .each (start .args .x .0) (start .args .z) (test .if1 .left) (start .pre .0)
 
 returns-2 : tie.Need-returns-2
-returns-2 c = (c .row .ensures) ∙ cell-there (c .before .before .before .before .before .before .args .t) (c .before .before .before .before .before .before .args .vertex .now) (c .before .before .before .before .before .before .args .free .now) (c .before .before .before .before .before .before .args .x) (c .before .before .before .before .before .before .args .z) (c .before .before .before .if1 .left)
+returns-2 c =
+    let test = c .before .before .before in
+    let args = test .before .before .before .args in
+    c .row .ensures ∙ cell-there (args .t) (args .vertex .now) (args .free .now) (args .x .0) (args .z) (test .if1 .left)
 
 pub cell-spec : {M : Type 1} → statement M
 cell-spec =

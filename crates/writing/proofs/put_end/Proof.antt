@@ -31,7 +31,12 @@ same-length : tie.Need-same-length
 same-length c = search needs
 
 returns : tie.Need-returns
-returns c = put-next (c .before .before .before .before .before .before .before .before .before .before .before .put-text .ensures) (put-then (c .before .before .before .before .before .before .before .put-byte .ensures) (c .before .before .put-text2 .ensures)) (last-text _ ((c .before .before .before .before .before .before .before .before .before .before .before .before .before .before .before .pre .1))) (omega arith)
+returns c =
+    let put-text2 = c .before .before .put-text2 in
+    let put-byte = c .before .before .before .before .before .before .before .put-byte in
+    let put-text = c .before .before .before .before .before .before .before .before .before .before .before .put-text in
+    let pre = c .before .before .before .before .before .before .before .before .before .before .before .before .before .before .before .pre in
+    put-next (put-text .ensures) (put-then (put-byte .ensures) (put-text2 .ensures)) (last-text _ (pre .1)) (omega arith)
 
 pub put-end-spec : {M : Type 1} → statement M
 put-end-spec =

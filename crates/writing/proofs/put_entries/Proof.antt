@@ -23,19 +23,32 @@ div-x : tie.Need-div-x Inv-loop μ-loop
 div-x c = search needs
 
 mul-x : tie.Need-mul-x Inv-loop μ-loop
-mul-x c = record { fits = omega (arith, code-below (c .before .loop .j) (c .before .before .before .before .before .args .n) (length (c .before .before .before .before .before .args .free .now)) (c .loop-test .taken) ((c .before .before .before .before .before .pre .1))) }
+mul-x c =
+    let head = c .before in
+    let start = head .before .before .before .before in
+    record { fits = omega (arith, code-below (head .loop .j) (start .args .n) (length (start .args .free .now)) (c .loop-test .taken) (start .pre .1)) }
 
-array-read-x : tie.Need-array-read-x Inv-loop μ-loop
-array-read-x c = code-below (c .before .loop .j) (c .before .before .before .before .before .args .n) (length (c .before .before .before .before .before .args .free .now)) (c .loop-test .taken) ((c .before .before .before .before .before .pre .1))
+array-copy-out-x : tie.Need-array-copy-out-x Inv-loop μ-loop
+array-copy-out-x c =
+    let head = c .before in
+    let start = head .before .before .before .before in
+    code-below (head .loop .j) (start .args .n) (length (start .args .free .now)) (c .loop-test .taken) (start .pre .1)
 
 rem-cell : tie.Need-rem-cell Inv-loop μ-loop
 rem-cell c = search needs
 
 cell-requires : tie.Need-cell-requires Inv-loop μ-loop
-cell-requires c κs = (free-below (c .before .before .loop .j) (c .before .before .before .before .before .before .args .n) (length (c .before .before .before .before .before .before .args .free .now)) (c .before .loop-test .taken) ((c .before .before .before .before .before .before .pre .1)), (c .before .before .before .before .before .before .pre .2))
+cell-requires c κs =
+    let turn = c .before .before in
+    let head = turn .before in
+    let start = head .before .before .before .before in
+    (free-below (head .loop .j) (start .args .n) (length (start .args .free .now)) (turn .loop-test .taken) (start .pre .1), start .pre .2)
 
 put-digit-requires : tie.Need-put-digit-requires Inv-loop μ-loop
-put-digit-requires c κs = omega (arith, (c .before .before .before .before .before .before .before .pre), (c .before .before .before .loop .inv .so-far .place), (c .before .before .before .loop .inv .so-far .short))
+put-digit-requires c κs =
+    let head = c .before .before .before .before in
+    let start = head .before .before .before .before in
+    omega (arith, start .pre, head .loop .inv .so-far .place, head .loop .inv .so-far .short)
 
 add-j : tie.Need-add-j Inv-loop μ-loop
 add-j c = search needs
@@ -44,10 +57,13 @@ loop-less : tie.Need-loop-less Inv-loop μ-loop
 loop-less c = search needs
 
 loop-again : tie.Need-loop-again Inv-loop μ-loop
-loop-again c = digits-put (c .before .before .before .before .before .before .loop .inv) (c .before .before .before .before .before .loop-test .taken) (c .before .before .put-digit .ensures) ((c .before .before .before .cell .ensures) ∙ cell-by _ _ _ _ _)
+loop-again c =
+    let put = c .before .before in
+    let turn = put .before .before .before .before in
+    digits-put (turn .before .loop .inv) (turn .loop-test .taken) (put .put-digit .ensures) (put .before .cell .ensures ∙ cell-by _ _ _ _ _)
 
 same-length : tie.Need-same-length Inv-loop μ-loop
-same-length c = put-length ((c .before .loop .inv .so-far))
+same-length c = put-length (c .before .loop .inv .so-far)
 
 returns : tie.Need-returns Inv-loop μ-loop
 returns c = digits-all (c .before .loop .inv) (c .loop-test .left)
@@ -61,7 +77,7 @@ put-entries-spec =
     loop-holds
     div-x
     mul-x
-    array-read-x
+    array-copy-out-x
     rem-cell
     cell-requires
     put-digit-requires

@@ -31,7 +31,11 @@ same-length : tie.Need-same-length
 same-length c = search needs
 
 returns : tie.Need-returns
-returns c = put-next (c .before .before .before .before .before .before .before .before .before .before .before .put-text .ensures) (put-then (c .before .before .before .before .before .before .before .put-byte .ensures) (c .before .before .put-text2 .ensures)) (head-text _) (omega arith)
+returns c =
+    let put-text2 = c .before .before .put-text2 in
+    let put-byte = c .before .before .before .before .before .before .before .put-byte in
+    let put-text = c .before .before .before .before .before .before .before .before .before .before .before .put-text in
+    put-next (put-text .ensures) (put-then (put-byte .ensures) (put-text2 .ensures)) (head-text _) (omega arith)
 
 pub put-head-spec : {M : Type 1} → statement M
 put-head-spec =

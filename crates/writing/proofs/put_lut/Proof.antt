@@ -22,7 +22,12 @@ same-length : tie.Need-same-length
 same-length c = search needs
 
 returns : tie.Need-returns
-returns c = put-next (c .before .before .before .before .before .before .before .before .before .before .before .put-lut-head .ensures) (put-then (c .before .before .before .before .before .before .before .put-table .ensures) (c .before .before .put-text .ensures)) (lut-text _ _ _) (omega (arith, (c .before .before .before .before .before .before .before .before .before .before .before .before .before .before .pre)))
+returns c =
+    let put-text = c .before .before .put-text in
+    let put-table = c .before .before .before .before .before .before .before .put-table in
+    let put-lut-head = c .before .before .before .before .before .before .before .before .before .before .before .put-lut-head in
+    let pre = c .before .before .before .before .before .before .before .before .before .before .before .before .before .before .pre in
+    put-next (put-lut-head .ensures) (put-then (put-table .ensures) (put-text .ensures)) (lut-text _ _ _) (omega (arith, pre))
 
 pub put-lut-spec : {M : Type 1} → statement M
 put-lut-spec =

@@ -31,7 +31,13 @@ same-length : tie.Need-same-length
 same-length c = search needs
 
 returns : tie.Need-returns
-returns c = put-next (c .before .before .before .before .before .before .before .before .before .before .before .before .before .before .before .before .put-text .ensures) (put-then (c .before .before .before .before .before .before .before .before .before .before .before .put-name .ensures) (put-then (c .before .before .before .before .before .before .put-text2 .ensures) (c .before .before .put-list .ensures))) (lut-head-text _ _ _ (c .before .before .before .before .before .before .before .before .before .before .before .before .lut-name .ensures)) (omega arith)
+returns c =
+    let put-list = c .before .before .put-list in
+    let put-text2 = c .before .before .before .before .before .before .put-text2 in
+    let put-name = c .before .before .before .before .before .before .before .before .before .before .before .put-name in
+    let lut-name = c .before .before .before .before .before .before .before .before .before .before .before .before .lut-name in
+    let put-text = c .before .before .before .before .before .before .before .before .before .before .before .before .before .before .before .before .put-text in
+    put-next (put-text .ensures) (put-then (put-name .ensures) (put-then (put-text2 .ensures) (put-list .ensures))) (lut-head-text _ _ _ (lut-name .ensures)) (omega arith)
 
 pub put-lut-head-spec : {M : Type 1} → statement M
 put-lut-head-spec =

@@ -8,11 +8,12 @@ use Rattle.network.specs.Printer.{printLut}
 use Rattle.classes.specs.Columns.{valuesUpto}
 use Rattle.bits.specs.Digit.{on}
 use Rattle.writing.specs.LineLaws.{Lines, lines-none, lines-put, lines-all}
+use Rattle.writing.specs.Room.{lutRoom}
 use Rattle.writing.proofs.put_luts.Statement.{statement}
 use Rattle.writing.proofs.put_luts.Tie as tie
 
 abbrev Inv-loop : tie.InvT-loop
-Inv-loop buf₀ at bs u codes n p₀ i₀ buf p i = Lines (λ (j : ℕ). printLut (shown bs) j (valuesUpto (λ (x : ℕ). on (item codes x) j) n)) 200 u buf₀ buf at p i
+Inv-loop buf₀ at bs u codes n p₀ i₀ buf p i = Lines (λ (j : ℕ). printLut (shown bs) j (valuesUpto (λ (x : ℕ). on (item codes x) j) n)) lutRoom u buf₀ buf at p i
 
 abbrev μ-loop : tie.MeasureT-loop
 μ-loop buf₀ at bs u codes n p₀ i₀ buf p i = u - i
@@ -21,7 +22,7 @@ loop-holds : tie.Need-loop-holds Inv-loop μ-loop
 loop-holds c = lines-none _ _ _ _ _
 
 put-lut-requires : tie.Need-put-lut-requires Inv-loop μ-loop
-put-lut-requires c κs = omega (arith, (c .before .before .before .before .pre), (c .before .before .loop .inv .so-far .place), (c .before .before .loop .inv .so-far .short))
+put-lut-requires c κs = omega (arith, c .before .before .before .before .pre, c .before .before .loop .inv .so-far .place, c .before .before .loop .inv .so-far .short)
 
 add-i : tie.Need-add-i Inv-loop μ-loop
 add-i c = search needs
@@ -30,13 +31,16 @@ loop-less : tie.Need-loop-less Inv-loop μ-loop
 loop-less c = search needs
 
 loop-again : tie.Need-loop-again Inv-loop μ-loop
-loop-again c = lines-put (c .before .before .before .before .before .loop .inv) (c .before .before .before .before .loop-test .taken) (c .before .before .put-lut .ensures)
+loop-again c =
+    let put = c .before .before in
+    let turn = put .before .before in
+    lines-put (turn .before .loop .inv) (turn .loop-test .taken) (put .put-lut .ensures)
 
 same-length : tie.Need-same-length Inv-loop μ-loop
-same-length c = put-length ((c .before .loop .inv .so-far))
+same-length c = put-length (c .before .loop .inv .so-far)
 
 returns : tie.Need-returns Inv-loop μ-loop
-returns c = lines-all (c .before .loop .inv) (c .loop-test .left) (omega (arith, (c .before .before .before .pre), (c .before .loop .inv .within)))
+returns c = lines-all (c .before .loop .inv) (c .loop-test .left) (omega (arith, c .before .before .before .pre, c .before .loop .inv .within))
 
 pub put-luts-spec : {M : Type 1} → statement M
 put-luts-spec =

@@ -9,47 +9,87 @@ use Rattle.writing.proofs.put_node.Statement.{statement}
 use Rattle.writing.proofs.put_node.Tie as tie
 
 read-names-requires : tie.Need-read-names-requires
-read-names-requires c κs = (c .before .before .before .pre .2)
+read-names-requires c κs = c .before .before .before .pre .2
 
 power-requires : tie.Need-power-requires
-power-requires c κs = omega (arith, (c .before .before .before .before .pre .2), (c .read-names .ensures .2))
+power-requires c κs = let start = c .before .before .before .before in omega (arith, start .pre .2, c .read-names .ensures .2)
 
 mul-n : tie.Need-mul-n
-mul-n c = record { fits = omega (arith, entries-few (c .power .result) (length (c .before .before .before .before .before .args .free .now)) ((c .power .ensures .1)) ((c .before .before .before .before .before .pre .3 .few-free))) }
+mul-n c =
+    let start = c .before .before .before .before .before in
+    record { fits = omega (arith, entries-few (c .power .result) (length (start .args .free .now)) (c .power .ensures .1) (start .pre .3 .few-free)) }
 
 firsts-requires : tie.Need-firsts-requires
-firsts-requires c κs = ((c .before .before .before .before .before .pre .2), (c .before .before .before .before .before .pre .3 .few-vertices))
+firsts-requires c κs = let start = c .before .before .before .before .before in (start .pre .2, start .pre .3 .few-vertices)
 
 put-node-head-requires : tie.Need-put-node-head-requires
-put-node-head-requires c κs = omega (arith, (c .before .before .before .before .before .before .before .pre .0))
+put-node-head-requires c κs = let start = c .before .before .before .before .before .before .before in omega (arith, start .pre .0)
 
 joined-requires : tie.Need-joined-requires
-joined-requires c κs = omega (arith, (c .before .before .before .before .before .before .before .before .before .before .before .pre .1), (c .before .before .before .before .before .before .before .before .before .before .before .pre .2), (c .before .before .before .before .before .before .before .read-names .ensures .2))
+joined-requires c κs =
+    let reads = c .before .before .before .before .before .before .before in
+    let start = reads .before .before .before .before in
+    omega (arith, start .pre .1, start .pre .2, reads .read-names .ensures .2)
 
 put-list-requires : tie.Need-put-list-requires
-put-list-requires c κs = (omega (arith, (c .before .before .before .before .before .before .before .before .before .before .before .before .pre .0), (c .before .before .before .before .put-node-head .ensures .place), (c .before .before .before .before .put-node-head .ensures .short)), omega (arith, (c .before .before .before .before .before .before .before .before .before .before .before .before .pre .1), (c .before .before .before .before .before .before .before .before .before .before .before .before .pre .2), (c .before .before .before .before .before .before .before .before .read-names .ensures .2), (c .joined .ensures .1)))
+put-list-requires c κs =
+    let head = c .before .before .before .before in
+    let reads = head .before .before .before .before in
+    let start = reads .before .before .before .before in
+    let place = head .put-node-head .ensures .place in
+    let short = head .put-node-head .ensures .short in
+    (omega (arith, start .pre .0, place, short), omega (arith, start .pre .1, start .pre .2, reads .read-names .ensures .2, c .joined .ensures .1))
 
 put-entries-requires : tie.Need-put-entries-requires
 put-entries-requires c κs =
-    let few = entries-few (c .before .before .before .before .before .before .before .before .before .before .before .power .result) (length (c .before .before .before .before .before .before .before .before .before .before .before .before .before .before .before .before .args .free .now)) ((c .before .before .before .before .before .before .before .before .before .before .before .power .ensures .1)) ((c .before .before .before .before .before .before .before .before .before .before .before .before .before .before .before .before .pre .3 .few-free)) in
-    (omega (arith, (c .before .before .before .before .before .before .before .before .before .before .before .before .before .before .before .before .pre .0), (c .before .before .before .before .before .before .before .before .put-node-head .ensures .place), (c .before .before .before .before .before .before .before .before .put-node-head .ensures .short), (c .before .before .before .put-list .ensures .place), (c .before .before .before .put-list .ensures .short)), entries-within (c .before .before .before .before .before .before .before .before .before .before .before .power .result) (length (c .before .before .before .before .before .before .before .before .before .before .before .before .before .before .before .before .args .free .now)) ((c .before .before .before .before .before .before .before .before .before .before .before .power .ensures .1)), (c .before .before .before .before .before .before .before .before .before .before .before .before .before .before .before .before .pre .3 .inside))
+    let list = c .before .before .before in
+    let head = list .before .before .before .before .before in
+    let power = head .before .before .before .power in
+    let start = head .before .before .before .before .before .before .before .before in
+    let frees = length (start .args .free .now) in
+    let few = entries-few (power .result) frees (power .ensures .1) (start .pre .3 .few-free) in
+    let a = head .put-node-head .ensures in
+    let b = list .put-list .ensures in
+    (omega (arith, start .pre .0, a .place, a .short, b .place, b .short), entries-within (power .result) frees (power .ensures .1), start .pre .3 .inside)
 
 slice-aggregate-put-text : tie.Need-slice-aggregate-put-text
 slice-aggregate-put-text c = refl
 
 put-text-requires : tie.Need-put-text-requires
 put-text-requires c κs =
-    let few = entries-few (c .before .before .before .before .before .before .before .before .before .before .before .before .before .before .before .before .power .result) (length (c .before .before .before .before .before .before .before .before .before .before .before .before .before .before .before .before .before .before .before .before .before .args .free .now)) ((c .before .before .before .before .before .before .before .before .before .before .before .before .before .before .before .before .power .ensures .1)) ((c .before .before .before .before .before .before .before .before .before .before .before .before .before .before .before .before .before .before .before .before .before .pre .3 .few-free)) in
-    omega (arith, (c .before .before .before .before .before .before .before .before .before .before .before .before .before .before .before .before .before .before .before .before .before .pre .0), (c .before .before .before .before .before .before .before .before .before .before .before .before .before .put-node-head .ensures .place), (c .before .before .before .before .before .before .before .before .before .before .before .before .before .put-node-head .ensures .short), (c .before .before .before .before .before .before .before .before .put-list .ensures .place), (c .before .before .before .before .before .before .before .before .put-list .ensures .short), (c .before .before .before .before .put-entries .ensures .place), (c .before .before .before .before .put-entries .ensures .short))
+    let entries = c .before .before .before .before in
+    let list = entries .before .before .before .before in
+    let head = list .before .before .before .before .before in
+    let power = head .before .before .before .power in
+    let start = head .before .before .before .before .before .before .before .before in
+    let few = entries-few (power .result) (length (start .args .free .now)) (power .ensures .1) (start .pre .3 .few-free) in
+    let a = head .put-node-head .ensures in
+    let b = list .put-list .ensures in
+    let d = entries .put-entries .ensures in
+    omega (arith, start .pre .0, a .place, a .short, b .place, b .short, d .place, d .short)
 
 same-length : tie.Need-same-length
-same-length c = put-length (put-then (c .before .before .before .before .before .before .before .before .before .before .before .before .before .before .before .before .put-node-head .ensures) (put-then (c .before .before .before .before .before .before .before .before .before .before .before .put-list .ensures) (put-then (c .before .before .before .before .before .before .before .put-entries .ensures) (c .before .before .put-text .ensures))))
+same-length c =
+    let text = c .before .before in
+    let entries = text .before .before .before .before .before in
+    let list = entries .before .before .before .before in
+    let head = list .before .before .before .before .before in
+    put-length (put-then (head .put-node-head .ensures) (put-then (list .put-list .ensures) (put-then (entries .put-entries .ensures) (text .put-text .ensures))))
 
 returns : tie.Need-returns
 returns c =
-    let few = entries-few (c .before .before .before .before .before .before .before .before .before .before .before .before .before .before .before .before .before .before .before .power .result) (length (c .before .before .before .before .before .before .before .before .before .before .before .before .before .before .before .before .before .before .before .before .before .before .before .before .args .free .now)) ((c .before .before .before .before .before .before .before .before .before .before .before .before .before .before .before .before .before .before .before .power .ensures .1)) ((c .before .before .before .before .before .before .before .before .before .before .before .before .before .before .before .before .before .before .before .before .before .before .before .before .pre .3 .few-free)) in
-    put-next (c .before .before .before .before .before .before .before .before .before .before .before .before .before .before .before .before .put-node-head .ensures) (put-then (c .before .before .before .before .before .before .before .before .before .before .before .put-list .ensures) (put-then (c .before .before .before .before .before .before .before .put-entries .ensures) (c .before .before .put-text .ensures)))
-    (node-line _ _ _ _ _ _ _ _ _ _ _ _ ((c .before .before .before .before .before .before .before .before .before .before .before .before .joined .ensures .0)) ((c .before .before .before .before .before .before .before .before .before .before .before .before .before .before .before .before .before .before .before .before .read-names .ensures .0)) (c .before .before .before .before .before .before .before .before .before .before .before .before .before .before .before .before .before .before .firsts .ensures) ((c .before .before .before .before .before .before .before .before .before .before .before .before .before .before .before .before .before .before .before .before .before .before .before .before .pre .3 .few-vertices)) ((c .before .before .before .before .before .before .before .before .before .before .before .before .before .before .before .before .before .before .before .power .ensures .0)) ((c .before .before .before .before .before .before .before .before .before .before .before .before .before .before .before .before .before .before .before .before .read-names .ensures .1)) ((c .before .before .before .before .before .before .before .before .before .before .before .before .before .before .before .before .before .before .before .power .ensures .1)))
+    let text = c .before .before in
+    let entries = text .before .before .before .before .before in
+    let list = entries .before .before .before .before in
+    let head = list .before .before .before .before .before in
+    let found = head .before .before in
+    let power = found .before .power in
+    let reads = found .before .before in
+    let start = reads .before .before .before .before in
+    let few = entries-few (power .result) (length (start .args .free .now)) (power .ensures .1) (start .pre .3 .few-free) in
+    put-next (head .put-node-head .ensures) (put-then (list .put-list .ensures) (put-then (entries .put-entries .ensures) (text .put-text .ensures)))
+    (node-line _ _ _ _ _ _ _ _ _ _ _ _ (list .before .joined .ensures .0) (reads .read-names .ensures .0) (found .firsts .ensures)
+    (start .pre .3 .few-vertices) (power .ensures .0) (reads .read-names .ensures .1) (power .ensures .1))
     (omega arith)
 
 pub put-node-spec : {M : Type 1} → statement M

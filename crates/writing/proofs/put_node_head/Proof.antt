@@ -25,7 +25,11 @@ same-length : tie.Need-same-length
 same-length c = search needs
 
 returns : tie.Need-returns
-returns c = put-next (c .before .before .before .before .before .before .before .before .before .before .before .put-text .ensures) (put-then (c .before .before .before .before .before .before .before .put-name .ensures) (c .before .before .put-text2 .ensures)) (node-head-text _) (omega arith)
+returns c =
+    let put-text2 = c .before .before .put-text2 in
+    let put-name = c .before .before .before .before .before .before .before .put-name in
+    let put-text = c .before .before .before .before .before .before .before .before .before .before .before .put-text in
+    put-next (put-text .ensures) (put-then (put-name .ensures) (put-text2 .ensures)) (node-head-text _) (omega arith)
 
 pub put-node-head-spec : {M : Type 1} → statement M
 put-node-head-spec =

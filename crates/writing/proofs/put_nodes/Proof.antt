@@ -10,11 +10,13 @@ use Rattle.sheet.specs.Known.{tableAt}
 use Rattle.names.specs.Pack.{nameOf}
 use Rattle.writing.specs.LineLaws.{Lines, lines-none, lines-put, lines-all}
 use Rattle.writing.specs.Lines.{nodeBy}
+use Rattle.writing.specs.Room.{nodeRoom}
 use Rattle.writing.proofs.put_nodes.Statement.{statement}
 use Rattle.writing.proofs.put_nodes.Tie as tie
 
 abbrev Inv-loop : tie.InvT-loop
-Inv-loop buf₀ at fs u codes vertex free rows outputs outs tables p₀ o₀ buf p o = Lines (λ (j : ℕ). printNode (nameOf (item outs j)) (shown fs) (nodeBy (tableAt tables j) vertex free (item codes) (numbers u 0 (item rows j)))) 33000 outputs buf₀ buf at p o
+Inv-loop buf₀ at fs u codes vertex free rows outputs outs tables p₀ o₀ buf p o = Lines
+    (λ (j : ℕ). printNode (nameOf (item outs j)) (shown fs) (nodeBy (tableAt tables j) vertex free (item codes) (numbers u 0 (item rows j)))) nodeRoom outputs buf₀ buf at p o
 
 abbrev μ-loop : tie.MeasureT-loop
 μ-loop buf₀ at fs u codes vertex free rows outputs outs tables p₀ o₀ buf p o = outputs - o
@@ -38,7 +40,11 @@ array-read-put-node-2 : tie.Need-array-read-put-node-2 Inv-loop μ-loop
 array-read-put-node-2 c = search needs
 
 put-node-requires : tie.Need-put-node-requires Inv-loop μ-loop
-put-node-requires c κs = (omega (arith, (c .before .before .before .before .before .before .before .before .before .before .pre .0), (c .before .before .before .before .before .before .before .before .before .before .pre .1), (c .before .before .before .loop-test .taken), (c .before .before .before .before .loop .inv .so-far .place), (c .before .before .before .before .loop .inv .so-far .short)), (c .before .before .before .before .before .before .before .before .before .before .pre .2), (c .before .before .before .before .before .before .before .before .before .before .pre .3), (c .before .before .before .before .before .before .before .before .before .before .pre .4))
+put-node-requires c κs =
+    let loop-test = c .before .before .before .loop-test in
+    let loop = c .before .before .before .before .loop in
+    let pre = c .before .before .before .before .before .before .before .before .before .before .pre in
+    (omega (arith, pre .0, pre .1, loop-test .taken, loop .inv .so-far .place, loop .inv .so-far .short), pre .2, pre .3, pre .4)
 
 add-o : tie.Need-add-o Inv-loop μ-loop
 add-o c = search needs
@@ -47,13 +53,20 @@ loop-less : tie.Need-loop-less Inv-loop μ-loop
 loop-less c = search needs
 
 loop-again : tie.Need-loop-again Inv-loop μ-loop
-loop-again c = lines-put (c .before .before .before .before .before .before .before .loop .inv) (c .before .before .before .before .before .before .loop-test .taken) (c .before .before .put-node .ensures)
+loop-again c =
+    let put-node = c .before .before .put-node in
+    let loop-test = c .before .before .before .before .before .before .loop-test in
+    let loop = c .before .before .before .before .before .before .before .loop in
+    lines-put (loop .inv) (loop-test .taken) (put-node .ensures)
 
 same-length : tie.Need-same-length Inv-loop μ-loop
-same-length c = put-length ((c .before .loop .inv .so-far))
+same-length c = put-length (c .before .loop .inv .so-far)
 
 returns : tie.Need-returns Inv-loop μ-loop
-returns c = lines-all (c .before .loop .inv) (c .loop-test .left) (omega (arith, (c .before .before .before .before .before .before .before .pre .1), (c .before .loop .inv .within)))
+returns c =
+    let head = c .before in
+    let start = head .before .before .before .before .before .before in
+    lines-all (head .loop .inv) (c .loop-test .left) (omega (arith, start .pre .1, head .loop .inv .within))
 
 pub put-nodes-spec : {M : Type 1} → statement M
 put-nodes-spec =

@@ -32,7 +32,10 @@ has-requires : tie.Need-has-requires Inv-loop μ-loop
 has-requires c κs = search needs
 
 put-digit-requires : tie.Need-put-digit-requires Inv-loop μ-loop
-put-digit-requires c κs = omega (arith, (c .before .before .before .before .before .before .pre), (c .before .before .before .before .loop .inv .so-far .place), (c .before .before .before .before .loop .inv .so-far .short))
+put-digit-requires c κs =
+    let loop = c .before .before .before .before .loop in
+    let pre = c .before .before .before .before .before .before .pre in
+    omega (arith, pre, loop .inv .so-far .place, loop .inv .so-far .short)
 
 add-x : tie.Need-add-x Inv-loop μ-loop
 add-x c = search needs
@@ -41,10 +44,17 @@ loop-less : tie.Need-loop-less Inv-loop μ-loop
 loop-less c = search needs
 
 loop-again : tie.Need-loop-again Inv-loop μ-loop
-loop-again c = digits-put (c .before .before .before .before .before .before .before .loop .inv) (c .before .before .before .before .before .before .loop-test .taken) (c .before .before .put-digit .ensures) ((c .before .before .before .has .ensures) ∙ ap (λ (k : ℕ). on k (c .before .before .before .before .before .before .before .before .before .args .i)) (c .before .before .before .before .wide .ensures))
+loop-again c =
+    let put-digit = c .before .before .put-digit in
+    let has = c .before .before .before .has in
+    let wide = c .before .before .before .before .wide in
+    let loop-test = c .before .before .before .before .before .before .loop-test in
+    let loop = c .before .before .before .before .before .before .before .loop in
+    let args = c .before .before .before .before .before .before .before .before .before .args in
+    digits-put (loop .inv) (loop-test .taken) (put-digit .ensures) ((has .ensures) ∙ ap (λ (k : ℕ). on k (args .i)) (wide .ensures))
 
 same-length : tie.Need-same-length Inv-loop μ-loop
-same-length c = put-length ((c .before .loop .inv .so-far))
+same-length c = put-length (c .before .loop .inv .so-far)
 
 returns : tie.Need-returns Inv-loop μ-loop
 returns c = digits-all (c .before .loop .inv) (c .loop-test .left)
