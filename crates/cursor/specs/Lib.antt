@@ -3,6 +3,7 @@ pub mod Opening
 pub mod Front
 pub mod OpeningLaws
 pub mod Item
+pub mod MovedLaws
 pub mod NumeralsEnd
 pub mod First
 pub mod NextName
