@@ -1,6 +1,6 @@
 -- A fixed text is read byte by byte: while the bytes agree, what is left of both is read the same way. One byte is read in
 -- one step. Assumes nothing.
-use mathlib.Core.Path.{_≡_, refl, sym, _∙_}
+use mathlib.Core.Path.{_≡_, refl, sym, ap, _∙_}
 use mathlib.Core.Bool.{Bool, true, false}
 use mathlib.Core.List.{List, [], _∷_}
 use Prim.Native.Nat.{ℕ, suc, _+_, _-_, _≤_, _<_}
@@ -12,6 +12,7 @@ use lib.Seq.{drop-cons}
 use borrow.Author.Tests.{eq-eqb, ne-eqb}
 use Rattle.bits.specs.Logic.{pick}
 use Rattle.text.specs.Bytes.{Read, bad, eat}
+use Rattle.text.specs.EatLaws.{bad-found, eat-own}
 use Rattle.cursor.specs.declared.Cursor.{Cursor}
 use Rattle.cursor.specs.Item.{At}
 
@@ -72,3 +73,6 @@ module _ (b : ℕ) (s : List ℕ) (at : ℕ) where
   unfolding eat
   byte-same h k c p =
       record { inside = omega arith; is = rw (drop-cons s at 0 h, eq-eqb _ _ (sym k), p, add-one) refl }
+
+pub missing-byte : (b d : ℕ) (s : List ℕ) → bad ≡ eat (d ∷ []) (b ∷ s) → b ≡ d → ⊥
+missing-byte b d s h e = bad-found {s = s} (h ∙ ap (λ (x : ℕ). eat (d ∷ []) (x ∷ s)) e ∙ eat-own (d ∷ []) s)
