@@ -1,17 +1,15 @@
 -- What a byte opens: one kind for each range of bytes, and what each kind says of the byte and of the word. Assumes
 -- nothing.
-use mathlib.Core.Path.{_≡_, refl, ap, _∙_}
+use mathlib.Core.Path.{_≡_, refl, _∙_}
 use mathlib.Core.Bool.{Bool, true, false}
 use mathlib.Core.List.{List, [], _∷_}
 use Prim.Native.Nat.{ℕ, _≤_, _<_}
-use native.Mathlib.Decide.{decLt}
 use native.Mathlib.Omega.{arith}
 use lib.Dec.{eqb}
 use lib.ListN.{length, getD, drop, drop-of-length-le}
 use lib.Seq.{drop-cons}
 use borrow.Author.Tests.{eq-eqb, ne-eqb}
 use Rattle.bits.specs.Logic.{pick}
-use Rattle.bits.specs.LogicLaws.{true-false}
 use Rattle.text.specs.Bytes.{openBracket}
 use Rattle.text.specs.Number.{numeral}
 use Rattle.text.specs.NumeralLaws.{numeral-between}
@@ -47,18 +45,6 @@ first-inside s at h = rw (drop-cons s at 0 h) refl
 pub first-past : (s : List ℕ) (at : ℕ) → length s ≤ at → Other ≡ firstAt (drop at s)
 unfolding firstAt
 first-past s at h = rw (drop-of-length-le s h) refl
-
--- a kind of its own opens only inside the text
-abbrev pub isOther : First → Bool
-isOther Letter = false
-isOther Digit = false
-isOther Bracket = false
-isOther Other = true
-
-pub own-kind-inside : (s : List ℕ) (at : ℕ) (f : First) → firstAt (drop at s) ≡ f → isOther f ≡ false → at < length s
-own-kind-inside s at f e h =
-    elim (decLt at (length s)) as (λ _. at < length s)
-    [ yes l ↦ l | no g ↦ absurd (true-false (ap isOther (first-past s at (omega arith) ∙ e) ∙ h)) ]
 
 -- ---- what each kind says of the byte
 abbrev pub Opens : First → Bool → Bool → Bool → Type 0

@@ -8,6 +8,7 @@ use native.Mathlib.Numerals.{add-one}
 use native.Mathlib.Omega.{arith}
 use lib.ListN.{length, drop, set, length-append, length-set}
 use lib.Seq.{take-suc-set}
+use Rattle.limits.specs.Limits.{maxInputs}
 use Rattle.text.specs.Bytes.{Read, found, bad, after}
 use Rattle.names.specs.Name.{Name}
 use Rattle.names.specs.Names.{readNames}
@@ -24,7 +25,7 @@ before ns r = after r (λ ms t. found (ns ++ ms) t)
 pub record Gathered (s : List ℕ) (start at count : ℕ) (kept : List ℕ) : Type 0 where
   pub inside : at ≤ length s
   pub few : start + count ≤ at
-  pub ten : length kept ≡ 10
+  pub sized : length kept ≡ maxInputs
   pub passed : List Name
   pub is : readNames (drop start s) ≡ before passed (readNames (drop at s))
   pub held : Kept passed count kept
@@ -34,12 +35,12 @@ before-none : (r : Read (List Name)) → r ≡ before [] r
 before-none (found ns t) = refl
 before-none bad = refl
 
-pub gathered-none : (s : List ℕ) (at : ℕ) (kept : List ℕ) → at ≤ length s → length kept ≡ 10 → Gathered s at at 0 kept
+pub gathered-none : (s : List ℕ) (at : ℕ) (kept : List ℕ) → at ≤ length s → length kept ≡ maxInputs → Gathered s at at 0 kept
 gathered-none s at kept h e =
     record {
       inside = h;
       few = omega arith;
-      ten = e;
+      sized = e;
       passed = [];
       is = before-none (readNames (drop at s));
       held = record { counted = refl; held = λ l. refl };
@@ -52,7 +53,7 @@ before-one ns n (found ms t) = ap (λ (l : List Name). found l t) (sym (append-a
 before-one ns n bad = refl
 
 kept-more : (ns : List Name) (count v : ℕ) (kept : List ℕ)
-    → Kept ns count kept → length kept ≡ 10 → Kept (ns ++ (nameOf v ∷ [])) (count + 1) (set kept count v)
+    → Kept ns count kept → length kept ≡ maxInputs → Kept (ns ++ (nameOf v ∷ [])) (count + 1) (set kept count v)
 kept-more ns count v kept k e =
     let size : length (ns ++ (nameOf v ∷ [])) ≡ length ns + 1 = length-append ns (nameOf v ∷ []) in
     record {
@@ -70,10 +71,10 @@ gathered-more s start at count v c kept more g n e =
     (record {
       inside = n .inside;
       few = omega arith;
-      ten = length-set kept count v ∙ g .ten;
+      sized = length-set kept count v ∙ g .sized;
       passed = g .passed ++ (nameOf v ∷ []);
       is = g .is ∙ ap (before (g .passed)) (n .is) ∙ before-one (g .passed) (nameOf v) (readNames (drop (c .at) s));
-      held = kept-more (g .passed) count v kept (g .held) (g .ten);
+      held = kept-more (g .passed) count v kept (g .held) (g .sized);
     })
 
 -- ---- the end

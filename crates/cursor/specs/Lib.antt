@@ -3,9 +3,11 @@ pub mod Opening
 pub mod Front
 pub mod OpeningLaws
 pub mod Item
+pub mod MovedLaws
 pub mod NumeralsEnd
 pub mod First
 pub mod NextName
+pub mod OperatorRead
 pub mod EatingLaws
 pub mod PartLaws
 pub mod ReadNumberLaws

@@ -6,6 +6,7 @@ use mathlib.Core.List.{List}
 use Prim.Native.Nat.{ℕ, _-_, _≤_, _<_}
 use native.Mathlib.Omega.{arith}
 use lib.ListN.{length, take, drop}
+use Rattle.limits.specs.Limits.{maxName}
 use Rattle.text.specs.Bytes.{bad}
 use Rattle.names.specs.Name.{word, operator, isOperator, readName}
 use Rattle.names.specs.Pack.{pack, nameOf}
@@ -29,11 +30,11 @@ module _ (s : List ℕ) (at e : ℕ) (w : WordEnd s at e) where
   pub word-length : length (word (drop at s)) ≡ e - at
   word-length = sym (ap length (w .is-word)) ∙ part-length s at e (w .after-start) (w .inside)
 
-  pub long-bad : 8 < e - at → bad ≡ readName (drop at s)
+  pub long-bad : maxName < e - at → bad ≡ readName (drop at s)
   long-bad h = sym (read-name-bad (drop at s) (long-no-name (word (drop at s)) (rw word-length h)))
 
-  module _ (v : ℕ) (h : e - at ≤ 8) (p : v ≡ pack (take (e - at) (drop at s))) where
-    -- a word of at most 8 bytes is what its number holds
+  module _ (v : ℕ) (h : e - at ≤ maxName) (p : v ≡ pack (take (e - at) (drop at s))) where
+    -- a word of at most maxName bytes is what its number holds
     pub word-held : nameOf v ≡ word (drop at s)
     word-held = ap nameOf (p ∙ ap pack (w .is-word)) ∙ word-back (drop at s) (rw word-length h)
 

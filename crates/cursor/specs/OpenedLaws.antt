@@ -3,21 +3,21 @@
 use mathlib.Core.Path.{_≡_, refl, sym, ap, _∙_}
 use mathlib.Core.Bool.{true, false}
 use mathlib.Core.List.{List, [], _∷_}
-use Prim.Native.Nat.{ℕ, suc, _+_, _≤_, _<_}
-use native.Mathlib.Numerals.{add-one}
+use Prim.Native.Nat.{ℕ, _≤_, _<_}
 use native.Mathlib.Omega.{arith}
 use lib.Dec.{eqb}
-use lib.ListN.{length, getD, drop}
-use lib.Seq.{drop-cons}
-use borrow.Author.Tests.{eq-eqb, ne-eqb}
+use lib.ListN.{length}
+use borrow.Author.Tests.{ne-eqb, eqb-true}
 use Rattle.bits.specs.Logic.{pick}
 use Rattle.bits.specs.LogicLaws.{true-false}
+use Rattle.limits.specs.Limits.{maxName}
 use Rattle.text.specs.Bytes.{bytes, same, Read, found, bad, after, eat, space, openBracket}
 use Rattle.text.specs.BytesLaws.{differ-same}
+use Rattle.text.specs.EatLaws.{eat-found}
 use Rattle.text.specs.Number.{numeral}
 use Rattle.text.specs.NumeralLaws.{numeral-low, numeral-between}
 use Rattle.names.specs.Name.{word, afterWord, readName, operator}
-use Rattle.names.specs.Word.{WordEnd, operatorOf}
+use Rattle.names.specs.Word.{operatorOf}
 use Rattle.names.specs.declared.Operator.{Operator}
 use Rattle.names.specs.declared.Operator.the-variants.{Not, And, Or, Xor, Nothing}
 use Rattle.names.specs.Name as names
@@ -25,9 +25,12 @@ use Rattle.cursor.specs.declared.Cursor.{Cursor}
 use Rattle.cursor.specs.declared.First.the-variants.{Letter, Digit, Bracket, Other}
 use Rattle.cursor.specs.declared.Gate.{Gate}
 use Rattle.cursor.specs.declared.Opening.{Opening}
+use Rattle.cursor.specs.declared.OperatorRead.{OperatorRead}
 use Rattle.cursor.specs.First.{firstAt}
 use Rattle.cursor.specs.FirstLaws.{byte-opens}
-use Rattle.cursor.specs.Item.{At, OpeningIs}
+use Rattle.cursor.specs.EatingLaws.{missing-byte}
+use Rattle.cursor.specs.Item.{At, OpeningIs, from}
+use Rattle.cursor.specs.OperatorRead.{OperatorIs}
 use Rattle.cursor.specs.Opening.{name-opens, digit-opens, not-opens, gate-opens, spaced, readOpening}
 use Rattle.cursor.specs.Opening as spec
 
@@ -63,24 +66,21 @@ opening-digit b s e =
     let g : eqb b openBracket ≡ false = ne-eqb b openBracket (λ q. omega (arith, numeral-low b (k .1))) in
     rw (k .0, g) refl
 
-module _ (s : List ℕ) (at : ℕ) (l : at < length s) (e : firstAt (drop at s) ≡ Digit) where
-  digit-here : pick (eqb (getD s at 0) 0x30) (found (digit-opens false) (drop (suc at) s))
-      (pick (eqb (getD s at 0) 0x31) (found (digit-opens true) (drop (suc at) s)) bad)
-      ≡ readOpening (drop at s)
-  digit-here = rw (drop-cons s at 0 l) (opening-digit (getD s at 0) (drop (suc at) s) (rw (drop-cons s at 0 l) at e))
+module _ (s t : List ℕ) (e : firstAt t ≡ Digit) where
+  pub zero-opened : (c : Cursor) → At s tt c (eat (0x30 ∷ []) t) → At s (digit-opens false) c (readOpening t)
+  zero-opened c h =
+      let q = eat-found (0x30 ∷ []) t (from s c) (sym (h .is)) in
+      record { inside = h .inside; is = rw q (opening-digit 0x30 (from s c) (rw q at e)) }
 
-  pub zero-opened : (c : Cursor)
-      → c .at ≡ at + 1 → getD s at 0 ≡ 0x30 → At s (digit-opens false) c (readOpening (drop at s))
-  zero-opened c k q = record { inside = omega arith; is = rw (k, add-one) (rw (eq-eqb _ _ q) at digit-here) }
+  pub one-opened : (c : Cursor) → At s tt c (eat (0x31 ∷ []) t) → At s (digit-opens true) c (readOpening t)
+  one-opened c h =
+      let q = eat-found (0x31 ∷ []) t (from s c) (sym (h .is)) in
+      record { inside = h .inside; is = rw q (opening-digit 0x31 (from s c) (rw q at e)) }
 
-  pub one-opened : (c : Cursor)
-      → c .at ≡ at + 1 → getD s at 0 ≡ 0x31 → At s (digit-opens true) c (readOpening (drop at s))
-  one-opened c k q =
-      let z : eqb (getD s at 0) 0x30 ≡ false = ne-eqb (getD s at 0) 0x30 (λ p. omega arith) in
-      record { inside = omega arith; is = rw (k, add-one) (rw (z, eq-eqb _ _ q) at digit-here) }
-
-  pub digit-bad : (getD s at 0 ≡ 0x30 → ⊥) → (getD s at 0 ≡ 0x31 → ⊥) → bad ≡ readOpening (drop at s)
-  digit-bad z o = rw (ne-eqb _ _ z, ne-eqb _ _ o) at digit-here
+pub digit-bad : (t : List ℕ) → firstAt t ≡ Digit → bad ≡ eat (0x30 ∷ []) t → bad ≡ eat (0x31 ∷ []) t → bad ≡ readOpening t
+unfolding firstAt
+digit-bad [] e z o = let z : _≡_ {A = ℕ} 0 1 = cc in absurd (omega arith)
+digit-bad (b ∷ s) e z o = rw (ne-eqb b 0x30 (missing-byte b 0x30 s z), ne-eqb b 0x31 (missing-byte b 0x31 s o)) at (opening-digit b s e)
 
 -- ---- a bracket
 opening-bracket : (b : ℕ) (s : List ℕ)
@@ -93,7 +93,7 @@ opening-bracket b s e =
 longer-differs : (w t : List ℕ) → length t < length w → same w t ≡ false
 longer-differs w t h = differ-same w t (λ e. omega (arith, ap length e))
 
-pub long-no-operator : (w : List ℕ) → 8 < length w → names.none-op ≡ operator w
+pub long-no-operator : (w : List ℕ) → maxName < length w → names.none-op ≡ operator w
 unfolding operator
 long-no-operator w h =
     let n = longer-differs w (bytes "not") (omega arith) in
@@ -125,19 +125,24 @@ no-space-bad u names.or-op h = rw (← h) refl
 no-space-bad u names.xor-op h = rw (← h) refl
 no-space-bad u names.none-op h = refl
 
-module _ (s : List ℕ) (at e : ℕ) (l : at < length s) (f : firstAt (drop at s) ≡ Bracket) (w : WordEnd s (at + 1) e)
-    (o : Operator) (q : operatorOf o ≡ operator (word (drop (at + 1) s))) where
-  bracket-here : spaced (operatorOf o) (drop e s) ≡ readOpening (drop at s)
+module _ (s t : List ℕ) (f : firstAt t ≡ Bracket) (a : Cursor) (h : At s tt a (eat (openBracket ∷ []) t)) (w : OperatorRead)
+    (i : OperatorIs s (a .at) w) where
+  bracket-here : spaced (operatorOf (w .operator)) (from s (w .next)) ≡ readOpening t
   bracket-here =
-      rw (q, w .is-rest, add-one, drop-cons s at 0 l)
-      (opening-bracket (getD s at 0) (drop (suc at) s) (rw (drop-cons s at 0 l) at f))
+      let q = eat-found (openBracket ∷ []) t (from s a) (sym (h .is)) in
+      rw (i .is-operator, i .is-rest, q) (opening-bracket openBracket (from s a) (rw q at f))
 
-  pub operator-opened : (c : Cursor)
-      → At s tt c (eat (space ∷ []) (drop e s)) → OpeningIs s (operatorOpens o c) (readOpening (drop at s))
-  operator-opened c h = rw (← bracket-here) (spaced-opens s (drop e s) o c h)
+  pub operator-opened : (o : Operator) (c : Cursor) → w .operator ≡ o → At s tt c (eat (space ∷ []) (from s (w .next)))
+      → OpeningIs s (operatorOpens o c) (readOpening t)
+  operator-opened o c e k = rw (← bracket-here, e) (spaced-opens s (from s (w .next)) o c k)
 
-  pub unspaced-bad : bad ≡ eat (space ∷ []) (drop e s) → bad ≡ readOpening (drop at s)
-  unspaced-bad h = no-space-bad (drop e s) (operatorOf o) h ∙ bracket-here
+  pub unspaced-bad : bad ≡ eat (space ∷ []) (from s (w .next)) → bad ≡ readOpening t
+  unspaced-bad k = no-space-bad (from s (w .next)) (operatorOf (w .operator)) k ∙ bracket-here
+
+pub bracket-bad : (t : List ℕ) → firstAt t ≡ Bracket → bad ≡ eat (openBracket ∷ []) t → bad ≡ readOpening t
+unfolding firstAt
+bracket-bad [] e h = let z : _≡_ {A = ℕ} 0 1 = cc in absurd (omega arith)
+bracket-bad (b ∷ s) e h = absurd (missing-byte b openBracket s h (eqb-true b openBracket (byte-opens b Bracket e .2)))
 
 -- ---- anything else
 pub opening-other : (t : List ℕ) → firstAt t ≡ Other → bad ≡ readOpening t

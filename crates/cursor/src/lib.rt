@@ -2,8 +2,11 @@
 // Rests on text and names.
 ghost use mathlib.Core.Path.{_≡_};
 ghost use mathlib.Core.Bool.{true};
+ghost use mathlib.Core.List.{[], _∷_};
 ghost use Prim.Native.Nat.{ℕ, _+_, _-_, _≤_, _<_};
+ghost use lib.Dec.{leb};
 ghost use lib.ListN.{length, take, drop, set};
+ghost use Rattle.limits.specs.Limits.{maxInputs, maxDigits};
 ghost use Rattle.text.specs.Bytes.{eat};
 ghost use Rattle.text.specs.Number.{numeral, valueFrom, isNumber, readNumber};
 ghost use Rattle.names.specs.Name.{word, operator, readName};
@@ -13,6 +16,7 @@ ghost use Rattle.cursor.specs.Opening.{readOpening};
 ghost use Rattle.cursor.specs.NumeralsEnd.{Numerals, NumeralsEnd};
 ghost use Rattle.cursor.specs.First.{firstOf, firstAt};
 ghost use Rattle.cursor.specs.NextName.{NextIs};
+ghost use Rattle.cursor.specs.OperatorRead.{OperatorIs};
 ghost use Rattle.cursor.specs.Item.{MovedIs, NumberIs, NameIs, OpeningIs, NamesAre};
 use names::Operator;
 
@@ -57,13 +61,8 @@ pub struct NameList {
     pub ok: bool,
     pub next: Cursor,
     pub count: usize,
-    pub names: [u64; 10],
+    pub names: [u64; limits::MAX_INPUTS],
 }
-
-// The most bytes of a name, and the most digits of a number.
-const MAX_NAME: usize = 8;
-
-const MAX_DIGITS: usize = 3;
 
 // Whether a byte is a digit.
 fn is_numeral(b: u8) -> bool
@@ -102,7 +101,7 @@ fn is_number(s: &[u8], a: usize, e: usize) -> bool
     if n == 1 {
         return true;
     }
-    if MAX_DIGITS < n {
+    if limits::MAX_DIGITS < n {
         return false;
     }
     s[a] != b'0'
@@ -118,7 +117,7 @@ fn digit_value(b: u8) -> usize
 
 // The value of the digits from a up to e.
 fn value(s: &[u8], a: usize, e: usize) -> usize
-    requires { ⌜ (Numerals (now s) a e) × (e ≤ a + 3) ⌝ }
+    requires { ⌜ (Numerals (now s) a e) × (e ≤ a + maxDigits) ⌝ }
     ensures { λ r. ⌜ r ≡ valueFrom 0 (take (e - a) (drop a (now (s .entry)))) ⌝ }
 {
     let mut n: usize = 0;
@@ -149,92 +148,21 @@ fn first_of(b: u8) -> First
     }
 }
 
-// The kind of the item at a place; none past the end.
-fn first_at(s: &[u8], at: usize) -> First
-    requires { ⌜ at ≤ length (now s) ⌝ }
-    ensures { λ r. ⌜ r ≡ firstAt (drop at (now (s .entry))) ⌝ }
-{
-    if at < s.len() {
-        first_of(s[at])
-    } else {
-        First::Other
-    }
-}
-
-// The name that a word with a letter first is.
-fn named(s: &[u8], at: usize) -> NameRead
-    requires { ⌜ (at ≤ length (now s)) × (firstAt (drop at (now s)) ≡ First.Letter) ⌝ }
-    ensures { λ r. ⌜ NameIs (now (s .entry)) r (readName (drop at (now (s .entry)))) ⌝ }
-{
-    let e = names::word_end(s, at);
-    if MAX_NAME < e - at {
-        return NameRead::Bad;
-    }
-    let v = names::packed(s, at, e);
-    let o = names::as_operator(v);
-    if let Operator::Nothing = o {
-        NameRead::Name(v, Cursor { at: e })
-    } else {
-        NameRead::Bad
-    }
-}
-
-// A name that opens a formula.
-fn opens_name(s: &[u8], at: usize) -> Opening
-    requires { ⌜ (at ≤ length (now s)) × (firstAt (drop at (now s)) ≡ First.Letter) ⌝ }
-    ensures { λ r. ⌜ OpeningIs (now (s .entry)) r (readOpening (drop at (now (s .entry)))) ⌝ }
-{
-    let r = named(s, at);
-    match r {
-        NameRead::Name(v, next) => Opening::Name(v, next),
-        NameRead::Bad => Opening::Bad,
-    }
-}
-
-// A digit that opens a formula: 0 or 1.
-fn opens_digit(s: &[u8], at: usize) -> Opening
-    requires { ⌜ (at < length (now s)) × (firstAt (drop at (now s)) ≡ First.Digit) ⌝ }
-    ensures { λ r. ⌜ OpeningIs (now (s .entry)) r (readOpening (drop at (now (s .entry)))) ⌝ }
-{
-    let b = s[at];
-    let next = Cursor { at: at + 1 };
-    match b {
-        b'0' => Opening::Digit(false, next),
-        b'1' => Opening::Digit(true, next),
-        _ => Opening::Bad,
-    }
-}
-
 // The operator that the word from a up to e is.
 fn operator_word(s: &[u8], a: usize, e: usize) -> Operator
     requires { ⌜ WordEnd (now s) a e ⌝ }
     ensures { λ r. ⌜ operatorOf r ≡ operator (word (drop a (now (s .entry)))) ⌝ }
 {
-    if MAX_NAME < e - a {
+    if limits::MAX_NAME < e - a {
         return Operator::Nothing;
     }
     names::as_operator(names::packed(s, a, e))
 }
 
-// A bracket that opens a formula: an operator word and a space stand after it.
-fn opens_bracket(s: &[u8], at: usize) -> Opening
-    requires { ⌜ (at < length (now s)) × (firstAt (drop at (now s)) ≡ First.Bracket) ⌝ }
-    ensures { λ r. ⌜ OpeningIs (now (s .entry)) r (readOpening (drop at (now (s .entry)))) ⌝ }
-{
-    let a = at + 1;
-    let e = names::word_end(s, a);
-    let o = operator_word(s, a, e);
-    let m = Cursor { at: e }.text(s, b" ");
-    match m {
-        Moved::To(next) => match o {
-            Operator::Not => Opening::Not(next),
-            Operator::And => Opening::Gate(Gate::And, next),
-            Operator::Or => Opening::Gate(Gate::Or, next),
-            Operator::Xor => Opening::Gate(Gate::Xor, next),
-            Operator::Nothing => Opening::Bad,
-        },
-        Moved::Bad => Opening::Bad,
-    }
+// An operator word: the operator that it is, and the place after it.
+struct OperatorRead {
+    operator: Operator,
+    next: Cursor,
 }
 
 // What stands next in a list of names.
@@ -244,39 +172,45 @@ enum NextName {
     Bad,
 }
 
-fn next_name(s: &[u8], at: usize) -> NextName
-    requires { ⌜ at ≤ length (now s) ⌝ }
-    ensures { λ r. ⌜ NextIs (now (s .entry)) at r ⌝ }
-{
-    if s.len() <= at {
-        return NextName::Bad;
-    }
-    let b = s[at];
-    let next = Cursor { at: at + 1 };
-    match b {
-        b')' => NextName::End(next),
-        b' ' => {
-            let r = next.name(s);
-            match r {
-                NameRead::Name(v, after) => NextName::Name(v, after),
-                NameRead::Bad => NextName::Bad,
-            }
-        }
-        _ => NextName::Bad,
-    }
-}
-
 // Keeps v in the place that count says, where it is one of the ten.
-fn keep(names: &mut [u64; 10], count: usize, v: u64)
-    requires { ⌜ length (now names) ≡ 10 ⌝ }
+fn keep(names: &mut [u64; limits::MAX_INPUTS], count: usize, v: u64)
+    requires { ⌜ length (now names) ≡ maxInputs ⌝ }
     ensures { λ _. ⌜ now (names .exit) ≡ set (now (names .entry)) count v ⌝ }
 {
-    if count < 10 {
+    if count < limits::MAX_INPUTS {
         names[count] = v;
     }
 }
 
 impl Cursor {
+    // Before the first byte.
+    pub fn start() -> Cursor
+        ensures { λ r. ⌜ r .at ≡ 0 ⌝ }
+    {
+        Cursor { at: 0 }
+    }
+
+    // Whether the text ends here.
+    pub fn at_end(self, s: &[u8]) -> bool
+        ensures { λ r. ⌜ r ≡ leb (length (now (s .entry))) (self .at) ⌝ }
+    {
+        s.len() <= self.at
+    }
+
+    // The byte b.
+    pub fn byte(self, s: &[u8], b: u8) -> Moved
+        ensures { λ r. ⌜ MovedIs (now (s .entry)) r (eat (b ∷ []) (drop (self .at) (now (s .entry)))) ⌝ }
+    {
+        let at = self.at;
+        if s.len() <= at {
+            return Moved::Bad;
+        }
+        if s[at] != b {
+            return Moved::Bad;
+        }
+        Moved::To(Cursor { at: at + 1 })
+    }
+
     // The bytes of w.
     pub fn text(self, s: &[u8], w: &[u8]) -> Moved
         requires { ⌜ self .at ≤ length (now s) ⌝ }
@@ -310,17 +244,114 @@ impl Cursor {
         }
     }
 
+    // The kind of the item, by its first byte; none at the text's end.
+    fn kind(self, s: &[u8]) -> First
+        requires { ⌜ self .at ≤ length (now s) ⌝ }
+        ensures { λ r. ⌜ r ≡ firstAt (drop (self .at) (now (s .entry))) ⌝ }
+    {
+        let at = self.at;
+        if at < s.len() {
+            first_of(s[at])
+        } else {
+            First::Other
+        }
+    }
+
+    // The name that a word with a letter first is.
+    fn named(self, s: &[u8]) -> NameRead
+        requires { ⌜ (self .at ≤ length (now s)) × (firstAt (drop (self .at) (now s)) ≡ First.Letter) ⌝ }
+        ensures { λ r. ⌜ NameIs (now (s .entry)) r (readName (drop (self .at) (now (s .entry)))) ⌝ }
+    {
+        let at = self.at;
+        let e = names::word_end(s, at);
+        if limits::MAX_NAME < e - at {
+            return NameRead::Bad;
+        }
+        let v = names::packed(s, at, e);
+        let o = names::as_operator(v);
+        if let Operator::Nothing = o {
+            NameRead::Name(v, Cursor { at: e })
+        } else {
+            NameRead::Bad
+        }
+    }
+
     // A name: a word of at most 8 bytes with a letter first, and no operator.
     pub fn name(self, s: &[u8]) -> NameRead
         requires { ⌜ self .at ≤ length (now s) ⌝ }
         ensures { λ r. ⌜ NameIs (now (s .entry)) r (readName (drop (self .at) (now (s .entry)))) ⌝ }
     {
-        let at = self.at;
-        let f = first_at(s, at);
+        let f = self.kind(s);
         if let First::Letter = f {
-            named(s, at)
+            self.named(s)
         } else {
             NameRead::Bad
+        }
+    }
+
+    // A name that opens a formula.
+    fn opens_name(self, s: &[u8]) -> Opening
+        requires { ⌜ (self .at ≤ length (now s)) × (firstAt (drop (self .at) (now s)) ≡ First.Letter) ⌝ }
+        ensures { λ r. ⌜ OpeningIs (now (s .entry)) r (readOpening (drop (self .at) (now (s .entry)))) ⌝ }
+    {
+        let r = self.named(s);
+        match r {
+            NameRead::Name(v, next) => Opening::Name(v, next),
+            NameRead::Bad => Opening::Bad,
+        }
+    }
+
+    // A digit that opens a formula: 0 or 1.
+    fn opens_digit(self, s: &[u8]) -> Opening
+        requires { ⌜ firstAt (drop (self .at) (now s)) ≡ First.Digit ⌝ }
+        ensures { λ r. ⌜ OpeningIs (now (s .entry)) r (readOpening (drop (self .at) (now (s .entry)))) ⌝ }
+    {
+        let zero = self.byte(s, b'0');
+        let one = self.byte(s, b'1');
+        match zero {
+            Moved::To(next) => Opening::Digit(false, next),
+            Moved::Bad => match one {
+                Moved::To(next) => Opening::Digit(true, next),
+                Moved::Bad => Opening::Bad,
+            },
+        }
+    }
+
+    // The operator that the word is.
+    fn operator(self, s: &[u8]) -> OperatorRead
+        requires { ⌜ self .at ≤ length (now s) ⌝ }
+        ensures { λ r. ⌜ OperatorIs (now (s .entry)) (self .at) r ⌝ }
+    {
+        let at = self.at;
+        let e = names::word_end(s, at);
+        OperatorRead {
+            operator: operator_word(s, at, e),
+            next: Cursor { at: e },
+        }
+    }
+
+    // A bracket that opens a formula: an operator word and a space stand after it.
+    fn opens_bracket(self, s: &[u8]) -> Opening
+        requires { ⌜ firstAt (drop (self .at) (now s)) ≡ First.Bracket ⌝ }
+        ensures { λ r. ⌜ OpeningIs (now (s .entry)) r (readOpening (drop (self .at) (now (s .entry)))) ⌝ }
+    {
+        let m = self.byte(s, b'(');
+        let Moved::To(word) = m else {
+            return Opening::Bad;
+        };
+        let w = word.operator(s);
+        let after = w.next;
+        let g = after.byte(s, b' ');
+        let Moved::To(next) = g else {
+            return Opening::Bad;
+        };
+        let o = w.operator;
+        match o {
+            Operator::Not => Opening::Not(next),
+            Operator::And => Opening::Gate(Gate::And, next),
+            Operator::Or => Opening::Gate(Gate::Or, next),
+            Operator::Xor => Opening::Gate(Gate::Xor, next),
+            Operator::Nothing => Opening::Bad,
         }
     }
 
@@ -329,13 +360,33 @@ impl Cursor {
         requires { ⌜ self .at ≤ length (now s) ⌝ }
         ensures { λ r. ⌜ OpeningIs (now (s .entry)) r (readOpening (drop (self .at) (now (s .entry)))) ⌝ }
     {
-        let at = self.at;
-        let f = first_at(s, at);
+        let f = self.kind(s);
         match f {
-            First::Letter => opens_name(s, at),
-            First::Digit => opens_digit(s, at),
-            First::Bracket => opens_bracket(s, at),
+            First::Letter => self.opens_name(s),
+            First::Digit => self.opens_digit(s),
+            First::Bracket => self.opens_bracket(s),
             First::Other => Opening::Bad,
+        }
+    }
+
+    // A name after a space, or the closing bracket.
+    fn next_name(self, s: &[u8]) -> NextName
+        ensures { λ r. ⌜ NextIs (now (s .entry)) (self .at) r ⌝ }
+    {
+        let e = self.byte(s, b')');
+        let g = self.byte(s, b' ');
+        match e {
+            Moved::To(next) => NextName::End(next),
+            Moved::Bad => match g {
+                Moved::To(first) => {
+                    let r = first.name(s);
+                    match r {
+                        NameRead::Name(v, next) => NextName::Name(v, next),
+                        NameRead::Bad => NextName::Bad,
+                    }
+                }
+                Moved::Bad => NextName::Bad,
+            },
         }
     }
 
@@ -344,16 +395,16 @@ impl Cursor {
         requires { ⌜ self .at ≤ length (now s) ⌝ }
         ensures { λ r. ⌜ NamesAre (now (s .entry)) r (readNames (drop (self .at) (now (s .entry)))) ⌝ }
     {
-        let mut at = self.at;
+        let mut c = self;
         let mut count: usize = 0;
-        let mut names = [0u64; 10];
+        let mut names = [0u64; limits::MAX_INPUTS];
         loop {
-            let n = next_name(s, at);
+            let n = c.next_name(s);
             match n {
                 NextName::Name(v, next) => {
                     keep(&mut names, count, v);
                     count += 1;
-                    at = next.at;
+                    c = next;
                 }
                 NextName::End(next) => {
                     return NameList {

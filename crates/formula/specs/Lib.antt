@@ -5,6 +5,7 @@ pub mod Reader
 pub mod Value
 pub mod Gates
 pub mod Part
+pub mod Skim
 pub mod PrintLaws
 pub mod Front
 pub mod Onto
@@ -15,5 +16,7 @@ pub mod Within
 pub mod Inverse
 pub mod ReaderLaws
 pub mod Lookup
+pub mod TurnLaws
+pub mod SkimLaws
 pub mod Walk
 pub mod Opened

@@ -1,69 +1,45 @@
 -- The loop over the operands of a gate: what is known after each operand, and what the gate comes to at its closing
--- bracket. Assumes nothing.
+-- bracket. k is how many brackets are looked into. Assumes nothing.
 use mathlib.Core.Path.{_≡_, refl, sym, ap, ap₂, _∙_, subst}
 use mathlib.Core.Bool.{Bool, true, false, not, _&&_}
 use mathlib.Core.List.{List, [], _∷_, _++_}
-use Prim.Native.Nat.{ℕ, zero, suc, _+_, _-_, _≤_, _<_, min, max}
+use Prim.Native.Nat.{ℕ, suc, _≤_, _<_, min, max}
 use native.Mathlib.Omega.{arith}
-use native.Mathlib.Numerals.{add-one}
-use lib.Dec.{eqb}
-use lib.ListN.{length, drop, getD, length-drop, drop-of-length-le}
-use lib.Seq.{drop-cons}
-use borrow.Author.Tests.{eq-eqb, ne-eqb, eqb-true}
+use lib.ListN.{length, drop}
 use Rattle.bits.specs.Logic.{andb, pick}
-use Rattle.bits.specs.LogicLaws.{true-false, and-left, and-right, and-both}
+use Rattle.bits.specs.LogicLaws.{true-false}
 use Rattle.limits.specs.Limits.{maxDepth}
 use Rattle.text.specs.Bytes.{Read, found, bad, after, eat, closeBracket, space}
+use Rattle.text.specs.EatLaws.{bad-found, found-rest}
 use Rattle.names.specs.Name.{Name}
 use Rattle.rows.specs.Words.{Rowwise}
 use Rattle.rows.specs.WordLaws.{rowwise-same, rowwise-one, rowwise-two}
 use Rattle.cursor.specs.Opening.{Gate}
+use Rattle.cursor.specs.Item.{At, MovedIs, from}
+use Rattle.cursor.specs.declared.Cursor.{Cursor}
+use Rattle.cursor.specs.declared.Moved.{Moved}
 use Rattle.formula.specs.Tree.{Formula, negation, gate, Operands, none, more, depth, depths, knows, knowsAll}
-use Rattle.formula.specs.Reader.{readFormula, readOperands, closeGate, closeNot, nextIs, rest}
-use Rattle.formula.specs.ReaderLaws.{formula-shorter, operands-more, operands-none}
+use Rattle.formula.specs.Reader.{readFormula, readOperands, closeGate, closeNot}
 use Rattle.formula.specs.Value.{value, values, onRow, combine}
 use Rattle.formula.specs.Gates.{two}
 use Rattle.formula.specs.Onto.{onto}
 use Rattle.formula.specs.GateLaws.{combine-snoc, combine-one}
 use Rattle.formula.specs.ValueLaws.{onto-snoc, values-snoc, depths-snoc, knows-snoc}
-use Rattle.formula.specs.Part.{Good, PartIs, Closed, Negated, Joined, capped, deepened, gateOn}
+use Rattle.formula.specs.Part.{Good, PartIs, readSoFar, Unread, ClosedBy, Closed, Negated, Joined, deepened, gateOn}
+use Rattle.formula.specs.Skim.{spelling}
+use Rattle.formula.specs.TurnLaws.{operand-after, no-operand-after}
 use Rattle.formula.specs.declared.Part.{Part}
 
--- ---- a byte that comes next
-pub next-here : (b : ℕ) (s : List ℕ) (at : ℕ) → at < length s → nextIs b (drop at s) ≡ eqb (getD s at 0) b
-next-here b s at h = ap (nextIs b) (drop-cons s at 0 h)
+-- ---- what was read so far
+pub part-read : (k : ℕ) (s : List ℕ) (ns : List Name) (q : Read Formula) (p : Part) → PartIs k s ns q p → readSoFar s p ≡ spelling q
+part-read k s ns (found f t) p h = rw (h .good) (ap (λ (l : List ℕ). found tt l) (h .rest))
+part-read k s ns bad p h = rw h refl
 
-pub next-past : (b : ℕ) (s : List ℕ) (at : ℕ) → length s ≤ at → nextIs b (drop at s) ≡ false
-next-past b s at h = ap (nextIs b) (drop-of-length-le s h)
+so-far-good : (s : List ℕ) (p : Part) → p .ok ≡ true → readSoFar s p ≡ found tt (drop (p .next .at) s)
+so-far-good s p e = rw e refl
 
-pub next-inside : (b : ℕ) (s : List ℕ) (at : ℕ) → nextIs b (drop at s) ≡ true → at < length s
-next-inside b [] zero e = absurd (true-false (sym e))
-next-inside b [] (suc at) e = absurd (true-false (sym e))
-next-inside b (x ∷ s) zero e = omega arith
-next-inside b (x ∷ s) (suc at) e =
-    let h : at < length s = next-inside b s at e in
-    omega arith
-
-rest-drop : (s : List ℕ) (at : ℕ) → rest (drop at s) ≡ drop (at + 1) s
-rest-drop s at = go s at ∙ ap (λ (n : ℕ). drop n s) (sym (add-one at))
-  where
-    go : (s : List ℕ) (at : ℕ) → rest (drop at s) ≡ drop (suc at) s
-    go [] zero = refl
-    go [] (suc at) = refl
-    go (x ∷ s) zero = refl
-    go (x ∷ s) (suc at) = go s at
-
--- ---- the closing bracket
-eat-close : (s : List ℕ) → nextIs closeBracket s ≡ true → eat (closeBracket ∷ []) s ≡ found tt (rest s)
-unfolding eat
-eat-close [] e = absurd (true-false (sym e))
-eat-close (b ∷ s) e = rw (eq-eqb closeBracket b (sym (eqb-true b closeBracket e))) refl
-
-eat-not : (s : List ℕ) → nextIs closeBracket s ≡ false → eat (closeBracket ∷ []) s ≡ bad
-unfolding eat
-eat-not [] e = refl
-eat-not (b ∷ s) e =
-    rw (ne-eqb closeBracket b (λ q. true-false (sym (eq-eqb b closeBracket (sym q)) ∙ e))) refl
+so-far-bad : (s : List ℕ) (p : Part) → p .ok ≡ false → readSoFar s p ≡ bad
+so-far-bad s p e = rw e refl
 
 -- ---- operands put before others
 abbrev pub before : List Formula → Read Operands → Read Operands
@@ -80,32 +56,32 @@ nonEmpty [] = false
 nonEmpty (f ∷ fs) = true
 
 -- after the first operand e and the operands fs; u is the text after e
-pub record Going (s : List ℕ) (ns : List Name) (g : Gate) (e : Formula) (u : List ℕ) (fs : List Formula) (p : Part) : Type 0 where
+pub record Going (k : ℕ) (s : List ℕ) (ns : List Name) (g : Gate) (e : Formula) (u : List ℕ) (fs : List Formula) (p : Part) : Type 0 where
   pub good : p .ok ≡ true
-  pub inside : p .next .at ≤ length s
   pub here : readOperands u ≡ before fs (readOperands (drop (p .next .at) s))
-  pub deep : p .depth ≡ capped (max (depth e) (depths (onto fs none)))
-  pub named : p .known ≡ andb (knows ns e) (knowsAll ns (onto fs none))
-  pub rows : Rowwise (λ (r : ℕ). combine g (value (onRow ns r) e ∷ values (onRow ns r) (onto fs none))) (p .rows)
+  pub deep : p .depth ≡ min (max (depth e) (depths (onto fs none))) k
+  pub named : max (depth e) (depths (onto fs none)) < k → p .known ≡ andb (knows ns e) (knowsAll ns (onto fs none))
+  pub rows : max (depth e) (depths (onto fs none)) < k
+      → Rowwise (λ (r : ℕ). combine g (value (onRow ns r) e ∷ values (onRow ns r) (onto fs none))) (p .rows)
 
-pub data Walk (s : List ℕ) (ns : List Name) (g : Gate) (e : Formula) (u : List ℕ) (p : Part) (enough : Bool) : Type 0 where
-  broken : p .ok ≡ false → readOperands u ≡ bad → Walk s ns g e u p enough
-  going : (fs : List Formula) → enough ≡ nonEmpty fs → Going s ns g e u fs p → Walk s ns g e u p enough
+pub data Walk (k : ℕ) (s : List ℕ) (ns : List Name) (g : Gate) (e : Formula) (u : List ℕ) (p : Part) (enough : Bool) : Type 0 where
+  broken : p .ok ≡ false → readOperands u ≡ bad → Walk k s ns g e u p enough
+  going : (fs : List Formula) → enough ≡ nonEmpty fs → Going k s ns g e u fs p → Walk k s ns g e u p enough
 
-abbrev pub WalkOf : List ℕ → List Name → Gate → Read Formula → Part → Bool → Type 0
-WalkOf s ns g (found e u) p enough = Walk s ns g e u p enough
-WalkOf s ns g bad p enough = p .ok ≡ false
+abbrev pub WalkOf : ℕ → List ℕ → List Name → Gate → Read Formula → Part → Bool → Type 0
+WalkOf k s ns g (found e u) p enough = Walk k s ns g e u p enough
+WalkOf k s ns g bad p enough = p .ok ≡ false
 
-pub walk-start : (s : List ℕ) (ns : List Name) (g : Gate) (q : Read Formula) (p : Part) → PartIs s ns q p → WalkOf s ns g q p false
+pub walk-start : (k : ℕ) (s : List ℕ) (ns : List Name) (g : Gate) (q : Read Formula) (p : Part) → PartIs k s ns q p
+    → WalkOf k s ns g q p false
 unfolding depth knows value
-walk-start s ns g (found e u) p h =
+walk-start k s ns g (found e u) p h =
     going [] refl record {
       good = h .good;
-      inside = h .inside;
       here = ap readOperands (sym (h .rest)) ∙ before-none (readOperands (drop (p .next .at) s));
-      deep = h .deep ∙ ap capped (omega arith);
-      named = h .names ∙ and-one (knows ns e);
-      rows = rowwise-same (h .rows) (λ r l. sym (combine-one g (value (onRow ns r) e)));
+      deep = h .deep ∙ ap (λ (d : ℕ). min d k) (omega arith);
+      named = λ l. h .names (omega (arith, l)) ∙ and-one (knows ns e);
+      rows = λ l. rowwise-same (h .rows (omega (arith, l))) (λ r _. sym (combine-one g (value (onRow ns r) e)));
     }
   where
     before-none : (r : Read Operands) → r ≡ before [] r
@@ -115,41 +91,57 @@ walk-start s ns g (found e u) p h =
     and-one : (b : Bool) → b ≡ andb b true
     and-one true = refl
     and-one false = refl
-walk-start s ns g bad p h = h
+walk-start k s ns g bad p h = h
 
--- one operand more
-step-read : (s : List ℕ) (at : ℕ) (fs : List Formula) (u : List ℕ) → readOperands u ≡ before fs (readOperands (drop at s)) → nextIs space (drop at s) ≡ true → readOperands u ≡ before fs (after (readFormula (drop (at + 1) s)) (λ f t. after (readOperands t) (λ os w. found (more f os) w)))
-step-read s at fs u e n =
-    e ∙ ap (before fs) (operands-more (drop at s) n ∙ ap (λ (l : List ℕ). after (readFormula l) (λ f t. after (readOperands t) (λ os w. found (more f os) w))) (rest-drop s at))
+-- ---- one operand more
+-- the text after e goes on with a space and an operand at v
+step-read : (fs : List Formula) (u t v : List ℕ) → readOperands u ≡ before fs (readOperands t) → found tt v ≡ eat (space ∷ []) t
+    → readOperands u ≡ before fs (after (readFormula v) (λ f t. after (readOperands t) (λ os w. found (more f os) w)))
+step-read fs u t v e n = e ∙ ap (before fs) (operand-after t v n)
 
-capped-max : (a b : ℕ) → max (capped a) (capped b) ≡ capped (max a b)
-capped-max a b = omega arith
+those : (a b c m : ℕ) → max a (max b c) < m → max a b < m
+those a b c m l = omega arith
 
-joined-going : (s : List ℕ) (ns : List Name) (g : Gate) (e : Formula) (u : List ℕ) (fs : List Formula) (p q r : Part) (f : Formula) (t : List ℕ) → Going s ns g e u fs p → nextIs space (drop (p .next .at) s) ≡ true → readFormula (drop (p .next .at + 1) s) ≡ found f t → Good s ns f t q → Joined g p q r → Going s ns g e u (fs ++ (f ∷ [])) r
-joined-going s ns g e u fs p q r f t w n x h j =
+last : (a b c m : ℕ) → max a (max b c) < m → c < m
+last a b c m l = omega arith
+
+min-max : (a b m : ℕ) → max (min a m) (min b m) ≡ min (max a b) m
+min-max a b m = omega arith
+
+max-assoc : (a b c : ℕ) → max (max a b) c ≡ max a (max b c)
+max-assoc a b c = omega arith
+
+joined-going : (k : ℕ) (s : List ℕ) (ns : List Name) (g : Gate) (e : Formula) (u : List ℕ) (fs : List Formula) (p q r : Part) (f : Formula)
+    (t v : List ℕ) → Going k s ns g e u fs p → found tt v ≡ eat (space ∷ []) (drop (p .next .at) s) → readFormula v ≡ found f t
+    → Good k s ns f t q → Joined g p q r → Going k s ns g e u (fs ++ (f ∷ [])) r
+joined-going k s ns g e u fs p q r f t v w n x h j =
+    let d : depths (onto (fs ++ (f ∷ [])) none) ≡ max (depths (onto fs none)) (depth f) = depths-snoc fs f in
     record {
       good = j .good ∙ h .good;
-      inside = subst (λ (c : ℕ). c ≤ length s) (sym (ap (λ k. k .at) (j .moved))) (h .inside);
       here =
-          step-read s (p .next .at) fs u (w .here) n
+          step-read fs u (drop (p .next .at) s) v (w .here) n
           ∙ ap (λ (y : Read Formula). before fs (after y (λ f t. after (readOperands t) (λ os w. found (more f os) w)))) x
           ∙ before-snoc fs f (readOperands t)
           ∙ ap (λ (l : List ℕ). before (fs ++ (f ∷ [])) (readOperands l)) (sym (h .rest) ∙ ap (λ k. drop (k .at) s) (sym (j .moved)));
       deep =
-          j .deep ∙ ap₂ max (w .deep) (h .deep) ∙ capped-max (max (depth e) (depths (onto fs none))) (depth f)
-          ∙ ap capped (max-assoc (depth e) (depths (onto fs none)) (depth f) ∙ ap (max (depth e)) (sym (depths-snoc fs f)));
+          j .deep ∙ ap₂ max (w .deep) (h .deep)
+          ∙ min-max (max (depth e) (depths (onto fs none))) (depth f) k
+          ∙ ap (λ (m : ℕ). min m k) (max-assoc (depth e) (depths (onto fs none)) (depth f) ∙ ap (max (depth e)) (sym d));
       named =
-          j .named ∙ ap₂ andb (w .named) (h .names) ∙ and-assoc (knows ns e) (knowsAll ns (onto fs none)) (knows ns f)
+          λ l.
+          let m = subst (λ (x : ℕ). max (depth e) x < k) d l in
+          j .named ∙ ap₂ andb (w .named (those (depth e) (depths (onto fs none)) (depth f) k m)) (h .names (last (depth e) (depths (onto fs none)) (depth f) k m))
+          ∙ and-assoc (knows ns e) (knowsAll ns (onto fs none)) (knows ns f)
           ∙ ap (andb (knows ns e)) (sym (knows-snoc ns fs f));
       rows =
-          rowwise-same (rowwise-two (two g) (j .each) (w .rows) (h .rows))
-          (λ i l. sym (combine-snoc g (value (onRow ns i) e ∷ values (onRow ns i) (onto fs none)) (value (onRow ns i) f))
+          λ l.
+          let m = subst (λ (x : ℕ). max (depth e) x < k) d l in
+          rowwise-same
+          (rowwise-two (two g) (j .each) (w .rows (those (depth e) (depths (onto fs none)) (depth f) k m)) (h .rows (last (depth e) (depths (onto fs none)) (depth f) k m)))
+          (λ i _. sym (combine-snoc g (value (onRow ns i) e ∷ values (onRow ns i) (onto fs none)) (value (onRow ns i) f))
           ∙ ap (λ (vs : List Bool). combine g (value (onRow ns i) e ∷ vs)) (sym (values-snoc (onRow ns i) fs f)));
     }
   where
-    max-assoc : (a b c : ℕ) → max (max a b) c ≡ max a (max b c)
-    max-assoc a b c = omega arith
-
     and-assoc : (a b c : Bool) → andb (andb a b) c ≡ andb a (andb b c)
     and-assoc true b c = refl
     and-assoc false b c = refl
@@ -158,173 +150,164 @@ non-empty-snoc : (fs : List Formula) (f : Formula) → true ≡ nonEmpty (fs ++ 
 non-empty-snoc [] f = refl
 non-empty-snoc (x ∷ fs) f = refl
 
-walk-on : (s : List ℕ) (ns : List Name) (g : Gate) (e : Formula) (u : List ℕ) (fs : List Formula) (p q r : Part) (x : Read Formula) → Going s ns g e u fs p → nextIs space (drop (p .next .at) s) ≡ true → readFormula (drop (p .next .at + 1) s) ≡ x → PartIs s ns x q → Joined g p q r → Walk s ns g e u r true
-walk-on s ns g e u fs p q r (found f t) w n x h j = going (fs ++ (f ∷ [])) (non-empty-snoc fs f) (joined-going s ns g e u fs p q r f t w n x h j)
-walk-on s ns g e u fs p q r bad w n x h j =
+walk-on : (k : ℕ) (s : List ℕ) (ns : List Name) (g : Gate) (e : Formula) (u : List ℕ) (fs : List Formula) (p q r : Part) (v : List ℕ)
+    (x : Read Formula) → Going k s ns g e u fs p → found tt v ≡ eat (space ∷ []) (drop (p .next .at) s) → readFormula v ≡ x
+    → PartIs k s ns x q → Joined g p q r → Walk k s ns g e u r true
+walk-on k s ns g e u fs p q r v (found f t) w n x h j =
+    going (fs ++ (f ∷ [])) (non-empty-snoc fs f) (joined-going k s ns g e u fs p q r f t v w n x h j)
+walk-on k s ns g e u fs p q r v bad w n x h j =
     broken (j .good ∙ h)
-    (step-read s (p .next .at) fs u (w .here) n
+    (step-read fs u (drop (p .next .at) s) v (w .here) n
     ∙ ap (λ (y : Read Formula). before fs (after y (λ f t. after (readOperands t) (λ os w. found (more f os) w)))) x)
 
-pub walk-step : (s : List ℕ) (ns : List Name) (g : Gate) (y : Read Formula) (p q r : Part) (enough : Bool) → WalkOf s ns g y p enough → andb (p .ok) (nextIs space (drop (p .next .at) s)) ≡ true → PartIs s ns (readFormula (drop (p .next .at + 1) s)) q → Joined g p q r → WalkOf s ns g y r true
-walk-step s ns g (found e u) p q r enough (broken b x) n h j = absurd (true-false (sym (and-left (p .ok) _ n) ∙ b))
-walk-step s ns g (found e u) p q r enough (going fs _ w) n h j =
-    walk-on s ns g e u fs p q r (readFormula (drop (p .next .at + 1) s)) w (and-right (p .ok) _ n) refl h j
-walk-step s ns g bad p q r enough w n h j = absurd (true-false (sym (and-left (p .ok) _ n) ∙ w))
+-- the byte b after what was read
+abbrev pub then : List ℕ → Part → ℕ → Read (Unit {0})
+then s p b = after (readSoFar s p) (λ _ t. eat (b ∷ []) t)
+
+then-good : (s : List ℕ) (p : Part) (b : ℕ) → p .ok ≡ true → then s p b ≡ eat (b ∷ []) (drop (p .next .at) s)
+then-good s p b e = ap (λ (x : Read (Unit {0})). after x (λ _ t. eat (b ∷ []) t)) (so-far-good s p e)
+
+then-bad : (s : List ℕ) (p : Part) (b : ℕ) → p .ok ≡ false → then s p b ≡ bad
+then-bad s p b e = ap (λ (x : Read (Unit {0})). after x (λ _ t. eat (b ∷ []) t)) (so-far-bad s p e)
+
+pub followed-by : (s : List ℕ) (p : Part) (b : ℕ) (m : Moved) → p .ok ≡ true → MovedIs s m (eat (b ∷ []) (drop (p .next .at) s))
+    → MovedIs s m (then s p b)
+followed-by s p b m e h = subst (λ (x : Read (Unit {0})). MovedIs s m x) (sym (then-good s p b e)) h
+
+pub followed-by-nothing : (s : List ℕ) (p : Part) (b : ℕ) → p .ok ≡ false → bad ≡ then s p b
+followed-by-nothing s p b e = sym (then-bad s p b e)
+
+pub walk-step : (k : ℕ) (s : List ℕ) (ns : List Name) (g : Gate) (y : Read Formula) (p q r : Part) (enough : Bool) (v : List ℕ)
+    → WalkOf k s ns g y p enough → found tt v ≡ then s p space → PartIs k s ns (readFormula v) q → Joined g p q r
+    → WalkOf k s ns g y r true
+walk-step k s ns g (found e u) p q r enough v (broken b x) n h j = absurd (bad-found (sym (n ∙ then-bad s p space b)))
+walk-step k s ns g (found e u) p q r enough v (going fs _ w) n h j =
+    walk-on k s ns g e u fs p q r v (readFormula v) w (n ∙ then-good s p space (w .good)) refl h j
+walk-step k s ns g bad p q r enough v w n h j = absurd (bad-found (sym (n ∙ then-bad s p space w)))
 
 -- ---- past the closing bracket
 -- the part p just before the closing bracket of f: the values and names are f's, and the depth lacks f's own bracket
-record Whole (s : List ℕ) (ns : List Name) (f : Formula) (p : Part) : Type 0 where
+record Whole (k : ℕ) (ns : List Name) (f : Formula) (p : Part) : Type 0 where
   ready : p .ok ≡ true
-  inside : p .next .at ≤ length s
-  deep : suc (min (p .depth) maxDepth) ≡ capped (depth f)
-  named : p .known ≡ knows ns f
-  rows : Rowwise (λ (r : ℕ). value (onRow ns r) f) (p .rows)
+  deep : deepened (p .depth) ≡ min (depth f) (suc k)
+  named : depth f < suc k → p .known ≡ knows ns f
+  rows : depth f < suc k → Rowwise (λ (r : ℕ). value (onRow ns r) f) (p .rows)
 
-closed-good : (s : List ℕ) (ns : List Name) (f : Formula) (p r : Part) → Whole s ns f p → nextIs closeBracket (drop (p .next .at) s) ≡ true → Closed s p r → Good s ns f (rest (drop (p .next .at) s)) r
-closed-good s ns f p r w n c =
-    let k : r .ok ≡ true = c .shut ∙ and-both (p .ok) (nextIs closeBracket (drop (p .next .at) s)) (w .ready) n in
-    let m : r .next .at ≡ p .next .at + 1 = c .moved k in
-    let l : p .next .at < length s = next-inside closeBracket s (p .next .at) n in
-    record {
-      good = k;
-      inside = omega arith;
-      rest = ap (λ (i : ℕ). drop i s) m ∙ sym (rest-drop s (p .next .at));
-      deep = c .deep k ∙ deep-again (p .depth) ∙ w .deep;
-      names = c .named k ∙ w .named;
-      rows = subst (λ (l : List ℕ). Rowwise (λ (i : ℕ). value (onRow ns i) f) l) (sym (c .same k)) (w .rows);
-    }
+closed-is : (k : ℕ) (s : List ℕ) (ns : List Name) (f : Formula) (p r : Part) → Whole k ns f p → Closed s p r
+    → PartIs (suc k) s ns (after (eat (closeBracket ∷ []) (drop (p .next .at) s)) (λ _ t. found f t)) r
+closed-is k s ns f p r w c =
+    by (eat (closeBracket ∷ []) (drop (p .next .at) s))
+    (subst (λ (x : Read (Unit {0})). ClosedBy s p r x) (then-good s p closeBracket (w .ready)) c)
   where
-    deep-again : (d : ℕ) → deepened d ≡ suc (min d maxDepth)
-    deep-again d = omega arith
-
-closed-is : (s : List ℕ) (ns : List Name) (f : Formula) (p r : Part) (b : Bool) → Whole s ns f p → nextIs closeBracket (drop (p .next .at) s) ≡ b → Closed s p r → PartIs s ns (after (eat (closeBracket ∷ []) (drop (p .next .at) s)) (λ _ t. found f t)) r
-closed-is s ns f p r true w n c =
-    subst (λ (x : Read (Unit {0})). PartIs s ns (after x (λ _ t. found f t)) r) (sym (eat-close (drop (p .next .at) s) n))
-    (closed-good s ns f p r w n c)
-closed-is s ns f p r false w n c =
-    subst (λ (x : Read (Unit {0})). PartIs s ns (after x (λ _ t. found f t)) r) (sym (eat-not (drop (p .next .at) s) n))
-    (c .shut ∙ ap (andb (p .ok)) n ∙ and-none (p .ok))
-  where
-    and-none : (b : Bool) → andb b false ≡ false
-    and-none true = refl
-    and-none false = refl
+    by : (x : Read (Unit {0})) → ClosedBy s p r x → PartIs (suc k) s ns (after x (λ _ t. found f t)) r
+    by (found _ t) h =
+        record {
+          good = h .good;
+          inside = h .inside;
+          rest = h .rest;
+          deep = h .deep ∙ w .deep;
+          names = λ l. h .named ∙ w .named l;
+          rows = λ l. subst (λ (v : List ℕ). Rowwise (λ (i : ℕ). value (onRow ns i) f) v) (sym (h .same)) (w .rows l);
+        }
+    by bad h = h
 
 closed-broken : (s : List ℕ) (p r : Part) → p .ok ≡ false → Closed s p r → r .ok ≡ false
-closed-broken s p r e c = c .shut ∙ ap (λ (b : Bool). andb b (nextIs closeBracket (drop (p .next .at) s))) e
+closed-broken s p r e c = subst (λ (x : Read (Unit {0})). ClosedBy s p r x) (then-bad s p closeBracket e) c
 
--- a negation
-pub negation-is : (s : List ℕ) (ns : List Name) (q : Read Formula) (p n r : Part) → PartIs s ns q p → Negated p n → Closed s n r → PartIs s ns (after q (λ f u. closeNot f u)) r
+-- what the code does at the closing bracket
+pub closed-at : (s : List ℕ) (p r : Part) (c : Cursor) (x : Read (Unit {0})) → At s tt c x → r .ok ≡ true → r .next ≡ c
+    → r .depth ≡ deepened (p .depth) → r .known ≡ p .known → r .rows ≡ p .rows → ClosedBy s p r x
+closed-at s p r c x h good moved deep named same =
+    subst (λ (y : Read (Unit {0})). ClosedBy s p r y) (h .is)
+    (record {
+      good = good;
+      inside = subst (λ (d : Cursor). d .at ≤ length s) (sym moved) (h .inside);
+      rest = ap (λ (d : Cursor). drop (d .at) s) moved;
+      deep = deep;
+      named = named;
+      same = same;
+    })
+
+pub unclosed : (s : List ℕ) (p r : Part) (x : Read (Unit {0})) → bad ≡ x → r .ok ≡ false → ClosedBy s p r x
+unclosed s p r x e h = subst (λ (y : Read (Unit {0})). ClosedBy s p r y) e h
+
+-- ---- a negation
+pub negation-is : (k : ℕ) (s : List ℕ) (ns : List Name) (q : Read Formula) (p n r : Part) → k ≤ maxDepth → PartIs k s ns q p
+    → Negated p n → Closed s n r → PartIs (suc k) s ns (after q (λ f u. closeNot f u)) r
 unfolding depth knows value
-negation-is s ns (found f u) p n r h m c =
-    subst (λ (l : List ℕ). PartIs s ns (closeNot f l) r) (ap (λ k. drop (k .at) s) (m .moved) ∙ h .rest)
-    (closed-is s ns (negation f) n r (nextIs closeBracket (drop (n .next .at) s)) whole refl c)
+negation-is k s ns (found f u) p n r z h m c =
+    subst (λ (l : List ℕ). PartIs (suc k) s ns (closeNot f l) r) (ap (λ k. drop (k .at) s) (m .moved) ∙ h .rest)
+    (closed-is k s ns (negation f) n r whole c)
   where
-    whole : Whole s ns (negation f) n
+    whole : Whole k ns (negation f) n
     whole =
-        let d : n .depth ≡ capped (depth f) = m .deep ∙ h .deep in
+        let d : n .depth ≡ min (depth f) k = m .deep ∙ h .deep in
         record {
           ready = m .good ∙ h .good;
-          inside = subst (λ (k : ℕ). k ≤ length s) (sym (ap (λ k. k .at) (m .moved))) (h .inside);
-          deep = omega arith;
-          named = m .named ∙ h .names;
-          rows = rowwise-one not (m .each) (h .rows);
+          deep = omega (arith, d, z);
+          named = λ l. m .named ∙ h .names (omega (arith, l));
+          rows = λ l. rowwise-one not (m .each) (h .rows (omega (arith, l)));
         }
-negation-is s ns bad p n r h m c = closed-broken s n r (m .good ∙ h) c
+negation-is k s ns bad p n r z h m c = closed-broken s n r (m .good ∙ h) c
 
--- a gate
-gate-whole : (s : List ℕ) (ns : List Name) (g : Gate) (e : Formula) (u : List ℕ) (f : Formula) (fs : List Formula) (p : Part) → Going s ns g e u (f ∷ fs) p → Whole s ns (gate g e f (onto fs none)) p
+-- ---- a gate
+gate-whole : (k : ℕ) (s : List ℕ) (ns : List Name) (g : Gate) (e : Formula) (u : List ℕ) (f : Formula) (fs : List Formula) (p : Part)
+    → k ≤ maxDepth → Going k s ns g e u (f ∷ fs) p → Whole k ns (gate g e f (onto fs none)) p
 unfolding depth knows value
-gate-whole s ns g e u f fs p w =
-    let d : p .depth ≡ capped (max (depth e) (max (depth f) (depths (onto fs none)))) = w .deep in
+gate-whole k s ns g e u f fs p z w =
+    let d : p .depth ≡ min (max (depth e) (max (depth f) (depths (onto fs none)))) k = w .deep in
     record {
       ready = w .good;
-      inside = w .inside;
-      deep = omega arith;
-      named = w .named ∙ and-same (knows ns e) (knowsAll ns (onto (f ∷ fs) none));
-      rows = w .rows;
+      deep = omega (arith, d, z);
+      named = λ l. w .named (omega (arith, l)) ∙ and-same (knows ns e) (knowsAll ns (onto (f ∷ fs) none));
+      rows = λ l. w .rows (omega (arith, l));
     }
   where
     and-same : (a b : Bool) → andb a b ≡ (a && b)
     and-same true b = refl
     and-same false b = refl
 
-read-all : (s : List ℕ) (ns : List Name) (g : Gate) (e : Formula) (u : List ℕ) (fs : List Formula) (p : Part) → Going s ns g e u fs p → andb (p .ok) (nextIs space (drop (p .next .at) s)) ≡ false → readOperands u ≡ found (onto fs none) (drop (p .next .at) s)
-read-all s ns g e u fs p w n =
-    w .here ∙ ap (before fs) (operands-none (drop (p .next .at) s) (ap (λ (b : Bool). andb b (nextIs space (drop (p .next .at) s))) (sym (w .good)) ∙ n))
+read-all : (k : ℕ) (s : List ℕ) (ns : List Name) (g : Gate) (e : Formula) (u : List ℕ) (fs : List Formula) (p : Part)
+    → Going k s ns g e u fs p → bad ≡ then s p space → readOperands u ≡ found (onto fs none) (drop (p .next .at) s)
+read-all k s ns g e u fs p w n =
+    w .here ∙ ap (before fs) (no-operand-after (drop (p .next .at) s) (n ∙ then-good s p space (w .good)))
 
-pub walk-closed : (s : List ℕ) (ns : List Name) (g : Gate) (y : Read Formula) (p r : Part) → WalkOf s ns g y p true → andb (p .ok) (nextIs space (drop (p .next .at) s)) ≡ false → Closed s p r → PartIs s ns (gateOn g y) r
-walk-closed s ns g (found e u) p r (broken b x) n c =
-    subst (λ (z : Read Operands). PartIs s ns (after z (λ fs t. closeGate g e fs t)) r) (sym x) (closed-broken s p r b c)
-walk-closed s ns g (found e u) p r (going [] m w) n c = absurd (true-false m)
-walk-closed s ns g (found e u) p r (going (f ∷ fs) m w) n c =
-    subst (λ (z : Read Operands). PartIs s ns (after z (λ fs t. closeGate g e fs t)) r) (sym (read-all s ns g e u (f ∷ fs) p w n))
-    (closed-is s ns (gate g e f (onto fs none)) p r (nextIs closeBracket (drop (p .next .at) s)) (gate-whole s ns g e u f fs p w) refl c)
-walk-closed s ns g bad p r w n c = closed-broken s p r w c
+pub walk-closed : (k : ℕ) (s : List ℕ) (ns : List Name) (g : Gate) (y : Read Formula) (p r : Part) → k ≤ maxDepth
+    → WalkOf k s ns g y p true → bad ≡ then s p space → Closed s p r → PartIs (suc k) s ns (gateOn g y) r
+walk-closed k s ns g (found e u) p r z (broken b x) n c =
+    subst (λ (o : Read Operands). PartIs (suc k) s ns (after o (λ fs t. closeGate g e fs t)) r) (sym x) (closed-broken s p r b c)
+walk-closed k s ns g (found e u) p r z (going [] m w) n c = absurd (true-false m)
+walk-closed k s ns g (found e u) p r z (going (f ∷ fs) m w) n c =
+    subst (λ (o : Read Operands). PartIs (suc k) s ns (after o (λ fs t. closeGate g e fs t)) r)
+    (sym (read-all k s ns g e u (f ∷ fs) p w n))
+    (closed-is k s ns (gate g e f (onto fs none)) p r (gate-whole k s ns g e u f fs p z w) c)
+walk-closed k s ns g bad p r z w n c = closed-broken s p r w c
 
-pub walk-short : (s : List ℕ) (ns : List Name) (g : Gate) (y : Read Formula) (p r : Part) → WalkOf s ns g y p false → andb (p .ok) (nextIs space (drop (p .next .at) s)) ≡ false → r .ok ≡ false → PartIs s ns (gateOn g y) r
-walk-short s ns g (found e u) p r (broken b x) n c =
-    subst (λ (z : Read Operands). PartIs s ns (after z (λ fs t. closeGate g e fs t)) r) (sym x) c
-walk-short s ns g (found e u) p r (going [] m w) n c =
-    subst (λ (z : Read Operands). PartIs s ns (after z (λ fs t. closeGate g e fs t)) r) (sym (read-all s ns g e u [] p w n)) c
-walk-short s ns g (found e u) p r (going (f ∷ fs) m w) n c = absurd (true-false (sym m))
-walk-short s ns g bad p r w n c = c
+pub walk-short : (k : ℕ) (s : List ℕ) (ns : List Name) (g : Gate) (y : Read Formula) (p r : Part)
+    → WalkOf k s ns g y p false → bad ≡ then s p space → r .ok ≡ false → PartIs (suc k) s ns (gateOn g y) r
+walk-short k s ns g (found e u) p r (broken b x) n c =
+    subst (λ (o : Read Operands). PartIs (suc k) s ns (after o (λ fs t. closeGate g e fs t)) r) (sym x) c
+walk-short k s ns g (found e u) p r (going [] m w) n c =
+    subst (λ (o : Read Operands). PartIs (suc k) s ns (after o (λ fs t. closeGate g e fs t)) r) (sym (read-all k s ns g e u [] p w n)) c
+walk-short k s ns g (found e u) p r (going (f ∷ fs) m w) n c = absurd (true-false (sym m))
+walk-short k s ns g bad p r w n c = c
 
--- ---- atoms
-pub atom-is : (s : List ℕ) (ns : List Name) (f : Formula) (p : Part) (c : ℕ) → depth f ≡ 0 → p .ok ≡ true → p .next .at ≡ c → c ≤ length s → p .depth ≡ 0 → p .known ≡ knows ns f → Rowwise (λ (r : ℕ). value (onRow ns r) f) (p .rows) → Good s ns f (drop c s) p
-atom-is s ns f p c d k m i z n v =
+-- ---- a formula that was only skimmed
+pub unread-is : (k : ℕ) (s : List ℕ) (ns : List Name) (q : Read Formula) (m : Moved) (p : Part) → k ≡ 0 → MovedIs s m (spelling q)
+    → Unread m p → PartIs k s ns q p
+unread-is k s ns (found f t) (Moved.To c) p z h u =
     record {
-      good = k;
-      inside = omega arith;
-      rest = ap (λ (x : ℕ). drop x s) m;
-      deep = omega arith;
-      names = n;
-      rows = v;
+      good = u .good;
+      inside = subst (λ (d : Cursor). d .at ≤ length s) (sym (u .moved)) (h .inside);
+      rest = ap (λ (d : Cursor). drop (d .at) s) (u .moved) ∙ found-rest (h .is);
+      deep = omega (arith, u .flat, z);
+      names = λ l. absurd (omega (arith, l, z));
+      rows = λ l. absurd (omega (arith, l, z));
     }
+unread-is k s ns (found f t) Moved.Bad p z h u = absurd (bad-found h)
+unread-is k s ns bad (Moved.To c) p z h u = absurd (bad-found (sym (h .is)))
+unread-is k s ns bad Moved.Bad p z h u = u
 
--- ---- what is left of the text falls
-abbrev pub leftOf : List ℕ → Part → ℕ
-leftOf s p = pick (p .ok) (length s - p .next .at) 0
-
-left-good : (s : List ℕ) (p : Part) → p .ok ≡ true → leftOf s p ≡ length s - p .next .at
-left-good s p e = rw e refl
-
-left-bad : (s : List ℕ) (p : Part) → p .ok ≡ false → leftOf s p ≡ 0
-left-bad s p e = rw e refl
-
-pub left-after : (s : List ℕ) (ns : List Name) (at : ℕ) (x : Read Formula) (p : Part) → readFormula (drop at s) ≡ x → PartIs s ns x p → leftOf s p ≤ length s - at
-left-after s ns at (found f t) p e h =
-    let a = formula-shorter (drop at s) f t e in
-    let b : length t ≡ length s - p .next .at = ap length (sym (h .rest)) ∙ length-drop (p .next .at) s in
-    let c : length (drop at s) ≡ length s - at = length-drop at s in
-    subst (λ (k : ℕ). k ≤ length s - at) (sym (left-good s p (h .good))) (omega arith)
-left-after s ns at bad p e h = subst (λ (k : ℕ). k ≤ length s - at) (sym (left-bad s p h)) (omega arith)
-
--- ---- where no closing bracket comes
-pub closed-none : (s : List ℕ) (p r : Part) → andb (p .ok) (nextIs closeBracket (drop (p .next .at) s)) ≡ false → r .ok ≡ false → Closed s p r
-closed-none s p r e f =
-    record {
-      shut = f ∙ sym e;
-      moved = λ k. absurd (true-false (sym k ∙ f));
-      deep = λ k. absurd (true-false (sym k ∙ f));
-      named = λ k. absurd (true-false (sym k ∙ f));
-      same = λ k. absurd (true-false (sym k ∙ f));
-    }
-
-pub and-first : (a b : Bool) → a ≡ false → andb a b ≡ false
-and-first a b e = ap (λ (x : Bool). andb x b) e
-
-pub and-second : (a b : Bool) → b ≡ false → andb a b ≡ false
-and-second true b e = e
-and-second false b e = refl
-
--- ---- a turn of the loop
-pub turn-inside : (s : List ℕ) (p : Part) → andb (p .ok) (nextIs space (drop (p .next .at) s)) ≡ true → p .next .at < length s
-turn-inside s p e = next-inside space s (p .next .at) (and-right (p .ok) _ e)
-
-pub turn-falls : (s : List ℕ) (p : Part) → andb (p .ok) (nextIs space (drop (p .next .at) s)) ≡ true → length s - (p .next .at + 1) < leftOf s p
-turn-falls s p e =
-    let l = turn-inside s p e in
-    subst (λ (k : ℕ). length s - (p .next .at + 1) < k) (sym (left-good s p (and-left (p .ok) _ e))) (omega arith)
-
-pub joined-left : (s : List ℕ) (g : Gate) (p q r : Part) → Joined g p q r → leftOf s r ≡ leftOf s q
-joined-left s g p q r j = ap₂ (λ (b : Bool) (n : ℕ). pick b (length s - n) 0) (j .good) (ap (λ k. k .at) (j .moved))
+-- ---- what is left of the text
+pub joined-read : (s : List ℕ) (g : Gate) (p q r : Part) → Joined g p q r → readSoFar s r ≡ readSoFar s q
+joined-read s g p q r j = ap₂ (λ (b : Bool) (d : Cursor). pick b (found tt (drop (d .at) s)) bad) (j .good) (j .moved)

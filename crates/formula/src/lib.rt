@@ -1,23 +1,27 @@
 // Formulas on a text: one pass over a formula's text tells whether it is spelled right, how deep it is nested, whether
 // its names are inputs, and its value on every row. Rests on cursor for what stands at a place, and on rows for tables.
 ghost use mathlib.Core.Path.{_≡_};
-ghost use mathlib.Core.List.{map};
+ghost use mathlib.Core.List.{[], _∷_, map};
 ghost use mathlib.Core.Bool.{Bool, true, false};
-ghost use Prim.Native.Nat.{ℕ, _≤_, max};
+ghost use Prim.Native.Nat.{ℕ, suc, _≤_, max};
 ghost use lib.ListN.{length, drop};
 ghost use Rattle.bits.specs.Logic.{andb};
-ghost use Rattle.text.specs.Bytes.{Read, space};
+ghost use Rattle.limits.specs.Limits.{maxDepth};
+ghost use Rattle.text.specs.Bytes.{Read, after, eat};
 ghost use Rattle.names.specs.Name.{among};
 ghost use Rattle.names.specs.Pack.{nameOf};
-ghost use Rattle.cursor.specs.Item.{gateOf};
+ghost use Rattle.cursor.specs.Opening as spec;
+ghost use Rattle.cursor.specs.Item.{MovedIs, gateOf};
 ghost use Rattle.rows.specs.Words.{Rowwise, rowOn};
 ghost use Rattle.formula.specs.Tree.{Formula};
-ghost use Rattle.formula.specs.Reader.{readFormula, nextIs};
+ghost use Rattle.formula.specs.Reader.{readFormula};
 ghost use Rattle.formula.specs.Value.{onRow};
 ghost use Rattle.formula.specs.Gates.{two};
-ghost use Rattle.formula.specs.Part.{PartIs, Atom, Closed, Negated, Joined, deepened, gateOn};
+ghost use Rattle.formula.specs.Part.{PartIs, Atom, Closed, Negated, Joined, Unread, deepened, gateOn, readSoFar};
+ghost use Rattle.formula.specs.Skim.{spelling, skimmedSoFar};
 use cursor::Cursor;
 use cursor::Gate;
+use cursor::Moved;
 use cursor::Opening;
 use names::Position;
 
@@ -35,7 +39,11 @@ pub struct Part {
 fn deeper(d: usize) -> usize
     ensures { λ r. ⌜ r ≡ deepened d ⌝ }
 {
-    if d < 33 { d + 1 } else { 33 }
+    if d <= limits::MAX_DEPTH {
+        d + 1
+    } else {
+        limits::MAX_DEPTH + 1
+    }
 }
 
 fn larger(a: usize, b: usize) -> usize
@@ -50,7 +58,7 @@ fn none() -> Part
 {
     Part {
         ok: false,
-        next: Cursor { at: 0 },
+        next: Cursor::start(),
         depth: 0,
         known: false,
         rows: rows::constant(false),
@@ -93,32 +101,26 @@ fn input(inputs: &[u64], n: u64, next: Cursor) -> Part
     }
 }
 
-// Whether a byte comes next.
-fn next_is(s: &[u8], at: usize, b: u8) -> bool
-    ensures { λ r. ⌜ r ≡ nextIs b (drop at (now (s .entry))) ⌝ }
+// The byte b after what was read.
+fn followed(s: &[u8], p: Part, b: u8) -> Moved
+    ensures { λ r. ⌜ MovedIs (now (s .entry)) r (after (readSoFar (now (s .entry)) p) (λ _ t. eat (b ∷ []) t)) ⌝ }
 {
-    if at < s.len() {
-        return s[at] == b;
-    }
-    false
+    let next = p.next;
+    if p.ok { next.byte(s, b) } else { Moved::Bad }
 }
 
 // A formula past its closing bracket.
 fn closed(s: &[u8], p: Part) -> Part
     ensures { λ r. ⌜ Closed (now (s .entry)) p r ⌝ }
 {
-    let n = p.next;
-    let at = n.at;
-    if !p.ok {
+    let m = followed(s, p, b')');
+    let Moved::To(next) = m else {
         return none();
-    }
-    if !next_is(s, at, b')') {
-        return none();
-    }
+    };
     let rows = p.rows;
     Part {
         ok: true,
-        next: Cursor { at: at + 1 },
+        next,
         depth: deeper(p.depth),
         known: p.known,
         rows,
@@ -173,48 +175,128 @@ fn joined(g: Gate, p: Part, q: Part) -> Part
     }
 }
 
-// The formula at a place, of which the inputs' names are given.
-pub fn formula(s: &[u8], inputs: &[u64], c: Cursor) -> Part
-    requires { ⌜ c .at ≤ length (now s) ⌝ }
-    ensures { λ r. ⌜ PartIs (now (s .entry)) (map nameOf (now (inputs .entry))) (readFormula (drop (c .at) (now (s .entry)))) r ⌝ }
+// The byte b after a formula that was only skimmed.
+fn skimmed_byte(s: &[u8], m: Moved, b: u8) -> Moved
+    ensures { λ r. ⌜ MovedIs (now (s .entry)) r (after (skimmedSoFar (now (s .entry)) m) (λ _ t. eat (b ∷ []) t)) ⌝ }
 {
+    match m {
+        Moved::To(c) => c.byte(s, b),
+        Moved::Bad => Moved::Bad,
+    }
+}
+
+// Past the formula at a place, where only its spelling matters.
+fn skim(s: &[u8], c: Cursor) -> Moved
+    requires { ⌜ c .at ≤ length (now s) ⌝ }
+    ensures { λ r. ⌜ MovedIs (now (s .entry)) r (spelling (readFormula (drop (c .at) (now (s .entry))))) ⌝ }
+{
+    let o = c.opening(s);
+    match o {
+        Opening::Name(_, next) => Moved::To(next),
+        Opening::Digit(_, next) => Moved::To(next),
+        Opening::Not(next) => {
+            let inner = skim(s, next);
+            skimmed_byte(s, inner, b')')
+        }
+        Opening::Gate(_, next) => {
+            let first = skim(s, next);
+            skim_operands(s, first)
+        }
+        Opening::Bad => Moved::Bad,
+    }
+}
+
+// Past the operands of a gate after the first, and its closing bracket.
+fn skim_operands(s: &[u8], first: Moved) -> Moved
+    ensures { λ r. ⌜ ((g : spec.Gate) (q : Read Formula) → MovedIs (now (s .entry)) first (spelling q) → MovedIs (now (s .entry)) r (spelling (gateOn g q))) ⌝ }
+{
+    let mut past = first;
+    let mut enough = false;
+    loop {
+        let m = skimmed_byte(s, past, b' ');
+        match m {
+            Moved::To(next) => {
+                past = skim(s, next);
+                enough = true;
+            }
+            Moved::Bad => {
+                return if enough {
+                    skimmed_byte(s, past, b')')
+                } else {
+                    Moved::Bad
+                };
+            }
+        }
+    }
+}
+
+// A formula that was only skimmed.
+fn unread(m: Moved) -> Part
+    ensures { λ r. ⌜ Unread m r ⌝ }
+{
+    match m {
+        Moved::To(next) => Part {
+            ok: true,
+            next,
+            depth: 0,
+            known: false,
+            rows: rows::constant(false),
+        },
+        Moved::Bad => none(),
+    }
+}
+
+// The formula at a place, of which the inputs' names are given. Past `left` brackets it is only skimmed, so that the stack
+// holds no more tables than the deepest formula that is allowed needs.
+fn nested(s: &[u8], inputs: &[u64], c: Cursor, left: usize) -> Part
+    requires { ⌜ (c .at ≤ length (now s)) × (left ≤ suc maxDepth) ⌝ }
+    ensures { λ r. ⌜ PartIs left (now (s .entry)) (map nameOf (now (inputs .entry))) (readFormula (drop (c .at) (now (s .entry)))) r ⌝ }
+{
+    if left == 0 {
+        return unread(skim(s, c));
+    }
     let o = c.opening(s);
     match o {
         Opening::Name(n, next) => input(inputs, n, next),
         Opening::Digit(b, next) => constant(b, next),
         Opening::Not(next) => {
-            let inner = formula(s, inputs, next);
+            let inner = nested(s, inputs, next, left - 1);
             closed(s, negated(inner))
         }
         Opening::Gate(g, next) => {
-            let first = formula(s, inputs, next);
-            operands(s, inputs, g, first)
+            let first = nested(s, inputs, next, left - 1);
+            operands(s, inputs, g, first, left - 1)
         }
         Opening::Bad => none(),
     }
 }
 
-// Whether another operand comes.
-fn goes_on(s: &[u8], p: Part) -> bool
-    ensures { λ r. ⌜ r ≡ andb (p .ok) (nextIs space (drop (p .next .at) (now (s .entry)))) ⌝ }
-{
-    let n = p.next;
-    let at = n.at;
-    if p.ok { next_is(s, at, b' ') } else { false }
-}
-
 // The operands of a gate after the first, and its closing bracket.
-fn operands(s: &[u8], inputs: &[u64], g: Gate, first: Part) -> Part
-    ensures { λ r. ⌜ ((q : Read Formula) → PartIs (now (s .entry)) (map nameOf (now (inputs .entry))) q first → PartIs (now (s .entry)) (map nameOf (now (inputs .entry))) (gateOn (gateOf g) q) r) ⌝ }
+fn operands(s: &[u8], inputs: &[u64], g: Gate, first: Part, left: usize) -> Part
+    requires { ⌜ left ≤ maxDepth ⌝ }
+    ensures { λ r. ⌜ ((q : Read Formula) → PartIs left (now (s .entry)) (map nameOf (now (inputs .entry))) q first → PartIs (suc left) (now (s .entry)) (map nameOf (now (inputs .entry))) (gateOn (gateOf g) q) r) ⌝ }
 {
     let mut sum = first;
     let mut enough = false;
-    while goes_on(s, sum) {
-        let n = sum.next;
-        let at = n.at;
-        let one = formula(s, inputs, Cursor { at: at + 1 });
-        sum = joined(g, sum, one);
-        enough = true;
+    loop {
+        let m = followed(s, sum, b' ');
+        match m {
+            Moved::To(next) => {
+                let one = nested(s, inputs, next, left);
+                sum = joined(g, sum, one);
+                enough = true;
+            }
+            Moved::Bad => {
+                return if enough { closed(s, sum) } else { none() };
+            }
+        }
     }
-    if enough { closed(s, sum) } else { none() }
+}
+
+// The formula at a place, of which the inputs' names are given.
+pub fn formula(s: &[u8], inputs: &[u64], c: Cursor) -> Part
+    requires { ⌜ c .at ≤ length (now s) ⌝ }
+    ensures { λ r. ⌜ PartIs (suc maxDepth) (now (s .entry)) (map nameOf (now (inputs .entry))) (readFormula (drop (c .at) (now (s .entry)))) r ⌝ }
+{
+    nested(s, inputs, c, limits::MAX_DEPTH + 1)
 }

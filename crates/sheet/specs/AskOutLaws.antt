@@ -53,14 +53,17 @@ module _ (d : Design) (k : Sheet) (h : Holds d k) (w : OutLine) (r : Asked) (x :
     out-deep m q = rw (few, lt-leb (depth (x .formula)) maxDepth (omega (arith, g .deep))) q
 
     module _ (m : w .depth ≤ maxDepth) where
+      low : depth (x .formula) ≤ maxDepth
+      low = omega (arith, g .deep)
+
       flat : leb (depth (x .formula)) maxDepth ≡ true
-      flat = le-leb (depth (x .formula)) maxDepth (omega (arith, g .deep))
+      flat = le-leb (depth (x .formula)) maxDepth low
 
       name-is : (t : Bool) → t ≡ newName d (nameOf (w .name)) → newName d (x .name) ≡ t
       name-is t n = ap (newName d) (sym (g .named)) ∙ sym n
 
       knows-is : (t : Bool) → w .known ≡ t → knows (d .inputs) (x .formula) ≡ t
-      knows-is t u = sym (g .knowing) ∙ u
+      knows-is t u = sym (g .knowing low) ∙ u
 
       pub out-old-name : false ≡ newName d (nameOf (w .name)) → Refused 4 r → StepIs (askOut d (some x)) r
       unfolding askOut
@@ -75,7 +78,7 @@ module _ (d : Design) (k : Sheet) (h : Holds d k) (w : OutLine) (r : Asked) (x :
             → (nameOf (w .name) ≡ x .name → Rowwise (λ (i : ℕ). value (onRow (d .inputs) i) (x .formula)) (w .rows) → Holds (withOutput d x) k′)
             → StepIs (askOut d (some x)) r
         unfolding askOut
-        out-passes k′ u p a = rw (few, flat, name-is true n, knows-is true u) (passed-onward p (a (g .named) (g .tabled)))
+        out-passes k′ u p a = rw (few, flat, name-is true n, knows-is true u) (passed-onward p (a (g .named) (g .tabled low)))
 
 -- ---- `(end)`
 module _ (d : Design) (k : Sheet) (h : Holds d k) (r : Asked) where

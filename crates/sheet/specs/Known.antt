@@ -4,17 +4,16 @@ use mathlib.Core.Bool.{Bool, true, false}
 use Rattle.text.specs.Bytes.{Read, found, after, whole, closeBracket}
 use mathlib.Core.List.{List, [], _∷_, map}
 use mathlib.Core.Option.{Option, some, none}
-use Prim.Native.Nat.{ℕ, suc, _≤_, _<_}
+use Prim.Native.Nat.{ℕ, suc, _≤_, _<_, min}
 use lib.Dec.{eqb}
 use lib.ListN.{length, getD, take}
 use Rattle.bits.specs.Logic.{pick}
-use Rattle.limits.specs.Limits.{maxInputs, maxBound, maxLimit, maxOutputs}
+use Rattle.limits.specs.Limits.{maxInputs, maxBound, maxLimit, maxOutputs, maxDepth}
 use Rattle.names.specs.Name.{Name, sameName, distinct, allAmong}
 use Rattle.names.specs.Pack.{nameOf}
 use Rattle.rows.specs.Words.{Rowwise}
 use Rattle.formula.specs.Tree.{depth, knows}
 use Rattle.formula.specs.Reader.{readFormula}
-use Rattle.formula.specs.Part.{capped}
 use Rattle.formula.specs.Value.{value, onRow}
 use Rattle.cursor.specs.Item.{Kept}
 use Rattle.cursor.specs.declared.NameList.{NameList}
@@ -128,12 +127,13 @@ closesAt (b ∷ c ∷ s) = false
 abbrev pub outputAfter : Name → List ℕ → Option Output
 outputAfter n s = whole (closed (after (readFormula s) (λ f t. found (record { name = n; formula = f }) t)))
 
+-- of a formula that is nested too deeply only that is known
 pub record OutGood (ns : List Name) (o : Output) (l : OutLine) : Type 0 where
   pub good : l .ok ≡ true
   pub named : nameOf (l .name) ≡ o .name
-  pub deep : l .depth ≡ capped (depth (o .formula))
-  pub knowing : l .known ≡ knows ns (o .formula)
-  pub tabled : Rowwise (λ (r : ℕ). value (onRow ns r) (o .formula)) (l .rows)
+  pub deep : l .depth ≡ min (depth (o .formula)) (suc maxDepth)
+  pub knowing : depth (o .formula) ≤ maxDepth → l .known ≡ knows ns (o .formula)
+  pub tabled : depth (o .formula) ≤ maxDepth → Rowwise (λ (r : ℕ). value (onRow ns r) (o .formula)) (l .rows)
 
 abbrev pub OutIs : List Name → Option Output → OutLine → Type 0
 OutIs ns none l = l .ok ≡ false

@@ -3,10 +3,12 @@ use mathlib.Core.Path.{_≡_, refl, sym, ap, _∙_}
 use mathlib.Core.Bool.{true, false}
 use mathlib.Core.List.{List, [], _∷_}
 use mathlib.Core.Option.{Option, some, none}
-use Prim.Native.Nat.{ℕ, _≤_}
+use Prim.Native.Nat.{ℕ, suc, _≤_}
+use native.Mathlib.Omega.{arith}
 use lib.ListN.{length, drop}
 use Rattle.bits.specs.Logic.{pick}
 use Rattle.bits.specs.LogicLaws.{true-false}
+use Rattle.limits.specs.Limits.{maxDepth}
 use Rattle.text.specs.Bytes.{bytes, Read, found, bad, after, eat, whole, space}
 use Rattle.names.specs.Name.{Name, readName}
 use Rattle.names.specs.Pack.{nameOf}
@@ -27,15 +29,15 @@ abbrev ofFormula : Name → Read Formula → Option Output
 ofFormula n q = whole (closed (after q (λ f t. found (record { name = n; formula = f }) t)))
 
 module _ (l : List ℕ) (ns : List Name) (p : Part) where
-  no-formula : (q : Read Formula) → PartIs l ns q p → p .ok ≡ false → q ≡ bad
+  no-formula : (q : Read Formula) → PartIs (suc maxDepth) l ns q p → p .ok ≡ false → q ≡ bad
   no-formula (found f t) g e = absurd (true-false (sym (g .good) ∙ e))
   no-formula bad g e = refl
 
-  a-formula : (q : Read Formula) → PartIs l ns q p → p .ok ≡ true → (f : Formula) × (t : List ℕ) × (q ≡ found f t) × Good l ns f t p
+  a-formula : (q : Read Formula) → PartIs (suc maxDepth) l ns q p → p .ok ≡ true → (f : Formula) × (t : List ℕ) × (q ≡ found f t) × Good (suc maxDepth) l ns f t p
   a-formula (found f t) g e = (f, t, refl, g)
   a-formula bad g e = absurd (true-false (sym e ∙ g))
 
-  module _ (s : List ℕ) (g : PartIs l ns (readFormula s) p) where
+  module _ (s : List ℕ) (g : PartIs (suc maxDepth) l ns (readFormula s) p) where
     pub formula-inside : p .ok ≡ true → p .next .at ≤ length l
     formula-inside e = a-formula (readFormula s) g e .3 .inside
 
@@ -62,7 +64,7 @@ module _ (l : List ℕ) (ns : List Name) (p : Part) where
       out-closed e t =
           let h = a-formula (readFormula s) g e .3 in
           rw (out-by-end e, t)
-          (record { good = refl; named = refl; deep = h .deep; knowing = h .names; tabled = h .rows })
+          (record { good = refl; named = refl; deep = h .deep; knowing = λ z. h .names (omega (arith, z)); tabled = λ z. h .rows (omega (arith, z)) })
 
 -- ---- the parts before the formula
 module _ (l : List ℕ) (ns : List Name) (r : OutLine) where

@@ -1,69 +1,52 @@
-use Rattle.formula.specs.Walk.{and-first, and-second, closed-none, next-inside}
-use Rattle.formula.specs.Reader.{nextIs}
-use Rattle.bits.specs.Logic.{andb}
-use Rattle.bits.specs.LogicLaws.{and-both}
-use borrow.Author.Tests.{not-true, not-false}
-use lib.ListN.{drop}
-use mathlib.Core.Bool.{Bool}
-use mathlib.Core.Path.{sym, ap, _∙_, refl}
-use native.Mathlib.Omega.{arith}
+-- `closed`: the bracket comes, and is one more; or it does not come. Assumes nothing.
+use mathlib.Core.Path.{refl}
 use borrow.Author.Needs.{needs}
+use Rattle.text.specs.Bytes.{closeBracket}
+use Rattle.cursor.specs.MovedLaws.{moved-to, moved-nowhere}
+use Rattle.formula.specs.Walk.{then, closed-at, unclosed}
 use Rattle.formula.proofs.closed.Statement.{statement}
 use Rattle.formula.proofs.closed.Tie as tie
-use Rattle.formula.proofs.closed.Reads as reads
-use Rattle.formula.proofs.closed.Lts as lts
-use Rattle.formula.proofs.deeper.Reads as deeper-reads
-use Rattle.formula.proofs.next_is.Reads as next-is-reads
-use Rattle.formula.proofs.none.Reads as none-reads
 
--- src/lib.rt:112:9
+followed-requires : tie.Need-followed-requires
+followed-requires c κs = search needs
+
+enum-known-m : tie.Need-enum-known-m
+enum-known-m c = search needs
+
+enum-told : tie.Need-enum-told
+enum-told c = search needs
+
 none-requires : tie.Need-none-requires
 none-requires c κs = search needs
 
--- src/lib.rt:112:9
 returns : tie.Need-returns
-returns c = closed-none (c .before .before .before .before .before .args .s .now) (c .before .before .before .before .before .args .p) (c .none .result) (and-first (c .before .before .before .before .before .args .p .ok) _ (not-true _ (c .before .if1 .taken))) (c .none .ensures)
+returns c =
+    let a = c .before .before .before .before .before .args in
+    let m = c .before .before .before .followed in
+    let x = then (a .s .now) (a .p) closeBracket in
+    unclosed (a .s .now) (a .p) (c .none .result) x (moved-nowhere (a .s .now) (m .result) x (m .ensures) (c .before .enum-told .given .1))
+    (c .none .ensures)
 
--- src/lib.rt:114:9
-next-is-requires : tie.Need-next-is-requires
-next-is-requires c κs = search needs
-
--- src/lib.rt:115:9
-none-requires-2 : tie.Need-none-requires-2
-none-requires-2 c κs = search needs
-
--- src/lib.rt:115:9
-returns-2 : tie.Need-returns-2
-returns-2 c = closed-none (c .before .before .before .before .before .before .before .args .s .now) (c .before .before .before .before .before .before .before .args .p) (c .none2 .result) (and-second (c .before .before .before .before .before .before .before .args .p .ok) _ (sym (c .before .before .next-is .ensures) ∙ not-true _ (c .before .if2 .taken))) (c .none2 .ensures)
-
--- src/lib.rt:120:28
-add-t8 : tie.Need-add-t8
-add-t8 c = omega (arith, next-inside 41 (c .before .before .before .before .before .before .before .args .s .now) (c .before .before .before .before .before .before .before .args .p .next .at) (sym (c .before .before .next-is .ensures) ∙ not-false _ (c .before .if2 .left)))
-
--- src/lib.rt:121:16
 deeper-requires : tie.Need-deeper-requires
 deeper-requires c κs = search needs
 
--- src/lib.rt:106:1
-returns-3 : tie.Need-returns-3
-returns-3 c =
-    record {
-      shut = sym (and-both (c .before .before .before .before .before .before .before .before .args .p .ok) (nextIs 41 (drop (c .before .before .before .before .before .before .before .before .args .p .next .at) (c .before .before .before .before .before .before .before .before .args .s .now))) (not-false _ (c .before .before .before .before .if1 .left)) (sym (c .before .before .before .next-is .ensures) ∙ not-false _ (c .before .before .if2 .left)));
-      moved = λ _. refl;
-      deep = λ _. c .deeper .ensures;
-      named = λ _. refl;
-      same = λ _. refl;
-    }
+returns-2 : tie.Need-returns-2
+returns-2 c =
+    let a = c .before .before .before .before .before .before .before .args in
+    let m = c .before .before .before .before .before .followed in
+    let to = c .before .before .before .m .given in
+    let x = then (a .s .now) (a .p) closeBracket in
+    closed-at (a .s .now) (a .p) _ (to .0 .0) x (moved-to (a .s .now) (m .result) x (m .ensures) (to .0 .0) (to .1)) refl refl
+    (c .deeper .ensures) refl refl
 
 pub closed-spec : {M : Type 1} → statement M
 closed-spec =
     tie.close
     (tie.spec
+    followed-requires
+    enum-known-m
+    enum-told
     none-requires
     returns
-    next-is-requires
-    none-requires-2
-    returns-2
-    add-t8
     deeper-requires
-    returns-3)
+    returns-2)

@@ -7,20 +7,20 @@ use Rattle.cursor.specs.NamedLaws.{no-letter-bad}
 use Rattle.cursor.proofs.Cursor.name.Statement.{statement}
 use Rattle.cursor.proofs.Cursor.name.Tie as tie
 
-first-at-requires : tie.Need-first-at-requires
-first-at-requires c κs = search needs
+kind-requires : tie.Need-kind-requires
+kind-requires c κs = search needs
 
 enum-told : tie.Need-enum-told
 enum-told c = search needs
 
 named-requires : tie.Need-named-requires
-named-requires c κs = (c .before .before .before .before .pre, sym (c .before .before .first-at .ensures) ∙ c .enum-told .given .1)
+named-requires c κs = (c .before .before .before .before .pre, sym (c .before .before .kind .ensures) ∙ c .enum-told .given .1)
 
 returns : tie.Need-returns
 returns c = c .named .ensures
 
 returns-2 : tie.Need-returns-2
-returns-2 c = no-letter-bad _ (λ q. miss (1 ∷ 2 ∷ 3 ∷ []) 0 tt (rw (c .before .first-at .ensures ∙ q) at (c .match .keys2)))
+returns-2 c = no-letter-bad _ (λ q. miss (1 ∷ 2 ∷ 3 ∷ []) 0 tt (rw (c .before .kind .ensures ∙ q) at (c .match .keys2)))
 
 pub name-spec : {M : Type 1} → statement M
-name-spec = tie.close (tie.spec first-at-requires enum-told named-requires returns returns-2)
+name-spec = tie.close (tie.spec kind-requires enum-told named-requires returns returns-2)

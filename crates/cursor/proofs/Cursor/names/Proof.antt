@@ -11,22 +11,22 @@ use Rattle.cursor.proofs.Cursor.names.Statement.{statement}
 use Rattle.cursor.proofs.Cursor.names.Tie as tie
 
 abbrev Inv-loop : tie.InvT-loop
-Inv-loop self s at₀ count₀ names₀ at count names = Gathered s (self .at) at count names
+Inv-loop self s c₀ count₀ names₀ c count names = Gathered s (self .at) (c .at) count names
 
 abbrev μ-loop : tie.MeasureT-loop
-μ-loop self s at₀ count₀ names₀ at count names = length s - at
+μ-loop self s c₀ count₀ names₀ c count names = length s - c .at
 
 loop-holds : tie.Need-loop-holds Inv-loop μ-loop
 loop-holds c = gathered-none _ _ _ (c .before .pre) refl
 
 next-name-requires : tie.Need-next-name-requires Inv-loop μ-loop
-next-name-requires c κs = c .loop .inv .inside
+next-name-requires c κs = search needs
 
 enum-known-n : tie.Need-enum-known-n Inv-loop μ-loop
 enum-known-n c = search needs
 
 keep-requires : tie.Need-keep-requires Inv-loop μ-loop
-keep-requires c κs = c .before .before .before .before .before .loop .inv .ten
+keep-requires c κs = c .before .before .before .before .before .loop .inv .sized
 
 add-count : tie.Need-add-count Inv-loop μ-loop
 add-count c = omega arith
@@ -35,7 +35,7 @@ loop-less : tie.Need-loop-less Inv-loop μ-loop
 loop-less c =
     let h = c .before .before .before .before .before .before in
     let n = c .before .before .before .n .given in
-    let more : NameNext (h .before .before .args .s .now) (h .loop .at) _ (n .0 .1 .0) = rw (n .1) at (c .before .before .before .before .before .next-name .ensures) in
+    let more : NameNext (h .before .before .args .s .now) (h .loop .c .at) _ (n .0 .1 .0) = rw (n .1) at (c .before .before .before .before .before .next-name .ensures) in
     omega arith
 
 loop-again : tie.Need-loop-again Inv-loop μ-loop
@@ -54,7 +54,7 @@ returns c =
     let a = c .before .before .before .before .before .before .args in
     let h = c .before .before .before .before .loop in
     let n = c .before .n2 .given in
-    gathered-all (a .s .now) (a .self .at) (h .at)
+    gathered-all (a .s .now) (a .self .at) (h .c .at)
     (record { ok = true; next = n .0 .0; count = h .count; names = h .names })
     (h .inv)
     (rw (n .1) at (c .before .before .before .next-name .ensures))
@@ -67,7 +67,7 @@ returns-2 : tie.Need-returns-2 Inv-loop μ-loop
 returns-2 c =
     let a = c .before .before .before .before .before .args in
     let h = c .before .before .before .loop in
-    gathered-bad (a .s .now) (a .self .at) (h .at) (h .count)
+    gathered-bad (a .s .now) (a .self .at) (h .c .at) (h .count)
     (record { ok = false; next = a .self; count = h .count; names = h .names })
     (h .names)
     (h .inv)

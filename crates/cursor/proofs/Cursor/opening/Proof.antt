@@ -1,35 +1,30 @@
 -- `Cursor::opening`: the first byte says which kind is read. Assumes nothing.
-use mathlib.Core.Path.{refl, sym, _∙_}
+use mathlib.Core.Path.{sym, _∙_}
 use borrow.Author.Needs.{needs}
 use Rattle.cursor.specs.OpenedLaws.{opening-other}
-use Rattle.cursor.specs.FirstLaws.{own-kind-inside}
 use Rattle.cursor.proofs.Cursor.opening.Statement.{statement}
 use Rattle.cursor.proofs.Cursor.opening.Tie as tie
 
-first-at-requires : tie.Need-first-at-requires
-first-at-requires c κs = search needs
+kind-requires : tie.Need-kind-requires
+kind-requires c κs = search needs
 
 enum-told : tie.Need-enum-told
 enum-told c = search needs
 
 opens-name-requires : tie.Need-opens-name-requires
-opens-name-requires c κs = (c .before .before .before .before .pre, sym (c .before .before .first-at .ensures) ∙ c .enum-told .given .1)
+opens-name-requires c κs = (c .before .before .before .before .pre, sym (c .before .before .kind .ensures) ∙ c .enum-told .given .1)
 
 enum-told-2 : tie.Need-enum-told-2
 enum-told-2 c = search needs
 
 opens-digit-requires : tie.Need-opens-digit-requires
-opens-digit-requires c κs =
-    let e = sym (c .before .before .first-at .ensures) ∙ c .enum-told2 .given .1 in
-    (own-kind-inside _ _ _ e refl, e)
+opens-digit-requires c κs = sym (c .before .before .kind .ensures) ∙ c .enum-told2 .given .1
 
 enum-told-3 : tie.Need-enum-told-3
 enum-told-3 c = search needs
 
 opens-bracket-requires : tie.Need-opens-bracket-requires
-opens-bracket-requires c κs =
-    let e = sym (c .before .before .first-at .ensures) ∙ c .enum-told3 .given .1 in
-    (own-kind-inside _ _ _ e refl, e)
+opens-bracket-requires c κs = sym (c .before .before .kind .ensures) ∙ c .enum-told3 .given .1
 
 enum-told-4 : tie.Need-enum-told-4
 enum-told-4 c = search needs
@@ -44,13 +39,13 @@ returns-3 : tie.Need-returns-3
 returns-3 c = c .opens-bracket .ensures
 
 returns-4 : tie.Need-returns-4
-returns-4 c = opening-other _ (sym (c .before .before .first-at .ensures) ∙ c .enum-told4 .given .1)
+returns-4 c = opening-other _ (sym (c .before .before .kind .ensures) ∙ c .enum-told4 .given .1)
 
 pub opening-spec : {M : Type 1} → statement M
 opening-spec =
     tie.close
     (tie.spec
-    first-at-requires
+    kind-requires
     enum-told
     opens-name-requires
     enum-told-2

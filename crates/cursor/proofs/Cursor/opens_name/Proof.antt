@@ -1,8 +1,8 @@
--- `opens_name`: a name there opens a formula, and no name opens none. Assumes nothing.
+-- `Cursor::opens_name`: a name there opens a formula, and no name opens none. Assumes nothing.
 use borrow.Author.Needs.{needs}
 use Rattle.cursor.specs.OpenedLaws.{name-opened, name-bad}
-use Rattle.cursor.proofs.opens_name.Statement.{statement}
-use Rattle.cursor.proofs.opens_name.Tie as tie
+use Rattle.cursor.proofs.Cursor.opens_name.Statement.{statement}
+use Rattle.cursor.proofs.Cursor.opens_name.Tie as tie
 
 named-requires : tie.Need-named-requires
 named-requires c κs = search needs

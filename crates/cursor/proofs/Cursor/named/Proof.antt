@@ -1,4 +1,4 @@
--- `named`: the word is too long, an operator, or a name; a word that is no `Nothing` has another tag. Assumes nothing.
+-- `Cursor::named`: the word is too long, an operator, or a name; a word that is no `Nothing` has another tag. Assumes nothing.
 use mathlib.Core.List.{[], _∷_}
 use mathlib.Core.Path.{refl, sym, ap, _∙_}
 use native.Mathlib.Omega.{arith}
@@ -6,8 +6,8 @@ use borrow.Author.Needs.{needs}
 use types.Run.{miss}
 use Rattle.names.specs.Word.{operatorOf}
 use Rattle.cursor.specs.NamedLaws.{long-bad, named-there, operator-bad}
-use Rattle.cursor.proofs.named.Statement.{statement}
-use Rattle.cursor.proofs.named.Tie as tie
+use Rattle.cursor.proofs.Cursor.named.Statement.{statement}
+use Rattle.cursor.proofs.Cursor.named.Tie as tie
 
 word-end-requires : tie.Need-word-end-requires
 word-end-requires c κs = search needs
