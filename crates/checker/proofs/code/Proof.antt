@@ -60,7 +60,13 @@ add-c c =
     let few = start .pre .0 in
     let turn = c .before .before .before .before .loop-test .taken in
     let same = head .loop .inv .1 in
-    omega (arith, c .one .ensures, bit-most (oneAt (start .args .t .now) (getD (start .args .t2) (head .loop .i) 0 + start .args .x .0)), code-small (start .args .t .now) (start .args .t2) (start .args .mask) (start .args .x .0) (head .loop .i) (omega arith))
+    let a = start .args in
+    omega (
+      arith,
+      c .one .ensures,
+      bit-most (oneAt (a .t .now) (getD (a .t2) (head .loop .i) 0 + a .x .0)),
+      code-small (a .t .now) (a .t2) (a .mask) (a .x .0) (head .loop .i) (omega arith),
+    )
 
 add-i : tie.Need-add-i Inv-loop μ-loop
 add-i c = search needs
@@ -74,9 +80,20 @@ loop-again c =
     let start = head .before .before in
     let told = c .before .has .ensures in
     let turn = c .before .before .loop-test .taken in
+    let a = start .args in
+    let before = head .loop in
     ⊎-elim
-    (λ w. (omega arith, w .3 ∙ code-with (start .args .t .now) (start .args .t2) (start .args .mask) (start .args .x .0) (head .loop .i) (head .loop .c) (w .2 .result) (head .loop .inv .1) (sym told ∙ w .0 .taken) (w .2 .ensures)))
-    (λ w. (omega arith, w .1 ∙ code-without (start .args .t .now) (start .args .t2) (start .args .mask) (start .args .x .0) (head .loop .i) (head .loop .c) (head .loop .inv .1) (sym told ∙ w .0 .left)))
+    (λ w. (
+      omega arith,
+      w .3
+          ∙ code-with (a .t .now) (a .t2) (a .mask) (a .x .0) (before .i) (before .c) (w .2 .result) (before .inv .1)
+          (sym told ∙ w .0 .taken) (w .2 .ensures),
+    ))
+    (λ w. (
+      omega arith,
+      w .1
+          ∙ code-without (a .t .now) (a .t2) (a .mask) (a .x .0) (before .i) (before .c) (before .inv .1) (sym told ∙ w .0 .left),
+    ))
     (c .if1 .came)
 
 returns : tie.Need-returns Inv-loop μ-loop

@@ -84,7 +84,10 @@ loop-again c =
     refl (filled .in-rows .ensures) (turn .before .loop .inv) (sym (c .before .differs .ensures) ∙ c .if1 .left)
 
 add-o : tie.Need-add-o Inv-loop μ-loop Inv-outputs μ-outputs
-add-o c = omega (arith, c .before .before .before .before .before .before .before .before .before .before .before .before .pre .drawing .holds .outputs-few, c .before .before .before .before .before .outputs-test .taken)
+add-o c =
+    let outputs-test = c .before .before .before .before .before .outputs-test in
+    let pre = c .before .before .before .before .before .before .before .before .before .before .before .before .pre in
+    omega (arith, pre .drawing .holds .outputs-few, outputs-test .taken)
 
 outputs-less : tie.Need-outputs-less Inv-loop μ-loop Inv-outputs μ-outputs
 outputs-less c = search needs

@@ -26,7 +26,11 @@ has-requires : tie.Need-has-requires Inv-loop μ-loop
 has-requires c κs = search needs
 
 add-n : tie.Need-add-n Inv-loop μ-loop
-add-n c = record { fits = omega (arith, c .before .before .before .loop .inv .1, count-most (c .before .before .before .loop .i) (c .before .before .before .before .args .mask), c .before .before .before .before .pre) }
+add-n c =
+    let loop = c .before .before .before .loop in
+    let args = c .before .before .before .before .args in
+    let pre = c .before .before .before .before .pre in
+    record { fits = omega (arith, loop .inv .1, count-most (loop .i) (args .mask), pre) }
 
 add-i : tie.Need-add-i Inv-loop μ-loop
 add-i c = search needs
