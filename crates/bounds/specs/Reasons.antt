@@ -14,6 +14,7 @@ use lib.Dec.{eqb}
 use lib.ListN.{length, getD, set, length-set}
 use lib.Seq.{getD-set-same, getD-set-other}
 use borrow.Author.Tests.{eq-eqb}
+use Rattle.limits.specs.Limits.{maxVertices, labelCount, maxCells}
 use Rattle.bits.specs.Logic.{orb}
 use Rattle.bits.specs.LogicLaws.{true-false}
 use Rattle.bits.specs.Digit.{on}
@@ -28,7 +29,7 @@ Kinds cl v o l q g = (ys : List ℕ) × All (λ (x : ℕ). (x < v) × (labelAt c
 
 -- 2 to the number of cells that q reads and o does not
 abbrev pub apart : List ℕ → ℕ → ℕ → ℕ
-apart rows o q = 2 ^ count (on (bitAnd (item rows q) (2 ^ 8 - 1 - item rows o))) 6
+apart rows o q = 2 ^ count (on (bitAnd (item rows q) (2 ^ 8 - 1 - item rows o))) maxCells
 
 -- why class l of o needs n blocks: none, or by the classes of some output q
 abbrev pub Reason : List ℕ → List ℕ → ℕ → ℕ → ℕ → ℕ → ℕ → Type 0
@@ -36,8 +37,8 @@ Reason cl rows v j o l n = (n ≡ 0) ⊎ ((q : ℕ) × (g : ℕ) × (q < j) × K
 
 -- the first n entries have reasons
 pub record Based (cl rows : List ℕ) (v j n : ℕ) (base : List ℕ) : Type 0 where
-  pub long : length base ≡ 256
-  pub reasons : (i : ℕ) → i < n → Reason cl rows v j (i / 32) (i % 32) (item base i)
+  pub long : length base ≡ labelCount
+  pub reasons : (i : ℕ) → i < n → Reason cl rows v j (i / maxVertices) (i % maxVertices) (item base i)
   pub rest : (i : ℕ) → n ≤ i → item base i ≡ 0
 
 -- ======== the classes of q in class l of o
@@ -74,9 +75,9 @@ module _ (cl : List ℕ) (o l q : ℕ) where
   counting-end v x seen g a b s = let r = s .found in (r .0, all-map (λ (y : ℕ). (y < x) × (labelAt cl o y ≡ l) × (on seen (labelAt cl q y) ≡ true)) (λ (y : ℕ). (y < v) × (labelAt cl o y ≡ l)) (r .0) (λ y p. ((let z = p .0 in omega arith), p .1)) (r .1), r .2, r .3)
 
 -- what kinds answers
-pub record Kinds32 (cl : List ℕ) (v o l q g : ℕ) : Type 0 where
+pub record FewKinds (cl : List ℕ) (v o l q g : ℕ) : Type 0 where
   pub kinds : Kinds cl v o l q g
-  pub few : g ≤ 32
+  pub few : g ≤ maxVertices
 
 -- ======== the most that some output asks
 -- 2 ^ k as the code shifts it
@@ -97,7 +98,7 @@ rounded g p h k = go ((g + p - 1) / p) k (div-mul-le-self (g + p - 1) p)
     go (suc b) l e = let s : suc b * p ≡ b * p + p = suc-mul b p in let z : (suc b - 1) * p ≡ b * p = ap (λ (x : ℕ). x * p) (let y : suc b - 1 ≡ b = omega arith in y) in omega arith
 
 -- the need so far, n, has a reason among the outputs before q
-pub need-more : (cl rows : List ℕ) (v j o l q g p n n' : ℕ) → q < j → Kinds32 cl v o l q g → p ≡ apart rows o q → 0 < p → n < (g + p - 1) / p → n' ≡ (g + p - 1) / p → Reason cl rows v j o l n'
+pub need-more : (cl rows : List ℕ) (v j o l q g p n n' : ℕ) → q < j → FewKinds cl v o l q g → p ≡ apart rows o q → 0 < p → n < (g + p - 1) / p → n' ≡ (g + p - 1) / p → Reason cl rows v j o l n'
 need-more cl rows v j o l q g p n n' h k e z lt a = inr (q, g, h, k .kinds, subst (λ (x : ℕ). (x - 1) * apart rows o q < g) (sym a) (subst (λ (x : ℕ). ((g + p - 1) / p - 1) * x < g) e (rounded g p z (omega arith))))
 
 -- ======== the table

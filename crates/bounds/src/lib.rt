@@ -8,7 +8,7 @@ ghost use Rattle.limits.specs.Limits.{searchOutputs, maxVertices, maxCodes, max
 ghost use Rattle.bits.specs.Digit.{on};
 ghost use Rattle.cells.specs.Lists.{count};
 ghost use Rattle.numbering.specs.Given.{Labels, item};
-ghost use Rattle.bounds.specs.Reasons.{Kinds32, Reason, Based};
+ghost use Rattle.bounds.specs.Reasons.{FewKinds, Reason, Based};
 use limits::LABELS;
 use limits::MAX_VERTICES;
 use limits::SEARCH_OUTPUTS;
@@ -39,7 +39,7 @@ pub fn power(k: u8) -> u8
 // How many classes of q occur in class l of o.
 pub fn kinds(cl: &[u8], v: usize, o: usize, l: u8, q: usize) -> u8
     requires { ⌜ Labels (now cl) × (v ≤ maxVertices) × (o < searchOutputs) × (q < searchOutputs) ⌝ }
-    ensures { λ r. ⌜ Kinds32 (now (cl .entry)) v o l q r ⌝ }
+    ensures { λ r. ⌜ FewKinds (now (cl .entry)) v o l q r ⌝ }
 {
     let mut seen: u64 = 0;
     let mut g: u8 = 0;

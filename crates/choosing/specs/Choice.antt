@@ -14,6 +14,7 @@ use borrow.Author.Tests.{eqb-false}
 use lib.ListN.{length, getD, set, length-set}
 use lib.Seq.{getD-set-same, getD-set-other}
 use lib.Pow.{pow-mono}
+use Rattle.limits.specs.Limits.{searchOutputs, maxCells}
 use Rattle.bits.specs.Logic.{andb, orb, xorb}
 use Rattle.bits.specs.LogicLaws.{true-false, and-left, and-right}
 use Rattle.bits.specs.Digit.{on}
@@ -27,7 +28,7 @@ use Rattle.readers.specs.Masks.{Short, Decided}
 -- ======== definitions
 -- the first n rows are within u cells, and each has as many of them as its budget allows
 pub record Rows (budgets : List ℕ) (u n : ℕ) (rows : List ℕ) : Type 0 where
-  pub long : length rows ≡ 8
+  pub long : length rows ≡ searchOutputs
   pub low : (o : ℕ) → o < n → item rows o < 2 ^ u
   pub full : (o : ℕ) → o < n → count (on (item rows o)) u ≡ min (item budgets o) u
 
@@ -54,8 +55,8 @@ disorder r same = bitAnd (bitAnd (r / 2) (2 ^ 8 - 1 - r)) same
 
 -- r is refused only where it has another number of cells than wanted, or is out of order
 pub record Suits (r want same : ℕ) (ok : Bool) : Type 0 where
-  pub right : ok ≡ true → count (on r) 6 ≡ want
-  pub wrong : ok ≡ false → count (on r) 6 ≡ want → disorder r same ≡ 0 → ⊥
+  pub right : ok ≡ true → count (on r) maxCells ≡ want
+  pub wrong : ok ≡ false → count (on r) maxCells ≡ want → disorder r same ≡ 0 → ⊥
 
 -- ======== laws
 pub suits-count : (r want same n : ℕ) → n ≡ want → n ≡ count (on r) 6 → Suits r want same (eqb (disorder r same) 0)

@@ -10,6 +10,7 @@ use native.Mathlib.Omega.{arith}
 use lib.Bits.{bitXor}
 use lib.ListN.{length, getD, set, length-set}
 use lib.Seq.{getD-set-same, getD-set-other}
+use Rattle.limits.specs.Limits.{maxVertices}
 use Rattle.bits.specs.Logic.{orb, xorb}
 use Rattle.bits.specs.LogicLaws.{true-false}
 use Rattle.bits.specs.Digit.{on}
@@ -24,7 +25,7 @@ use Rattle.choosing.specs.Choice.{Chosen}
 -- ======== definitions
 -- r has the first n codes with every table complemented where it is 1 at vertex 0
 pub record Zeroed (codes : List ℕ) (n : ℕ) (r : List ℕ) : Type 0 where
-  pub long : length r ≡ 32
+  pub long : length r ≡ maxVertices
   pub done : (x : ℕ) → x < n → item r x ≡ bitXor (item codes x) (item codes 0)
 
 -- every core that serves has at least u cells

@@ -9,6 +9,7 @@ use native.Mathlib.Decide.{ℕ-discrete}
 use native.Mathlib.Omega.{arith}
 use lib.ListN.{length, getD, set, length-set}
 use lib.Seq.{getD-set-same, getD-set-other}
+use Rattle.limits.specs.Limits.{searchOutputs}
 use Rattle.bits.specs.Digit.{on}
 use Rattle.cells.specs.Core.{Cell, Differ, Serves, Answer, coreOf}
 use Rattle.cells.specs.Lists.{count, less-or-equal}
@@ -22,12 +23,12 @@ use Rattle.fewest.specs.Count.{Answered}
 -- ======== definitions
 -- the first n numbers of r are those of l in the order from
 pub record Picked (l from : List ℕ) (n : ℕ) (r : List ℕ) : Type 0 where
-  pub long : length r ≡ 8
+  pub long : length r ≡ searchOutputs
   pub done : (i : ℕ) → i < n → item r i ≡ item l (item from i)
 
 -- for each of the first n numbers of from, r has there one of the first n numbers of l that goes there
 pub record Returned (l from : List ℕ) (n : ℕ) (r : List ℕ) : Type 0 where
-  pub long : length r ≡ 8
+  pub long : length r ≡ searchOutputs
   pub hit : (j : ℕ) → j < n → (i : ℕ) × (i < n) × (item from i ≡ item from j) × (item r (item from j) ≡ item l i)
 
 -- ======== laws

@@ -5,7 +5,7 @@ ghost use mathlib.Core.Bool.{true, false};
 ghost use Prim.Native.Nat.{_<_, _≤_, _^_};
 ghost use Rattle.limits.specs.Limits.{searchOutputs, maxVertices, maxCells};
 ghost use Rattle.numbering.specs.Given.{Labels};
-ghost use Rattle.orders.specs.Order.{Eight};
+ghost use Rattle.orders.specs.Order.{Indices};
 ghost use Rattle.fewest.specs.Count.{Zeroed, Answered};
 ghost use Rattle.fewest.specs.Outputs.{Picked, Returned};
 use limits::MAX_VERTICES;
@@ -116,7 +116,7 @@ pub fn sizes(cl: &[u8], v: usize, m: usize) -> [u64; SEARCH_OUTPUTS]
 
 // The budgets in the order from.
 pub fn picked(budgets: [u8; SEARCH_OUTPUTS], from: [u8; SEARCH_OUTPUTS]) -> [u8; SEARCH_OUTPUTS]
-    requires { ⌜ Eight from ⌝ }
+    requires { ⌜ Indices from ⌝ }
     ensures { λ r. ⌜ Picked budgets from searchOutputs r ⌝ }
 {
     let mut r = [0u8; SEARCH_OUTPUTS];
@@ -134,7 +134,7 @@ pub fn returned(
     from: [u8; SEARCH_OUTPUTS],
     m: usize,
 ) -> [u8; SEARCH_OUTPUTS]
-    requires { ⌜ (m ≤ searchOutputs) × Eight from ⌝ }
+    requires { ⌜ (m ≤ searchOutputs) × Indices from ⌝ }
     ensures { λ r. ⌜ Returned rows from m r ⌝ }
 {
     let mut r = [0u8; SEARCH_OUTPUTS];

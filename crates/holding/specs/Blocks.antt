@@ -12,6 +12,7 @@ use lib.Dec.{eqb}
 use lib.ListN.{length, getD, set, length-set}
 use lib.Seq.{getD-set-same, getD-set-other}
 use borrow.Author.Tests.{eq-eqb, ne-eqb, eqb-true}
+use Rattle.limits.specs.Limits.{blockCount, maxCodes}
 use Rattle.bits.specs.Logic.{andb, orb}
 use Rattle.bits.specs.Digit.{on}
 use Rattle.bits.specs.DigitLaws.{on-and, on-or, on-zero, on-complement, equal-digits}
@@ -44,8 +45,8 @@ blocked-out mask c k r r' ne a b = subst (Blocked mask c (k + 1)) (sym a) (recor
 
 -- the table of blocks, filled up to n
 pub record Table (ms : List ℕ) (n : ℕ) (bs : List ℕ) : Type 0 where
-  pub long : length bs ≡ 512
-  pub filled : (i : ℕ) → i < n → Block (item ms (i / 64)) (i % 64) (getD bs i 0)
+  pub long : length bs ≡ blockCount
+  pub filled : (i : ℕ) → i < n → Block (item ms (i / maxCodes)) (i % maxCodes) (getD bs i 0)
 
 pub table-more : (ms : List ℕ) (n : ℕ) (bs : List ℕ) (b : ℕ) → n < 512 → Block (item ms (n / 64)) (n % 64) b → Table ms n bs → Table ms (n + 1) (set bs n b)
 table-more ms n bs b h e t = record {
@@ -96,7 +97,7 @@ on-either a b k (inr e) = on-or a b k ∙ ap (orb (on a k)) e ∙ or-on (on a k)
 
 -- r is d without b
 pub record Minus (d b r : ℕ) : Type 0 where
-  pub digit : (k : ℕ) → k < 64 → on r k ≡ andb (on d k) (not (on b k))
+  pub digit : (k : ℕ) → k < maxCodes → on r k ≡ andb (on d k) (not (on b k))
   pub less : r ≤ d
 
 pub minus-of : (d b : ℕ) → b < 2 ^ 64 → Minus d b (bitAnd d (2 ^ 64 - 1 - b))
@@ -121,11 +122,11 @@ all-ones n i h = copies-are n (2 ^ 64 - 1) i h
 -- ======== the codes of the blocks that meet a set
 -- r has the whole block of each code of d
 pub record Spans (mask d r : ℕ) : Type 0 where
-  pub whole : (c k : ℕ) → c < 64 → k < 64 → on d c ≡ true → bitAnd c mask ≡ bitAnd k mask → on r k ≡ true
+  pub whole : (c k : ℕ) → c < maxCodes → k < maxCodes → on d c ≡ true → bitAnd c mask ≡ bitAnd k mask → on r k ≡ true
 
 -- so it is but for the codes of rest
 pub record Spanning (mask d rest r : ℕ) : Type 0 where
-  pub part : (c : ℕ) → c < 64 → on d c ≡ true → (on rest c ≡ true) ⊎ ((k : ℕ) → k < 64 → bitAnd c mask ≡ bitAnd k mask → on r k ≡ true)
+  pub part : (c : ℕ) → c < maxCodes → on d c ≡ true → (on rest c ≡ true) ⊎ ((k : ℕ) → k < maxCodes → bitAnd c mask ≡ bitAnd k mask → on r k ≡ true)
 
 pub spanning-start : (mask d : ℕ) → Spanning mask d d 0
 spanning-start mask d = record { part = λ c h e. inl e }

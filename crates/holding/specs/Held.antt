@@ -10,6 +10,7 @@ use lib.Bits.{bitAnd, bitOr}
 use lib.ListN.{length, getD, set, length-set}
 use lib.Seq.{getD-set-same, getD-set-other}
 use borrow.Author.Tests.{eq-eqb, eqb-true}
+use Rattle.limits.specs.Limits.{maxVertices, maxCodes}
 use Rattle.bits.specs.Logic.{orb}
 use Rattle.bits.specs.Digit.{on}
 use Rattle.bits.specs.DigitLaws.{on-or, on-zero}
@@ -19,12 +20,12 @@ use Rattle.numbering.specs.Given.{labelAt, item, Block}
 -- ======== definitions
 -- own has for each class the codes of the blocks that it holds among the first y vertices, owns how many blocks
 pub record Held (cl codes : List ℕ) (o mask y : ℕ) (own owns : List ℕ) : Type 0 where
-  pub own-long : length own ≡ 32
-  pub owns-long : length owns ≡ 32
-  pub inside : (w c : ℕ) → w < y → item codes w < 64 → c < 64 → bitAnd c mask ≡ bitAnd (item codes w) mask → on (getD own (labelAt cl o w) 0) c ≡ true
-  pub outside : (l c : ℕ) → l < 32 → c < 64 → on (getD own l 0) c ≡ true → (w : ℕ) × (w < y) × (item codes w < 64) × (labelAt cl o w ≡ l) × (bitAnd (item codes w) mask ≡ bitAnd c mask)
-  pub lists : (l : ℕ) → l < 32 → (ws : List ℕ) × All (λ (w : ℕ). (w < y) × (item codes w < 64) × (labelAt cl o w ≡ l)) ws × Pairs (λ (a b : ℕ). bitAnd (item codes a) mask ≡ bitAnd (item codes b) mask → ⊥) ws × (length ws ≡ getD owns l 0)
-  pub less : (l : ℕ) → l < 32 → getD owns l 0 ≤ y
+  pub own-long : length own ≡ maxVertices
+  pub owns-long : length owns ≡ maxVertices
+  pub inside : (w c : ℕ) → w < y → item codes w < maxCodes → c < maxCodes → bitAnd c mask ≡ bitAnd (item codes w) mask → on (getD own (labelAt cl o w) 0) c ≡ true
+  pub outside : (l c : ℕ) → l < maxVertices → c < maxCodes → on (getD own l 0) c ≡ true → (w : ℕ) × (w < y) × (item codes w < maxCodes) × (labelAt cl o w ≡ l) × (bitAnd (item codes w) mask ≡ bitAnd c mask)
+  pub lists : (l : ℕ) → l < maxVertices → (ws : List ℕ) × All (λ (w : ℕ). (w < y) × (item codes w < maxCodes) × (labelAt cl o w ≡ l)) ws × Pairs (λ (a b : ℕ). bitAnd (item codes a) mask ≡ bitAnd (item codes b) mask → ⊥) ws × (length ws ≡ getD owns l 0)
+  pub less : (l : ℕ) → l < maxVertices → getD owns l 0 ≤ y
 
 -- ======== the scan
 module _ (cl codes : List ℕ) (o mask : ℕ) where

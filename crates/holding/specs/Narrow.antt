@@ -9,6 +9,7 @@ use native.Mathlib.Numerals.{add-one}
 use lib.Bits.{bitAnd}
 use lib.ListN.{length, set, length-set}
 use lib.Seq.{getD-set-same, getD-set-other}
+use Rattle.limits.specs.Limits.{maxVertices, maxCodes}
 use Rattle.bits.specs.Digit.{on}
 use Rattle.cells.specs.Lists.{sum, less-or-equal}
 use Rattle.numbering.specs.Given.{labelAt, item, Labels, Kept}
@@ -20,8 +21,8 @@ use Rattle.holding.specs.Rules.{enough, keeps-near, keeps-to}
 -- ======== sets of codes narrowed by one output
 -- of the first n sets each code that may stay stays
 pub record Narrowed (Stays : ℕ → ℕ → Type 0) (dom : List ℕ) (n : ℕ) (r : List ℕ) : Type 0 where
-  pub long : length r ≡ 32
-  pub done : (y k : ℕ) → y < n → k < 64 → on (item dom y) k ≡ true → Stays y k → on (item r y) k ≡ true
+  pub long : length r ≡ maxVertices
+  pub done : (y k : ℕ) → y < n → k < maxCodes → on (item dom y) k ≡ true → Stays y k → on (item r y) k ≡ true
   pub rest : (y : ℕ) → n ≤ y → item r y ≡ item dom y
 
 -- a code of a class where no place is left: in the blocks that the class holds, if it wants no more, and in these or in

@@ -10,6 +10,7 @@ use native.Mathlib.Omega.{arith}
 use lib.Bits.{bitAnd}
 use lib.ListN.{length, getD, set, length-set}
 use lib.Seq.{getD-set-same, getD-set-other}
+use Rattle.limits.specs.Limits.{maxVertices, maxCodes}
 use Rattle.bits.specs.Logic.{andb}
 use Rattle.bits.specs.Digit.{on}
 use Rattle.bits.specs.DigitLaws.{on-and, on-ones}
@@ -23,15 +24,15 @@ New cl o y dom own l = (x : ℕ) × (x < y) × (labelAt cl o x ≡ l) × (bitAnd
 
 -- the set d has a code in k's block
 abbrev pub Near : ℕ → ℕ → ℕ → Type 0
-Near mask d k = (c : ℕ) × (c < 64) × (on d c ≡ true) × (bitAnd c mask ≡ bitAnd k mask)
+Near mask d k = (c : ℕ) × (c < maxCodes) × (on d c ≡ true) × (bitAnd c mask ≡ bitAnd k mask)
 
 -- wants has for each class the blocks that it holds, one more where one of the first y vertices can take none of them, and two
 -- more where these vertices have no block in common; meet has the codes that they have in common, block by block
 pub record Wanted (cl : List ℕ) (o mask y : ℕ) (dom own owns wants meet : List ℕ) : Type 0 where
-  pub long : length wants ≡ 32
-  pub meet-long : length meet ≡ 32
-  pub each : (l : ℕ) → l < 32 → (item wants l ≡ item owns l) ⊎ (New cl o y dom own l × ((item wants l ≡ item owns l + 1) ⊎ ((item wants l ≡ item owns l + 2) × (item meet l ≡ 0))))
-  pub meets : (l k : ℕ) → l < 32 → k < 64 → ((x : ℕ) → x < y → labelAt cl o x ≡ l → bitAnd (item dom x) (item own l) ≡ 0 → Near mask (item dom x) k) → on (item meet l) k ≡ true
+  pub long : length wants ≡ maxVertices
+  pub meet-long : length meet ≡ maxVertices
+  pub each : (l : ℕ) → l < maxVertices → (item wants l ≡ item owns l) ⊎ (New cl o y dom own l × ((item wants l ≡ item owns l + 1) ⊎ ((item wants l ≡ item owns l + 2) × (item meet l ≡ 0))))
+  pub meets : (l k : ℕ) → l < maxVertices → k < maxCodes → ((x : ℕ) → x < y → labelAt cl o x ≡ l → bitAnd (item dom x) (item own l) ≡ 0 → Near mask (item dom x) k) → on (item meet l) k ≡ true
 
 -- how many blocks class l of o holds or needs
 abbrev pub need : List ℕ → List ℕ → ℕ → ℕ → ℕ

@@ -11,6 +11,7 @@ use native.Mathlib.Omega.{arith}
 use native.Mathlib.Numerals.{add-one}
 use lib.Bits.{bitAnd, bitOr, and-le-r}
 use borrow.Author.Tests.{eq-eqb, ne-eqb}
+use Rattle.limits.specs.Limits.{maxVertices, maxCells}
 use Rattle.cells.specs.Sets.{With}
 use lib.ListN.{length, getD, set, length-set}
 use lib.Seq.{getD-set-same, getD-set-other}
@@ -35,7 +36,7 @@ module _ (cl codes : List ℕ) (o mask : ℕ) where
 
 -- the first x vertices are numbered
 pub record Numbered (cl codes : List ℕ) (o mask x : ℕ) (nums : List ℕ) : Type 0 where
-  pub long : length nums ≡ 32
+  pub long : length nums ≡ maxVertices
   pub apart : (y z : ℕ) → y < x → z < x → key cl codes o mask y ≡ key cl codes o mask z → item nums y ≡ item nums z → labelAt cl o y ≡ labelAt cl o z
   pub fellows : (y : ℕ) → y < x → Fellows cl codes o mask y y (item nums y)
   pub low : (y : ℕ) → y < x → item nums y ≤ y
@@ -241,10 +242,10 @@ spreading-end n p i r k a b s = let e : i ≡ 6 = omega arith in subst (λ (z : 
 -- ======== writing one output's private cells
 -- the first x codes have their numbers in the digits of p, and are as before elsewhere
 pub record Wrote (nums : List ℕ) (p cap x : ℕ) (codes r : List ℕ) : Type 0 where
-  pub long : length r ≡ 32
+  pub long : length r ≡ maxVertices
   pub less : (y : ℕ) → y < x → item nums y < cap
-  pub here : (y i : ℕ) → y < x → i < 6 → on p i ≡ true → on (item r y) i ≡ on (item nums y) (count (on p) i)
-  pub there : (y i : ℕ) → y < x → i < 6 → on p i ≡ false → on (item r y) i ≡ on (item codes y) i
+  pub here : (y i : ℕ) → y < x → i < maxCells → on p i ≡ true → on (item r y) i ≡ on (item nums y) (count (on p) i)
+  pub there : (y i : ℕ) → y < x → i < maxCells → on p i ≡ false → on (item r y) i ≡ on (item codes y) i
   pub rest : (y : ℕ) → x ≤ y → item r y ≡ item codes y
 
 pub wrote-start : (nums : List ℕ) (p cap : ℕ) (codes : List ℕ) → length codes ≡ 32 → Wrote nums p cap 0 codes codes
@@ -299,8 +300,8 @@ written-large nums p cap v codes true r e w = absurd (true-false e)
 
 -- ======== output after output
 pub record Finished (cl ms ps : List ℕ) (v o : ℕ) (codes r : List ℕ) : Type 0 where
-  pub long : length r ≡ 32
-  pub kept : (x i : ℕ) → x < v → i < 6 → ((q : ℕ) → q < o → on (item ps q) i ≡ false) → on (item r x) i ≡ on (item codes x) i
+  pub long : length r ≡ maxVertices
+  pub kept : (x i : ℕ) → x < v → i < maxCells → ((q : ℕ) → q < o → on (item ps q) i ≡ false) → on (item r x) i ≡ on (item codes x) i
   pub parted : (q x y : ℕ) → q < o → x < v → y < v → bitAnd (item r x) (item ms q) ≡ bitAnd (item r y) (item ms q) → bitAnd (item r x) (item ps q) ≡ bitAnd (item r y) (item ps q) → labelAt cl q x ≡ labelAt cl q y
 
 pub finished-start : (cl ms ps : List ℕ) (v : ℕ) (codes : List ℕ) → length codes ≡ 32 → Finished cl ms ps v 0 codes codes

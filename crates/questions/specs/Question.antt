@@ -14,6 +14,7 @@ use lib.Bits.{bitAnd, bitOr, and-le-r}
 use lib.ListN.{length, getD, set, length-set}
 use lib.Seq.{getD-set-same, getD-set-other}
 use borrow.Author.Tests.{eq-eqb, ne-eqb}
+use Rattle.limits.specs.Limits.{searchOutputs, maxVertices, labelCount, maxCodes, maxCells}
 use Rattle.bits.specs.Logic.{andb, orb}
 use Rattle.bits.specs.LogicLaws.{true-false}
 use Rattle.bits.specs.Digit.{on}
@@ -28,14 +29,19 @@ use Rattle.readers.specs.Masks.{Short, Decided}
 use Rattle.orders.specs.Order.{Order}
 
 -- ======== definitions
+-- the base to which a question has its entries as digits: above every row of cells, and above maxCodes, which says that an
+-- output is not asked about
+abbrev pub entryBase : ℕ
+entryBase = 2 * maxCodes
+
 -- output o's entry in question k
 unfoldable pub entry : ℕ → ℕ → ℕ
-entry k zero = k % 128
-entry k (suc o) = entry (k / 128) o
+entry k zero = k % entryBase
+entry k (suc o) = entry (k / entryBase) o
 
 -- no codes with 0 at vertex 0 tell the classes of the outputs in question apart
 pub record Barred (cl : List ℕ) (v k : ℕ) : Type 0 where
-  pub none : (f : ℕ → ℕ) → f 0 ≡ 0 → ((o x y : ℕ) → o < 8 → entry k o < 64 → x < v → y < v → Differ (labelAt cl) o x y → bitAnd (f x) (entry k o) ≡ bitAnd (f y) (entry k o) → ⊥) → ⊥
+  pub none : (f : ℕ → ℕ) → f 0 ≡ 0 → ((o x y : ℕ) → o < searchOutputs → entry k o < maxCodes → x < v → y < v → Differ (labelAt cl) o x y → bitAnd (f x) (entry k o) ≡ bitAnd (f y) (entry k o) → ⊥) → ⊥
 
 -- where no codes answer k, none serve the first n rows
 pub record Asks (rows : List ℕ) (n k : ℕ) : Type 0 where
@@ -48,29 +54,29 @@ pub record Moved (row : ℕ) (perm : List ℕ) (i r : ℕ) : Type 0 where
 
 -- e is an entry for output o, one of the first n: its row in the order perm, or the output is not asked about
 pub record Part (rows : List ℕ) (n : ℕ) (perm : List ℕ) (o e : ℕ) : Type 0 where
-  pub small : e < 128
-  pub within : e < 64 → o < n
-  pub digits : e < 64 → (j : ℕ) → j < 6 → on e j ≡ on (item rows o) (item perm j)
+  pub small : e < entryBase
+  pub within : e < maxCodes → o < n
+  pub digits : e < maxCodes → (j : ℕ) → j < maxCells → on e j ≡ on (item rows o) (item perm j)
 
 -- k has the entries of the outputs from o on
 pub record Packed (rows : List ℕ) (n : ℕ) (perm : List ℕ) (o k : ℕ) : Type 0 where
-  pub low : k < 128 ^ (8 - o)
-  pub each : (j : ℕ) → o + j < 8 → Part rows n perm (o + j) (entry k j)
+  pub low : k < entryBase ^ (searchOutputs - o)
+  pub each : (j : ℕ) → o + j < searchOutputs → Part rows n perm (o + j) (entry k j)
 
 -- the first o entries are looked through: n outputs are asked about, from has their numbers and rows their cells
 pub record Gathered (k o rest n : ℕ) (from rows : List ℕ) : Type 0 where
-  pub from-long : length from ≡ 8
-  pub rows-long : length rows ≡ 8
+  pub from-long : length from ≡ searchOutputs
+  pub rows-long : length rows ≡ searchOutputs
   pub few : n ≤ o
   pub later : (j : ℕ) → entry rest j ≡ entry k (o + j)
-  pub from-low : (i : ℕ) → i < 8 → item from i < 8
-  pub asked : (i : ℕ) → i < n → entry k (item from i) < 64
+  pub from-low : (i : ℕ) → i < searchOutputs → item from i < searchOutputs
+  pub asked : (i : ℕ) → i < n → entry k (item from i) < maxCodes
   pub row : (i : ℕ) → i < n → item rows i ≡ entry k (item from i)
 
 -- the first n labels are those of the outputs of from
 pub record Taken (cl from : List ℕ) (n : ℕ) (r : List ℕ) : Type 0 where
-  pub long : length r ≡ 256
-  pub done : (i : ℕ) → i < n → getD r i 0 ≡ labelAt cl (item from (i / 32)) (i % 32)
+  pub long : length r ≡ labelCount
+  pub done : (i : ℕ) → i < n → getD r i 0 ≡ labelAt cl (item from (i / maxVertices)) (i % maxVertices)
 
 -- ======== laws
 -- ---- a row in another order

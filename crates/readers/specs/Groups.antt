@@ -12,6 +12,7 @@ use lib.Dec.{eqb}
 use lib.ListN.{length, getD, set, length-set}
 use lib.Seq.{getD-set-same, getD-set-other}
 use borrow.Author.Tests.{eq-eqb}
+use Rattle.limits.specs.Limits.{searchOutputs}
 use Rattle.bits.specs.Logic.{andb, orb}
 use Rattle.bits.specs.LogicLaws.{true-false, and-left, and-right}
 use Rattle.bits.specs.Digit.{on}
@@ -25,7 +26,7 @@ use Rattle.readers.specs.Masks.{Start}
 -- ======== definitions
 -- groups of cells of sh, each read whole or not at all by each of j outputs, their cells in done
 pub record Grouping (rows gs : List ℕ) (sh j done : ℕ) : Type 0 where
-  pub long : length gs ≡ 8
+  pub long : length gs ≡ searchOutputs
   pub groups : Groups gs sh
   pub uniform : (k o : ℕ) → k < 3 → o < j → Uniform (item rows o) (item gs k)
   pub inside : (k i : ℕ) → k < 3 → on (item gs k) i ≡ true → on done i ≡ true

@@ -1,5 +1,6 @@
 -- The cells that two outputs read, and each output's cells split by them: the facts that the search for codes and the
 -- writing of private cells ask for. Assumes nothing.
+use Rattle.limits.specs.Limits.{searchOutputs, maxVertices, maxCodes, maxCells}
 use Rattle.cells.specs.Lists.{zeros, and-off}
 use mathlib.Core.Path.{_≡_, refl, sym, ap, ap₂, _∙_, subst}
 use mathlib.Core.Bool.{Bool, true, false, not}
@@ -31,23 +32,23 @@ use Rattle.holding.specs.Blocks.{Table, copies, copies-are, all-ones}
 -- ======== definitions
 -- each output reads cells below 6
 abbrev pub Short : List ℕ → ℕ → Type 0
-Short rows j = (o : ℕ) → o < j → item rows o < 64
+Short rows j = (o : ℕ) → o < j → item rows o < maxCodes
 
 -- sh has every cell that two of the first j outputs read
 pub record Common (rows : List ℕ) (j sh : ℕ) : Type 0 where
   pub two : (o q i : ℕ) → o < j → q < j → (o ≡ q → ⊥) → on (item rows o) i ≡ true → on (item rows q) i ≡ true → on sh i ≡ true
-  pub low : sh < 64
+  pub low : sh < maxCodes
 
 -- each output's shared and private cells, 2 to the number of the private ones, and 2 to the number of all
 pub record Planned (rows : List ℕ) (sh n : ℕ) (ms ps caps spots : List ℕ) : Type 0 where
-  pub ms-long : length ms ≡ 8
-  pub ps-long : length ps ≡ 8
-  pub caps-long : length caps ≡ 8
-  pub spots-long : length spots ≡ 8
+  pub ms-long : length ms ≡ searchOutputs
+  pub ps-long : length ps ≡ searchOutputs
+  pub caps-long : length caps ≡ searchOutputs
+  pub spots-long : length spots ≡ searchOutputs
   pub shared : (o : ℕ) → o < n → item ms o ≡ bitAnd (item rows o) sh
   pub private : (o : ℕ) → o < n → item ps o ≡ bitAnd (item rows o) (2 ^ 8 - 1 - sh)
-  pub caps-are : (o : ℕ) → o < n → item caps o ≡ 2 ^ count (on (item ps o)) 6
-  pub spots-are : (o : ℕ) → o < n → item spots o ≡ 2 ^ count (on (item rows o)) 6
+  pub caps-are : (o : ℕ) → o < n → item caps o ≡ 2 ^ count (on (item ps o)) maxCells
+  pub spots-are : (o : ℕ) → o < n → item spots o ≡ 2 ^ count (on (item rows o)) maxCells
 
 -- ======== the loop over the outputs
 -- once has what some output before o reads, many what two of them read
@@ -189,8 +190,8 @@ module _ (rows : List ℕ) (sh j : ℕ) (ms ps caps spots : List ℕ) (short : S
 -- vertex 0 has code 0, no other has a code, and any code may be taken
 pub record Start (codes dom : List ℕ) : Type 0 where
   pub first : item codes 0 ≡ 0
-  pub others : (x : ℕ) → x < 32 → (x ≡ 0 → ⊥) → item codes x ≡ 64
-  pub any : (x : ℕ) → x < 32 → item dom x ≡ 2 ^ 64 - 1
+  pub others : (x : ℕ) → x < maxVertices → (x ≡ 0 → ⊥) → item codes x ≡ maxCodes
+  pub any : (x : ℕ) → x < maxVertices → item dom x ≡ 2 ^ 64 - 1
 
 pub start-of : Start (0 ∷ copies 31 64) (copies 32 (2 ^ 64 - 1))
 start-of = record { first = refl; others = others; any = λ x h. all-ones 32 x h }
@@ -223,4 +224,4 @@ blocks-of ms bs j t = record {
 
 -- what base promises of every core
 pub record Bounds (cl base : List ℕ) (rows : List ℕ) (sh : ℕ) (ms : List ℕ) (v j : ℕ) : Type 0 where
-  pub needs : (f : ℕ → ℕ) → Coded v j (Differ (labelAt cl)) (item rows) f → (o l : ℕ) → o < j → l < 32 → (xs : List ℕ) × All (λ (x : ℕ). (x < v) × (labelAt cl o x ≡ l)) xs × Pairs (λ (x y : ℕ). bitAnd (sharedCode sh f x) (item ms o) ≡ bitAnd (sharedCode sh f y) (item ms o) → ⊥) xs × (labelAt base o l ≤ length xs)
+  pub needs : (f : ℕ → ℕ) → Coded v j (Differ (labelAt cl)) (item rows) f → (o l : ℕ) → o < j → l < maxVertices → (xs : List ℕ) × All (λ (x : ℕ). (x < v) × (labelAt cl o x ≡ l)) xs × Pairs (λ (x y : ℕ). bitAnd (sharedCode sh f x) (item ms o) ≡ bitAnd (sharedCode sh f y) (item ms o) → ⊥) xs × (labelAt base o l ≤ length xs)
