@@ -1,5 +1,5 @@
 // What the lines of a network sheet list: the names of bound inputs, free inputs and shared tables, and which vertex
-// produces a code first. Rests on names for looking a name up.
+// produces a code first. Rests on names for looking a name up, and on classes for what a vertex is.
 ghost use mathlib.Core.Path.{_≡_};
 ghost use mathlib.Core.List.{map, [], _∷_, _++_};
 ghost use Prim.Native.Nat.{ℕ, _+_, _*_, _≤_, _<_};
