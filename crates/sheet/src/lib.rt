@@ -109,7 +109,7 @@ fn no_names() -> NameList
 {
     NameList {
         ok: false,
-        next: Cursor { at: 0 },
+        next: Cursor::start(),
         count: 0,
         names: [0; 10],
     }
@@ -119,13 +119,12 @@ fn no_names() -> NameList
 fn names_line(l: &[u8], head: &[u8]) -> NameList
     ensures { λ r. ⌜ LineIs (whole (after (eat (now (head .entry)) (now (l .entry))) (λ _ s. readNames s))) r ⌝ }
 {
-    let m = Cursor { at: 0 }.text(l, head);
+    let m = Cursor::start().text(l, head);
     match m {
         Moved::To(c) => {
             let r = c.names(l);
-            let n = r.next;
-            let at = n.at;
-            if at == l.len() { r } else { no_names() }
+            let e = r.next;
+            if e.at_end(l) { r } else { no_names() }
         }
         Moved::Bad => no_names(),
     }
@@ -243,7 +242,7 @@ fn ask_bound(k: Sheet, l: &[u8]) -> Asked
 fn limit_line(l: &[u8]) -> LimitLine
     ensures { λ r. ⌜ LimitIs (readLimit (now (l .entry))) r ⌝ }
 {
-    let m = Cursor { at: 0 }.text(l, b"(limit ");
+    let m = Cursor::start().text(l, b"(limit ");
     let Moved::To(c) = m else {
         return LimitLine::Bad;
     };
@@ -260,14 +259,13 @@ fn limit_line(l: &[u8]) -> LimitLine
 
 // Whether the closing bracket stands at a place, and nothing after it.
 fn closes(l: &[u8], c: Cursor) -> bool
-    requires { ⌜ c .at ≤ length (now l) ⌝ }
     ensures { λ r. ⌜ r ≡ closesAt (drop (c .at) (now (l .entry))) ⌝ }
 {
-    let at = c.at;
-    if l.len() - at != 1 {
-        return false;
+    let m = c.byte(l, b')');
+    match m {
+        Moved::To(e) => e.at_end(l),
+        Moved::Bad => false,
     }
-    l[at] == b')'
 }
 
 // The `limit` line.
@@ -304,7 +302,7 @@ fn no_out() -> OutLine
 fn out_line(l: &[u8], inputs: &[u64]) -> OutLine
     ensures { λ r. ⌜ OutIs (map nameOf (now (inputs .entry))) (readOut (now (l .entry))) r ⌝ }
 {
-    let m = Cursor { at: 0 }.text(l, b"(out ");
+    let m = Cursor::start().text(l, b"(out ");
     let Moved::To(c) = m else {
         return no_out();
     };
@@ -312,7 +310,7 @@ fn out_line(l: &[u8], inputs: &[u64]) -> OutLine
     let NameRead::Name(n, e) = w else {
         return no_out();
     };
-    let g = e.text(l, b" ");
+    let g = e.byte(l, b' ');
     let Moved::To(f) = g else {
         return no_out();
     };
