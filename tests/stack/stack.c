@@ -106,7 +106,7 @@ struct nesting {
     const char *name, *open, *close;
 };
 
-/* operands nested in the only, the first, a middle and the last place; and mixed */
+/* operands nested in the only, the first, the last and a middle place */
 static const struct nesting NESTINGS[] = {
     {"not", "(not ", ")"},
     {"and, first", "(and ", " a)"},
@@ -117,8 +117,6 @@ static const struct nesting NESTINGS[] = {
     {"xor, last", "(xor a ", ")"},
     {"and, middle", "(and a ", " a)"},
     {"xor, fourth", "(xor a 0 1 ", " a)"},
-    {"not xor", "(not (xor ", " a))"},
-    {"or not", "(or 1 (not ", "))"},
 };
 
 static const char *const HEADS[] = {
@@ -126,34 +124,46 @@ static const char *const HEADS[] = {
     "(design 1)\n(in a b c d e f g h i j)\n(bound a b c d e)\n(limit 6)\n(out p (xor a f))\n(out q (and b g))\n(out r (or c h))\n",
 };
 
-/* as deep as fits or as asked, closed or left open */
-static void nest(const struct nesting *nesting, const char *head, size_t deepest, int closed)
+/* The outermost brackets by one nesting and those inside by another, as deep as fits or as asked, closed or left open: past
+ * the deepest formula that is allowed the library reads by other functions. */
+enum { OUTERMOST = 33 };
+
+static void nest(const struct nesting *outer, const struct nesting *inner, const char *head, size_t deepest, int closed)
 {
     const char *last = ")\n(end)\n";
     char text[64];
-    size_t each = strlen(nesting->open) + (closed ? strlen(nesting->close) : 0), depth = 0;
+    size_t depth = 0, need = 0;
     sheet_len = 0;
     put(head);
     put("(out z ");
     size_t room = CELLMAPPER_MAX_SHEET - sheet_len - 1 - strlen(last);
-    for (; depth < deepest && (depth + 1) * each <= room; depth++)
-        put(nesting->open);
+    for (; depth < deepest; depth++) {
+        const struct nesting *here = depth < OUTERMOST ? outer : inner;
+        need += strlen(here->open) + (closed ? strlen(here->close) : 0);
+        if (need > room)
+            break;
+        put(here->open);
+    }
     put("a");
-    for (size_t i = 0; closed && i < depth; i++)
-        put(nesting->close);
+    for (size_t i = depth; closed && i > 0; i--)
+        put(i <= OUTERMOST ? outer->close : inner->close);
     put(last);
-    snprintf(text, sizeof text, "%zu times %s, %s", depth, nesting->name, closed ? "closed" : "open");
+    snprintf(text, sizeof text, "%zu deep, %s around %s, %s", depth, outer->name, inner->name, closed ? "closed" : "open");
     measure_all(text);
 }
 
 static void nested(void)
 {
+    static const size_t depths[] = {1, 16, 31, 32, 33, 34, 100};
+    const size_t nestings = sizeof NESTINGS / sizeof *NESTINGS;
     for (size_t h = 0; h < sizeof HEADS / sizeof *HEADS; h++)
-        for (size_t n = 0; n < sizeof NESTINGS / sizeof *NESTINGS; n++) {
-            static const size_t depths[] = {1, 16, 17, 31, 32, 33, 34, 100, SIZE_MAX};
+        for (size_t o = 0; o < nestings; o++) {
             for (size_t d = 0; d < sizeof depths / sizeof *depths; d++)
-                nest(&NESTINGS[n], HEADS[h], depths[d], 1);
-            nest(&NESTINGS[n], HEADS[h], SIZE_MAX, 0);
+                nest(&NESTINGS[o], &NESTINGS[o], HEADS[h], depths[d], 1);
+            for (size_t i = 0; i < nestings; i++) {
+                nest(&NESTINGS[o], &NESTINGS[i], HEADS[h], SIZE_MAX, 1);
+                nest(&NESTINGS[o], &NESTINGS[i], HEADS[h], SIZE_MAX, 0);
+            }
         }
 }
 

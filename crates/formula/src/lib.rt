@@ -32,7 +32,7 @@ pub struct Part {
     pub next: Cursor,
     pub depth: usize,
     pub known: bool,
-    pub rows: [u64; 16],
+    pub rows: [u64; limits::TABLE_WORDS],
 }
 
 // One bracket more; past the deepest that is allowed depths are not told apart.
@@ -143,7 +143,11 @@ fn negated(p: Part) -> Part
 }
 
 // Two operands of a gate, row by row.
-fn combined(g: Gate, a: [u64; 16], b: [u64; 16]) -> [u64; 16]
+fn combined(
+    g: Gate,
+    a: [u64; limits::TABLE_WORDS],
+    b: [u64; limits::TABLE_WORDS],
+) -> [u64; limits::TABLE_WORDS]
     ensures { λ t. ⌜ Rowwise (λ (r : ℕ). two (gateOf g) (rowOn a r) (rowOn b r)) t ⌝ }
 {
     match g {

@@ -3,6 +3,7 @@
 ghost use mathlib.Core.Path.{_≡_};
 ghost use Prim.Native.Nat.{ℕ, _+_, _-_, _≤_};
 ghost use lib.ListN.{length, take, drop};
+ghost use Rattle.limits.specs.Limits.{maxName};
 ghost use Rattle.names.specs.Name.{nameByte, sameName};
 ghost use Rattle.names.specs.Name as names;
 ghost use Rattle.names.specs.Pack.{pack, nameOf};
@@ -39,7 +40,7 @@ pub fn word_end(s: &[u8], at: usize) -> usize
 
 // The number of the bytes from a up to e.
 pub fn packed(s: &[u8], a: usize, e: usize) -> u64
-    requires { ⌜ (a ≤ e) × (e ≤ a + 8) × (e ≤ length (now s)) ⌝ }
+    requires { ⌜ (a ≤ e) × (e ≤ a + maxName) × (e ≤ length (now s)) ⌝ }
     ensures { λ r. ⌜ r ≡ pack (take (e - a) (drop a (now (s .entry)))) ⌝ }
 {
     let mut v: u64 = 0;

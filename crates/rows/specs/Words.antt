@@ -5,21 +5,22 @@ use mathlib.Core.Bool.{Bool}
 use mathlib.Core.List.{List}
 use Prim.Native.Nat.{ℕ, _+_, _*_, _/_, _%_, _^_, _<_}
 use lib.ListN.{length, getD}
+use Rattle.limits.specs.Limits.{maxRows, tableWords}
 use Rattle.bits.specs.Digit.{on}
 
 -- the value of the table on row r
 unfoldable pub rowOn : List ℕ → ℕ → Bool
 rowOn ws r = on (getD ws (r / 64) 0) (r % 64)
 
--- the table has the values of f, on all 1,024 rows
+-- the table has the values of f, on all rows
 pub record Rowwise (f : ℕ → Bool) (ws : List ℕ) : Type 0 where
-  pub each : (r : ℕ) → r < 1024 → rowOn ws r ≡ f r
+  pub each : (r : ℕ) → r < maxRows → rowOn ws r ≡ f r
 
 -- x has the values of f on the 64 rows of word w
 pub record WordOf (f : ℕ → Bool) (w x : ℕ) : Type 0 where
   pub each : (k : ℕ) → k < 64 → on x k ≡ f (w * 64 + k)
 
--- sixteen words of 64 digits
+-- as many words as a table has, each of 64 digits
 pub record Sized (ws : List ℕ) : Type 0 where
-  pub size : length ws ≡ 16
-  pub fits : (w : ℕ) → w < 16 → getD ws w 0 < 2 ^ 64
+  pub size : length ws ≡ tableWords
+  pub fits : (w : ℕ) → w < tableWords → getD ws w 0 < 2 ^ 64

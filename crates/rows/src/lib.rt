@@ -5,15 +5,17 @@ ghost use mathlib.Core.Bool.{not};
 ghost use Prim.Native.Nat.{ℕ, _^_, _<_, _≤_};
 ghost use lib.ListN.{length};
 ghost use lib.Seq.{sets};
+ghost use Rattle.limits.specs.Limits.{maxRows, tableWords};
 ghost use Rattle.bits.specs.Digit.{on};
 ghost use Rattle.bits.specs.Logic.{andb, orb, xorb};
 ghost use Rattle.rows.specs.Words.{rowOn, Rowwise, WordOf};
 ghost use Rattle.rows.specs.Digits.{digit, digitsUpto};
 
-const ALL: u64 = 0xFFFF_FFFF_FFFF_FFFF;
+// The lowest digits of a row's number say which digit of a word it is.
+const WORD_DIGITS: usize = 6;
 
-// Entry p has the digits k below 64 whose number has digit p.
-const MASKS: [u64; 6] = [
+// Entry p has the digits k of a word whose number has digit p.
+const MASKS: [u64; WORD_DIGITS] = [
     0xAAAA_AAAA_AAAA_AAAA,
     0xCCCC_CCCC_CCCC_CCCC,
     0xF0F0_F0F0_F0F0_F0F0,
@@ -23,39 +25,39 @@ const MASKS: [u64; 6] = [
 ];
 
 // The same value on every row.
-pub fn constant(b: bool) -> [u64; 16]
+pub fn constant(b: bool) -> [u64; limits::TABLE_WORDS]
     ensures { λ t. ⌜ Rowwise (λ (r : ℕ). b) t ⌝ }
 {
     if b {
-        return [ALL; 16];
+        return [u64::MAX; limits::TABLE_WORDS];
     }
-    [0; 16]
+    [0; limits::TABLE_WORDS]
 }
 
-// Word w of the table of digit p. The lowest six digits are the same in every word; the next four are the word's number.
+// Word w of the table of digit p. A word's own digits are the same in every word; the others are the word's number.
 fn input_word(p: usize, w: usize) -> u64
-    requires { ⌜ w < 16 ⌝ }
+    requires { ⌜ w < tableWords ⌝ }
     ensures { λ x. ⌜ WordOf (λ (r : ℕ). on r p) w x ⌝ }
 {
-    if p < 6 {
+    if p < WORD_DIGITS {
         return MASKS[p];
     }
-    if 10 <= p {
+    if limits::MAX_INPUTS <= p {
         return 0;
     }
-    if bits::has(w as u64, (p - 6) as u32) {
-        return ALL;
+    if bits::has(w as u64, (p - WORD_DIGITS) as u32) {
+        return u64::MAX;
     }
     0
 }
 
 // On each row digit p of the row's number.
-pub fn input(p: usize) -> [u64; 16]
+pub fn input(p: usize) -> [u64; limits::TABLE_WORDS]
     ensures { λ t. ⌜ Rowwise (λ (r : ℕ). on r p) t ⌝ }
 {
-    let mut t = [0u64; 16];
+    let mut t = [0u64; limits::TABLE_WORDS];
     let mut i = 0;
-    while i < 16 {
+    while i < limits::TABLE_WORDS {
         t[i] = input_word(p, i);
         i += 1;
     }
@@ -63,12 +65,15 @@ pub fn input(p: usize) -> [u64; 16]
 }
 
 // Where both hold.
-pub fn both(a: [u64; 16], b: [u64; 16]) -> [u64; 16]
+pub fn both(
+    a: [u64; limits::TABLE_WORDS],
+    b: [u64; limits::TABLE_WORDS],
+) -> [u64; limits::TABLE_WORDS]
     ensures { λ t. ⌜ Rowwise (λ (r : ℕ). andb (rowOn a r) (rowOn b r)) t ⌝ }
 {
-    let mut t = [0u64; 16];
+    let mut t = [0u64; limits::TABLE_WORDS];
     let mut i = 0;
-    while i < 16 {
+    while i < limits::TABLE_WORDS {
         t[i] = a[i] & b[i];
         i += 1;
     }
@@ -76,12 +81,15 @@ pub fn both(a: [u64; 16], b: [u64; 16]) -> [u64; 16]
 }
 
 // Where at least one of the two holds.
-pub fn either(a: [u64; 16], b: [u64; 16]) -> [u64; 16]
+pub fn either(
+    a: [u64; limits::TABLE_WORDS],
+    b: [u64; limits::TABLE_WORDS],
+) -> [u64; limits::TABLE_WORDS]
     ensures { λ t. ⌜ Rowwise (λ (r : ℕ). orb (rowOn a r) (rowOn b r)) t ⌝ }
 {
-    let mut t = [0u64; 16];
+    let mut t = [0u64; limits::TABLE_WORDS];
     let mut i = 0;
-    while i < 16 {
+    while i < limits::TABLE_WORDS {
         t[i] = a[i] | b[i];
         i += 1;
     }
@@ -89,12 +97,15 @@ pub fn either(a: [u64; 16], b: [u64; 16]) -> [u64; 16]
 }
 
 // Where just one of the two holds.
-pub fn differ(a: [u64; 16], b: [u64; 16]) -> [u64; 16]
+pub fn differ(
+    a: [u64; limits::TABLE_WORDS],
+    b: [u64; limits::TABLE_WORDS],
+) -> [u64; limits::TABLE_WORDS]
     ensures { λ t. ⌜ Rowwise (λ (r : ℕ). xorb (rowOn a r) (rowOn b r)) t ⌝ }
 {
-    let mut t = [0u64; 16];
+    let mut t = [0u64; limits::TABLE_WORDS];
     let mut i = 0;
-    while i < 16 {
+    while i < limits::TABLE_WORDS {
         t[i] = a[i] ^ b[i];
         i += 1;
     }
@@ -102,18 +113,18 @@ pub fn differ(a: [u64; 16], b: [u64; 16]) -> [u64; 16]
 }
 
 // Where it does not hold.
-pub fn complement(a: [u64; 16]) -> [u64; 16]
+pub fn complement(a: [u64; limits::TABLE_WORDS]) -> [u64; limits::TABLE_WORDS]
     ensures { λ t. ⌜ Rowwise (λ (r : ℕ). not (rowOn a r)) t ⌝ }
 {
     differ(constant(true), a)
 }
 
 // The value on row r.
-pub fn row(a: [u64; 16], r: usize) -> bool
-    requires { ⌜ r < 1024 ⌝ }
+pub fn row(a: [u64; limits::TABLE_WORDS], r: usize) -> bool
+    requires { ⌜ r < maxRows ⌝ }
     ensures { λ v. ⌜ v ≡ rowOn a r ⌝ }
 {
-    bits::has(a[r / 64], (r % 64) as u32)
+    bits::has(a[r / limits::WORD_ROWS], (r % limits::WORD_ROWS) as u32)
 }
 
 // The byte of a value.
@@ -124,8 +135,8 @@ fn digit_of(b: bool) -> u8
 }
 
 // Writes the digits of rows 0 to n - 1 at the buffer's start, and leaves its later bytes.
-pub fn put_digits(buf: &mut [u8], a: [u64; 16], n: usize)
-    requires { ⌜ (n ≤ 1024) × (n ≤ length (now buf)) ⌝ }
+pub fn put_digits(buf: &mut [u8], a: [u64; limits::TABLE_WORDS], n: usize)
+    requires { ⌜ (n ≤ maxRows) × (n ≤ length (now buf)) ⌝ }
     ensures { λ _. ⌜ now (buf .exit) ≡ sets (now (buf .entry)) 0 (digitsUpto (rowOn a) n) ⌝ }
 {
     let mut i = 0;

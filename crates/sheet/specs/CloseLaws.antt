@@ -6,12 +6,16 @@ use mathlib.Core.List.{List, [], _∷_}
 use mathlib.Core.Option.{some, none}
 use Prim.Native.Nat.{ℕ, _+_, _-_}
 use native.Mathlib.Omega.{arith}
-use lib.Dec.{eqb}
+use lib.Dec.{eqb, leb}
 use lib.ListN.{length, getD, drop, length-drop}
 use lib.Seq.{getD-drop}
-use borrow.Author.Tests.{eq-eqb, ne-eqb, eqb-true, eqb-false}
+use borrow.Author.Tests.{eq-eqb, ne-eqb, eqb-true, eqb-false, le-leb, lt-leb}
 use Rattle.bits.specs.Logic.{pick}
 use Rattle.text.specs.Bytes.{found, bad, after, eat, whole, closeBracket}
+use Rattle.text.specs.EatLaws.{eat-found}
+use Rattle.cursor.specs.EatingLaws.{missing-byte}
+use Rattle.cursor.specs.Item.{At, from}
+use Rattle.cursor.specs.declared.Cursor.{Cursor}
 use Rattle.sheet.specs.Lines.{closed}
 use Rattle.sheet.specs.Known.{closesAt}
 
@@ -37,6 +41,21 @@ module _ (l : List ℕ) (at : ℕ) where
   one-left e =
       let here : at + 0 ≡ at = omega arith in
       sym (one-byte (drop at l) (left ∙ e) ∙ ap (λ (b : ℕ). eqb b closeBracket) (getD-drop at l 0 0 ∙ ap (λ (i : ℕ). getD l i 0) here))
+
+-- ---- by the bracket, where it is read
+pub closes-there : (l : List ℕ) (at : ℕ) (c : Cursor) → At l tt c (eat (closeBracket ∷ []) (drop at l))
+    → leb (length l) (c .at) ≡ closesAt (drop at l)
+closes-there l at c h =
+    by (from l c) (length-drop (c .at) l) ∙ ap closesAt (sym (eat-found (closeBracket ∷ []) (drop at l) (from l c) (sym (h .is))))
+  where
+    by : (t : List ℕ) → length t ≡ length l - c .at → leb (length l) (c .at) ≡ closesAt (closeBracket ∷ t)
+    by [] e = le-leb (length l) (c .at) (omega arith)
+    by (b ∷ t) e = lt-leb (length l) (c .at) (omega arith)
+
+pub closes-not : (t : List ℕ) → bad ≡ eat (closeBracket ∷ []) t → false ≡ closesAt t
+closes-not [] e = refl
+closes-not (b ∷ []) e = sym (ne-eqb b closeBracket (missing-byte b closeBracket [] e))
+closes-not (b ∷ c ∷ s) e = refl
 
 -- ---- a line that is an item and the bracket
 eqb-turned : (a b : ℕ) (t : Bool) → eqb a b ≡ t → eqb b a ≡ t

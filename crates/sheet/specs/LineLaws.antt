@@ -3,7 +3,7 @@ use mathlib.Core.Path.{_≡_, ap, subst}
 use mathlib.Core.Bool.{false}
 use mathlib.Core.List.{List, [], _∷_}
 use mathlib.Core.Option.{Option}
-use Prim.Native.Nat.{ℕ}
+use Prim.Native.Nat.{ℕ, _≤_, _<_}
 use native.Mathlib.Omega.{arith}
 use lib.ListN.{length, drop, length-drop}
 use Rattle.text.specs.Bytes.{Read, found, bad, after, eat, whole}
@@ -21,14 +21,14 @@ namesAfter r = whole (after r (λ _ t. readNames t))
 
 -- ---- by where the list ends
 module _ (s : List ℕ) (l : NameList) where
-  list-whole : (x : Read (List Name)) → NamesAre s l x → l .next .at ≡ length s → LineIs (whole x) l
+  list-whole : (x : Read (List Name)) → NamesAre s l x → length s ≤ l .next .at → LineIs (whole x) l
   list-whole (found ns []) a e = record { good = a .good; kept = a .kept }
   list-whole (found ns (b ∷ t)) a e = absurd (omega (arith, e, length-drop (l .next .at) s, ap length (a .rest)))
   list-whole bad a e = a
 
-  list-part : (x : Read (List Name)) → NamesAre s l x → (l .next .at ≡ length s → ⊥) → (r : NameList) → r .ok ≡ false
+  list-part : (x : Read (List Name)) → NamesAre s l x → l .next .at < length s → (r : NameList) → r .ok ≡ false
       → LineIs (whole x) r
-  list-part (found ns []) a d r e = absurd (d (omega (arith, a .inside, length-drop (l .next .at) s, ap length (a .rest))))
+  list-part (found ns []) a d r e = absurd (omega (arith, d, length-drop (l .next .at) s, ap length (a .rest)))
   list-part (found ns (b ∷ t)) a d r e = e
   list-part bad a d r e = e
 
@@ -43,11 +43,11 @@ module _ (w s : List ℕ) {m : Moved} (h : MovedIs s m (eat w s)) where
     pub word-found : At s tt c (eat w s)
     word-found = subst (λ (x : Moved). MovedIs s x (eat w s)) e h
 
-    pub whole-line : (l : NameList) → NamesAre s l (readNames (drop (c .at) s)) → l .next .at ≡ length s → LineIs (namesAfter (eat w s)) l
+    pub whole-line : (l : NameList) → NamesAre s l (readNames (drop (c .at) s)) → length s ≤ l .next .at → LineIs (namesAfter (eat w s)) l
     whole-line l n g =
         subst (λ (x : Read (Unit {0})). LineIs (namesAfter x) l) (word-found .is) (list-whole s l (readNames (drop (c .at) s)) n g)
 
-    pub longer-line : (l : NameList) → NamesAre s l (readNames (drop (c .at) s)) → (l .next .at ≡ length s → ⊥)
+    pub longer-line : (l : NameList) → NamesAre s l (readNames (drop (c .at) s)) → l .next .at < length s
         → (r : NameList) → r .ok ≡ false → LineIs (namesAfter (eat w s)) r
     longer-line l n d r f =
         subst (λ (x : Read (Unit {0})). LineIs (namesAfter x) r) (word-found .is) (list-part s l (readNames (drop (c .at) s)) n d r f)

@@ -38,9 +38,6 @@ module _ (l : List ℕ) (ns : List Name) (p : Part) where
   a-formula bad g e = absurd (true-false (sym e ∙ g))
 
   module _ (s : List ℕ) (g : PartIs (suc maxDepth) l ns (readFormula s) p) where
-    pub formula-inside : p .ok ≡ true → p .next .at ≤ length l
-    formula-inside e = a-formula (readFormula s) g e .3 .inside
-
     module _ (v : ℕ) where
       pub out-no-formula : p .ok ≡ false → (r : OutLine) → r .ok ≡ false → OutIs ns (outputAfter (nameOf v) s) r
       out-no-formula e r b = rw (no-formula (readFormula s) g e) b

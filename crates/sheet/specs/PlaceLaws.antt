@@ -8,6 +8,7 @@ use native.Mathlib.Numerals.{add-one}
 use lib.ListN.{length, getD, take, drop, set, length-set, length-map, drop-of-length-le}
 use lib.Seq.{take-suc-set, take-all}
 use Rattle.bits.specs.LogicLaws.{true-false}
+use Rattle.limits.specs.Limits.{maxBound}
 use Rattle.names.specs.Name.{Name, sameName, among, allAmong}
 use Rattle.names.specs.Pack.{nameOf}
 use Rattle.names.specs.Word.{PositionIs}
@@ -33,11 +34,11 @@ position-found vs v i p = position-first vs v i (p .0) (p .1) (p .2)
 -- ---- the names up to i have their places in the list
 pub record Placed (ns inputs list : List ℕ) (i : ℕ) : Type 0 where
   pub inside : i ≤ length ns
-  pub room : length list ≡ 5
+  pub room : length list ≡ maxBound
   pub decides : allAmong (map nameOf ns) (map nameOf inputs) ≡ allAmong (map nameOf (drop i ns)) (map nameOf inputs)
   pub listed : take i list ≡ map (position (map nameOf inputs)) (map nameOf (take i ns))
 
-pub placed-none : (ns inputs list : List ℕ) → length list ≡ 5 → Placed ns inputs list 0
+pub placed-none : (ns inputs list : List ℕ) → length list ≡ maxBound → Placed ns inputs list 0
 placed-none ns inputs list h = record { inside = omega arith; room = h; decides = refl; listed = refl }
 
 module _ {ns inputs list : List ℕ} {i : ℕ} (p : Placed ns inputs list i) (l : i < length ns) where
@@ -70,7 +71,7 @@ module _ {ns inputs list : List ℕ} {i : ℕ} (p : Placed ns inputs list i) (l 
           listed = λ y. absurd (true-false (sym y));
         }
 
-    pub placed-more : {k : ℕ} → r ≡ At k → length ns ≤ 5 → Placed ns inputs (set list i k) (i + 1)
+    pub placed-more : {k : ℕ} → r ≡ At k → length ns ≤ maxBound → Placed ns inputs (set list i k) (i + 1)
     placed-more {k} e few =
         record {
           inside = omega arith;

@@ -5,6 +5,7 @@ ghost use mathlib.Core.Bool.{Bool, true, false};
 ghost use mathlib.Core.List.{map};
 ghost use Prim.Native.Nat.{ℕ, _≤_, _<_};
 ghost use lib.ListN.{length, drop};
+ghost use Rattle.limits.specs.Limits.{maxInputs, maxBound, maxOutputs};
 ghost use Rattle.text.specs.Bytes.{eat, after, whole};
 ghost use Rattle.names.specs.Name as names;
 ghost use Rattle.names.specs.Pack.{nameOf};
@@ -24,20 +25,20 @@ use names::Position;
 
 // A whole truth table.
 pub struct Rows {
-    pub words: [u64; 16],
+    pub words: [u64; limits::TABLE_WORDS],
 }
 
 // What is known of a sheet: the inputs' names, the places of the bound inputs among them, the limit, and the outputs'
 // names and tables, each list with its count.
 pub struct Sheet {
     pub inputs: usize,
-    pub names: [u64; 10],
+    pub names: [u64; limits::MAX_INPUTS],
     pub bounds: usize,
-    pub bound: [usize; 5],
+    pub bound: [usize; limits::MAX_BOUND],
     pub limit: usize,
     pub outputs: usize,
-    pub outs: [u64; 4],
-    pub tables: [Rows; 4],
+    pub outs: [u64; limits::MAX_OUTPUTS],
+    pub tables: [Rows; limits::MAX_OUTPUTS],
 }
 
 // Which line is wanted.
@@ -65,7 +66,7 @@ pub struct OutLine {
     pub name: u64,
     pub depth: usize,
     pub known: bool,
-    pub rows: [u64; 16],
+    pub rows: [u64; limits::TABLE_WORDS],
 }
 
 // The number of a `limit` line.
@@ -77,7 +78,7 @@ pub enum LimitLine {
 // The places of names among others, where all of them have one.
 pub struct Places {
     pub ok: bool,
-    pub list: [usize; 5],
+    pub list: [usize; limits::MAX_BOUND],
 }
 
 // A "no" to question q.
@@ -109,9 +110,9 @@ fn no_names() -> NameList
 {
     NameList {
         ok: false,
-        next: Cursor { at: 0 },
+        next: Cursor::start(),
         count: 0,
-        names: [0; 10],
+        names: [0; limits::MAX_INPUTS],
     }
 }
 
@@ -119,13 +120,12 @@ fn no_names() -> NameList
 fn names_line(l: &[u8], head: &[u8]) -> NameList
     ensures { λ r. ⌜ LineIs (whole (after (eat (now (head .entry)) (now (l .entry))) (λ _ s. readNames s))) r ⌝ }
 {
-    let m = Cursor { at: 0 }.text(l, head);
+    let m = Cursor::start().text(l, head);
     match m {
         Moved::To(c) => {
             let r = c.names(l);
-            let n = r.next;
-            let at = n.at;
-            if at == l.len() { r } else { no_names() }
+            let e = r.next;
+            if e.at_end(l) { r } else { no_names() }
         }
         Moved::Bad => no_names(),
     }
@@ -151,10 +151,10 @@ fn distinct(ns: &[u64]) -> bool
 
 // The places of the names ns among the inputs.
 fn placed(ns: &[u64], inputs: &[u64]) -> Places
-    requires { ⌜ length (now ns) ≤ 5 ⌝ }
+    requires { ⌜ length (now ns) ≤ maxBound ⌝ }
     ensures { λ r. ⌜ PlacesAre (map nameOf (now (ns .entry))) (map nameOf (now (inputs .entry))) r ⌝ }
 {
-    let mut list = [0usize; 5];
+    let mut list = [0usize; limits::MAX_BOUND];
     let mut i = 0;
     while i < ns.len() {
         let p = names::find(inputs, ns[i]);
@@ -180,7 +180,7 @@ fn in_range(n: usize, high: usize) -> bool
 
 // The first of questions 2 to 4 that a line of names is answered "no" to, or 0; high is the greatest count.
 fn first_no(w: NameList, high: usize) -> usize
-    requires { ⌜ high ≤ 10 ⌝ }
+    requires { ⌜ high ≤ maxInputs ⌝ }
     ensures { λ r. ⌜ r ≡ firstNo high w ⌝ }
 {
     let n = w.count;
@@ -216,7 +216,7 @@ fn ask_in(k: Sheet, l: &[u8]) -> Asked
 
 // The `bound` line.
 fn ask_bound(k: Sheet, l: &[u8]) -> Asked
-    requires { ⌜ k .inputs ≤ 10 ⌝ }
+    requires { ⌜ k .inputs ≤ maxInputs ⌝ }
     ensures { λ r. ⌜ ((d : Design) → Holds d k → StepIs (askBound d (readBound (now (l .entry)))) r) ⌝ }
 {
     let w = names_line(l, b"(bound");
@@ -243,7 +243,7 @@ fn ask_bound(k: Sheet, l: &[u8]) -> Asked
 fn limit_line(l: &[u8]) -> LimitLine
     ensures { λ r. ⌜ LimitIs (readLimit (now (l .entry))) r ⌝ }
 {
-    let m = Cursor { at: 0 }.text(l, b"(limit ");
+    let m = Cursor::start().text(l, b"(limit ");
     let Moved::To(c) = m else {
         return LimitLine::Bad;
     };
@@ -260,14 +260,13 @@ fn limit_line(l: &[u8]) -> LimitLine
 
 // Whether the closing bracket stands at a place, and nothing after it.
 fn closes(l: &[u8], c: Cursor) -> bool
-    requires { ⌜ c .at ≤ length (now l) ⌝ }
     ensures { λ r. ⌜ r ≡ closesAt (drop (c .at) (now (l .entry))) ⌝ }
 {
-    let at = c.at;
-    if l.len() - at != 1 {
-        return false;
+    let m = c.byte(l, b')');
+    match m {
+        Moved::To(e) => e.at_end(l),
+        Moved::Bad => false,
     }
-    l[at] == b')'
 }
 
 // The `limit` line.
@@ -296,7 +295,7 @@ fn no_out() -> OutLine
         name: 0,
         depth: 0,
         known: false,
-        rows: [0; 16],
+        rows: [0; limits::TABLE_WORDS],
     }
 }
 
@@ -304,7 +303,7 @@ fn no_out() -> OutLine
 fn out_line(l: &[u8], inputs: &[u64]) -> OutLine
     ensures { λ r. ⌜ OutIs (map nameOf (now (inputs .entry))) (readOut (now (l .entry))) r ⌝ }
 {
-    let m = Cursor { at: 0 }.text(l, b"(out ");
+    let m = Cursor::start().text(l, b"(out ");
     let Moved::To(c) = m else {
         return no_out();
     };
@@ -312,7 +311,7 @@ fn out_line(l: &[u8], inputs: &[u64]) -> OutLine
     let NameRead::Name(n, e) = w else {
         return no_out();
     };
-    let g = e.text(l, b" ");
+    let g = e.byte(l, b' ');
     let Moved::To(f) = g else {
         return no_out();
     };
@@ -343,8 +342,8 @@ fn out_formula(l: &[u8], inputs: &[u64], n: u64, c: Cursor) -> OutLine
 }
 
 // The sheet with one output more.
-fn with_output(k: Sheet, n: u64, rows: [u64; 16]) -> Sheet
-    requires { ⌜ k .outputs < 4 ⌝ }
+fn with_output(k: Sheet, n: u64, rows: [u64; limits::TABLE_WORDS]) -> Sheet
+    requires { ⌜ k .outputs < maxOutputs ⌝ }
     ensures { λ r. ⌜ ((d : Design) (o : Output) → Holds d k → nameOf n ≡ o .name → Rowwise (λ (i : ℕ). value (onRow (d .inputs) i) (o .formula)) rows → Holds (withOutput d o) r) ⌝ }
 {
     let m = k.outputs;
@@ -357,7 +356,7 @@ fn with_output(k: Sheet, n: u64, rows: [u64; 16]) -> Sheet
 
 // Whether the output name n is new.
 fn is_new(k: Sheet, n: u64) -> bool
-    requires { ⌜ (k .inputs ≤ 10) × (k .outputs ≤ 4) ⌝ }
+    requires { ⌜ (k .inputs ≤ maxInputs) × (k .outputs ≤ maxOutputs) ⌝ }
     ensures { λ r. ⌜ ((d : Design) → Holds d k → r ≡ newName d (nameOf n)) ⌝ }
 {
     let a = k.inputs;
@@ -377,7 +376,7 @@ fn is_new(k: Sheet, n: u64) -> bool
 
 // An `out` line.
 fn ask_out(k: Sheet, l: &[u8]) -> Asked
-    requires { ⌜ (k .inputs ≤ 10) × (k .outputs ≤ 4) ⌝ }
+    requires { ⌜ (k .inputs ≤ maxInputs) × (k .outputs ≤ maxOutputs) ⌝ }
     ensures { λ r. ⌜ ((d : Design) → Holds d k → StepIs (askOut d (readOut (now (l .entry)))) r) ⌝ }
 {
     let a = k.inputs;
@@ -412,7 +411,7 @@ fn ask_end(k: Sheet) -> Asked
 
 // One line, by the place that it stands at.
 pub fn ask_line(p: Place, k: Sheet, l: &[u8]) -> Asked
-    requires { ⌜ (k .inputs ≤ 10) × (k .outputs ≤ 4) ⌝ }
+    requires { ⌜ (k .inputs ≤ maxInputs) × (k .outputs ≤ maxOutputs) ⌝ }
     ensures { λ r. ⌜ ((d : Design) → Holds d k → Fits (placeOf p) d → StepIs (askLine (placeOf p) d (now (l .entry))) r) ⌝ }
 {
     match p {

@@ -1,20 +1,42 @@
--- `closes`: one byte is left, and it is the bracket. Assumes nothing.
+-- `closes`: the bracket is read, and the line ends after it. Assumes nothing.
+use mathlib.Core.List.{[], _∷_}
+use mathlib.Core.Path.{_∙_}
+use lib.ListN.{drop}
 use borrow.Author.Needs.{needs}
-use Rattle.sheet.specs.CloseLaws.{not-one-left, one-left}
+use Rattle.text.specs.Bytes.{eat, closeBracket}
+use Rattle.cursor.specs.MovedLaws.{moved-to, moved-nowhere}
+use Rattle.sheet.specs.CloseLaws.{closes-there, closes-not}
 use Rattle.sheet.proofs.closes.Statement.{statement}
 use Rattle.sheet.proofs.closes.Tie as tie
 
-sub-if1 : tie.Need-sub-if1
-sub-if1 c = search needs
+byte-requires : tie.Need-byte-requires
+byte-requires c κs = search needs
+
+enum-known-m : tie.Need-enum-known-m
+enum-known-m c = search needs
+
+at-end-requires : tie.Need-at-end-requires
+at-end-requires c κs = search needs
+
+enum-told : tie.Need-enum-told
+enum-told c = search needs
 
 returns : tie.Need-returns
-returns c = not-one-left (c .before .args .l .now) (c .before .args .c .at) (c .if1 .taken)
-
-shared-slice-read-result : tie.Need-shared-slice-read-result
-shared-slice-read-result c = search needs
+returns c =
+    let l = c .before .before .before .before .before .before .args .l .now in
+    let at = c .before .before .before .before .before .before .args .c .at in
+    let b = c .before .before .before .before .byte in
+    let m = c .before .before .m .given in
+    c .at-end .ensures
+    ∙ closes-there l at (m .0 .0) (moved-to l (b .result) (eat (closeBracket ∷ []) (drop at l)) (b .ensures) (m .0 .0) (m .1))
 
 returns-2 : tie.Need-returns-2
-returns-2 c = one-left (c .before .before .args .l .now) (c .before .before .args .c .at) (c .before .if1 .left)
+returns-2 c =
+    let l = c .before .before .before .before .args .l .now in
+    let t = drop (c .before .before .before .before .args .c .at) l in
+    let b = c .before .before .byte in
+    closes-not t (moved-nowhere l (b .result) (eat (closeBracket ∷ []) t) (b .ensures) (c .enum-told .given .1))
 
 pub closes-spec : {M : Type 1} → statement M
-closes-spec = tie.close (tie.spec sub-if1 returns shared-slice-read-result returns-2)
+closes-spec =
+    tie.close (tie.spec byte-requires enum-known-m at-end-requires enum-told returns returns-2)

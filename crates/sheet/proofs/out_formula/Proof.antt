@@ -6,7 +6,7 @@ use lib.ListN.{drop}
 use borrow.Author.Tests.{not-true, not-false}
 use borrow.Author.Needs.{needs}
 use Rattle.names.specs.Pack.{nameOf}
-use Rattle.sheet.specs.OutLineLaws.{formula-inside, out-no-formula, out-unclosed, out-closed}
+use Rattle.sheet.specs.OutLineLaws.{out-no-formula, out-unclosed, out-closed}
 use Rattle.sheet.proofs.out_formula.Statement.{statement}
 use Rattle.sheet.proofs.out_formula.Tie as tie
 
@@ -24,10 +24,7 @@ returns c =
     out-no-formula (a .l .now) (map nameOf (a .inputs .now)) (p .result) (drop (a .c .at) (a .l .now)) (p .ensures) (a .n) missing (c .no-out .result) (c .no-out .ensures)
 
 closes-requires : tie.Need-closes-requires
-closes-requires c κs =
-    let a = c .before .before .before .before .before .before .before .args in
-    let p = c .before .before .before .before .formula in
-    formula-inside (a .l .now) (map nameOf (a .inputs .now)) (p .result) (drop (a .c .at) (a .l .now)) (p .ensures) (not-false (p .result .ok) (c .if1 .left))
+closes-requires c κs = search needs
 
 no-out-requires-2 : tie.Need-no-out-requires-2
 no-out-requires-2 c κs = search needs
