@@ -1,7 +1,7 @@
 -- What each part of the code says of its answer: the digits of inputs, the rows gathered by them, the columns seen in a
 -- table, keys of vertices, and classes by a relation. Assumes nothing.
 use mathlib.Core.Path.{_≡_}
-use mathlib.Core.Bool.{Bool, not}
+use mathlib.Core.Bool.{Bool}
 use mathlib.Core.List.{List, [], _∷_, map}
 use Prim.Native.Nat.{ℕ, _+_, _*_, _^_, _≤_, _<_}
 use lib.Dec.{eqb}
@@ -12,7 +12,7 @@ use Rattle.names.specs.Name.{Name, sameName, among}
 use Rattle.rows.specs.Row.{rowOf}
 use Rattle.rows.specs.Words.{rowOn}
 use Rattle.sheet.specs.Known.{position}
-use Rattle.classes.specs.Columns.{free, valuesUpto, apart}
+use Rattle.classes.specs.Columns.{free, valuesUpto, sameValues}
 use Rattle.classes.specs.Classes.{classCount, classOf}
 use Rattle.classes.specs.Proper.{Parted}
 
@@ -63,7 +63,7 @@ seen t vertex free x y = rowOn t (getD vertex x 0 + getD free y 0)
 
 -- whether x and y have equal columns of n values
 unfoldable pub sameColumn : (ℕ → ℕ → Bool) → ℕ → ℕ → ℕ → Bool
-sameColumn f n x y = not (apart (valuesUpto (f x) n) (valuesUpto (f y) n))
+sameColumn f n x y = sameValues (valuesUpto (f x) n) (valuesUpto (f y) n)
 
 -- whether vertices x and y have equal columns in the table t
 abbrev pub alikeSeen : List ℕ → List ℕ → List ℕ → ℕ → ℕ → Bool

@@ -3,7 +3,7 @@
 use Rattle.rows.specs.Row.{rowOf}
 use Rattle.text.specs.Number.{printNumber}
 use Rattle.design.specs.Computing as sheets
-use Rattle.classes.specs.Columns.{free, onParts, joinRow, vertexOf, freeRowOf, valueAt, valuesUpto, column, apart, conflict, alikeUpto}
+use Rattle.classes.specs.Columns.{free, onParts, joinRow, vertexOf, freeRowOf, valueAt, valuesUpto, column, sameValues, apart, conflict, alike, alikeUpto}
 use Rattle.classes.specs.Classes.{firstFrom, firstLike, classCount, classOf, localCount, globalCount}
 use Rattle.classes.specs.Width.{widthFrom, widthOf, width, budget}
 use Rattle.network.specs.Printer.{ledAll, lutName, printDigits, lutHead, printLut, nodeHead, printNode, printCount, lutLines, nodeLines, networkLines, endedLines, printNetwork}
@@ -13,8 +13,8 @@ use Rattle.network.specs.Value.{lutOn, nodeRow, networkOn}
 use Rattle.network.specs.Check as checks
 
 classes : Unit {0}
-unfolding rowOf free onParts joinRow vertexOf freeRowOf valueAt valuesUpto column apart conflict alikeUpto firstFrom firstLike
-    classCount classOf localCount globalCount widthFrom widthOf width budget
+unfolding rowOf free onParts joinRow vertexOf freeRowOf valueAt valuesUpto column sameValues apart conflict alike alikeUpto
+    firstFrom firstLike classCount classOf localCount globalCount widthFrom widthOf width budget
 classes = tt
 
 printing : Unit {0}

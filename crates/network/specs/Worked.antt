@@ -17,7 +17,7 @@ use Rattle.formula.specs.Value.{combine, value, onRow}
 use Rattle.sheet.specs.Lines.{readIn, readBound, readLimit, readOut}
 use Rattle.sheet.specs.Value.{outputOn}
 use Rattle.sheet.specs.Examine.{examine, askIn, askBound, askLimit, askOut, askEnd, askLine, askLines, plain, plainLines, sized}
-use Rattle.classes.specs.Columns.{free, onParts, joinRow, vertexOf, freeRowOf, valueAt, valuesUpto, column, apart, conflict, alikeUpto}
+use Rattle.classes.specs.Columns.{free, onParts, joinRow, vertexOf, freeRowOf, valueAt, valuesUpto, column, sameValues, alike, alikeUpto}
 use Rattle.classes.specs.Classes.{firstFrom, firstLike, classCount, classOf, localCount}
 use Rattle.classes.specs.Width.{widthFrom, widthOf, width, budget}
 use Rattle.network.specs.Printer.{ledAll, lutName, printDigits, lutHead, nodeHead, printCount}
@@ -74,7 +74,7 @@ pub worked : Worked
 unfolding check c.firstOf c.differsOn c.differingRow c.compareFrom net.askNode net.askLut net.askLine net.askLines
     net.endsLine net.readNetwork net.wideNode net.offending lutOn nodeRow networkOn ledAll lutName printDigits
     lutHead nodeHead printCount readDigits readLut readReads readNode free onParts joinRow vertexOf freeRowOf
-    valueAt valuesUpto column apart conflict alikeUpto firstFrom firstLike classCount classOf localCount widthFrom
+    valueAt valuesUpto column sameValues alike alikeUpto firstFrom firstLike classCount classOf localCount widthFrom
     widthOf width budget printNumber rowOf outputOn value combine onRow on digit readFormula readWithin readOpening
     depth knows examine sized plainLines plain lines askLines askLine askIn askBound askLimit askOut askEnd readIn
     readBound readLimit readOut readNames namesWithin readName word afterWord nameByte letter numeral operator
