@@ -7,7 +7,8 @@ use Rattle.classes.specs.Columns.{free, onParts, joinRow, vertexOf, freeRowOf, 
 use Rattle.classes.specs.Classes.{firstFrom, firstLike, classCount, classOf, localCount, globalCount}
 use Rattle.classes.specs.Width.{widthFrom, widthOf, width, budget}
 use Rattle.network.specs.Printer.{ledAll, lutName, printDigits, lutHead, printLut, nodeHead, printNode, printCount, lutLines, nodeLines, networkLines, endedLines, printNetwork}
-use Rattle.network.specs.Reader.{readDigits, readLut, readReads, readNode}
+use Rattle.network.specs.Given.{readGiven, readGivens}
+use Rattle.network.specs.Reader.{readDigits, readInputs, readLutHead, readLut, readReads, readNodeHead, readNode}
 use Rattle.network.specs.Examine as networks
 use Rattle.network.specs.Value.{lutOn, nodeRow, networkOn}
 use Rattle.network.specs.Check as checks
@@ -23,8 +24,8 @@ unfolding printNumber ledAll lutName printDigits lutHead printLut nodeHead print
 printing = tt
 
 reading : Unit {0}
-unfolding readDigits readLut readReads readNode networks.askNode networks.askLut networks.askLine networks.askLines
-    networks.endsLine networks.readNetwork networks.wideNode networks.offending
+unfolding readGiven readGivens readDigits readInputs readLutHead readLut readReads readNodeHead readNode
+    networks.askNode networks.askLut networks.askLine networks.askLines networks.endsLine networks.readNetwork networks.wideNode networks.offending
 reading = tt
 
 checking : Unit {0}

@@ -13,7 +13,8 @@ use Rattle.text.specs.Line.{lines}
 use Rattle.sheet.specs.Examine.{Design, within}
 use Rattle.network.specs.Network.{Network}
 use Rattle.network.specs.Printer.{printNetwork}
-use Rattle.network.specs.Examine.{Place, at-network, at-luts, at-node, at-count, at-end, over, Step, misspelled, next, askLine, bad-line, network, atEnd, follow, isLast, askLines, nothing, endsLine, readNetwork}
+use Rattle.network.specs.Examine.{Place, at-network, at-luts, at-node, at-count, at-end, over, Step, misspelled}
+use Rattle.network.specs.Examine.{next, askLine, bad-line, network, atEnd, follow, isLast, askLines, nothing, endsLine, readNetwork}
 use Rattle.network.specs.Wellformed.{Wellformed, Named}
 use Rattle.network.specs.StepLaws.{bad-network}
 use Rattle.network.specs.SheetReadLaws.{said-of-print}
@@ -30,7 +31,7 @@ pub network-print-of-read : (d : Design) (t : List ℕ) (w : Network)
     → readNetwork d t ≡ network w
     → Named d
     → Wellformed d w × (t ≡ printNetwork d w) × (length t ≤ maxNetwork)
-network-print-of-read d t w e h = print-of-said d t w (h .some-output) e
+network-print-of-read d t w e h = print-of-said d t w h e
 
 pub network-spelled : (d : Design) (t : List ℕ) (w : Network)
     → Named d

@@ -20,8 +20,9 @@ use Rattle.sheet.specs.Examine.{examine, askIn, askBound, askLimit, askOut, ask
 use Rattle.classes.specs.Columns.{free, onParts, joinRow, vertexOf, freeRowOf, valueAt, valuesUpto, column, sameValues, alike, alikeUpto}
 use Rattle.classes.specs.Classes.{firstFrom, firstLike, classCount, classOf, localCount}
 use Rattle.classes.specs.Width.{widthFrom, widthOf, width, budget}
-use Rattle.network.specs.Printer.{ledAll, lutName, printDigits, lutHead, nodeHead, printCount}
-use Rattle.network.specs.Reader.{readDigits, readLut, readReads, readNode}
+use Rattle.network.specs.Printer.{lutName, printCount}
+use Rattle.network.specs.Given.{readGiven, readGivens}
+use Rattle.network.specs.Reader.{readDigits, readInputs, readLutHead, readLut, readReads, readNodeHead, readNode}
 use Rattle.network.specs.Examine as net
 use Rattle.network.specs.Value.{lutOn, nodeRow, networkOn}
 use Rattle.network.specs.Check as c
@@ -72,10 +73,10 @@ pub record Worked : Type 0 where
 
 pub worked : Worked
 unfolding check c.firstOf c.differsOn c.differingRow c.compareFrom net.askNode net.askLut net.askLine net.askLines
-    net.endsLine net.readNetwork net.wideNode net.offending lutOn nodeRow networkOn ledAll lutName printDigits
-    lutHead nodeHead printCount readDigits readLut readReads readNode free onParts joinRow vertexOf freeRowOf
-    valueAt valuesUpto column sameValues alike alikeUpto firstFrom firstLike classCount classOf localCount widthFrom
-    widthOf width budget printNumber rowOf outputOn value combine onRow on digit readFormula readWithin readOpening
+    net.endsLine net.readNetwork net.wideNode net.offending lutOn nodeRow networkOn lutName printCount
+    readGiven readGivens readDigits readInputs readLutHead readLut readReads readNodeHead readNode free onParts
+    joinRow vertexOf freeRowOf valueAt valuesUpto column sameValues alike alikeUpto firstFrom firstLike classCount
+    classOf localCount widthFrom widthOf width budget printNumber rowOf outputOn value combine onRow on digit readFormula readWithin readOpening
     depth knows examine sized plainLines plain lines askLines askLine askIn askBound askLimit askOut askEnd readIn
     readBound readLimit readOut readNames namesWithin readName word afterWord nameByte letter numeral operator
     isName same eat readNumber isNumber numerals afterNumerals valueFrom sameName among distinct allAmong

@@ -2,18 +2,20 @@
 // copied: a line's answer is the place where they stand. Rests on cursor for the items of a line.
 ghost use mathlib.Core.Path.{_≡_};
 ghost use mathlib.Core.Bool.{true};
-ghost use mathlib.Core.List.{map, _++_};
+ghost use mathlib.Core.List.{map};
 ghost use Prim.Native.Nat.{_+_, _≤_, _<_, _^_};
 ghost use lib.ListN.{length, take, drop};
-ghost use Rattle.text.specs.Bytes.{bytes, eat, same, whole};
+ghost use Rattle.text.specs.Bytes.{eat, same, whole};
 ghost use Rattle.names.specs.Pack.{nameOf};
 ghost use Rattle.cursor.specs.Item.{MovedIs};
 ghost use Rattle.sheet.specs.Lines.{closed};
-ghost use Rattle.network.specs.Printer.{led, ledAll, lutName, lutHead, nodeHead, printCount};
-ghost use Rattle.network.specs.Reader.{readDigits, readReads, readLut, readNode};
+ghost use Rattle.network.specs.Printer.{led, lutName, printCount};
+ghost use Rattle.network.specs.Given.{readGiven, readItem, readGivens};
+ghost use Rattle.network.specs.Reader.{readDigits, readInputs, readLutHead, readReads, readLut, readNodeHead, readNode};
 ghost use Rattle.network.specs.LineAnswer.{binary, TableIs, ReadsAre, NodeIs};
 use cursor::Cursor;
 use cursor::Moved;
+use cursor::NameRead;
 
 // Where the digits of a line stand in it.
 pub enum Table {
@@ -34,38 +36,26 @@ pub struct Reads {
     pub next: Cursor,
 }
 
-// The most bytes of a name.
-const MAX_NAME: usize = 8;
-
-// The bytes of the name v.
+// A name that is the same as v.
 fn name_at(s: &[u8], c: Cursor, v: u64) -> Moved
     requires { ⌜ c .at ≤ length (now s) ⌝ }
-    ensures { λ r. ⌜ MovedIs (now (s .entry)) r (eat (nameOf v) (drop (c .at) (now (s .entry)))) ⌝ }
+    ensures { λ r. ⌜ MovedIs (now (s .entry)) r (readGiven (nameOf v) (drop (c .at) (now (s .entry)))) ⌝ }
 {
-    let mut at = c.at;
-    let mut rest = v;
-    let mut left = MAX_NAME;
-    while 0 < left {
-        if rest == 0 {
-            return Moved::To(Cursor { at });
-        }
-        if s.len() <= at {
-            return Moved::Bad;
-        }
-        if s[at] as u64 != rest % 256 {
-            return Moved::Bad;
-        }
-        rest = rest / 256;
-        at += 1;
-        left -= 1;
+    let r = c.name(s);
+    let NameRead::Name(w, next) = r else {
+        return Moved::Bad;
+    };
+    if names::same_name(v, w) {
+        Moved::To(next)
+    } else {
+        Moved::Bad
     }
-    Moved::To(Cursor { at })
 }
 
 // The name v as an item of a list: a space stands before it unless it is the first.
 fn led_name(s: &[u8], c: Cursor, first: bool, v: u64) -> Moved
     requires { ⌜ c .at ≤ length (now s) ⌝ }
-    ensures { λ r. ⌜ MovedIs (now (s .entry)) r (eat (led first (nameOf v)) (drop (c .at) (now (s .entry)))) ⌝ }
+    ensures { λ r. ⌜ MovedIs (now (s .entry)) r (readItem first (nameOf v) (drop (c .at) (now (s .entry)))) ⌝ }
 {
     if first {
         return name_at(s, c, v);
@@ -80,7 +70,7 @@ fn led_name(s: &[u8], c: Cursor, first: bool, v: u64) -> Moved
 // The names ns as items of a list.
 fn names_at(s: &[u8], c: Cursor, first: bool, ns: &[u64]) -> Moved
     requires { ⌜ c .at ≤ length (now s) ⌝ }
-    ensures { λ r. ⌜ MovedIs (now (s .entry)) r (eat (ledAll first (map nameOf (now (ns .entry)))) (drop (c .at) (now (s .entry)))) ⌝ }
+    ensures { λ r. ⌜ MovedIs (now (s .entry)) r (readGivens first (map nameOf (now (ns .entry))) (drop (c .at) (now (s .entry)))) ⌝ }
 {
     let mut at = c.at;
     let mut leads = first;
@@ -100,7 +90,7 @@ fn names_at(s: &[u8], c: Cursor, first: bool, ns: &[u64]) -> Moved
 // The names ns as the last items of a list, its closing bracket and a space.
 fn inputs_at(s: &[u8], c: Cursor, first: bool, ns: &[u64]) -> Moved
     requires { ⌜ c .at ≤ length (now s) ⌝ }
-    ensures { λ r. ⌜ MovedIs (now (s .entry)) r (eat (ledAll first (map nameOf (now (ns .entry))) ++ bytes ") ") (drop (c .at) (now (s .entry)))) ⌝ }
+    ensures { λ r. ⌜ MovedIs (now (s .entry)) r (readInputs first (map nameOf (now (ns .entry))) (drop (c .at) (now (s .entry)))) ⌝ }
 {
     let m = names_at(s, c, first, ns);
     let Moved::To(next) = m else {
@@ -171,7 +161,7 @@ fn row_count(n: usize) -> usize
 // A lut line up to its digits.
 fn lut_head(l: &[u8], bs: &[u64], i: usize) -> Moved
     requires { ⌜ i < 10 ⌝ }
-    ensures { λ r. ⌜ MovedIs (now (l .entry)) r (eat (lutHead (map nameOf (now (bs .entry))) i) (now (l .entry))) ⌝ }
+    ensures { λ r. ⌜ MovedIs (now (l .entry)) r (readLutHead (map nameOf (now (bs .entry))) i (now (l .entry))) ⌝ }
 {
     let m = Cursor { at: 0 }.text(l, b"(lut ");
     let Moved::To(a) = m else {
@@ -230,7 +220,7 @@ fn reads_at(s: &[u8], c: Cursor, u: usize) -> Reads
 
 // A node line up to its list of inputs.
 fn node_head(l: &[u8], name: u64) -> Moved
-    ensures { λ r. ⌜ MovedIs (now (l .entry)) r (eat (nodeHead (nameOf name)) (now (l .entry))) ⌝ }
+    ensures { λ r. ⌜ MovedIs (now (l .entry)) r (readNodeHead (nameOf name) (now (l .entry))) ⌝ }
 {
     let m = Cursor { at: 0 }.text(l, b"(node ");
     let Moved::To(a) = m else {
