@@ -1,4 +1,5 @@
--- A fixed text is read byte by byte: while the bytes agree, what is left of both is read the same way. Assumes nothing.
+-- A fixed text is read byte by byte: while the bytes agree, what is left of both is read the same way. One byte is read in
+-- one step. Assumes nothing.
 use mathlib.Core.Path.{_≡_, refl, sym, _∙_}
 use mathlib.Core.Bool.{Bool, true, false}
 use mathlib.Core.List.{List, [], _∷_}
@@ -56,3 +57,18 @@ pub eating-whole : (w s : List ℕ) (at i : ℕ) (c : Cursor)
 unfolding eat
 eating-whole w s at i c e h p =
     record { inside = omega arith; is = sym (e .left ∙ rw (drop-of-length-le w h, p) refl) }
+
+-- ---- one byte
+module _ (b : ℕ) (s : List ℕ) (at : ℕ) where
+  pub byte-past : length s ≤ at → bad ≡ eat (b ∷ []) (drop at s)
+  unfolding eat
+  byte-past h = rw (drop-of-length-le s h) refl
+
+  pub byte-differs : at < length s → (getD s at 0 ≡ b → ⊥) → bad ≡ eat (b ∷ []) (drop at s)
+  unfolding eat
+  byte-differs h k = rw (drop-cons s at 0 h, ne-eqb _ _ (λ q. k (sym q))) refl
+
+  pub byte-same : at < length s → getD s at 0 ≡ b → (c : Cursor) → c .at ≡ at + 1 → At s tt c (eat (b ∷ []) (drop at s))
+  unfolding eat
+  byte-same h k c p =
+      record { inside = omega arith; is = rw (drop-cons s at 0 h, eq-eqb _ _ (sym k), p, add-one) refl }

@@ -2,7 +2,9 @@
 // Rests on text and names.
 ghost use mathlib.Core.Path.{_≡_};
 ghost use mathlib.Core.Bool.{true};
+ghost use mathlib.Core.List.{[], _∷_};
 ghost use Prim.Native.Nat.{ℕ, _+_, _-_, _≤_, _<_};
+ghost use lib.Dec.{leb};
 ghost use lib.ListN.{length, take, drop, set};
 ghost use Rattle.text.specs.Bytes.{eat};
 ghost use Rattle.text.specs.Number.{numeral, valueFrom, isNumber, readNumber};
@@ -277,6 +279,34 @@ fn keep(names: &mut [u64; 10], count: usize, v: u64)
 }
 
 impl Cursor {
+    // Before the first byte.
+    pub fn start() -> Cursor
+        ensures { λ r. ⌜ r .at ≡ 0 ⌝ }
+    {
+        Cursor { at: 0 }
+    }
+
+    // Whether the text ends here.
+    pub fn at_end(self, s: &[u8]) -> bool
+        ensures { λ r. ⌜ r ≡ leb (length (now (s .entry))) (self .at) ⌝ }
+    {
+        s.len() <= self.at
+    }
+
+    // The byte b.
+    pub fn byte(self, s: &[u8], b: u8) -> Moved
+        ensures { λ r. ⌜ MovedIs (now (s .entry)) r (eat (b ∷ []) (drop (self .at) (now (s .entry)))) ⌝ }
+    {
+        let at = self.at;
+        if s.len() <= at {
+            return Moved::Bad;
+        }
+        if s[at] != b {
+            return Moved::Bad;
+        }
+        Moved::To(Cursor { at: at + 1 })
+    }
+
     // The bytes of w.
     pub fn text(self, s: &[u8], w: &[u8]) -> Moved
         requires { ⌜ self .at ≤ length (now s) ⌝ }
