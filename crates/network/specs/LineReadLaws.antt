@@ -2,14 +2,14 @@
 -- end. Assumes nothing.
 use mathlib.Core.Path.{_≡_, refl, sym, ap, subst, _∙_}
 use mathlib.Core.Bool.{Bool, true}
-use mathlib.Core.List.{List, [], _∷_, _++_}
+use mathlib.Core.List.{List, [], _∷_}
 use mathlib.Core.Option.{Option, some, none}
 use Prim.Native.Nat.{ℕ, _+_, _^_}
 use native.Mathlib.Omega.{arith}
 use lib.Dec.{eqb}
 use lib.ListN.{length}
 use borrow.Author.Tests.{ne-eqb}
-use Rattle.text.specs.Bytes.{bytes, Read, found, bad, after, eat, whole, closeBracket}
+use Rattle.text.specs.Bytes.{Read, found, bad, after, eat, whole, closeBracket}
 use Rattle.names.specs.Name.{Name}
 use Rattle.sheet.specs.Lines.{closed}
 use Rattle.cursor.specs.Item.{At, from}

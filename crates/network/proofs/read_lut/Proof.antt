@@ -29,14 +29,19 @@ row-count-requires c κs = search needs
 table-at-requires : tie.Need-table-at-requires
 table-at-requires c κs =
     let head = rw (c .before .before .m .given .1) at (c .before .before .before .before .lut-head .ensures) in
-    (head .inside, c .row-count .ensures .1)
+    head .inside
 
 returns-2 : tie.Need-returns-2
 returns-2 c =
-    let a = c .before .before .before .before .before .before .before .before .args in
-    let rows = c .before .row-count in
-    let head = rw (c .before .before .before .m .given .1) at (c .before .before .before .before .before .lut-head .ensures) in
-    lut-digits (a .l .now) (map nameOf (a .bs .now)) (a .i) head (c .table-at .result) (rows .result) (length (a .bs .now)) (rows .ensures .0) (sym (length-map (a .bs .now) nameOf)) (c .table-at .ensures)
+    let row-count = c .before .row-count in
+    let m = c .before .before .before .m in
+    let lut-head = c .before .before .before .before .before .lut-head in
+    let args = c .before .before .before .before .before .before .before .before .args in
+    let a = args in
+    let rows = row-count in
+    let head = rw (m .given .1) at (lut-head .ensures) in
+    lut-digits (a .l .now) (map nameOf (a .bs .now)) (a .i) head (c .table-at .result) (rows .result) (length (a .bs .now)) (rows .ensures) (sym (length-map (a .bs .now) nameOf))
+    (c .table-at .ensures)
 
 pub read-lut-spec : {M : Type 1} → statement M
 read-lut-spec =

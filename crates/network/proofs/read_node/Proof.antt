@@ -59,7 +59,7 @@ row-count-requires c κs =
 table-at-requires : tie.Need-table-at-requires
 table-at-requires c κs =
     let inputs = rw (c .before .before .before .m2 .given .1) at (c .before .before .before .before .before .inputs-at .ensures) in
-    (inputs .inside, c .row-count .ensures .1)
+    inputs .inside
 
 enum-known-p : tie.Need-enum-known-p
 enum-known-p c = search needs
@@ -69,23 +69,42 @@ enum-told-3 c = search needs
 
 returns-3 : tie.Need-returns-3
 returns-3 c =
-    let a = c .before .before .before .before .before .before .before .before .before .before .before .before .before .before .before .before .before .before .before .args in
-    let tables = c .before .before .before .before .before .before .before .before .before .before .before .before .reads-at in
-    let rows = c .before .before .before .before .row-count in
-    let head = rw (c .before .before .before .before .before .before .before .before .before .before .before .before .before .before .m .given .1) at (c .before .before .before .before .before .before .before .before .before .before .before .before .before .before .before .before .node-head .ensures) in
-    let inputs = rw (c .before .before .before .before .before .before .before .m2 .given .1) at (c .before .before .before .before .before .before .before .before .before .inputs-at .ensures) in
-    let table = rw (c .before .p .given .1) at (c .before .before .before .table-at .ensures) in
-    node-digits (a .l .now) (nameOf (a .name)) (map nameOf (a .fs .now)) (a .u) head (tables .result) (tables .ensures) inputs (length (a .fs .now)) (rows .result) (sym (length-map (a .fs .now) nameOf)) (rows .ensures .0) table
+    let p = c .before .p in
+    let table-at = c .before .before .before .table-at in
+    let row-count = c .before .before .before .before .row-count in
+    let m2 = c .before .before .before .before .before .before .before .m2 in
+    let inputs-at = c .before .before .before .before .before .before .before .before .before .inputs-at in
+    let reads-at = c .before .before .before .before .before .before .before .before .before .before .before .before .reads-at in
+    let m = c .before .before .before .before .before .before .before .before .before .before .before .before .before .before .m in
+    let node-head = c .before .before .before .before .before .before .before .before .before .before .before .before .before .before .before .before .node-head in
+    let args = c .before .before .before .before .before .before .before .before .before .before .before .before .before .before .before .before .before .before .before .args in
+    let a = args in
+    let tables = reads-at in
+    let rows = row-count in
+    let head = rw (m .given .1) at (node-head .ensures) in
+    let inputs = rw (m2 .given .1) at (inputs-at .ensures) in
+    let table = rw (p .given .1) at (table-at .ensures) in
+    node-digits (a .l .now) (nameOf (a .name)) (map nameOf (a .fs .now)) (a .u) head (tables .result) (tables .ensures) inputs (length (a .fs .now)) (rows .result)
+    (sym (length-map (a .fs .now) nameOf)) (rows .ensures) table
 
 returns-4 : tie.Need-returns-4
 returns-4 c =
-    let a = c .before .before .before .before .before .before .before .before .before .before .before .before .before .before .before .before .before .before .args in
-    let tables = c .before .before .before .before .before .before .before .before .before .before .before .reads-at in
-    let rows = c .before .before .before .row-count in
-    let head = rw (c .before .before .before .before .before .before .before .before .before .before .before .before .before .m .given .1) at (c .before .before .before .before .before .before .before .before .before .before .before .before .before .before .before .node-head .ensures) in
-    let inputs = rw (c .before .before .before .before .before .before .m2 .given .1) at (c .before .before .before .before .before .before .before .before .inputs-at .ensures) in
-    let table = rw (c .enum-told3 .given .1) at (c .before .before .table-at .ensures) in
-    node-no-digits (a .l .now) (nameOf (a .name)) (map nameOf (a .fs .now)) (a .u) head (tables .result) (tables .ensures) inputs (length (a .fs .now)) (rows .result) (sym (length-map (a .fs .now) nameOf)) (rows .ensures .0) table
+    let table-at = c .before .before .table-at in
+    let row-count = c .before .before .before .row-count in
+    let m2 = c .before .before .before .before .before .before .m2 in
+    let inputs-at = c .before .before .before .before .before .before .before .before .inputs-at in
+    let reads-at = c .before .before .before .before .before .before .before .before .before .before .before .reads-at in
+    let m = c .before .before .before .before .before .before .before .before .before .before .before .before .before .m in
+    let node-head = c .before .before .before .before .before .before .before .before .before .before .before .before .before .before .before .node-head in
+    let args = c .before .before .before .before .before .before .before .before .before .before .before .before .before .before .before .before .before .before .args in
+    let a = args in
+    let tables = reads-at in
+    let rows = row-count in
+    let head = rw (m .given .1) at (node-head .ensures) in
+    let inputs = rw (m2 .given .1) at (inputs-at .ensures) in
+    let table = rw (c .enum-told3 .given .1) at (table-at .ensures) in
+    node-no-digits (a .l .now) (nameOf (a .name)) (map nameOf (a .fs .now)) (a .u) head (tables .result) (tables .ensures) inputs (length (a .fs .now)) (rows .result)
+    (sym (length-map (a .fs .now) nameOf)) (rows .ensures) table
 
 pub read-node-spec : {M : Type 1} → statement M
 read-node-spec =
