@@ -1,5 +1,5 @@
 -- The loop that compares two columns free row by free row. Assumes nothing.
-use mathlib.Core.Path.{_≡_, refl, sym, ap, _∙_}
+use mathlib.Core.Path.{_≡_, refl, sym, _∙_}
 use mathlib.Core.Bool.{Bool, true, false, not, Bool·beq}
 use mathlib.Core.List.{List}
 use Prim.Native.Nat.{ℕ, _+_, _≤_, _<_}
@@ -9,7 +9,7 @@ use lib.ListN.{getD}
 use Rattle.bits.specs.LogicLaws.{true-false}
 use Rattle.rows.specs.Words.{rowOn}
 use Rattle.classes.specs.Seen.{seen, sameColumn}
-use Rattle.classes.specs.ColumnLaws.{agree-same, differ-apart}
+use Rattle.classes.specs.ColumnLaws.{agree-same, differ-not-same}
 
 -- columns f x and f y agree below i
 pub record Agreeing (f : ℕ → ℕ → Bool) (n x y i : ℕ) : Type 0 where
@@ -24,8 +24,7 @@ module _ {f : ℕ → ℕ → Bool} {n x y : ℕ} where
   agreeing-more {i} a h e = record { within = omega arith; agree = below-more (λ (z : ℕ). f x z ≡ f y z) i (a .agree) e }
 
   pub differing : {i : ℕ} → Agreeing f n x y i → i < n → (f x i ≡ f y i → ⊥) → false ≡ sameColumn f n x y
-  unfolding sameColumn
-  differing {i} a h e = sym (ap not (differ-apart (f x) (f y) n i h e))
+  differing {i} a h e = sym (differ-not-same f n x y i h e)
 
   pub agreeing-all : {i : ℕ} → Agreeing f n x y i → n ≤ i → true ≡ sameColumn f n x y
   agreeing-all a h = sym (agree-same f n x y (λ z l. a .agree z (omega arith)))

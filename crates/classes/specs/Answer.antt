@@ -3,7 +3,7 @@ use mathlib.Core.Path.{_≡_}
 use mathlib.Core.List.{List, []}
 use Prim.Native.Nat.{ℕ, _+_, _≤_, _<_}
 use lib.ListN.{length, getD}
-use Rattle.limits.specs.Limits.{maxInputs, maxBound, maxOutputs}
+use Rattle.limits.specs.Limits.{maxInputs, maxBound, maxOutputs, maxRows, maxVertices, maxFreeRows}
 use Rattle.sheet.specs.Examine.{Design}
 use Rattle.sheet.specs.Known.{Holds}
 use Rattle.sheet.specs.declared.Sheet.{Sheet}
@@ -29,19 +29,19 @@ pub record Counts (k : Sheet) : Type 0 where
 -- the shape of a design's rows: those of each vertex and of each free row
 pub record ShapeIs (d : Design) (sh : Shape) : Type 0 where
   pub vertices : sh .vertices ≡ vertexCount (d .bound)
-  pub few-vertices : sh .vertices ≤ 32
+  pub few-vertices : sh .vertices ≤ maxVertices
   pub free-rows : sh .frees ≡ freeCount (d .inputs) (d .bound)
-  pub few-free : sh .frees ≤ 512
+  pub few-free : sh .frees ≤ maxFreeRows
   pub at-vertex : (x : ℕ) → x < sh .vertices → getD (sh .vertex) x 0 ≡ joinRow (d .inputs) (d .bound) x 0
   pub at-free : (y : ℕ) → y < sh .frees → getD (sh .free) y 0 ≡ joinRow (d .inputs) (d .bound) 0 y
 
 -- the shape that a sheet with such counts gets, whatever it holds
 pub record Shaped (k : Sheet) (sh : Shape) : Type 0 where
-  pub vertex-size : length (sh .vertex) ≡ 32
-  pub free-size : length (sh .free) ≡ 512
-  pub few-vertices : sh .vertices ≤ 32
-  pub few-free : sh .frees ≤ 512
-  pub inside : (x y : ℕ) → x < sh .vertices → y < sh .frees → getD (sh .vertex) x 0 + getD (sh .free) y 0 < 1024
+  pub vertex-size : length (sh .vertex) ≡ maxVertices
+  pub free-size : length (sh .free) ≡ maxFreeRows
+  pub few-vertices : sh .vertices ≤ maxVertices
+  pub few-free : sh .frees ≤ maxFreeRows
+  pub inside : (x y : ℕ) → x < sh .vertices → y < sh .frees → getD (sh .vertex) x 0 + getD (sh .free) y 0 < maxRows
   pub right : (d : Design) → Holds d k → Proper d → ShapeIs d sh
 
 abbrev pub localAt : List LocalClass → ℕ → ℕ
@@ -52,16 +52,16 @@ globalAt l x = getD l x (record { 0 = 0 }) .0
 
 pub record LocalsAre (d : Design) (o : ℕ) (l : Locals) : Type 0 where
   pub counted : l .count ≡ localCount d (d .bound) o
-  pub few : l .count ≤ 32
+  pub few : l .count ≤ maxVertices
   pub classes : (x : ℕ) → x < vertexCount (d .bound) → localAt (l .classes) x ≡ localClass d (d .bound) o x
 
 pub record WidthIs (d : Design) (o w : ℕ) : Type 0 where
   pub is : w ≡ width d (d .bound) o
-  pub few : w ≤ 5
+  pub few : w ≤ maxBound
 
 pub record GlobalsAre (d : Design) (g : Globals) : Type 0 where
   pub counted : g .count ≡ globalCount d (d .bound)
-  pub few : g .count ≤ 32
+  pub few : g .count ≤ maxVertices
   pub classes : (x : ℕ) → x < vertexCount (d .bound) → globalAt (g .classes) x ≡ globalClass d (d .bound) x
 
 -- the local classes of output o

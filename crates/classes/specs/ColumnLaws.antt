@@ -1,9 +1,10 @@
 -- Columns as laws: two lists of values are apart exactly when they differ at some place, so two vertices conflict exactly
--- when the output has different values at some free row; and equal columns are an equivalence, for any columns.
+-- when the output has different values at some free row; equal columns are those that do not conflict, and they are an
+-- equivalence, for any columns.
 -- Assumes nothing.
 use mathlib.Core.Path.{_≡_, refl, sym, ap, ap₂, _∙_}
 use mathlib.Core.Logic.{⊎-elim}
-use mathlib.Core.Bool.{Bool, true, false, not, _&&_, _||_}
+use mathlib.Core.Bool.{Bool, true, false, not, _&&_, _||_, Bool·beq}
 use mathlib.Core.List.{List, [], _∷_, _++_}
 use Prim.Native.Nat.{ℕ, zero, suc, _+_, _<_}
 use native.Mathlib.Omega.{arith}
@@ -16,7 +17,7 @@ use Rattle.rows.specs.EveryLaws.{last-or-below}
 use Rattle.names.specs.Name.{Name}
 use Rattle.sheet.specs.Examine.{Design}
 use Rattle.classes.specs.Cases.{either, not-both}
-use Rattle.classes.specs.Columns.{freeCount, valueAt, valuesUpto, column, apart, conflict, alike, alikeUpto}
+use Rattle.classes.specs.Columns.{freeCount, valueAt, valuesUpto, column, sameValues, apart, conflict, alike, alikeUpto}
 use Rattle.classes.specs.Seen.{sameColumn}
 use Rattle.classes.specs.ClassLaws.{Equivalence}
 
@@ -30,6 +31,12 @@ xor-equal true true e = refl
 xor-equal true false e = absurd (true-false e)
 xor-equal false true e = absurd (true-false e)
 xor-equal false false e = refl
+
+equal-or-xor : (a b c d : Bool) → c ≡ not d → Bool·beq a b && c ≡ not (xorb a b || d)
+equal-or-xor true true c d e = e
+equal-or-xor true false c d e = refl
+equal-or-xor false true c d e = refl
+equal-or-xor false false c d e = e
 
 or-left : (a b : Bool) → a || b ≡ false → a ≡ false
 or-left true b e = e
@@ -71,6 +78,15 @@ apart-last [] (b ∷ vs) u v n = absurd (omega arith)
 apart-last (a ∷ us) [] u v n = absurd (omega arith)
 apart-last (a ∷ us) (b ∷ vs) u v n =
     ap (λ (t : Bool). xorb a b || t) (apart-last us vs u v (omega arith)) ∙ or-assoc (xorb a b) (apart us vs) (xorb u v)
+
+-- two lists of one length are equal or apart
+pub same-not-apart : (us vs : List Bool) → length us ≡ length vs → sameValues us vs ≡ not (apart us vs)
+unfolding sameValues apart
+same-not-apart [] [] n = refl
+same-not-apart [] (v ∷ vs) n = absurd (omega arith)
+same-not-apart (u ∷ us) [] n = absurd (omega arith)
+same-not-apart (u ∷ us) (v ∷ vs) n =
+    equal-or-xor u v (sameValues us vs) (apart us vs) (same-not-apart us vs (omega arith))
 
 -- ---- two lists of values up to n
 pub length-values-upto : (f : ℕ → Bool) (n : ℕ) → length (valuesUpto f n) ≡ n
@@ -136,15 +152,22 @@ module _ (f g : ℕ → Bool) where
       })
       (either (apart (valuesUpto f n) (valuesUpto g n)))
 
--- ---- equal columns are an equivalence, whatever column f x each number x has
+-- ---- equal columns are those that are not apart, and an equivalence, whatever column f x each number x has
 module _ (f : ℕ → ℕ → Bool) (n : ℕ) where
-  pub same-agree : (x y : ℕ) → sameColumn f n x y ≡ true → (i : ℕ) → i < n → f x i ≡ f y i
+  pub column-not-apart : (x y : ℕ) → sameColumn f n x y ≡ not (apart (valuesUpto (f x) n) (valuesUpto (f y) n))
   unfolding sameColumn
-  same-agree x y e = apart-agree (f x) (f y) n (not-true (apart (valuesUpto (f x) n) (valuesUpto (f y) n)) e)
+  column-not-apart x y =
+      same-not-apart (valuesUpto (f x) n) (valuesUpto (f y) n) (length-values-upto (f x) n ∙ sym (length-values-upto (f y) n))
+
+  pub same-agree : (x y : ℕ) → sameColumn f n x y ≡ true → (i : ℕ) → i < n → f x i ≡ f y i
+  same-agree x y e =
+      apart-agree (f x) (f y) n (not-true (apart (valuesUpto (f x) n) (valuesUpto (f y) n)) (sym (column-not-apart x y) ∙ e))
 
   pub agree-same : (x y : ℕ) → ((i : ℕ) → i < n → f x i ≡ f y i) → sameColumn f n x y ≡ true
-  unfolding sameColumn
-  agree-same x y h = ap not (agree-apart (f x) (f y) n h)
+  agree-same x y h = column-not-apart x y ∙ ap not (agree-apart (f x) (f y) n h)
+
+  pub differ-not-same : (x y i : ℕ) → i < n → (f x i ≡ f y i → ⊥) → sameColumn f n x y ≡ false
+  differ-not-same x y i l h = column-not-apart x y ∙ ap not (differ-apart (f x) (f y) n i l h)
 
   pub same-column : Equivalence (sameColumn f n)
   same-column =
@@ -159,7 +182,7 @@ pub same-columns : (f g : ℕ → ℕ → Bool) (n x y : ℕ) → ((i : ℕ) →
     → sameColumn f n x y ≡ sameColumn g n x y
 unfolding sameColumn
 same-columns f g n x y p q =
-    ap₂ (λ (u v : List Bool). not (apart u v)) (values-agree (f x) (g x) n p) (values-agree (f y) (g y) n q)
+    ap₂ sameValues (values-agree (f x) (g x) n p) (values-agree (f y) (g y) n q)
 
 -- related in two ways at once
 pub both-equivalence : (r s : ℕ → ℕ → Bool) → Equivalence r → Equivalence s → Equivalence (λ x y. r x y && s x y)
@@ -198,12 +221,23 @@ module _ (d : Design) (bs : List Name) where
   agree-no-conflict o x y h = agree-apart (valueAt d bs o x) (valueAt d bs o y) (freeCount (d .inputs) bs) h
 
   pub alike-columns : (o x y : ℕ) → alike d bs o x y ≡ sameColumn (valueAt d bs o) (freeCount (d .inputs) bs) x y
-  unfolding conflict column sameColumn
+  unfolding alike column sameColumn
   alike-columns o x y = refl
+
+  -- equal columns are those without a conflict
+  pub alike-not-conflict : (o x y : ℕ) → alike d bs o x y ≡ not (conflict d bs o x y)
+  unfolding conflict column
+  alike-not-conflict o x y = alike-columns o x y ∙ column-not-apart (valueAt d bs o) (freeCount (d .inputs) bs) x y
+
+  pub alike-no-conflict : (o x y : ℕ) → alike d bs o x y ≡ true → conflict d bs o x y ≡ false
+  alike-no-conflict o x y e = not-true (conflict d bs o x y) (sym (alike-not-conflict o x y) ∙ e)
+
+  pub no-conflict-alike : (o x y : ℕ) → conflict d bs o x y ≡ false → alike d bs o x y ≡ true
+  no-conflict-alike o x y e = alike-not-conflict o x y ∙ ap not e
 
   -- vertices alike in one output are an equivalence, and so are vertices alike in the first m
   pub alike-equivalence : (o : ℕ) → Equivalence (alike d bs o)
-  unfolding conflict column sameColumn
+  unfolding alike column sameColumn
   alike-equivalence o = same-column (valueAt d bs o) (freeCount (d .inputs) bs)
 
   pub upto-equivalence : (m : ℕ) → Equivalence (alikeUpto d bs m)

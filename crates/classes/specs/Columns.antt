@@ -1,7 +1,7 @@
--- "Columns, classes, width": columns, and when two of them conflict, for a list of bound inputs that is given.
+-- "Columns, classes, width": columns, when two of them are equal and when they conflict, for a list of bound inputs that is given.
 -- "Rows of bound inputs (vertices) take the order of the `bound` line, free rows the order of the `in` line."
 -- Assumes nothing.
-use mathlib.Core.Bool.{Bool, true, false, not, _&&_, _||_}
+use mathlib.Core.Bool.{Bool, true, false, _&&_, _||_, Bool·beq}
 use mathlib.Core.List.{List, [], _∷_, _++_, map}
 use Prim.Native.Nat.{ℕ, zero, suc, _^_}
 use lib.ListN.{length}
@@ -53,6 +53,13 @@ valuesUpto f (suc n) = valuesUpto f n ++ (f n ∷ [])
 unfoldable pub column : Design → List Name → ℕ → ℕ → List Bool
 column d bs o x = valuesUpto (valueAt d bs o x) (freeCount (d .inputs) bs)
 
+-- whether two columns are equal
+unfoldable pub sameValues : List Bool → List Bool → Bool
+sameValues [] [] = true
+sameValues [] (v ∷ vs) = false
+sameValues (u ∷ us) [] = false
+sameValues (u ∷ us) (v ∷ vs) = Bool·beq u v && sameValues us vs
+
 -- whether two columns have 0 in one and 1 in the other at some place
 unfoldable pub apart : List Bool → List Bool → Bool
 apart [] vs = false
@@ -64,8 +71,8 @@ unfoldable pub conflict : Design → List Name → ℕ → ℕ → ℕ → Bool
 conflict d bs o x y = apart (column d bs o x) (column d bs o y)
 
 -- vertices of one local class, and of one global class: equal columns in one output, or in every output
-abbrev pub alike : Design → List Name → ℕ → ℕ → ℕ → Bool
-alike d bs o x y = not (conflict d bs o x y)
+unfoldable pub alike : Design → List Name → ℕ → ℕ → ℕ → Bool
+alike d bs o x y = sameValues (column d bs o x) (column d bs o y)
 
 unfoldable pub alikeUpto : Design → List Name → ℕ → ℕ → ℕ → Bool
 alikeUpto d bs zero x y = true

@@ -1,18 +1,19 @@
 -- What each part of the code says of its answer: the digits of inputs, the rows gathered by them, the columns seen in a
 -- table, keys of vertices, and classes by a relation. Assumes nothing.
 use mathlib.Core.Path.{_≡_}
-use mathlib.Core.Bool.{Bool, not}
+use mathlib.Core.Bool.{Bool}
 use mathlib.Core.List.{List, [], _∷_, map}
-use Prim.Native.Nat.{ℕ, _+_, _*_, _^_, _≤_, _<_}
+use Prim.Native.Nat.{ℕ, _+_, _-_, _*_, _^_, _≤_, _<_}
 use lib.Dec.{eqb}
 use lib.ListN.{length, getD}
 use Rattle.bits.specs.Logic.{pick}
+use Rattle.limits.specs.Limits.{maxInputs, maxBound, maxOutputs, maxRows, maxVertices}
 use Rattle.bits.specs.Digit.{on}
 use Rattle.names.specs.Name.{Name, sameName, among}
 use Rattle.rows.specs.Row.{rowOf}
 use Rattle.rows.specs.Words.{rowOn}
 use Rattle.sheet.specs.Known.{position}
-use Rattle.classes.specs.Columns.{free, valuesUpto, apart}
+use Rattle.classes.specs.Columns.{free, valuesUpto, sameValues}
 use Rattle.classes.specs.Classes.{classCount, classOf}
 use Rattle.classes.specs.Proper.{Parted}
 
@@ -40,7 +41,7 @@ pub record Small (l : List ℕ) : Type 0 where
 
 -- the digits of n inputs, where the bound ones have these places
 pub record DigitsAre (places : List ℕ) (n : ℕ) (l : List ℕ) : Type 0 where
-  pub size : length l ≡ 10
+  pub size : length l ≡ maxInputs
   pub small : Small l
   pub right : (ns bs : List Name) → Parted ns bs → length ns ≡ n → places ≡ map (position ns) bs
       → (i : ℕ) → i < n → getD l i 0 ≡ digitOf bs (free ns bs) (getD ns i [])
@@ -55,7 +56,7 @@ pub record Gathered (l : List ℕ) (step : ℕ) (out : List ℕ) : Type 0 where
 -- ---- columns
 -- every row of a vertex and a free row is a row of a table
 pub record Inside (vertex free : List ℕ) : Type 0 where
-  pub each : (x y : ℕ) → x < length vertex → y < length free → getD vertex x 0 + getD free y 0 < 1024
+  pub each : (x y : ℕ) → x < length vertex → y < length free → getD vertex x 0 + getD free y 0 < maxRows
 
 -- the value of the table t at vertex x and free row y
 unfoldable pub seen : List ℕ → List ℕ → List ℕ → ℕ → ℕ → Bool
@@ -63,7 +64,7 @@ seen t vertex free x y = rowOn t (getD vertex x 0 + getD free y 0)
 
 -- whether x and y have equal columns of n values
 unfoldable pub sameColumn : (ℕ → ℕ → Bool) → ℕ → ℕ → ℕ → Bool
-sameColumn f n x y = not (apart (valuesUpto (f x) n) (valuesUpto (f y) n))
+sameColumn f n x y = sameValues (valuesUpto (f x) n) (valuesUpto (f y) n)
 
 -- whether vertices x and y have equal columns in the table t
 abbrev pub alikeSeen : List ℕ → List ℕ → List ℕ → ℕ → ℕ → Bool
@@ -75,12 +76,12 @@ sameKey l x y = eqb (getD l x 0) (getD l y 0)
 
 -- keys to which another class number can be joined
 pub record Keyable (keys : List ℕ) (class : ℕ → ℕ) (v : ℕ) : Type 0 where
-  pub low-key : (x : ℕ) → x < v → getD keys x 0 < 2 ^ 15
-  pub low-class : (x : ℕ) → x < v → class x < 32
+  pub low-key : (x : ℕ) → x < v → getD keys x 0 < 2 ^ (maxBound * (maxOutputs - 1))
+  pub low-class : (x : ℕ) → x < v → class x < maxVertices
 
 pub record KeysBy (keys : List ℕ) (class : ℕ → ℕ) (v : ℕ) (list : List ℕ) : Type 0 where
-  pub size : length list ≡ 32
-  pub each : (x : ℕ) → x < v → getD list x 0 ≡ getD keys x 0 * 32 + class x
+  pub size : length list ≡ maxVertices
+  pub each : (x : ℕ) → x < v → getD list x 0 ≡ getD keys x 0 * maxVertices + class x
 
 -- ---- classes
 -- the classes of the numbers below v, and how many they are

@@ -3,12 +3,11 @@
 -- number of bound inputs. Assumes nothing.
 use mathlib.Core.Path.{_≡_, refl, ap}
 use mathlib.Core.Logic.{⊎-elim}
-use mathlib.Core.Bool.{true, false, not}
+use mathlib.Core.Bool.{true, false}
 use mathlib.Core.List.{List}
 use Prim.Native.Nat.{ℕ, zero, suc, _^_, _≤_, _<_}
 use native.Mathlib.Omega.{arith}
 use lib.ListN.{length}
-use borrow.Author.Tests.{not-true}
 use Rattle.bits.specs.LogicLaws.{and-left, and-right, and-both}
 use Rattle.rows.specs.EveryLaws.{last-or-below}
 use Rattle.names.specs.Name.{Name}
@@ -19,7 +18,7 @@ use Rattle.classes.specs.Proper.{Parted}
 use Rattle.classes.specs.Classes.{localCount, localClass, globalCount, globalClass}
 use Rattle.classes.specs.Width.{width}
 use Rattle.classes.specs.ClassLaws.{Taken, count-most, related-class, class-related, class-below, class-taken}
-use Rattle.classes.specs.ColumnLaws.{no-conflict-agree, alike-equivalence, upto-equivalence}
+use Rattle.classes.specs.ColumnLaws.{no-conflict-agree, alike-no-conflict, no-conflict-alike, alike-equivalence, upto-equivalence}
 use Rattle.classes.specs.JoinLaws.{join-parts}
 use Rattle.classes.specs.WidthLaws.{width-least}
 
@@ -27,11 +26,11 @@ module _ (d : Design) (bs : List Name) where
   -- ---- one output
   pub local-no-conflict : (o x y : ℕ) → localClass d bs o x ≡ localClass d bs o y → conflict d bs o x y ≡ false
   unfolding localClass
-  local-no-conflict o x y e = not-true (conflict d bs o x y) (class-related (alike d bs o) (alike-equivalence d bs o) x y e)
+  local-no-conflict o x y e = alike-no-conflict d bs o x y (class-related (alike d bs o) (alike-equivalence d bs o) x y e)
 
   pub no-conflict-local : (o x y : ℕ) → conflict d bs o x y ≡ false → localClass d bs o x ≡ localClass d bs o y
   unfolding localClass
-  no-conflict-local o x y e = related-class (alike d bs o) (alike-equivalence d bs o) x y (ap not e)
+  no-conflict-local o x y e = related-class (alike d bs o) (alike-equivalence d bs o) x y (no-conflict-alike d bs o x y e)
 
   pub local-below : (o x : ℕ) → x < vertexCount bs → localClass d bs o x < localCount d bs o
   unfolding localClass localCount
@@ -69,7 +68,7 @@ module _ (d : Design) (bs : List Name) where
       → (o : ℕ) → o < length (d .outputs) → conflict d bs o x y ≡ false
   unfolding globalClass
   global-no-conflict x y e o l =
-      not-true (conflict d bs o x y)
+      alike-no-conflict d bs o x y
       (upto-alike (length (d .outputs)) x y
       (class-related (alikeInAll d bs) (upto-equivalence d bs (length (d .outputs))) x y e) o l)
 
@@ -78,7 +77,7 @@ module _ (d : Design) (bs : List Name) where
   unfolding globalClass
   no-conflict-global x y h =
       related-class (alikeInAll d bs) (upto-equivalence d bs (length (d .outputs))) x y
-      (alike-upto (length (d .outputs)) x y (λ o l. ap not (h o l)))
+      (alike-upto (length (d .outputs)) x y (λ o l. no-conflict-alike d bs o x y (h o l)))
 
   -- vertices of one global class are in one local class of every output
   pub global-local : (x y : ℕ) → globalClass d bs x ≡ globalClass d bs y

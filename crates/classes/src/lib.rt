@@ -3,6 +3,7 @@
 ghost use mathlib.Core.Path.{_≡_};
 ghost use Prim.Native.Nat.{_^_, _≤_, _<_};
 ghost use lib.ListN.{length};
+ghost use Rattle.limits.specs.Limits.{maxInputs, maxBound, maxRows, maxVertices, maxFreeRows, tableWords};
 ghost use Rattle.rows.specs.Row as row;
 ghost use Rattle.rows.specs.Words.{rowOn};
 ghost use Rattle.sheet.specs.Examine.{Design};
@@ -18,8 +19,8 @@ use sheet::Sheet;
 pub struct Shape {
     pub vertices: usize,
     pub frees: usize,
-    pub vertex: [usize; 32],
-    pub free: [usize; 512],
+    pub vertex: [usize; limits::MAX_VERTICES],
+    pub free: [usize; limits::MAX_FREE_ROWS],
 }
 
 // The number of a vertex.
@@ -33,19 +34,19 @@ pub struct GlobalClass(pub usize);
 
 pub struct Locals {
     pub count: usize,
-    pub classes: [LocalClass; 32],
+    pub classes: [LocalClass; limits::MAX_VERTICES],
 }
 
 pub struct Globals {
     pub count: usize,
-    pub classes: [GlobalClass; 32],
+    pub classes: [GlobalClass; limits::MAX_VERTICES],
 }
 
 // What is known of the columns of a design: local classes and width of each output, and the global classes.
 pub struct Classes {
     pub shape: Shape,
-    pub locals: [Locals; 4],
-    pub widths: [usize; 4],
+    pub locals: [Locals; limits::MAX_OUTPUTS],
+    pub widths: [usize; limits::MAX_OUTPUTS],
     pub globals: Globals,
 }
 
@@ -65,12 +66,12 @@ fn place(bound: &[usize], i: usize) -> usize
 
 // The digit of each of n inputs in a number that has the vertex in its lowest digits and the free row above them: the last
 // bound input has digit 0, and the last free input the first digit above the vertex.
-fn digits(bound: &[usize], n: usize) -> [usize; 10]
-    requires { ⌜ (n ≤ 10) × (length (now bound) ≤ 5) ⌝ }
+fn digits(bound: &[usize], n: usize) -> [usize; limits::MAX_INPUTS]
+    requires { ⌜ (n ≤ maxInputs) × (length (now bound) ≤ maxBound) ⌝ }
     ensures { λ r. ⌜ DigitsAre (now (bound .entry)) n r ⌝ }
 {
     let b = bound.len();
-    let mut list = [0usize; 10];
+    let mut list = [0usize; limits::MAX_INPUTS];
     let mut next = b;
     let mut i = n;
     while 0 < i {
@@ -94,7 +95,7 @@ fn bit(b: bool) -> usize
 
 // The row whose inputs have the values that stand at their digits in z.
 fn gather(digits: &[usize], z: usize) -> usize
-    requires { ⌜ (length (now digits) ≤ 10) × Small (now digits) ⌝ }
+    requires { ⌜ (length (now digits) ≤ maxInputs) × Small (now digits) ⌝ }
     ensures { λ r. ⌜ r ≡ gathered (now (digits .entry)) z ⌝ }
 {
     let mut r = 0;
@@ -108,7 +109,7 @@ fn gather(digits: &[usize], z: usize) -> usize
 
 // Writes the rows of the numbers 0, step, 2 * step and so on.
 fn fill(out: &mut [usize], digits: &[usize], step: usize)
-    requires { ⌜ (length (now out) ≤ 512) × (step ≤ 32) × (length (now digits) ≤ 10) × Small (now digits) ⌝ }
+    requires { ⌜ (length (now out) ≤ maxFreeRows) × (step ≤ maxVertices) × (length (now digits) ≤ maxInputs) × Small (now digits) ⌝ }
     ensures { λ _. ⌜ Gathered (now (digits .entry)) step (now (out .exit)) ⌝ }
 {
     let mut i = 0;
@@ -119,7 +120,7 @@ fn fill(out: &mut [usize], digits: &[usize], step: usize)
 }
 
 fn power(n: usize) -> usize
-    requires { ⌜ n ≤ 10 ⌝ }
+    requires { ⌜ n ≤ maxInputs ⌝ }
     ensures { λ r. ⌜ r ≡ 2 ^ n ⌝ }
 {
     1 << n
@@ -135,8 +136,8 @@ fn shape_of(k: Sheet) -> Shape
     let bound = k.bound;
     let list = digits(&bound[..b], n);
     let vertices = power(b);
-    let mut vertex = [0usize; 32];
-    let mut free = [0usize; 512];
+    let mut vertex = [0usize; limits::MAX_VERTICES];
+    let mut free = [0usize; limits::MAX_FREE_ROWS];
     fill(&mut vertex, &list[..n], 1);
     fill(&mut free, &list[..n], vertices);
     Shape {
@@ -149,15 +150,15 @@ fn shape_of(k: Sheet) -> Shape
 
 // The value of a table on row r.
 fn value(t: &[u64], r: usize) -> bool
-    requires { ⌜ (length (now t) ≡ 16) × (r < 1024) ⌝ }
+    requires { ⌜ (length (now t) ≡ tableWords) × (r < maxRows) ⌝ }
     ensures { λ v. ⌜ v ≡ rowOn (now (t .entry)) r ⌝ }
 {
-    bits::has(t[r / 64], (r % 64) as u32)
+    bits::has(t[r / limits::WORD_ROWS], (r % limits::WORD_ROWS) as u32)
 }
 
 // Whether vertices x and y have equal columns.
 fn equal(t: &[u64], vertex: &[usize], free: &[usize], x: Vertex, y: Vertex) -> bool
-    requires { ⌜ (length (now t) ≡ 16) × Inside (now vertex) (now free) × (x .0 < length (now vertex)) × (y .0 < length (now vertex)) ⌝ }
+    requires { ⌜ (length (now t) ≡ tableWords) × Inside (now vertex) (now free) × (x .0 < length (now vertex)) × (y .0 < length (now vertex)) ⌝ }
     ensures { λ r. ⌜ r ≡ alikeSeen (now (t .entry)) (now (vertex .entry)) (now (free .entry)) (x .0) (y .0) ⌝ }
 {
     let i = x.0;
@@ -177,7 +178,7 @@ fn equal(t: &[u64], vertex: &[usize], free: &[usize], x: Vertex, y: Vertex) -> b
 
 // The first vertex with a column equal to that of x.
 fn first_equal(t: &[u64], vertex: &[usize], free: &[usize], x: Vertex) -> Vertex
-    requires { ⌜ (length (now t) ≡ 16) × Inside (now vertex) (now free) × (x .0 < length (now vertex)) ⌝ }
+    requires { ⌜ (length (now t) ≡ tableWords) × Inside (now vertex) (now free) × (x .0 < length (now vertex)) ⌝ }
     ensures { λ r. ⌜ r .0 ≡ firstLike (alikeSeen (now (t .entry)) (now (vertex .entry)) (now (free .entry))) (x .0) ⌝ }
 {
     let i = x.0;
@@ -192,11 +193,11 @@ fn first_equal(t: &[u64], vertex: &[usize], free: &[usize], x: Vertex) -> Vertex
 }
 
 // The local classes of the output with the table t.
-fn local_classes(t: [u64; 16], vertex: &[usize], free: &[usize]) -> Locals
-    requires { ⌜ Inside (now vertex) (now free) × (length (now vertex) ≤ 32) ⌝ }
+fn local_classes(t: [u64; limits::TABLE_WORDS], vertex: &[usize], free: &[usize]) -> Locals
+    requires { ⌜ Inside (now vertex) (now free) × (length (now vertex) ≤ maxVertices) ⌝ }
     ensures { λ r. ⌜ ClassesBy (alikeSeen t (now (vertex .entry)) (now (free .entry))) (length (now (vertex .entry))) (r .count) (localAt (r .classes)) ⌝ }
 {
-    let mut classes = [LocalClass(0); 32];
+    let mut classes = [LocalClass(0); limits::MAX_VERTICES];
     let mut count = 0;
     let mut x = 0;
     while x < vertex.len() {
@@ -215,8 +216,8 @@ fn local_classes(t: [u64; 16], vertex: &[usize], free: &[usize]) -> Locals
 
 // The smallest w with 2 ^ w at least the number of classes.
 fn width(count: usize) -> usize
-    requires { ⌜ count ≤ 32 ⌝ }
-    ensures { λ r. ⌜ (r ≡ widthOf count) × (r ≤ 5) ⌝ }
+    requires { ⌜ count ≤ maxVertices ⌝ }
+    ensures { λ r. ⌜ (r ≡ widthOf count) × (r ≤ maxBound) ⌝ }
 {
     let mut w = 0;
     let mut most = 1;
@@ -228,9 +229,13 @@ fn width(count: usize) -> usize
 }
 
 // The keys of vertices, each with the local class of one output more: vertices have one key when they are in one class in
-// every output so far.
-fn with_output(keys: [usize; 32], l: Locals, vertices: usize) -> [usize; 32]
-    requires { ⌜ (vertices ≤ 32) × Keyable keys (localAt (l .classes)) vertices ⌝ }
+// every output so far. A local class number is below the number of vertices.
+fn with_output(
+    keys: [usize; limits::MAX_VERTICES],
+    l: Locals,
+    vertices: usize,
+) -> [usize; limits::MAX_VERTICES]
+    requires { ⌜ (vertices ≤ maxVertices) × Keyable keys (localAt (l .classes)) vertices ⌝ }
     ensures { λ r. ⌜ KeysBy keys (localAt (l .classes)) vertices r ⌝ }
 {
     let classes = l.classes;
@@ -238,7 +243,7 @@ fn with_output(keys: [usize; 32], l: Locals, vertices: usize) -> [usize; 32]
     let mut x = 0;
     while x < vertices {
         let c = classes[x];
-        list[x] = list[x] * 32 + c.0;
+        list[x] = list[x] * limits::MAX_VERTICES + c.0;
         x += 1;
     }
     list
@@ -262,10 +267,10 @@ fn first_key(keys: &[usize], x: Vertex) -> Vertex
 
 // The global classes of vertices with these keys.
 fn global_classes(keys: &[usize]) -> Globals
-    requires { ⌜ length (now keys) ≤ 32 ⌝ }
+    requires { ⌜ length (now keys) ≤ maxVertices ⌝ }
     ensures { λ r. ⌜ ClassesBy (sameKey (now (keys .entry))) (length (now (keys .entry))) (r .count) (globalAt (r .classes)) ⌝ }
 {
-    let mut classes = [GlobalClass(0); 32];
+    let mut classes = [GlobalClass(0); limits::MAX_VERTICES];
     let mut count = 0;
     let mut x = 0;
     while x < keys.len() {
@@ -295,10 +300,10 @@ pub fn classes_of(k: Sheet) -> Classes
     let outputs = k.outputs;
     let mut locals = [Locals {
         count: 0,
-        classes: [LocalClass(0); 32],
-    }; 4];
-    let mut widths = [0usize; 4];
-    let mut keys = [0usize; 32];
+        classes: [LocalClass(0); limits::MAX_VERTICES],
+    }; limits::MAX_OUTPUTS];
+    let mut widths = [0usize; limits::MAX_OUTPUTS];
+    let mut keys = [0usize; limits::MAX_VERTICES];
     let mut o = 0;
     while o < outputs {
         let rows = k.tables[o];

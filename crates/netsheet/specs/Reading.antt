@@ -1,11 +1,11 @@
 -- What the code holds of a network sheet between its lines, and what one line changes of it. Assumes nothing.
 use mathlib.Core.Path.{_≡_}
 use mathlib.Core.Bool.{Bool, true, false}
-use mathlib.Core.List.{List, [], _∷_, _++_}
+use mathlib.Core.List.{List, _++_}
 use mathlib.Core.Option.{Option, none}
 use Prim.Native.Nat.{ℕ, _+_, _≤_, _<_}
 use lib.Dec.{ltb}
-use lib.ListN.{length, drop, set}
+use lib.ListN.{length, drop, set, replicate}
 use Rattle.bits.specs.Logic.{pick}
 use Rattle.limits.specs.Limits.{maxCells, maxOutputs}
 use Rattle.names.specs.Name.{Name}
@@ -42,9 +42,9 @@ fresh =
       ok = true;
       place = Place.Network;
       luts = 0;
-      lutat = 0 ∷ 0 ∷ 0 ∷ 0 ∷ 0 ∷ 0 ∷ [];
-      reads = 0 ∷ 0 ∷ 0 ∷ 0 ∷ [];
-      nodeat = 0 ∷ 0 ∷ 0 ∷ 0 ∷ [];
+      lutat = replicate maxCells 0;
+      reads = replicate maxOutputs 0;
+      nodeat = replicate maxOutputs 0;
     }
 
 abbrev pub moved : Reading → Bool → Place → Reading

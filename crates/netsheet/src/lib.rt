@@ -4,6 +4,7 @@ ghost use mathlib.Core.Path.{_≡_};
 ghost use mathlib.Core.List.{List, map};
 ghost use Prim.Native.Nat.{ℕ, _+_, _≤_, _<_, _^_};
 ghost use lib.ListN.{length, getD, take};
+ghost use Rattle.limits.specs.Limits.{maxInputs, maxBound, maxOutputs, maxCells, maxNetwork};
 ghost use Rattle.names.specs.Pack.{nameOf};
 ghost use Rattle.sheet.specs.Examine.{Design};
 ghost use Rattle.sheet.specs.Known.{Holds};
@@ -25,9 +26,9 @@ pub struct NetworkSheet {
     pub ok: bool,
     pub line: usize,
     pub luts: usize,
-    pub lutat: [usize; 6],
-    pub reads: [u8; 4],
-    pub nodeat: [usize; 4],
+    pub lutat: [usize; limits::MAX_CELLS],
+    pub reads: [u8; limits::MAX_OUTPUTS],
+    pub nodeat: [usize; limits::MAX_OUTPUTS],
 }
 
 // Which line is wanted: a node line has the number of its output.
@@ -45,38 +46,33 @@ pub struct Reading {
     pub ok: bool,
     pub place: Place,
     pub luts: usize,
-    pub lutat: [usize; 6],
-    pub reads: [u8; 4],
-    pub nodeat: [usize; 4],
+    pub lutat: [usize; limits::MAX_CELLS],
+    pub reads: [u8; limits::MAX_OUTPUTS],
+    pub nodeat: [usize; limits::MAX_OUTPUTS],
 }
 
 // The free inputs' names, with their count.
 pub struct Frees {
     pub count: usize,
-    pub list: [u64; 10],
+    pub list: [u64; limits::MAX_INPUTS],
 }
 
 // The names of a design that the lines of a network sheet repeat: bound inputs, free inputs and outputs.
 pub struct Named {
     pub bounds: usize,
-    pub bound: [u64; 5],
+    pub bound: [u64; limits::MAX_BOUND],
     pub frees: usize,
-    pub free: [u64; 10],
+    pub free: [u64; limits::MAX_INPUTS],
     pub outputs: usize,
-    pub outs: [u64; 4],
+    pub outs: [u64; limits::MAX_OUTPUTS],
 }
 
-// The most shared tables, and the most bytes of a network sheet.
-const MAX_CELLS: usize = 6;
-
-const MAX_NETWORK: usize = 8192;
-
 // The names at some places.
-fn bound_names(names: &[u64], places: &[usize]) -> [u64; 5]
-    requires { ⌜ (length (now places) ≤ 5) × ((i : ℕ) → i < length (now places) → getD (now places) i 0 < length (now names)) ⌝ }
-    ensures { λ r. ⌜ (length r ≡ 5) × (take (length (now (places .entry))) r ≡ map (λ (p : ℕ). getD (now (names .entry)) p 0) (now (places .entry))) ⌝ }
+fn bound_names(names: &[u64], places: &[usize]) -> [u64; limits::MAX_BOUND]
+    requires { ⌜ (length (now places) ≤ maxBound) × ((i : ℕ) → i < length (now places) → getD (now places) i 0 < length (now names)) ⌝ }
+    ensures { λ r. ⌜ (length r ≡ maxBound) × (take (length (now (places .entry))) r ≡ map (λ (p : ℕ). getD (now (names .entry)) p 0) (now (places .entry))) ⌝ }
 {
-    let mut list = [0u64; 5];
+    let mut list = [0u64; limits::MAX_BOUND];
     let mut i = 0;
     while i < places.len() {
         let p = places[i];
@@ -88,10 +84,10 @@ fn bound_names(names: &[u64], places: &[usize]) -> [u64; 5]
 
 // The names that are not among the bound ones.
 fn free_names(names: &[u64], bound: &[u64]) -> Frees
-    requires { ⌜ length (now names) ≤ 10 ⌝ }
+    requires { ⌜ length (now names) ≤ maxInputs ⌝ }
     ensures { λ r. ⌜ FreesAre (now (names .entry)) (now (bound .entry)) r ⌝ }
 {
-    let mut list = [0u64; 10];
+    let mut list = [0u64; limits::MAX_INPUTS];
     let mut count: usize = 0;
     let mut i = 0;
     while i < names.len() {
@@ -140,9 +136,9 @@ fn blank() -> Reading
         ok: true,
         place: Place::Network,
         luts: 0,
-        lutat: [0; 6],
-        reads: [0; 4],
-        nodeat: [0; 4],
+        lutat: [0; limits::MAX_CELLS],
+        reads: [0; limits::MAX_OUTPUTS],
+        nodeat: [0; limits::MAX_OUTPUTS],
     }
 }
 
@@ -165,7 +161,7 @@ fn onward(s: Reading, good: bool, p: Place) -> Reading
 
 // One shared table more, whose digits stand at p.
 fn with_lut(s: Reading, p: usize) -> Reading
-    requires { ⌜ s .luts < 6 ⌝ }
+    requires { ⌜ s .luts < maxCells ⌝ }
     ensures { λ r. ⌜ r ≡ lutAdded s p ⌝ }
 {
     let u = s.luts;
@@ -185,7 +181,7 @@ fn with_lut(s: Reading, p: usize) -> Reading
 
 // The line after the node of output o.
 fn after_node(o: usize, outputs: usize) -> Place
-    requires { ⌜ o < 4 ⌝ }
+    requires { ⌜ o < maxOutputs ⌝ }
     ensures { λ r. ⌜ r ≡ afterNode o outputs ⌝ }
 {
     if o + 1 < outputs {
@@ -197,7 +193,7 @@ fn after_node(o: usize, outputs: usize) -> Place
 
 // The node of output o, which reads the shared tables of the mask, and whose digits stand at p.
 fn with_node(s: Reading, o: usize, mask: u8, p: usize, outputs: usize) -> Reading
-    requires { ⌜ o < 4 ⌝ }
+    requires { ⌜ o < maxOutputs ⌝ }
     ensures { λ r. ⌜ r ≡ nodeAdded s o mask p outputs ⌝ }
 {
     let lutat = s.lutat;
@@ -218,7 +214,7 @@ fn with_node(s: Reading, o: usize, mask: u8, p: usize, outputs: usize) -> Readin
 
 // The node line of output o, which stands from at on.
 fn ask_node(l: &[u8], at: usize, k: Named, s: Reading, o: usize) -> Reading
-    requires { ⌜ Counts k × (s .luts ≤ 6) × (o < 4) × (at + length (now l) ≤ 8192) ⌝ }
+    requires { ⌜ Counts k × (s .luts ≤ maxCells) × (o < maxOutputs) × (at + length (now l) ≤ maxNetwork) ⌝ }
     ensures { λ r. ⌜ (Safe r) × ((t : List ℕ) (d : Design) (w : Network) → PartOf t at (now (l .entry)) → NamedIs d k → HeldBy d t w s → length (w .nodes) ≡ o → o < length (d .outputs) → StepIs d t (spec.askNode d w o (now (l .entry))) r) ⌝ }
 {
     let f = k.frees;
@@ -236,7 +232,7 @@ fn lut_line(l: &[u8], k: Named, u: usize) -> Table
     requires { ⌜ Counts k ⌝ }
     ensures { λ r. ⌜ TableIs (now (l .entry)) (2 ^ (k .bounds)) r (maybeLut (map nameOf (take (k .bounds) (k .bound))) u (now (l .entry))) ⌝ }
 {
-    if MAX_CELLS <= u {
+    if limits::MAX_CELLS <= u {
         return Table::Bad;
     }
     let b = k.bounds;
@@ -246,7 +242,7 @@ fn lut_line(l: &[u8], k: Named, u: usize) -> Table
 
 // A lut line or the first node, which stands from at on.
 fn ask_lut(l: &[u8], at: usize, k: Named, s: Reading) -> Reading
-    requires { ⌜ Counts k × (s .luts ≤ 6) × (at + length (now l) ≤ 8192) ⌝ }
+    requires { ⌜ Counts k × (s .luts ≤ maxCells) × (at + length (now l) ≤ maxNetwork) ⌝ }
     ensures { λ r. ⌜ (Safe r) × ((t : List ℕ) (d : Design) (w : Network) → PartOf t at (now (l .entry)) → NamedIs d k → HeldBy d t w s → length (w .nodes) ≡ 0 → 0 < length (d .outputs) → StepIs d t (spec.askLut d w (now (l .entry))) r) ⌝ }
 {
     let r = lut_line(l, k, s.luts);
@@ -258,7 +254,7 @@ fn ask_lut(l: &[u8], at: usize, k: Named, s: Reading) -> Reading
 
 // One line by the place that it stands at; it stands from at on.
 fn ask_line(l: &[u8], at: usize, k: Named, s: Reading) -> Reading
-    requires { ⌜ Counts k × Safe s × (at + length (now l) ≤ 8192) ⌝ }
+    requires { ⌜ Counts k × Safe s × (at + length (now l) ≤ maxNetwork) ⌝ }
     ensures { λ r. ⌜ (Safe r) × ((t : List ℕ) (d : Design) (w : Network) → PartOf t at (now (l .entry)) → NamedIs d k → Known d t w s → 0 < length (d .outputs) → StepIs d t (spec.askLine d (placeOf (s .place)) w (now (l .entry))) r) ⌝ }
 {
     let p = s.place;
@@ -280,9 +276,9 @@ fn bad_line(n: usize) -> NetworkSheet
         ok: false,
         line: n,
         luts: 0,
-        lutat: [0; 6],
-        reads: [0; 4],
-        nodeat: [0; 4],
+        lutat: [0; limits::MAX_CELLS],
+        reads: [0; limits::MAX_OUTPUTS],
+        nodeat: [0; limits::MAX_OUTPUTS],
     }
 }
 
@@ -329,7 +325,7 @@ pub fn read_network(t: &[u8], k: Sheet) -> NetworkSheet
     if t.len() < 1 {
         return bad_line(0);
     }
-    if MAX_NETWORK < t.len() {
+    if limits::MAX_NETWORK < t.len() {
         return bad_line(0);
     }
     let names = names_of(k);

@@ -3,18 +3,19 @@
 use Rattle.rows.specs.Row.{rowOf}
 use Rattle.text.specs.Line.{endsLine}
 use Rattle.sheet.specs.Computing as sheets
-use Rattle.classes.specs.Columns.{free, onParts, joinRow, vertexOf, freeRowOf, valueAt, valuesUpto, column, apart, conflict, alikeUpto}
+use Rattle.classes.specs.Columns.{free, onParts, joinRow, vertexOf, freeRowOf, valueAt, valuesUpto, column, sameValues, apart, conflict, alike, alikeUpto}
 use Rattle.classes.specs.Classes.{firstFrom, firstLike, classCount, classOf, localCount, globalCount}
 use Rattle.classes.specs.Width.{widthFrom, widthOf, width, budget}
 use Rattle.network.specs.Printer.{ledAll, lutName, printDigits, lutHead, printLut, nodeHead, printNode, printCount, lutLines, nodeLines, networkLines, printNetwork}
-use Rattle.network.specs.Reader.{readDigits, readLut, readReads, readNode}
+use Rattle.network.specs.Given.{readGiven, readGivens}
+use Rattle.network.specs.Reader.{readDigits, readInputs, readLutHead, readLut, readReads, readNodeHead, readNode}
 use Rattle.network.specs.Examine.{askNode, askLut, askLine, askLines, readNetwork, wideNode, offending}
 use Rattle.network.specs.Value.{lutOn, nodeRow, networkOn}
 use Rattle.network.specs.Check.{firstOf, differsOn, differingRow, compareFrom, examinePair, checkOf, check}
 
 classes : Unit {0}
-unfolding rowOf free onParts joinRow vertexOf freeRowOf valueAt valuesUpto column apart conflict alikeUpto firstFrom firstLike
-    classCount classOf localCount globalCount widthFrom widthOf width budget
+unfolding rowOf free onParts joinRow vertexOf freeRowOf valueAt valuesUpto column sameValues apart conflict alike alikeUpto
+    firstFrom firstLike classCount classOf localCount globalCount widthFrom widthOf width budget
 classes = tt
 
 printing : Unit {0}
@@ -22,7 +23,8 @@ unfolding ledAll lutName printDigits lutHead printLut nodeHead printNode printCo
 printing = tt
 
 reading : Unit {0}
-unfolding readDigits readLut readReads readNode askNode askLut askLine askLines endsLine readNetwork wideNode offending
+unfolding readGiven readGivens readDigits readInputs readLutHead readLut readReads readNodeHead readNode
+    askNode askLut askLine askLines endsLine readNetwork wideNode offending
 reading = tt
 
 checking : Unit {0}

@@ -1,6 +1,7 @@
 -- The network sheet of document 01, its examination, Check, and laws about these.
 pub mod Network
 pub mod Printer
+pub mod Given
 pub mod Reader
 pub mod Examine
 pub mod Value
@@ -32,7 +33,7 @@ pub mod WorkedBound
 pub mod Numbers
 pub mod LineAnswer
 pub mod ChainLaws
-pub mod SpellLaws
+pub mod GivenLaws
 pub mod ListedLaws
 pub mod NumbersLaws
 pub mod TablesLaws

@@ -1,25 +1,27 @@
 -- What the readers of a line answer, by the definitions: a line's digits are told by the place where they stand.
 -- Assumes nothing.
 use mathlib.Core.Path.{_≡_}
-use mathlib.Core.Bool.{Bool, true, _&&_, _||_}
+use mathlib.Core.Bool.{Bool}
 use mathlib.Core.List.{List, [], _∷_}
 use mathlib.Core.Option.{Option, some, none}
 use Prim.Native.Nat.{ℕ, _+_, _^_, _≤_}
-use lib.Dec.{eqb}
 use lib.ListN.{length, take, drop}
-use Rattle.text.specs.Bytes.{Read, found}
+use Rattle.text.specs.Bytes.{Read, found, after, eat}
 use Rattle.cursor.specs.Item.{from}
 use Rattle.network.specs.Network.{Node}
 use Rattle.network.specs.Printer.{printDigits}
+use Rattle.network.specs.Reader.{readDigits, firstFound}
 use Rattle.network.specs.Numbers.{numbersOf}
 use Rattle.network.specs.declared.Table.{Table}
 use Rattle.network.specs.declared.NodeLine.{NodeLine}
 use Rattle.network.specs.declared.Reads.{Reads}
 
--- whether every byte is a digit 0 or 1
-unfoldable pub binary : List ℕ → Bool
-binary [] = true
-binary (b ∷ s) = (eqb b 0x30 || eqb b 0x31) && binary s
+-- a digit 0 or 1, and so many digits, without their values
+abbrev pub eatDigit : List ℕ → Read (Unit {0})
+eatDigit s = firstFound (eat (0x30 ∷ []) s) (eat (0x31 ∷ []) s)
+
+unfoldable pub eatDigits : ℕ → List ℕ → Read (Unit {0})
+eatDigits n s = after (readDigits n s) (λ _ t. found tt t)
 
 -- the n digits ds stand in a text from a place on
 pub record Stands (s : List ℕ) (n at : ℕ) (ds : List Bool) : Type 0 where

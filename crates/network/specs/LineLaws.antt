@@ -11,14 +11,15 @@ use lib.ListN.{length}
 use Rattle.text.specs.Bytes.{Read, found, after, eat, whole, bytes, closeBracket}
 use Rattle.text.specs.EatLaws.{found-item, found-rest, eat-own, eat-found, after-found, whole-found}
 use Rattle.text.specs.After.{byte-found}
-use Rattle.names.specs.Name.{Name}
+use Rattle.names.specs.Name.{Name, isName}
 use Rattle.names.specs.Front.{allNames}
 use Rattle.sheet.specs.Lines.{closed}
 use Rattle.network.specs.Network.{Node}
 use Rattle.network.specs.Printer.{ledAll, lutName, printDigits, lutHead, printLut, nodeHead, printNode}
-use Rattle.network.specs.Reader.{readDigits, readLut, readReads, readNodeRest, readNode}
+use Rattle.network.specs.Reader.{readDigits, readInputs, readLutHead, readLut, readReads, none-of, readNodeHead, readNodeRest, readNode}
 use Rattle.network.specs.Reads.{restOf, ReadsFront}
 use Rattle.network.specs.Wellformed.{NodeFits}
+use Rattle.network.specs.GivenLaws.{inputs-eaten, lut-head-eaten, node-head-eaten}
 use Rattle.network.specs.DigitsLaws.{DigitsFront, digits-read-of-print, digits-print-of-read}
 use Rattle.network.specs.ReadsLaws.{reads-print-of-read, reads-read-of-print}
 use Rattle.network.specs.NodeListLaws.{list-split, rest-no-lut}
@@ -41,26 +42,29 @@ abbrev readTable : List Name → List ℕ → Read (List Bool)
 readTable bs s = readDigits (2 ^ length bs) s
 
 pub lut-read-of-print : (bs : List Name) (i : ℕ) (ds : List Bool)
+    → allNames bs ≡ true
     → length ds ≡ 2 ^ length bs
     → readLut bs i (printLut bs i ds) ≡ some ds
 unfolding readLut printLut
-lut-read-of-print bs i ds c =
+lut-read-of-print bs i ds h c =
     let t = printDigits ds ++ (closeBracket ∷ []) in
-    line-closed (after (eat (lutHead bs i) (lutHead bs i ++ t)) (λ _ s. readTable bs s)) ds
-    (ap (λ (r : Read (Unit {0})). after r (λ _ s. readTable bs s)) (eat-own (lutHead bs i) t)
+    let l = lutHead bs i ++ t in
+    line-closed (after (readLutHead bs i l) (λ _ s. readTable bs s)) ds
+    (ap (λ (r : Read (Unit {0})). after r (λ _ s. readTable bs s)) (lut-head-eaten bs i l h ∙ eat-own (lutHead bs i) t)
     ∙ ap (λ (n : ℕ). readDigits n t) (sym c)
     ∙ digits-read-of-print ds (closeBracket ∷ []))
 
 pub lut-print-of-read : (bs : List Name) (i : ℕ) (l : List ℕ) (ds : List Bool)
+    → allNames bs ≡ true
     → readLut bs i l ≡ some ds
     → (length ds ≡ 2 ^ length bs) × (l ≡ printLut bs i ds)
 unfolding readLut printLut
-lut-print-of-read bs i l ds e =
-    let head = eat (lutHead bs i) l in
+lut-print-of-read bs i l ds h e =
+    let head = readLutHead bs i l in
     let line = closed-line (after head (λ _ s. readTable bs s)) ds e in
     let (a, s, f, g) = after-found head (λ _ s. readTable bs s) ds (closeBracket ∷ []) line in
     let d = digits-print-of-read (2 ^ length bs) s ds (closeBracket ∷ []) g in
-    (d .counted, eat-found (lutHead bs i) l s f ∙ ap (λ (x : List ℕ). lutHead bs i ++ x) (d .is-split))
+    (d .counted, eat-found (lutHead bs i) l s (sym (lut-head-eaten bs i l h) ∙ f) ∙ ap (λ (x : List ℕ). lutHead bs i ++ x) (d .is-split))
 
 -- ---- the node line, after the shared tables
 abbrev rowCount : List Name → List ℕ → ℕ
@@ -70,9 +74,14 @@ abbrev nodeOf : List ℕ → List Bool → Node
 nodeOf is ds = record { reads = is; digits = ds }
 
 rest-read-of-print : (fs : List Name) (is : List ℕ) (ds : List Bool) (t : List ℕ)
+    → allNames fs ≡ true
     → length ds ≡ rowCount fs is
     → readNodeRest fs is (restOf fs is ++ (printDigits ds ++ t)) ≡ found (nodeOf is ds) t
-rest-read-of-print fs is ds t c = rw (eat-own (restOf fs is) (printDigits ds ++ t), ← c, digits-read-of-print ds t) refl
+rest-read-of-print fs is ds t h c =
+    let s = printDigits ds ++ t in
+    let inputs : readInputs (none-of is) fs (restOf fs is ++ s) ≡ found tt s
+    = inputs-eaten (none-of is) fs (restOf fs is ++ s) h ∙ eat-own (restOf fs is) s in
+    rw (inputs, ← c, digits-read-of-print ds t) refl
 
 record RestFront (fs : List Name) (is s : List ℕ) (x : Node) (t : List ℕ) : Type 0 where
   pub reads-are : x .reads ≡ is
@@ -91,14 +100,15 @@ rest-front fs is s u ds t e d =
     }
 
 rest-print-of-read : (fs : List Name) (is s : List ℕ) (x : Node) (t : List ℕ)
+    → allNames fs ≡ true
     → readNodeRest fs is s ≡ found x t
     → RestFront fs is s x t
-rest-print-of-read fs is s x t e =
+rest-print-of-read fs is s x t h e =
     let n = rowCount fs is in
     let node : List Bool → List ℕ → Read Node = λ ds v. found (nodeOf is ds) v in
-    let (a, u, f, g) = after-found (eat (restOf fs is) s) (λ _ u. after (readDigits n u) node) x t e in
-    let (ds, v, h, i) = after-found (readDigits n u) node x t g in
-    rw (found-item i, found-rest i) at (rest-front fs is s u ds v f (digits-print-of-read n u ds v h))
+    let (a, u, f, g) = after-found (readInputs (none-of is) fs s) (λ _ u. after (readDigits n u) node) x t e in
+    let (ds, v, k, i) = after-found (readDigits n u) node x t g in
+    rw (found-item i, found-rest i) at (rest-front fs is s u ds v (sym (inputs-eaten (none-of is) fs s h) ∙ f) (digits-print-of-read n u ds v k))
 
 -- ---- and after its head
 abbrev readNodeList : List Name → ℕ → List ℕ → Read Node
@@ -120,13 +130,14 @@ list-of-parts fs u s is t x p q =
     )
 
 list-print-of-read : (fs : List Name) (u : ℕ) (s : List ℕ) (x : Node)
+    → allNames fs ≡ true
     → readNodeList fs u s ≡ found x (closeBracket ∷ [])
     → NodeFits fs u x × (s ≡ printNodeList fs x)
-list-print-of-read fs u s x e =
+list-print-of-read fs u s x h e =
     let (is, t, f, g) = after-found (readReads true u 0 s) (λ is t. readNodeRest fs is t) x (closeBracket ∷ []) e in
     list-of-parts fs u s is t x
     (reads-print-of-read true u 0 u s is t (omega arith) f)
-    (rest-print-of-read fs is t x (closeBracket ∷ []) g)
+    (rest-print-of-read fs is t x (closeBracket ∷ []) h g)
 
 list-read-of-print : (fs : List Name) (u : ℕ) (x : Node)
     → allNames fs ≡ true
@@ -140,27 +151,32 @@ list-read-of-print fs u x h m f =
     record { rises = f .rises; is-split = list-split fs is ds; no-more = λ j k l. rest-no-lut fs is ds j h } in
     ap (λ (r : Read (List ℕ)). after r (λ js v. readNodeRest fs js v))
     (reads-read-of-print true u 0 u (printNodeList fs x) is (restOf fs is ++ ds) (omega arith) m front)
-    ∙ rest-read-of-print fs is (x .digits) (closeBracket ∷ []) (f .counted)
+    ∙ rest-read-of-print fs is (x .digits) (closeBracket ∷ []) h (f .counted)
 
 -- ---- the node line
 pub node-read-of-print : (n : Name) (fs : List Name) (u : ℕ) (x : Node)
+    → isName n ≡ true
     → allNames fs ≡ true
     → u ≤ 10
     → NodeFits fs u x
     → readNode n fs u (printNode n fs x) ≡ some x
 unfolding readNode printNode
-node-read-of-print n fs u x h m f =
+node-read-of-print n fs u x k h m f =
     let t = printNodeList fs x in
-    line-closed (after (eat (nodeHead n) (nodeHead n ++ t)) (λ _ s. readNodeList fs u s)) x
-    (ap (λ (r : Read (Unit {0})). after r (λ _ s. readNodeList fs u s)) (eat-own (nodeHead n) t) ∙ list-read-of-print fs u x h m f)
+    let l = nodeHead n ++ t in
+    line-closed (after (readNodeHead n l) (λ _ s. readNodeList fs u s)) x
+    (ap (λ (r : Read (Unit {0})). after r (λ _ s. readNodeList fs u s)) (node-head-eaten n l k ∙ eat-own (nodeHead n) t)
+    ∙ list-read-of-print fs u x h m f)
 
 pub node-print-of-read : (n : Name) (fs : List Name) (u : ℕ) (l : List ℕ) (x : Node)
+    → isName n ≡ true
+    → allNames fs ≡ true
     → readNode n fs u l ≡ some x
     → NodeFits fs u x × (l ≡ printNode n fs x)
 unfolding readNode printNode
-node-print-of-read n fs u l x e =
-    let head = eat (nodeHead n) l in
+node-print-of-read n fs u l x k h e =
+    let head = readNodeHead n l in
     let line = closed-line (after head (λ _ s. readNodeList fs u s)) x e in
     let (a, s, f, g) = after-found head (λ _ s. readNodeList fs u s) x (closeBracket ∷ []) line in
-    let (i, p) = list-print-of-read fs u s x g in
-    (i, eat-found (nodeHead n) l s f ∙ ap (λ (y : List ℕ). nodeHead n ++ y) p)
+    let (i, p) = list-print-of-read fs u s x h g in
+    (i, eat-found (nodeHead n) l s (sym (node-head-eaten n l k) ∙ f) ∙ ap (λ (y : List ℕ). nodeHead n ++ y) p)

@@ -2,21 +2,20 @@
 -- end. Assumes nothing.
 use mathlib.Core.Path.{_≡_, refl, sym, ap, subst, _∙_}
 use mathlib.Core.Bool.{Bool, true}
-use mathlib.Core.List.{List, [], _∷_, _++_}
+use mathlib.Core.List.{List, [], _∷_}
 use mathlib.Core.Option.{Option, some, none}
 use Prim.Native.Nat.{ℕ, _+_, _^_}
 use native.Mathlib.Omega.{arith}
 use lib.Dec.{eqb}
 use lib.ListN.{length}
 use borrow.Author.Tests.{ne-eqb}
-use Rattle.text.specs.Bytes.{bytes, Read, found, bad, after, eat, whole, closeBracket}
+use Rattle.text.specs.Bytes.{Read, found, bad, after, eat, whole, closeBracket}
 use Rattle.names.specs.Name.{Name}
 use Rattle.sheet.specs.Lines.{closed}
 use Rattle.cursor.specs.Item.{At, from}
 use Rattle.cursor.specs.declared.Cursor.{Cursor}
 use Rattle.network.specs.Network.{Node}
-use Rattle.network.specs.Printer.{ledAll, lutHead, nodeHead}
-use Rattle.network.specs.Reader.{readDigits, readReads, readLut, readNode, readNodeRest, none-of}
+use Rattle.network.specs.Reader.{readDigits, readInputs, readLutHead, readReads, readLut, readNodeHead, readNode, readNodeRest, none-of}
 use Rattle.network.specs.Numbers.{numbersOf}
 use Rattle.network.specs.LineAnswer.{Stands, TableIs, TableRead, ReadsAre, NodeRead}
 use Rattle.network.specs.declared.Table.{Table}
@@ -24,11 +23,11 @@ use Rattle.network.specs.declared.Reads.{Reads}
 
 -- ---- a lut line
 module _ (l : List ℕ) (bs : List Name) (i : ℕ) where
-  pub lut-no-head : bad ≡ eat (lutHead bs i) l → none ≡ readLut bs i l
+  pub lut-no-head : bad ≡ readLutHead bs i l → none ≡ readLut bs i l
   unfolding readLut
   lut-no-head e = rw (← e) refl
 
-  pub lut-digits : {c : Cursor} → At l tt c (eat (lutHead bs i) l) → (r : Table) (n k : ℕ) → n ≡ 2 ^ k → k ≡ length bs
+  pub lut-digits : {c : Cursor} → At l tt c (readLutHead bs i l) → (r : Table) (n k : ℕ) → n ≡ 2 ^ k → k ≡ length bs
       → TableIs l n r (whole (closed (readDigits n (from l c)))) → TableIs l (2 ^ k) r (readLut bs i l)
   unfolding readLut
   lut-digits {c} h r n k e f t =
@@ -59,14 +58,11 @@ node-ends is (found ds v) = go (eat (closeBracket ∷ []) v)
     go (found x (b ∷ s)) = refl
 
 module _ (l : List ℕ) (n : Name) (fs : List Name) (u : ℕ) where
-  pub node-no-head : bad ≡ eat (nodeHead n) l → none ≡ readNode n fs u l
+  pub node-no-head : bad ≡ readNodeHead n l → none ≡ readNode n fs u l
   unfolding readNode
   node-no-head e = rw (← e) refl
 
-  module _ {a : Cursor} (h : At l tt a (eat (nodeHead n) l)) (w : Reads) (g : ReadsAre l u w (readReads true u 0 (from l a))) where
-    abbrev inputs-after : Bool → List ℕ
-    inputs-after first = ledAll first fs ++ bytes ") "
-
+  module _ {a : Cursor} (h : At l tt a (readNodeHead n l)) (w : Reads) (g : ReadsAre l u w (readReads true u 0 (from l a))) where
     by-reads : readNode n fs u l ≡ whole (closed (readNodeRest fs (numbersOf u (w .mask)) (from l (w .next))))
     unfolding readNode
     by-reads = rw (← h .is, ← g .is) refl
@@ -74,18 +70,18 @@ module _ (l : List ℕ) (n : Name) (fs : List Name) (u : ℕ) where
     leads : eqb (w .count) 0 ≡ none-of (numbersOf u (w .mask))
     leads = ap (λ (k : ℕ). eqb k 0) (g .counted) ∙ sym (none-counted (numbersOf u (w .mask)))
 
-    pub node-no-inputs : bad ≡ eat (inputs-after (eqb (w .count) 0)) (from l (w .next)) → none ≡ readNode n fs u l
+    pub node-no-inputs : bad ≡ readInputs (eqb (w .count) 0) fs (from l (w .next)) → none ≡ readNode n fs u l
     node-no-inputs e =
-        let q : bad ≡ eat (inputs-after (none-of (numbersOf u (w .mask)))) (from l (w .next)) = e ∙ ap (λ (b : Bool). eat (inputs-after b) (from l (w .next))) leads in
+        let q : bad ≡ readInputs (none-of (numbersOf u (w .mask))) fs (from l (w .next)) = e ∙ ap (λ (b : Bool). readInputs b fs (from l (w .next))) leads in
         sym (by-reads ∙ rw (← q) refl)
 
-    module _ {d : Cursor} (i : At l tt d (eat (inputs-after (eqb (w .count) 0)) (from l (w .next)))) (f k : ℕ) (few : f ≡ length fs) (rows : k ≡ 2 ^ (w .count + f)) where
+    module _ {d : Cursor} (i : At l tt d (readInputs (eqb (w .count) 0) fs (from l (w .next)))) (f k : ℕ) (few : f ≡ length fs) (rows : k ≡ 2 ^ (w .count + f)) where
       rows-of : k ≡ 2 ^ (length (numbersOf u (w .mask)) + f)
       rows-of = rows ∙ ap (λ (m : ℕ). 2 ^ (m + f)) (g .counted)
 
       by-digits : readNode n fs u l ≡ asNode (numbersOf u (w .mask)) (whole (closed (readDigits k (from l d))))
       by-digits =
-          let q : found tt (from l d) ≡ eat (inputs-after (none-of (numbersOf u (w .mask)))) (from l (w .next)) = i .is ∙ ap (λ (b : Bool). eat (inputs-after b) (from l (w .next))) leads in
+          let q : found tt (from l d) ≡ readInputs (none-of (numbersOf u (w .mask))) fs (from l (w .next)) = i .is ∙ ap (λ (b : Bool). readInputs b fs (from l (w .next))) leads in
           let r : 2 ^ (length (numbersOf u (w .mask)) + length fs) ≡ k = sym (rows-of ∙ ap (λ (m : ℕ). 2 ^ (length (numbersOf u (w .mask)) + m)) few) in
           by-reads ∙ rw (← q, r) (node-ends (numbersOf u (w .mask)) (readDigits k (from l d)))
 

@@ -3,7 +3,7 @@ use mathlib.Core.Path.{_≡_, refl, ap}
 use mathlib.Core.Bool.{Bool, true, false}
 use mathlib.Core.List.{List, [], _∷_, _++_}
 use mathlib.Core.Option.{none}
-use Prim.Native.Nat.{ℕ, suc, _≤_, _<_}
+use Prim.Native.Nat.{ℕ, zero, suc, _≤_, _<_}
 use native.Mathlib.Omega.{arith}
 use lib.ListN.{length, getD, drop, length-map}
 use lib.Seq.{drop-cons}
@@ -17,8 +17,8 @@ use Rattle.sheet.specs.Lines.{Output}
 use Rattle.sheet.specs.Examine.{Design}
 use Rattle.classes.specs.Columns.{free}
 use Rattle.network.specs.Network.{Node}
-use Rattle.network.specs.Printer.{printNode, nodeHead, nodeLines, lutHead}
-use Rattle.network.specs.Reader.{readLut}
+use Rattle.network.specs.Printer.{printNode, nodeHead, nodeLines}
+use Rattle.network.specs.Reader.{readLutHead, readLut}
 use Rattle.network.specs.Examine.{at-node, at-count}
 use Rattle.network.specs.Parts.{freeOf, namesOf, nodePlace, linesFromNode, lastLines}
 
@@ -36,9 +36,18 @@ free-named (n ∷ ns) bs h =
     go true i r = r
     go false i r = and-both (isName n) (allNames (free ns bs)) i r
 
+pub name-at : (ns : List Name) (i : ℕ) → allNames ns ≡ true → i < length ns → isName (getD ns i []) ≡ true
+unfolding allNames
+name-at [] i h l = absurd (omega arith)
+name-at (n ∷ ns) zero h l = and-left (isName n) (allNames ns) h
+name-at (n ∷ ns) (suc i) h l = name-at ns i (and-right (isName n) (allNames ns) h) (omega arith)
+
 module _ (d : Design) where
   pub names-count : length (namesOf d) ≡ length (d .outputs)
   names-count = length-map (d .outputs) (λ (o : Output). o .name)
+
+  pub output-named : (o : ℕ) → allNames (namesOf d) ≡ true → o < length (d .outputs) → isName (getD (namesOf d) o []) ≡ true
+  output-named o h l = name-at (namesOf d) o h (omega (arith, names-count))
 
   -- ---- node lines
   pub place-node : (o : ℕ) → o < length (d .outputs) → nodePlace d o ≡ at-node o
@@ -66,5 +75,5 @@ module _ (d : Design) where
 -- a node line is no lut line
 pub node-no-lut : (bs : List Name) (i : ℕ) (n : Name) (fs : List Name) (x : Node)
     → readLut bs i (printNode n fs x) ≡ none
-unfolding readLut lutHead printNode nodeHead eat
+unfolding readLut readLutHead printNode nodeHead eat
 node-no-lut bs i n fs x = refl

@@ -9,37 +9,25 @@ use native.Mathlib.Omega.{arith}
 use native.Mathlib.Decide.{ℕ-discrete}
 use lib.Dec.{eqb}
 use borrow.Author.Tests.{ne-eqb, lt-ltb}
-use Rattle.bits.specs.Logic.{pick}
 use Rattle.text.specs.Bytes.{Read, found, bad, after, eat, bytes, space}
 use Rattle.text.specs.EatLaws.{found-item, found-rest, eat-own, eat-found}
 use Rattle.text.specs.Number.{printNumber}
 use Rattle.network.specs.Printer.{led, ledAll, lutName}
 use Rattle.network.specs.Reader.{readReads}
 use Rattle.network.specs.Reads.{rising-none, rising-more, following, still, ReadsFront}
+use Rattle.network.specs.ChainLaws.{eat-parts}
 use Rattle.network.specs.RisingLaws.{rising-wider, rising-low, rising-high, rising-later}
 
 -- ---- names of shared tables
-eat-append : (v w t : List ℕ) → eat (v ++ w) t ≡ after (eat v t) (λ _ u. eat w u)
-unfolding eat
-eat-append [] w t = refl
-eat-append (b ∷ v) w [] = refl
-eat-append (b ∷ v) w (c ∷ t) = go (eqb b c) (eat-append v w t)
-  where
-    go : (x : Bool)
-        → eat (v ++ w) t ≡ after (eat v t) (λ _ u. eat w u)
-        → pick x (eat (v ++ w) t) bad ≡ after (pick x (eat v t) bad) (λ _ u. eat w u)
-    go true e = e
-    go false e = refl
-
 -- a text that begins with no underscore begins with no shared table
 pub no-underscore : (first : Bool) (j : ℕ) (t : List ℕ)
     → eat (led first (bytes "_")) t ≡ bad
     → eat (led first (lutName j)) t ≡ bad
 unfolding lutName
 no-underscore true j t e =
-    eat-append (bytes "_") (printNumber j) t ∙ ap (λ (r : Read (Unit {0})). after r (λ _ u. eat (printNumber j) u)) e
+    sym (eat-parts (bytes "_") (printNumber j) t) ∙ ap (λ (r : Read (Unit {0})). after r (λ _ u. eat (printNumber j) u)) e
 no-underscore false j t e =
-    eat-append (space ∷ bytes "_") (printNumber j) t ∙ ap (λ (r : Read (Unit {0})). after r (λ _ u. eat (printNumber j) u)) e
+    sym (eat-parts (space ∷ bytes "_") (printNumber j) t) ∙ ap (λ (r : Read (Unit {0})). after r (λ _ u. eat (printNumber j) u)) e
 
 -- no name of a shared table begins another's
 digits-apart : (i j : ℕ) → i < 10 → j < 10 → (i ≡ j → ⊥) → eqb (0x30 + i % 10) (0x30 + j % 10) ≡ false

@@ -31,7 +31,7 @@ pub network-print-of-read : (d : Design) (t : List ℕ) (w : Network)
     → readNetwork d t ≡ network w
     → Named d
     → Wellformed d w × (t ≡ printNetwork d w) × (length t ≤ maxNetwork)
-network-print-of-read d t w e h = print-of-said d t w (h .some-output) e
+network-print-of-read d t w e h = print-of-said d t w h e
 
 pub network-spelled : (d : Design) (t : List ℕ) (w : Network)
     → Named d

@@ -18,11 +18,12 @@ use Rattle.sheet.specs.Examine.{Design, within}
 use Rattle.network.specs.Network.{Network, Node}
 use Rattle.network.specs.Printer.{networkLine, lutLines, networkLines, printNetwork}
 use Rattle.network.specs.Reader.{readLut}
-use Rattle.network.specs.Examine.{Place, at-network, at-luts, at-node, Step, misspelled, next, withLut, withNode, askLine, network, bad-line, follow, askLines, nothing, readNetwork}
-use Rattle.network.specs.Wellformed.{NodeFits, nodeAt, Wellformed}
+use Rattle.network.specs.Examine.{Place, at-network, at-luts, at-node, Step, misspelled, next, withLut, withNode}
+use Rattle.network.specs.Examine.{askLine, network, bad-line, follow, askLines, nothing, readNetwork}
+use Rattle.network.specs.Wellformed.{NodeFits, nodeAt, Wellformed, Named}
 use Rattle.network.specs.Parts.{freeOf, namesOf, nodeRead, nodePlace, lastLines, linesFromNode, linesFromLut, withNodes, withAll}
 use Rattle.network.specs.LineLaws.{lut-print-of-read, node-print-of-read}
-use Rattle.network.specs.PartLaws.{place-node, place-count, no-nodes, node-line}
+use Rattle.network.specs.PartLaws.{free-named, output-named, place-node, place-count, no-nodes, node-line}
 use Rattle.network.specs.StepLaws.{bad-network, line-next, line-bad, fixed-line, last-said, node-next, node-bad, lut-next, lut-many, lut-none, same-lines}
 
 -- what holds of the first and of each other holds of each
@@ -35,7 +36,7 @@ each : {A : Type 0} (P : A → Type 0) (z a : A) (l : List A)
 each P z a l p q zero h = p
 each P z a l p q (suc k) h = q k (omega arith)
 
-module _ (d : Design) where
+module _ (d : Design) (named : Named d) where
   -- ---- from the node of output o on
   -- what the lines say, where v is said before, and m nodes are left
   record NodesSaid (v : Network) (u o m : ℕ) (ls : List (List ℕ)) (w : Network) : Type 0 where
@@ -67,7 +68,9 @@ module _ (d : Design) where
       → NodesSaid (withNode v x) u (suc o) m ls w
       → NodesSaid v u o (suc m) (l ∷ ls) w
   one-node-said v u o m l ls w x q c r s =
-      let (f, p) = node-print-of-read (getD (namesOf d) o []) (freeOf d) u l x (rw q at r) in
+      let (f, p) =
+      node-print-of-read (getD (namesOf d) o []) (freeOf d) u l x (output-named d o (named .outputs-named) c)
+      (free-named (d .inputs) (d .bound) (named .inputs-named)) (rw q at r) in
       record {
         xs = x ∷ s .xs;
         counted = ap suc (s .counted);
@@ -147,7 +150,7 @@ module _ (d : Design) where
       → LutsSaid v u (l ∷ ls) w
   unfolding lutLines
   one-lut-said v u l ls w t r s =
-      let (c, p) = lut-print-of-read (d .bound) u l t r in
+      let (c, p) = lut-print-of-read (d .bound) u l t (named .bound-named) r in
       record {
         ts = t ∷ s .ts;
         xs = s .xs;
@@ -251,13 +254,13 @@ module _ (d : Design) where
   sized-said false t w e = absurd (bad-network e)
 
 pub print-of-said : (d : Design) (t : List ℕ) (w : Network)
-    → 0 < length (d .outputs)
+    → Named d
     → readNetwork d t ≡ network w
     → Wellformed d w × (t ≡ printNetwork d w) × (length t ≤ maxNetwork)
 unfolding readNetwork printNetwork
 print-of-said d t w h e =
-    let (s, f) = sized-said d (within 1 maxNetwork (length t)) t w e in
-    let x = ended-said d (endsLine t) (lines t) w f in
-    let (i, j) = lines-said d (lines t) w h (rw x at f) in
+    let (s, f) = sized-said d h (within 1 maxNetwork (length t)) t w e in
+    let x = ended-said d h (endsLine t) (lines t) w f in
+    let (i, j) = lines-said d h (lines t) w (h .some-output) (rw x at f) in
     let k = leb-true (length t) maxNetwork (and-right (leb 1 (length t)) (leb (length t) maxNetwork) s) in
     (i, ended-of-lines t x ∙ ap endedLines j, k)

@@ -24,7 +24,7 @@ use Rattle.network.specs.Wellformed.{NodeFits, nodeAt, Wellformed, Named
 use Rattle.network.specs.Parts.{freeOf, namesOf, nodeRead, nodePlace, lastLines, linesFromNode, linesFromLut, withNodes, withAll}
 use Rattle.network.specs.LineLaws.{lut-read-of-print, node-read-of-print}
 use Rattle.network.specs.UnbrokenLaws.{all-append, lut-unbroken, node-unbroken, count-unbroken, fixed-unbroken}
-use Rattle.network.specs.PartLaws.{free-named, place-node, place-count, no-nodes, node-line, node-no-lut}
+use Rattle.network.specs.PartLaws.{free-named, output-named, place-node, place-count, no-nodes, node-line, node-no-lut}
 use Rattle.network.specs.StepLaws.{line-next, last-read, node-next, lut-next, lut-none, same-lines}
 
 module _ (d : Design) (h : Named d) where
@@ -35,9 +35,12 @@ module _ (d : Design) (h : Named d) where
   node-reads : (v : Network) (u o : ℕ) (x : Node)
       → length (v .luts) ≡ u
       → u ≤ maxCells
+      → o < length (d .outputs)
       → NodeFits (freeOf d) u x
       → nodeRead d v o (printNode (getD (namesOf d) o []) (freeOf d) x) ≡ some x
-  node-reads v u o x q m f = rw q (node-read-of-print (getD (namesOf d) o []) (freeOf d) u x frees-named (omega arith) f)
+  node-reads v u o x q m l f =
+      rw q
+      (node-read-of-print (getD (namesOf d) o []) (freeOf d) u x (output-named d o (h .outputs-named) l) frees-named (omega arith) f)
 
   nodes-read : (xs : List Node) (v : Network) (u o n : ℕ)
       → length (v .luts) ≡ u
@@ -53,7 +56,7 @@ module _ (d : Design) (h : Named d) where
       let p = printNode (getD (namesOf d) o []) (freeOf d) x in
       rw (place-node d o l, node-line d u o x xs l)
       (line-next d (at-node o) (nodePlace d (suc o)) v (withNode v x) n p (linesFromNode d u (suc o) xs)
-      (node-next d v o p x (node-reads v u o x q m (f 0 (omega arith))))
+      (node-next d v o p x (node-reads v u o x q m l (f 0 (omega arith))))
       ∙ nodes-read xs (withNode v x) u (suc o) (suc n) q m (omega arith) (λ k i. f (suc k) (omega arith))
       ∙ ap (λ (ys : List Node). network (record { luts = v .luts; nodes = ys })) (append-assoc (v .nodes) (x ∷ []) xs))
 
@@ -89,7 +92,7 @@ module _ (d : Design) (h : Named d) where
   luts-read (y ∷ ts) xs v u m n q c b t k f =
       let l = printLut (d .bound) u y in
       line-next d at-luts at-luts v (withLut v y) n l (linesFromLut d (suc u) m ts xs)
-      (lut-next d v l y (omega arith) (rw q (lut-read-of-print (d .bound) u y (t 0 (omega arith)))))
+      (lut-next d v l y (omega arith) (rw q (lut-read-of-print (d .bound) u y (h .bound-named) (t 0 (omega arith)))))
       ∙ luts-read ts xs (withLut v y) (suc u) m (suc n) (omega (arith, length-append (v .luts) (y ∷ []))) (omega arith) b
       (λ i j. t (suc i) (omega arith)) k f
       ∙ ap (λ (ys : List (List Bool)). network (record { luts = ys; nodes = v .nodes ++ xs })) (append-assoc (v .luts) (y ∷ []) ts)

@@ -1,198 +1,164 @@
--- Digits 0 and 1 that stand in a line: so many are read just where so many bytes are such digits, and the line's end
--- follows where one byte more is left, the closing bracket. Assumes nothing.
-use mathlib.Core.Path.{_≡_, refl, sym, ap, ap₂, _∙_}
-use mathlib.Core.Logic.{_⊎_, ⊎-elim}
-use mathlib.Core.Bool.{Bool, true, false, _&&_, _||_}
-use mathlib.Core.List.{List, [], _∷_, map}
-use mathlib.Core.Option.{Option, some, none}
-use Prim.Native.Nat.{ℕ, zero, suc, _+_, _-_, _^_, _≤_, _<_}
+-- Digits 0 and 1 that stand in a line: so many are read digit by digit, and the line's end follows where the closing bracket
+-- is the last byte. Assumes nothing.
+use mathlib.Core.Path.{_≡_, refl, sym, ap, subst, _∙_}
+use mathlib.Core.Bool.{Bool, true, false}
+use mathlib.Core.List.{List, [], _∷_, _++_}
+use mathlib.Core.Option.{Option, none}
+use Prim.Native.Nat.{ℕ, suc, _+_, _-_, _^_, _≤_, _<_}
 use native.Mathlib.Omega.{arith}
-use native.Mathlib.Decide.{decLt, ℕ-discrete}
-use lib.Dec.{eqb}
-use lib.ListN.{length, getD, take, drop, length-drop, length-map}
-use lib.Pow.{pow-mono}
-use lib.Seq.{drop-cons, drop-drop, length-take-le}
-use borrow.Author.Tests.{eq-eqb, ne-eqb, eqb-true}
+use lib.Dec.{eqb, leb}
+use lib.ListN.{length, take, drop, length-drop, length-map, length-append, drop-of-length-le}
+use lib.Seq.{drop-cons}
+use borrow.Author.Tests.{eq-eqb, eqb-true, leb-true, leb-false}
 use Rattle.bits.specs.Logic.{pick}
-use Rattle.bits.specs.LogicLaws.{true-false, and-left, and-right}
-use Rattle.text.specs.Bytes.{Read, found, bad, after, whole, closeBracket}
+use Rattle.limits.specs.Limits.{maxInputs, maxCells}
+use Rattle.text.specs.Bytes.{Read, found, bad, after, eat, whole, closeBracket}
+use Rattle.text.specs.EatLaws.{bad-found, found-rest}
 use Rattle.rows.specs.Digits.{digit}
 use Rattle.sheet.specs.Lines.{closed}
-use Rattle.sheet.specs.Known.{closesAt}
-use Rattle.sheet.specs.CloseLaws.{closed-whole, not-one-left, one-left}
+use Rattle.classes.specs.Cases.{same-test}
+use Rattle.cursor.specs.Item.{At, MovedIs, from}
+use Rattle.cursor.specs.declared.Cursor.{Cursor}
+use Rattle.cursor.specs.declared.Moved.{Moved}
 use Rattle.network.specs.Printer.{printDigits}
-use Rattle.network.specs.Reader.{readDigits}
-use Rattle.network.specs.LineAnswer.{binary, TableRead}
+use Rattle.network.specs.Reader.{readDigits, firstFound}
+use Rattle.network.specs.LineAnswer.{eatDigit, eatDigits, TableRead}
+use Rattle.network.specs.ChainLaws.{part-missing, part-read}
+use Rattle.network.specs.DigitsLaws.{digits-print-of-read}
 
--- ---- the bytes at a place, one by one
-digit-within : (b : ℕ) → 0x30 ≤ b → b < 0x32 → eqb b 0x30 || eqb b 0x31 ≡ true
-digit-within b h k =
-    elim (ℕ-discrete b 0x30) as (λ _. eqb b 0x30 || eqb b 0x31 ≡ true) [
-      | yes e ↦ rw (eq-eqb b 0x30 e) refl
-      | no d ↦ rw (ne-eqb b 0x30 d, eq-eqb b 0x31 (omega arith)) refl
-    ]
+-- ---- one digit
+pub digit-zero : {s : List ℕ} {c : Cursor} (t : List ℕ) → At s tt c (eat (0x30 ∷ []) t) → At s tt c (eatDigit t)
+digit-zero t h =
+    record { inside = h .inside; is = ap (λ (r : Read (Unit {0})). firstFound r (eat (0x31 ∷ []) t)) (h .is) }
 
-digit-outside : (b : ℕ) → (b < 0x30) ⊎ (0x32 ≤ b) → eqb b 0x30 || eqb b 0x31 ≡ false
-digit-outside b o =
-    let d : b ≡ 0x30 → ⊥ = λ e. ⊎-elim (λ l. omega arith) (λ l. omega arith) o in
-    let f : b ≡ 0x31 → ⊥ = λ e. ⊎-elim (λ l. omega arith) (λ l. omega arith) o in
-    rw (ne-eqb b 0x30 d, ne-eqb b 0x31 f) refl
+pub digit-one : (s t : List ℕ) (m : Moved) → bad ≡ eat (0x30 ∷ []) t → MovedIs s m (eat (0x31 ∷ []) t) → MovedIs s m (eatDigit t)
+digit-one s t m e f =
+    subst (λ (r : Read (Unit {0})). MovedIs s m r) (ap (λ (r : Read (Unit {0})). firstFound r (eat (0x31 ∷ []) t)) e) f
 
-pub record Binary (s : List ℕ) (at n i : ℕ) : Type 0 where
-  pub within : i ≤ n
-  pub to-come : binary (take n (drop at s)) ≡ binary (take (n - i) (drop (at + i) s))
+-- ---- so many digits
+eqb-turn : (a b : ℕ) → eqb a b ≡ eqb b a
+eqb-turn a b =
+    same-test (eqb a b) (eqb b a) (λ e. eq-eqb b a (sym (eqb-true a b e))) (λ e. eq-eqb a b (sym (eqb-true b a e)))
 
-pub binary-none : (s : List ℕ) (at n : ℕ) → Binary s at n 0
-binary-none s at n =
-    let a : n - 0 ≡ n = omega arith in
-    let b : at + 0 ≡ at = omega arith in
-    record { within = omega arith; to-come = rw (a, b) refl }
+-- digits without their values
+abbrev eaten : Read (List Bool) → Read (Unit {0})
+eaten r = after r (λ _ t. found tt t)
 
-module _ {s : List ℕ} {at n i : ℕ} (p : Binary s at n i) (room : at + n ≤ length s) (more : i < n) where
-  by-digit : binary (take n (drop at s)) ≡ (eqb (getD s (at + i) 0) 0x30 || eqb (getD s (at + i) 0) 0x31) && binary (take (n - (i + 1)) (drop (at + (i + 1)) s))
-  unfolding binary
-  by-digit =
-      let a : n - i ≡ suc (n - (i + 1)) = omega arith in
-      let b : suc (at + i) ≡ at + (i + 1) = omega arith in
-      p .to-come
-      ∙ ap₂ (λ (k : ℕ) (t : List ℕ). binary (take k t)) a (drop-cons s (at + i) 0 (omega arith))
-      ∙ ap (λ (k : ℕ). (eqb (getD s (at + i) 0) 0x30 || eqb (getD s (at + i) 0) 0x31) && binary (take (n - (i + 1)) (drop k s))) b
+-- a byte before s, by whether it is 0 and whether it is 1, and a digit before those that r finds
+abbrev firstDigit : Bool → Bool → List ℕ → Read (Unit {0})
+firstDigit x y s = firstFound (pick x (found tt s) bad) (pick y (found tt s) bad)
 
-  pub binary-more : 0x30 ≤ getD s (at + i) 0 → getD s (at + i) 0 < 0x32 → Binary s at n (i + 1)
-  binary-more a b =
-      let e = digit-within (getD s (at + i) 0) a b in
-      record {
-        within = omega arith;
-        to-come = by-digit ∙ ap (λ (x : Bool). x && binary (take (n - (i + 1)) (drop (at + (i + 1)) s))) e;
-      }
+abbrev withDigit : Bool → Bool → Read (List Bool) → Read (List Bool)
+withDigit x y r = pick x (after r (λ ds t. found (false ∷ ds) t)) (pick y (after r (λ ds t. found (true ∷ ds) t)) bad)
 
-  pub binary-other : (getD s (at + i) 0 < 0x30) ⊎ (0x32 ≤ getD s (at + i) 0) → false ≡ binary (take n (drop at s))
-  binary-other o =
-      let e = digit-outside (getD s (at + i) 0) o in
-      sym (by-digit ∙ ap (λ (x : Bool). x && binary (take (n - (i + 1)) (drop (at + (i + 1)) s))) e)
+one-digit : (x y : Bool) (s : List ℕ) (r : Read (List Bool)) (onward : List ℕ → Read (Unit {0}))
+    → onward s ≡ eaten r
+    → eaten (withDigit x y r) ≡ after (firstDigit x y s) (λ _ t. onward t)
+one-digit true y s (found ds t) onward e = sym e
+one-digit true y s bad onward e = sym e
+one-digit false true s (found ds t) onward e = sym e
+one-digit false true s bad onward e = sym e
+one-digit false false s r onward e = refl
 
-pub binary-all : {s : List ℕ} {at n i : ℕ} → Binary s at n i → n ≤ i → true ≡ binary (take n (drop at s))
-unfolding binary
-binary-all {s} {at} {n} {i} p h =
-    let a : n - i ≡ 0 = omega arith in
-    sym (p .to-come ∙ ap (λ (k : ℕ). binary (take k (drop (at + i) s))) a)
+digits-step : (k : ℕ) (s : List ℕ) → eatDigits (suc k) s ≡ after (eatDigit s) (λ _ t. eatDigits k t)
+unfolding eatDigits readDigits eat
+digits-step k [] = refl
+digits-step k (b ∷ s) =
+    rw (eqb-turn 0x30 b, eqb-turn 0x31 b)
+    (one-digit (eqb b 0x30) (eqb b 0x31) s (readDigits k s) (λ t. eatDigits k t) refl)
 
--- ---- the values of digits
-abbrev valueOf : ℕ → Bool
-valueOf b = eqb b 0x31
+-- of n digits, which are to stand from start on, so many are left
+pub record Skipping (s : List ℕ) (n start : ℕ) (next : Cursor) (left : ℕ) : Type 0 where
+  pub inside : next .at ≤ length s
+  pub to-come : eatDigits n (drop start s) ≡ eatDigits left (from s next)
 
-abbrev values : List ℕ → List Bool
-values s = map valueOf s
+pub skipping-none : (s : List ℕ) (n : ℕ) (c : Cursor) → c .at ≤ length s → Skipping s n (c .at) c n
+skipping-none s n c h = record { inside = h; to-come = refl }
 
-not-zero : (b : ℕ) → b ≡ 0x30 → eqb b 0x31 ≡ false
-not-zero b e = ne-eqb b 0x31 (λ q. omega arith)
+module _ {s : List ℕ} {n start : ℕ} {next : Cursor} {left : ℕ} (p : Skipping s n start next left) where
+  module _ (more : 0 < left) where
+    by-digit : eatDigits n (drop start s) ≡ after (eatDigit (from s next)) (λ _ t. eatDigits (left - 1) t)
+    by-digit =
+        let e : left ≡ suc (left - 1) = omega arith in
+        p .to-come ∙ ap (λ (k : ℕ). eatDigits k (from s next)) e ∙ digits-step (left - 1) (from s next)
 
-values-printed : (s : List ℕ) → binary s ≡ true → s ≡ printDigits (values s)
-unfolding binary printDigits
-values-printed [] e = refl
-values-printed (b ∷ s) e =
-    ap₂ (λ (x : ℕ) (t : List ℕ). x ∷ t)
-    (go (eqb b 0x30) (eqb b 0x31) refl refl (and-left (eqb b 0x30 || eqb b 0x31) (binary s) e))
-    (values-printed s (and-right (eqb b 0x30 || eqb b 0x31) (binary s) e))
-  where
-    go : (x y : Bool) → eqb b 0x30 ≡ x → eqb b 0x31 ≡ y → x || y ≡ true → b ≡ digit (valueOf b)
-    go true y p q o = eqb-true b 0x30 p ∙ ap digit (sym (not-zero b (eqb-true b 0x30 p)))
-    go false true p q o = eqb-true b 0x31 q ∙ ap digit (sym q)
-    go false false p q o = absurd (true-false (sym o))
+    pub skipping-missing : bad ≡ eatDigit (from s next) → bad ≡ eatDigits n (drop start s)
+    skipping-missing e = part-missing (eatDigit (from s next)) (eatDigits (left - 1)) e ∙ sym by-digit
 
--- ---- so many digits at the front of a text
-few-read : (n : ℕ) (s : List ℕ) → length s < n → readDigits n s ≡ bad
-unfolding readDigits
-few-read zero s h = absurd (omega arith)
-few-read (suc n) [] h = refl
-few-read (suc n) (b ∷ s) h = rw (few-read n s (omega arith)) (go (eqb b 0x30) (eqb b 0x31))
-  where
-    go : (x y : Bool) → _≡_ {A = Read (List Bool)} (pick x bad (pick y bad bad)) bad
-    go true y = refl
-    go false true = refl
-    go false false = refl
+    pub skipping-more : {c : Cursor} → At s tt c (eatDigit (from s next)) → Skipping s n start c (left - 1)
+    skipping-more h =
+        record { inside = h .inside; to-come = by-digit ∙ sym (part-read (eatDigit (from s next)) (eatDigits (left - 1)) h) }
 
--- what reading n digits finds, where a test of the bytes says whether they are digits
-abbrev ifDigits : Bool → ℕ → List ℕ → Read (List Bool)
-ifDigits x n s = pick x (found (values (take n s)) (drop n s)) bad
-
-digits-read : (n : ℕ) (s : List ℕ) → n ≤ length s → readDigits n s ≡ ifDigits (binary (take n s)) n s
-unfolding readDigits binary
-digits-read zero s h = refl
-digits-read (suc n) [] h = absurd (omega arith)
-digits-read (suc n) (b ∷ s) h = rw (digits-read n s (omega arith)) (go (eqb b 0x30) (eqb b 0x31) (binary (take n s)) refl refl)
-  where
-    go : (x y z : Bool) → eqb b 0x30 ≡ x → eqb b 0x31 ≡ y
-        → pick x (after (ifDigits z n s) (λ ds t. found (false ∷ ds) t)) (pick y (after (ifDigits z n s) (λ ds t. found (true ∷ ds) t)) bad)
-        ≡ pick ((x || y) && z) (found (y ∷ values (take n s)) (drop n s)) bad
-    go true y true p q = rw (sym q ∙ not-zero b (eqb-true b 0x30 p)) refl
-    go true y false p q = refl
-    go false true true p q = refl
-    go false true false p q = refl
-    go false false z p q = refl
+  pub skipping-all : left ≤ 0 → At s tt next (eatDigits n (drop start s))
+  unfolding eatDigits readDigits
+  skipping-all h =
+      let e : left ≡ 0 = omega arith in
+      record { inside = p .inside; is = sym (p .to-come ∙ ap (λ (k : ℕ). eatDigits k (from s next)) e) }
 
 -- ---- the digits that end a line
-abbrev ends : ℕ → List ℕ → Option (List Bool)
-ends n s = whole (closed (readDigits n s))
+-- digits whose values are not asked for are digits
+digits-bad : (r : Read (List Bool)) → bad ≡ eaten r → r ≡ bad
+digits-bad (found ds t) e = absurd (bad-found e)
+digits-bad bad e = refl
 
--- where the bytes are digits, the line's end decides
-ends-by-close : (n : ℕ) (s : List ℕ) → n ≤ length s → binary (take n s) ≡ true → ends n s ≡ pick (closesAt (drop n s)) (some (values (take n s))) none
-ends-by-close n s h e =
-    ap (λ (r : Read (List Bool)). whole (closed r)) (digits-read n s h ∙ ap (λ (x : Bool). ifDigits x n s) e)
-    ∙ closed-whole (values (take n s)) (drop n s)
+digits-there : (r : Read (List Bool)) (t : List ℕ) → found tt t ≡ eaten r → (ds : List Bool) × (r ≡ found ds t)
+digits-there (found ds u) t e = (ds, ap (λ (v : List ℕ). found ds v) (sym (found-rest e)))
+digits-there bad t e = absurd (bad-found (sym e))
 
-not-digits : (n : ℕ) (s : List ℕ) → n ≤ length s → binary (take n s) ≡ false → ends n s ≡ none
-not-digits n s h e = ap (λ (r : Read (List Bool)). whole (closed r)) (digits-read n s h ∙ ap (λ (x : Bool). ifDigits x n s) e)
+take-front : (l t : List ℕ) → take (length l) (l ++ t) ≡ l
+take-front [] t = refl
+take-front (b ∷ l) t = ap (λ (m : List ℕ). b ∷ m) (take-front l t)
 
-unclosed : (n : ℕ) (s : List ℕ) → n ≤ length s → closesAt (drop n s) ≡ false → ends n s ≡ none
-unclosed n s h e = go (binary (take n s)) refl
-  where
-    go : (x : Bool) → binary (take n s) ≡ x → ends n s ≡ none
-    go true b = ends-by-close n s h b ∙ ap (λ (x : Bool). pick x (some (values (take n s))) none) e
-    go false b = not-digits n s h b
+printed-front : (ds : List Bool) (t : List ℕ) (n : ℕ) → length ds ≡ n → take n (printDigits ds ++ t) ≡ printDigits ds
+unfolding printDigits
+printed-front ds t n e =
+    ap (λ (k : ℕ). take k (printDigits ds ++ t)) (sym (length-map ds digit ∙ e)) ∙ take-front (printDigits ds) t
 
-module _ (l : List ℕ) (at n : ℕ) (start : at ≤ length l) where
-  left : length (drop at l) ≡ length l - at
-  left = length-drop at l
+printed-length : (ds : List Bool) (t : List ℕ) → length (printDigits ds ++ t) ≡ length ds + length t
+unfolding printDigits
+printed-length ds t = length-append (printDigits ds) t ∙ ap (λ (k : ℕ). k + length t) (length-map ds digit)
 
-  pub wrong-length : (length l - at ≡ n + 1 → ⊥) → none ≡ ends n (drop at l)
-  wrong-length d =
-      let e = left in
-      elim (decLt (length (drop at l)) n) as (λ _. none ≡ ends n (drop at l)) [
-        | yes h ↦ sym (ap (λ (r : Read (List Bool)). whole (closed r)) (few-read n (drop at l) h))
-        | no g ↦ sym (unclosed n (drop at l) (omega arith) (sym (not-one-left (drop at l) n (λ q. d (omega arith)))))
-      ]
+module _ (l : List ℕ) (at n : ℕ) where
+  abbrev ends : Option (List Bool)
+  ends = whole (closed (readDigits n (drop at l)))
 
-  module _ (one-more : length l - at ≡ n + 1) where
-    bracket : eqb (getD l (at + n) 0) closeBracket ≡ closesAt (drop n (drop at l))
-    bracket =
-        let e : length l - (at + n) ≡ 1 = omega arith in
-        one-left l (at + n) e ∙ ap closesAt (sym (drop-drop n at l))
+  pub no-digits : bad ≡ eatDigits n (drop at l) → none ≡ ends
+  unfolding eatDigits
+  no-digits e = sym (ap (λ (r : Read (List Bool)). whole (closed r)) (digits-bad (readDigits n (drop at l)) e))
 
-    pub no-bracket : (getD l (at + n) 0 ≡ closeBracket → ⊥) → none ≡ ends n (drop at l)
-    no-bracket d = let e = left in sym (unclosed n (drop at l) (omega arith) (sym bracket ∙ ne-eqb (getD l (at + n) 0) closeBracket d))
+  module _ {c : Cursor} (h : At l tt c (eatDigits n (drop at l))) where
+    there : (ds : List Bool) × (readDigits n (drop at l) ≡ found ds (from l c))
+    unfolding eatDigits
+    there = digits-there (readDigits n (drop at l)) (from l c) (h .is)
 
-    pub no-digits : binary (take n (drop at l)) ≡ false → none ≡ ends n (drop at l)
-    no-digits b = let e = left in sym (not-digits n (drop at l) (omega arith) b)
+    ends-by : ends ≡ whole (after (eat (closeBracket ∷ []) (from l c)) (λ _ t. found (there .0) t))
+    ends-by = ap (λ (r : Read (List Bool)). whole (closed r)) (there .1)
 
-    pub table-read : getD l (at + n) 0 ≡ closeBracket → binary (take n (drop at l)) ≡ true → TableRead l n at (ends n (drop at l))
-    table-read q b =
-        let e = left in
-        record {
-          digits = values (take n (drop at l));
-          is =
-              sym (ends-by-close n (drop at l) (omega arith) b
-              ∙ ap (λ (x : Bool). pick x (some (values (take n (drop at l)))) none) (sym bracket ∙ eq-eqb (getD l (at + n) 0) closeBracket q));
-          stands =
-              record {
-                counted = length-map (take n (drop at l)) valueOf ∙ length-take-le n (drop at l) (omega arith);
-                inside = omega arith;
-                printed = values-printed (take n (drop at l)) b;
-              };
-        }
+    pub no-bracket : bad ≡ eat (closeBracket ∷ []) (from l c) → none ≡ ends
+    no-bracket e = sym (ends-by ∙ ap (λ (r : Read (Unit {0})). whole (after r (λ _ t. found (there .0) t))) (sym e))
 
--- the rows of up to 16 inputs
-pub rows-few : (n r : ℕ) → n ≤ 16 → r ≡ 2 ^ n → r ≤ 65536
-rows-few n r h e =
-    let a : 2 ^ n ≤ 2 ^ 16 = pow-mono h in
-    omega arith
+    module _ {e : Cursor} (g : At l tt e (eat (closeBracket ∷ []) (from l c))) where
+      ends-at : ends ≡ whole (found (there .0) (from l e))
+      ends-at = ends-by ∙ ap (λ (r : Read (Unit {0})). whole (after r (λ _ t. found (there .0) t))) (sym (g .is))
+
+      pub more-left : leb (length l) (e .at) ≡ false → none ≡ ends
+      more-left q =
+          sym (ends-at ∙ ap (λ (t : List ℕ). whole (found (there .0) t)) (drop-cons l (e .at) 0 (leb-false (length l) (e .at) q)))
+
+      pub table-read : at ≤ length l → leb (length l) (e .at) ≡ true → TableRead l n at ends
+      table-read start q =
+          let ds = there .0 in
+          let d = digits-print-of-read n (drop at l) ds (from l c) (there .1) in
+          let left : length (drop at l) ≡ length l - at = length-drop at l in
+          let long : length (drop at l) ≡ length ds + length (from l c) = ap length (d .is-split) ∙ printed-length ds (from l c) in
+          let many : length ds ≡ n = d .counted in
+          record {
+            digits = ds;
+            is = sym (ends-at ∙ ap (λ (t : List ℕ). whole (found ds t)) (drop-of-length-le l (leb-true (length l) (e .at) q)));
+            stands =
+                record {
+                  counted = many;
+                  inside = omega arith;
+                  printed = ap (take n) (d .is-split) ∙ printed-front ds (from l c) n many;
+                };
+          }

@@ -2,18 +2,21 @@
 // copied: a line's answer is the place where they stand. Rests on cursor for the items of a line.
 ghost use mathlib.Core.Path.{_≡_};
 ghost use mathlib.Core.Bool.{true};
-ghost use mathlib.Core.List.{map, _++_};
+ghost use mathlib.Core.List.{map};
 ghost use Prim.Native.Nat.{_+_, _≤_, _<_, _^_};
-ghost use lib.ListN.{length, take, drop};
-ghost use Rattle.text.specs.Bytes.{bytes, eat, same, whole};
+ghost use lib.ListN.{length, drop};
+ghost use Rattle.limits.specs.Limits.{maxInputs, maxCells};
+ghost use Rattle.text.specs.Bytes.{eat, same, whole};
 ghost use Rattle.names.specs.Pack.{nameOf};
 ghost use Rattle.cursor.specs.Item.{MovedIs};
 ghost use Rattle.sheet.specs.Lines.{closed};
-ghost use Rattle.network.specs.Printer.{led, ledAll, lutName, lutHead, nodeHead, printCount};
-ghost use Rattle.network.specs.Reader.{readDigits, readReads, readLut, readNode};
-ghost use Rattle.network.specs.LineAnswer.{binary, TableIs, ReadsAre, NodeIs};
+ghost use Rattle.network.specs.Printer.{led, lutName, printCount};
+ghost use Rattle.network.specs.Given.{readGiven, readItem, readGivens};
+ghost use Rattle.network.specs.Reader.{readDigits, readInputs, readLutHead, readReads, readLut, readNodeHead, readNode};
+ghost use Rattle.network.specs.LineAnswer.{eatDigit, eatDigits, TableIs, ReadsAre, NodeIs};
 use cursor::Cursor;
 use cursor::Moved;
+use cursor::NameRead;
 
 // Where the digits of a line stand in it.
 pub enum Table {
@@ -34,38 +37,26 @@ pub struct Reads {
     pub next: Cursor,
 }
 
-// The most bytes of a name.
-const MAX_NAME: usize = 8;
-
-// The bytes of the name v.
+// A name that is the same as v.
 fn name_at(s: &[u8], c: Cursor, v: u64) -> Moved
     requires { ⌜ c .at ≤ length (now s) ⌝ }
-    ensures { λ r. ⌜ MovedIs (now (s .entry)) r (eat (nameOf v) (drop (c .at) (now (s .entry)))) ⌝ }
+    ensures { λ r. ⌜ MovedIs (now (s .entry)) r (readGiven (nameOf v) (drop (c .at) (now (s .entry)))) ⌝ }
 {
-    let mut at = c.at;
-    let mut rest = v;
-    let mut left = MAX_NAME;
-    while 0 < left {
-        if rest == 0 {
-            return Moved::To(Cursor { at });
-        }
-        if s.len() <= at {
-            return Moved::Bad;
-        }
-        if s[at] as u64 != rest % 256 {
-            return Moved::Bad;
-        }
-        rest = rest / 256;
-        at += 1;
-        left -= 1;
+    let r = c.name(s);
+    let NameRead::Name(w, next) = r else {
+        return Moved::Bad;
+    };
+    if names::same_name(v, w) {
+        Moved::To(next)
+    } else {
+        Moved::Bad
     }
-    Moved::To(Cursor { at })
 }
 
 // The name v as an item of a list: a space stands before it unless it is the first.
 fn led_name(s: &[u8], c: Cursor, first: bool, v: u64) -> Moved
     requires { ⌜ c .at ≤ length (now s) ⌝ }
-    ensures { λ r. ⌜ MovedIs (now (s .entry)) r (eat (led first (nameOf v)) (drop (c .at) (now (s .entry)))) ⌝ }
+    ensures { λ r. ⌜ MovedIs (now (s .entry)) r (readItem first (nameOf v) (drop (c .at) (now (s .entry)))) ⌝ }
 {
     if first {
         return name_at(s, c, v);
@@ -80,27 +71,27 @@ fn led_name(s: &[u8], c: Cursor, first: bool, v: u64) -> Moved
 // The names ns as items of a list.
 fn names_at(s: &[u8], c: Cursor, first: bool, ns: &[u64]) -> Moved
     requires { ⌜ c .at ≤ length (now s) ⌝ }
-    ensures { λ r. ⌜ MovedIs (now (s .entry)) r (eat (ledAll first (map nameOf (now (ns .entry)))) (drop (c .at) (now (s .entry)))) ⌝ }
+    ensures { λ r. ⌜ MovedIs (now (s .entry)) r (readGivens first (map nameOf (now (ns .entry))) (drop (c .at) (now (s .entry)))) ⌝ }
 {
-    let mut at = c.at;
+    let mut next = c;
     let mut leads = first;
     let mut i = 0;
     while i < ns.len() {
-        let m = led_name(s, Cursor { at }, leads, ns[i]);
-        let Moved::To(next) = m else {
+        let m = led_name(s, next, leads, ns[i]);
+        let Moved::To(after) = m else {
             return Moved::Bad;
         };
-        at = next.at;
+        next = after;
         leads = false;
         i += 1;
     }
-    Moved::To(Cursor { at })
+    Moved::To(next)
 }
 
 // The names ns as the last items of a list, its closing bracket and a space.
 fn inputs_at(s: &[u8], c: Cursor, first: bool, ns: &[u64]) -> Moved
     requires { ⌜ c .at ≤ length (now s) ⌝ }
-    ensures { λ r. ⌜ MovedIs (now (s .entry)) r (eat (ledAll first (map nameOf (now (ns .entry))) ++ bytes ") ") (drop (c .at) (now (s .entry)))) ⌝ }
+    ensures { λ r. ⌜ MovedIs (now (s .entry)) r (readInputs first (map nameOf (now (ns .entry))) (drop (c .at) (now (s .entry)))) ⌝ }
 {
     let m = names_at(s, c, first, ns);
     let Moved::To(next) = m else {
@@ -122,39 +113,50 @@ fn lut_at(s: &[u8], c: Cursor, first: bool, i: usize) -> Moved
     }
 }
 
-// Whether n digits 0 and 1 stand at a place.
-fn digits_at(s: &[u8], at: usize, n: usize) -> bool
-    requires { ⌜ at + n ≤ length (now s) ⌝ }
-    ensures { λ r. ⌜ r ≡ binary (take n (drop at (now (s .entry)))) ⌝ }
+// A digit 0 or 1.
+fn digit_at(s: &[u8], c: Cursor) -> Moved
+    ensures { λ r. ⌜ MovedIs (now (s .entry)) r (eatDigit (drop (c .at) (now (s .entry)))) ⌝ }
 {
-    let mut i = 0;
-    while i < n {
-        let b = s[at + i];
-        match b {
-            b'0' | b'1' => {}
-            _ => {
-                return false;
-            }
-        }
-        i += 1;
+    let m = c.byte(s, b'0');
+    match m {
+        Moved::To(next) => Moved::To(next),
+        Moved::Bad => c.byte(s, b'1'),
     }
-    true
+}
+
+// n digits 0 and 1.
+fn digits_at(s: &[u8], c: Cursor, n: usize) -> Moved
+    requires { ⌜ c .at ≤ length (now s) ⌝ }
+    ensures { λ r. ⌜ MovedIs (now (s .entry)) r (eatDigits n (drop (c .at) (now (s .entry)))) ⌝ }
+{
+    let mut next = c;
+    let mut left = n;
+    while 0 < left {
+        let m = digit_at(s, next);
+        let Moved::To(after) = m else {
+            return Moved::Bad;
+        };
+        next = after;
+        left -= 1;
+    }
+    Moved::To(next)
 }
 
 // The place of n digits that the closing bracket and the line's end follow.
 fn table_at(l: &[u8], c: Cursor, n: usize) -> Table
-    requires { ⌜ (c .at ≤ length (now l)) × (n ≤ 65536) ⌝ }
+    requires { ⌜ c .at ≤ length (now l) ⌝ }
     ensures { λ r. ⌜ TableIs (now (l .entry)) n r (whole (closed (readDigits n (drop (c .at) (now (l .entry)))))) ⌝ }
 {
-    let at = c.at;
-    if l.len() - at != n + 1 {
+    let m = digits_at(l, c, n);
+    let Moved::To(d) = m else {
         return Table::Bad;
-    }
-    if l[at + n] != b')' {
+    };
+    let m = d.byte(l, b')');
+    let Moved::To(e) = m else {
         return Table::Bad;
-    }
-    if digits_at(l, at, n) {
-        Table::At(at)
+    };
+    if e.at_end(l) {
+        Table::At(c.at)
     } else {
         Table::Bad
     }
@@ -163,9 +165,9 @@ fn table_at(l: &[u8], c: Cursor, n: usize) -> Table
 // A lut line up to its digits.
 fn lut_head(l: &[u8], bs: &[u64], i: usize) -> Moved
     requires { ⌜ i < 10 ⌝ }
-    ensures { λ r. ⌜ MovedIs (now (l .entry)) r (eat (lutHead (map nameOf (now (bs .entry))) i) (now (l .entry))) ⌝ }
+    ensures { λ r. ⌜ MovedIs (now (l .entry)) r (readLutHead (map nameOf (now (bs .entry))) i (now (l .entry))) ⌝ }
 {
-    let m = Cursor { at: 0 }.text(l, b"(lut ");
+    let m = Cursor::start().text(l, b"(lut ");
     let Moved::To(a) = m else {
         return Moved::Bad;
     };
@@ -182,7 +184,7 @@ fn lut_head(l: &[u8], bs: &[u64], i: usize) -> Moved
 
 // The line of shared table i over the bound inputs bs.
 pub fn read_lut(l: &[u8], bs: &[u64], i: usize) -> Table
-    requires { ⌜ (length (now bs) ≤ 10) × (i < 10) ⌝ }
+    requires { ⌜ (length (now bs) ≤ maxInputs) × (i < 10) ⌝ }
     ensures { λ r. ⌜ TableIs (now (l .entry)) (2 ^ length (now (bs .entry))) r (readLut (map nameOf (now (bs .entry))) i (now (l .entry))) ⌝ }
 {
     let m = lut_head(l, bs, i);
@@ -194,18 +196,18 @@ pub fn read_lut(l: &[u8], bs: &[u64], i: usize) -> Table
 
 // The shared tables of a node's list, of those below u: each number is looked for once, after those before it.
 fn reads_at(s: &[u8], c: Cursor, u: usize) -> Reads
-    requires { ⌜ (c .at ≤ length (now s)) × (u ≤ 6) ⌝ }
+    requires { ⌜ (c .at ≤ length (now s)) × (u ≤ maxCells) ⌝ }
     ensures { λ r. ⌜ ReadsAre (now (s .entry)) u r (readReads true u 0 (drop (c .at) (now (s .entry)))) ⌝ }
 {
-    let mut at = c.at;
+    let mut next = c;
     let mut mask: u8 = 0;
     let mut count: usize = 0;
     let mut i: usize = 0;
     while i < u {
-        let m = lut_at(s, Cursor { at }, count == 0, i);
+        let m = lut_at(s, next, count == 0, i);
         match m {
-            Moved::To(next) => {
-                at = next.at;
+            Moved::To(after) => {
+                next = after;
                 mask += 1 << i;
                 count += 1;
             }
@@ -213,18 +215,14 @@ fn reads_at(s: &[u8], c: Cursor, u: usize) -> Reads
         }
         i += 1;
     }
-    Reads {
-        mask,
-        count,
-        next: Cursor { at },
-    }
+    Reads { mask, count, next }
 }
 
 // A node line up to its list of inputs.
 fn node_head(l: &[u8], name: u64) -> Moved
-    ensures { λ r. ⌜ MovedIs (now (l .entry)) r (eat (nodeHead (nameOf name)) (now (l .entry))) ⌝ }
+    ensures { λ r. ⌜ MovedIs (now (l .entry)) r (readNodeHead (nameOf name) (now (l .entry))) ⌝ }
 {
-    let m = Cursor { at: 0 }.text(l, b"(node ");
+    let m = Cursor::start().text(l, b"(node ");
     let Moved::To(a) = m else {
         return Moved::Bad;
     };
@@ -237,7 +235,7 @@ fn node_head(l: &[u8], name: u64) -> Moved
 
 // The node line of the output that name says, beside u shared tables and the free inputs fs.
 pub fn read_node(l: &[u8], name: u64, fs: &[u64], u: usize) -> NodeLine
-    requires { ⌜ (length (now fs) ≤ 10) × (u ≤ 6) ⌝ }
+    requires { ⌜ (length (now fs) ≤ maxInputs) × (u ≤ maxCells) ⌝ }
     ensures { λ r. ⌜ NodeIs (now (l .entry)) u (length (now (fs .entry))) r (readNode (nameOf name) (map nameOf (now (fs .entry))) u (now (l .entry))) ⌝ }
 {
     let m = node_head(l, name);

@@ -1,43 +1,48 @@
--- `digits_at`: the bytes are looked at one by one. Assumes nothing.
-use mathlib.Core.Logic.{inl, inr}
-use Prim.Native.Nat.{_-_}
+-- `digits_at`: the digits are read one after the other. Assumes nothing.
 use native.Mathlib.Omega.{arith}
-use Rattle.network.specs.TablesLaws.{Binary, binary-none, binary-more, binary-other, binary-all}
+use borrow.Author.Needs.{needs}
+use Rattle.network.specs.TablesLaws.{Skipping, skipping-none, skipping-missing, skipping-more, skipping-all}
 use Rattle.network.proofs.digits_at.Statement.{statement}
 use Rattle.network.proofs.digits_at.Tie as tie
 
 abbrev Inv-loop : tie.InvT-loop
-Inv-loop s at n i₀ i = Binary s at n i
+Inv-loop s n next₀ left₀ next left = Skipping s n (next₀ .at) next left
 
 abbrev μ-loop : tie.MeasureT-loop
-μ-loop s at n i₀ i = n - i
+μ-loop s n next₀ left₀ next left = left
 
 loop-holds : tie.Need-loop-holds Inv-loop μ-loop
-loop-holds c = binary-none (c .args .s .now) (c .args .at) (c .args .n)
+loop-holds c =
+    let a = c .before .args in
+    skipping-none (a .s .now) (a .n) (a .c) (c .before .pre)
 
-add-b : tie.Need-add-b Inv-loop μ-loop
-add-b c = omega (arith, (c .before .before .pre))
+digit-at-requires : tie.Need-digit-at-requires Inv-loop μ-loop
+digit-at-requires c κs = search needs
 
-shared-slice-read-b : tie.Need-shared-slice-read-b Inv-loop μ-loop
-shared-slice-read-b c = omega (arith, (c .before .before .before .pre))
+enum-known-m : tie.Need-enum-known-m Inv-loop μ-loop
+enum-known-m c = search needs
+
+enum-told : tie.Need-enum-told Inv-loop μ-loop
+enum-told c = search needs
 
 returns : tie.Need-returns Inv-loop μ-loop
-returns c = binary-other (c .before .before .before .loop .inv) (c .before .before .before .before .pre) (c .before .before .loop-test .taken) (inl (c .if1 .taken))
+returns c =
+    let digit = rw (c .enum-told .given .1) at (c .before .before .digit-at .ensures) in
+    skipping-missing (c .before .before .before .before .loop .inv) (c .before .before .before .loop-test .taken) digit
 
-returns-2 : tie.Need-returns-2 Inv-loop μ-loop
-returns-2 c = binary-other (c .before .before .before .before .loop .inv) (c .before .before .before .before .before .pre) (c .before .before .before .loop-test .taken) (inr (c .if2 .left))
-
-add-i : tie.Need-add-i Inv-loop μ-loop
-add-i c = omega (arith, (c .before .before .before .before .before .pre))
+sub-left : tie.Need-sub-left Inv-loop μ-loop
+sub-left c = omega arith
 
 loop-less : tie.Need-loop-less Inv-loop μ-loop
 loop-less c = omega arith
 
 loop-again : tie.Need-loop-again Inv-loop μ-loop
-loop-again c = binary-more (c .before .before .before .before .loop .inv) (c .before .before .before .before .before .pre) (c .before .before .before .loop-test .taken) (c .before .if1 .left) (c .if2 .taken)
+loop-again c =
+    let digit = rw (c .before .m .given .1) at (c .before .before .before .digit-at .ensures) in
+    skipping-more (c .before .before .before .before .before .loop .inv) (c .before .before .before .before .loop-test .taken) digit
 
-returns-3 : tie.Need-returns-3 Inv-loop μ-loop
-returns-3 c = binary-all (c .before .loop .inv) (c .loop-test .left)
+returns-2 : tie.Need-returns-2 Inv-loop μ-loop
+returns-2 c = skipping-all (c .before .loop .inv) (c .loop-test .left)
 
 pub digits-at-spec : {M : Type 1} → statement M
 digits-at-spec =
@@ -46,11 +51,11 @@ digits-at-spec =
     Inv-loop
     μ-loop
     loop-holds
-    add-b
-    shared-slice-read-b
+    digit-at-requires
+    enum-known-m
+    enum-told
     returns
-    returns-2
-    add-i
+    sub-left
     loop-less
     loop-again
-    returns-3)
+    returns-2)

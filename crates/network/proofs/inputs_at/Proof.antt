@@ -2,10 +2,8 @@
 use mathlib.Core.List.{map}
 use lib.ListN.{drop}
 use borrow.Author.Needs.{needs}
-use Rattle.text.specs.Bytes.{bytes}
 use Rattle.names.specs.Pack.{nameOf}
-use Rattle.network.specs.ChainLaws.{part-missing, part-then}
-use Rattle.network.specs.Printer.{ledAll}
+use Rattle.network.specs.HeadLaws.{inputs-no-names, inputs-end}
 use Rattle.network.proofs.inputs_at.Statement.{statement}
 use Rattle.network.proofs.inputs_at.Tie as tie
 
@@ -22,7 +20,7 @@ returns : tie.Need-returns
 returns c =
     let a = c .before .before .before .before .before .args in
     let items = rw (c .enum-told .given .1) at (c .before .before .names-at .ensures) in
-    part-missing (ledAll (a .first) (map nameOf (a .ns .now))) (bytes ") ") (drop (a .c .at) (a .s .now)) items
+    inputs-no-names (a .first) (map nameOf (a .ns .now)) (drop (a .c .at) (a .s .now)) items
 
 slice-aggregate-text : tie.Need-slice-aggregate-text
 slice-aggregate-text c = search needs
@@ -36,7 +34,7 @@ returns-2 : tie.Need-returns-2
 returns-2 c =
     let a = c .before .before .before .before .before .before .before .before .args in
     let items = rw (c .before .before .before .m .given .1) at (c .before .before .before .before .before .names-at .ensures) in
-    part-then (ledAll (a .first) (map nameOf (a .ns .now))) (bytes ") ") (drop (a .c .at) (a .s .now)) items (c .text .result) (c .text .ensures)
+    inputs-end (a .first) (map nameOf (a .ns .now)) (drop (a .c .at) (a .s .now)) items (c .text .result) (c .text .ensures)
 
 pub inputs-at-spec : {M : Type 1} → statement M
 inputs-at-spec =

@@ -2,8 +2,9 @@
 use mathlib.Core.List.{[], _∷_}
 use lib.ListN.{drop}
 use borrow.Author.Needs.{needs}
-use Rattle.text.specs.Bytes.{space}
+use Rattle.text.specs.Bytes.{eat, space}
 use Rattle.names.specs.Pack.{nameOf}
+use Rattle.network.specs.Given.{readGiven}
 use Rattle.network.specs.ChainLaws.{part-missing, part-then}
 use Rattle.network.proofs.led_name.Statement.{statement}
 use Rattle.network.proofs.led_name.Tie as tie
@@ -30,7 +31,7 @@ returns-2 : tie.Need-returns-2
 returns-2 c =
     let a = c .before .before .before .before .before .before .args in
     let gap = rw (c .enum-told .given .1) at (c .before .before .text .ensures) in
-    rw (c .before .before .before .before .if1 .left) (part-missing (space ∷ []) (nameOf (a .v)) (drop (a .c .at) (a .s .now)) gap)
+    rw (c .before .before .before .before .if1 .left) (part-missing (eat (space ∷ []) (drop (a .c .at) (a .s .now))) (readGiven (nameOf (a .v))) gap)
 
 name-at-requires-2 : tie.Need-name-at-requires-2
 name-at-requires-2 c κs =
@@ -39,9 +40,13 @@ name-at-requires-2 c κs =
 
 returns-3 : tie.Need-returns-3
 returns-3 c =
-    let a = c .before .before .before .before .before .before .before .before .args in
-    let gap = rw (c .before .before .m .given .1) at (c .before .before .before .before .text .ensures) in
-    rw (c .before .before .before .before .before .before .if1 .left) (part-then (space ∷ []) (nameOf (a .v)) (drop (a .c .at) (a .s .now)) gap (c .name-at2 .result) (c .name-at2 .ensures))
+    let m = c .before .before .m in
+    let text = c .before .before .before .before .text in
+    let if1 = c .before .before .before .before .before .before .if1 in
+    let args = c .before .before .before .before .before .before .before .before .args in
+    let a = args in
+    let gap = rw (m .given .1) at (text .ensures) in
+    rw (if1 .left) (part-then (eat (space ∷ []) (drop (a .c .at) (a .s .now))) (readGiven (nameOf (a .v))) gap (c .name-at2 .result) (c .name-at2 .ensures))
 
 pub led-name-spec : {M : Type 1} → statement M
 led-name-spec =

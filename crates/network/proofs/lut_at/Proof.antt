@@ -37,13 +37,19 @@ text-requires-2 c κs = search needs
 
 returns : tie.Need-returns
 returns c =
-    let a = c .before .before .before .before .before .args in
-    subst (λ (w : List ℕ). MovedIs (a .s .now) (c .text .result) (eat w (drop (a .c .at) (a .s .now)))) (lut-first (a .i) (c .before .before .before .before .before .pre .1) (a .first) (c .before .before .before .if1 .taken)) (c .text .ensures)
+    let if1 = c .before .before .before .if1 in
+    let args = c .before .before .before .before .before .args in
+    let pre = c .before .before .before .before .before .pre in
+    let a = args in
+    subst (λ (w : List ℕ). MovedIs (a .s .now) (c .text .result) (eat w (drop (a .c .at) (a .s .now)))) (lut-first (a .i) (pre .1) (a .first) (if1 .taken)) (c .text .ensures)
 
 returns-2 : tie.Need-returns-2
 returns-2 c =
-    let a = c .before .before .before .before .args in
-    subst (λ (w : List ℕ). MovedIs (a .s .now) (c .text2 .result) (eat w (drop (a .c .at) (a .s .now)))) (lut-later (a .i) (c .before .before .before .before .pre .1) (a .first) (c .before .before .if1 .left)) (c .text2 .ensures)
+    let if1 = c .before .before .if1 in
+    let args = c .before .before .before .before .args in
+    let pre = c .before .before .before .before .pre in
+    let a = args in
+    subst (λ (w : List ℕ). MovedIs (a .s .now) (c .text2 .result) (eat w (drop (a .c .at) (a .s .now)))) (lut-later (a .i) (pre .1) (a .first) (if1 .left)) (c .text2 .ensures)
 
 pub lut-at-spec : {M : Type 1} → statement M
 lut-at-spec =

@@ -1,63 +1,43 @@
--- `name_at`: the bytes of the name are compared one by one. Assumes nothing.
-use mathlib.Core.Path.{refl}
-use native.Mathlib.Omega.{arith}
-use Rattle.network.specs.SpellLaws.{Spelling, spelling-none, spelt-all, spelt-full, spelling-short, spelling-differs, spelling-more}
+-- `name_at`: the name that is read is compared with the one that is given. Assumes nothing.
+use mathlib.Core.Path.{sym, _∙_}
+use lib.ListN.{drop}
+use borrow.Author.Needs.{needs}
+use Rattle.names.specs.Pack.{nameOf}
+use Rattle.network.specs.ListedLaws.{given-no-name, given-same, given-other}
 use Rattle.network.proofs.name_at.Statement.{statement}
 use Rattle.network.proofs.name_at.Tie as tie
 
-abbrev Inv-loop : tie.InvT-loop
-Inv-loop s v at₀ rest₀ left₀ at rest left = Spelling s at₀ v at rest left
+name-requires : tie.Need-name-requires
+name-requires c κs = search needs
 
-abbrev μ-loop : tie.MeasureT-loop
-μ-loop s v at₀ rest₀ left₀ at rest left = left
+enum-known-r : tie.Need-enum-known-r
+enum-known-r c = search needs
 
-loop-holds : tie.Need-loop-holds Inv-loop μ-loop
-loop-holds c = spelling-none (c .args .s .now) (c .args .c .at) (c .args .v) (c .pre)
+enum-told : tie.Need-enum-told
+enum-told c = search needs
 
-returns : tie.Need-returns Inv-loop μ-loop
-returns c = spelt-all (c .before .before .loop .inv) _ refl (c .if1 .taken)
+returns : tie.Need-returns
+returns c =
+    let a = c .before .before .before .before .args in
+    let name = rw (c .enum-told .given .1) at (c .before .before .name .ensures) in
+    given-no-name (nameOf (a .v)) (drop (a .c .at) (a .s .now)) name
 
-returns-2 : tie.Need-returns-2 Inv-loop μ-loop
-returns-2 c = spelling-short (c .before .before .before .loop .inv) (c .before .before .loop-test .taken) (c .before .if1 .left) (c .if2 .taken)
+same-name-requires : tie.Need-same-name-requires
+same-name-requires c κs = search needs
 
-shared-slice-read-if3 : tie.Need-shared-slice-read-if3 Inv-loop μ-loop
-shared-slice-read-if3 c = omega arith
+returns-2 : tie.Need-returns-2
+returns-2 c =
+    let a = c .before .before .before .before .before .before .before .args in
+    let name = rw (c .before .before .before .r .given .1) at (c .before .before .before .before .before .name .ensures) in
+    given-same (nameOf (a .v)) (drop (a .c .at) (a .s .now)) name (sym (c .before .same-name .ensures) ∙ c .if1 .taken)
 
-cast-if3 : tie.Need-cast-if3 Inv-loop μ-loop
-cast-if3 c = omega (arith, c .shared-slice-known .given (c .before .before .before .before .loop .at))
-
-returns-3 : tie.Need-returns-3 Inv-loop μ-loop
-returns-3 c = spelling-differs (c .before .before .before .before .before .loop .inv) (c .before .before .before .before .loop-test .taken) (c .before .before .before .if1 .left) (c .before .before .if2 .left) (c .if3 .taken)
-
-add-at : tie.Need-add-at Inv-loop μ-loop
-add-at c = omega arith
-
-sub-left : tie.Need-sub-left Inv-loop μ-loop
-sub-left c = omega arith
-
-loop-less : tie.Need-loop-less Inv-loop μ-loop
-loop-less c = omega arith
-
-loop-again : tie.Need-loop-again Inv-loop μ-loop
-loop-again c = spelling-more (c .before .before .before .before .before .loop .inv) (c .before .before .before .before .loop-test .taken) (c .before .before .before .if1 .left) (c .before .before .if2 .left) (c .if3 .left)
-
-returns-4 : tie.Need-returns-4 Inv-loop μ-loop
-returns-4 c = spelt-full (c .before .loop .inv) _ refl (c .loop-test .left)
+returns-3 : tie.Need-returns-3
+returns-3 c =
+    let a = c .before .before .before .before .before .before .before .args in
+    let name = rw (c .before .before .before .r .given .1) at (c .before .before .before .before .before .name .ensures) in
+    given-other (nameOf (a .v)) (drop (a .c .at) (a .s .now)) name (sym (c .before .same-name .ensures) ∙ c .if1 .left)
 
 pub name-at-spec : {M : Type 1} → statement M
 name-at-spec =
     tie.close
-    (tie.spec
-    Inv-loop
-    μ-loop
-    loop-holds
-    returns
-    returns-2
-    shared-slice-read-if3
-    cast-if3
-    returns-3
-    add-at
-    sub-left
-    loop-less
-    loop-again
-    returns-4)
+    (tie.spec name-requires enum-known-r enum-told returns same-name-requires returns-2 returns-3)

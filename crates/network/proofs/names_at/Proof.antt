@@ -9,10 +9,10 @@ use Rattle.network.proofs.names_at.Statement.{statement}
 use Rattle.network.proofs.names_at.Tie as tie
 
 abbrev Inv-loop : tie.InvT-loop
-Inv-loop s first ns at₀ leads₀ i₀ at leads i = Listed s ns first at₀ at leads i
+Inv-loop s first ns next₀ leads₀ i₀ next leads i = Listed s ns first (next₀ .at) (next .at) leads i
 
 abbrev μ-loop : tie.MeasureT-loop
-μ-loop s first ns at₀ leads₀ i₀ at leads i = length ns - i
+μ-loop s first ns next₀ leads₀ i₀ next leads i = length ns - i
 
 loop-holds : tie.Need-loop-holds Inv-loop μ-loop
 loop-holds c =

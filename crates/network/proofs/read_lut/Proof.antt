@@ -5,7 +5,6 @@ use native.Mathlib.Omega.{arith}
 use lib.ListN.{length, length-map}
 use borrow.Author.Needs.{needs}
 use Rattle.names.specs.Pack.{nameOf}
-use Rattle.network.specs.TablesLaws.{rows-few}
 use Rattle.network.specs.LineReadLaws.{lut-no-head, lut-digits}
 use Rattle.network.proofs.read_lut.Statement.{statement}
 use Rattle.network.proofs.read_lut.Tie as tie
@@ -31,8 +30,7 @@ row-count-requires c κs = search needs
 table-at-requires : tie.Need-table-at-requires
 table-at-requires c κs =
     let head = rw (c .before .before .m .given .1) at (c .before .before .before .before .lut-head .ensures) in
-    let start = c .before .before .before .before .before .before .before in
-    (head .inside, rows-few (length (start .args .bs .now)) (c .row-count .result) (omega (arith, start .pre .0)) (c .row-count .ensures))
+    head .inside
 
 returns-2 : tie.Need-returns-2
 returns-2 c =

@@ -6,7 +6,6 @@ use native.Mathlib.Omega.{arith}
 use lib.ListN.{length, length-map}
 use borrow.Author.Needs.{needs}
 use Rattle.names.specs.Pack.{nameOf}
-use Rattle.network.specs.TablesLaws.{rows-few}
 use Rattle.network.specs.LineReadLaws.{node-no-head, node-no-inputs, node-no-digits, node-digits}
 use Rattle.network.proofs.read_node.Statement.{statement}
 use Rattle.network.proofs.read_node.Tie as tie
@@ -60,17 +59,8 @@ row-count-requires c κs =
 
 table-at-requires : tie.Need-table-at-requires
 table-at-requires c κs =
-    let m2 = c .before .before .before .m2 in
-    let inputs-at = c .before .before .before .before .before .inputs-at in
-    let reads-at = c .before .before .before .before .before .before .before .before .reads-at in
-    let before = c .before .before .before .before .before .before .before .before .before .before .before .before .before .before .before in
-    let inputs = rw (m2 .given .1) at (inputs-at .ensures) in
-    let tables = reads-at in
-    let start = before in (
-      inputs .inside,
-      rows-few (tables .result .count + length (start .args .fs .now)) (c .row-count .result) (omega (arith, tables .ensures .few, start .pre .0, start .pre .1))
-          (c .row-count .ensures),
-    )
+    let inputs = rw (c .before .before .before .m2 .given .1) at (c .before .before .before .before .before .inputs-at .ensures) in
+    inputs .inside
 
 enum-known-p : tie.Need-enum-known-p
 enum-known-p c = search needs

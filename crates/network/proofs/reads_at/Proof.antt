@@ -9,10 +9,10 @@ use Rattle.network.proofs.reads_at.Statement.{statement}
 use Rattle.network.proofs.reads_at.Tie as tie
 
 abbrev Inv-loop : tie.InvT-loop
-Inv-loop s u at₀ mask₀ count₀ i₀ at mask count i = Gathered s u at₀ at mask count i
+Inv-loop s u next₀ mask₀ count₀ i₀ next mask count i = Gathered s u (next₀ .at) (next .at) mask count i
 
 abbrev μ-loop : tie.MeasureT-loop
-μ-loop s u at₀ mask₀ count₀ i₀ at mask count i = u - i
+μ-loop s u next₀ mask₀ count₀ i₀ next mask count i = u - i
 
 loop-holds : tie.Need-loop-holds Inv-loop μ-loop
 loop-holds c =

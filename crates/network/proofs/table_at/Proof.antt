@@ -1,56 +1,73 @@
--- `table_at`: one byte more than the digits is left, the bracket, and the others are digits. Assumes nothing.
+-- `table_at`: the digits, the bracket, and nothing after it. Assumes nothing.
 use mathlib.Core.Path.{sym, _∙_}
-use native.Mathlib.Omega.{arith}
 use borrow.Author.Needs.{needs}
-use Rattle.network.specs.TablesLaws.{wrong-length, no-bracket, no-digits, table-read}
+use Rattle.network.specs.TablesLaws.{no-digits, no-bracket, more-left, table-read}
 use Rattle.network.proofs.table_at.Statement.{statement}
 use Rattle.network.proofs.table_at.Tie as tie
 
-sub-if1 : tie.Need-sub-if1
-sub-if1 c = search needs
+digits-at-requires : tie.Need-digits-at-requires
+digits-at-requires c κs = search needs
 
-add-if1 : tie.Need-add-if1
-add-if1 c = omega (arith, c .before .pre .1)
+enum-known-m : tie.Need-enum-known-m
+enum-known-m c = search needs
+
+enum-told : tie.Need-enum-told
+enum-told c = search needs
 
 returns : tie.Need-returns
 returns c =
-    let a = c .before .before .args in
-    wrong-length (a .l .now) (a .c .at) (a .n) (c .before .before .pre .0) (c .if1 .taken)
+    let a = c .before .before .before .before .args in
+    let digits = rw (c .enum-told .given .1) at (c .before .before .digits-at .ensures) in
+    no-digits (a .l .now) (a .c .at) (a .n) digits
 
-add-if2 : tie.Need-add-if2
-add-if2 c = omega (arith, c .before .before .pre .1, c .before .before .good .0 .0)
+byte-requires : tie.Need-byte-requires
+byte-requires c κs = search needs
 
-shared-slice-read-if2 : tie.Need-shared-slice-read-if2
-shared-slice-read-if2 c = omega (arith, c .before .before .before .pre .0)
+enum-known-m-2 : tie.Need-enum-known-m-2
+enum-known-m-2 c = search needs
+
+enum-told-2 : tie.Need-enum-told-2
+enum-told-2 c = search needs
 
 returns-2 : tie.Need-returns-2
 returns-2 c =
-    let a = c .before .before .before .before .args in
-    no-bracket (a .l .now) (a .c .at) (a .n) (c .before .before .before .before .pre .0) (c .before .before .if1 .left) (c .if2 .taken)
+    let a = c .before .before .before .before .before .before .before .before .args in
+    let digits = rw (c .before .before .before .before .m .given .1) at (c .before .before .before .before .before .before .digits-at .ensures) in
+    let bracket = rw (c .enum-told2 .given .1) at (c .before .before .byte .ensures) in
+    no-bracket (a .l .now) (a .c .at) (a .n) digits bracket
 
-digits-at-requires : tie.Need-digits-at-requires
-digits-at-requires c κs = omega (arith, c .before .before .before .before .pre .0)
+at-end-requires : tie.Need-at-end-requires
+at-end-requires c κs = search needs
 
 returns-3 : tie.Need-returns-3
 returns-3 c =
-    let a = c .before .before .before .before .before .before .args in
-    table-read (a .l .now) (a .c .at) (a .n) (c .before .before .before .before .before .before .pre .0) (c .before .before .before .before .if1 .left) (c .before .before .if2 .left) (sym (c .before .digits-at .ensures) ∙ c .if3 .taken)
+    let b = c .before .before .before .before .before in
+    let start = b .before .before .before .before .before .before in
+    let a = start .args in
+    let digits = rw (b .before .before .m .given .1) at (b .before .before .before .before .digits-at .ensures) in
+    let bracket = rw (c .before .before .before .m2 .given .1) at (b .byte .ensures) in
+    table-read (a .l .now) (a .c .at) (a .n) digits bracket (start .pre) (sym (c .before .at-end .ensures) ∙ c .if1 .taken)
 
 returns-4 : tie.Need-returns-4
 returns-4 c =
-    let a = c .before .before .before .before .before .before .args in
-    no-digits (a .l .now) (a .c .at) (a .n) (c .before .before .before .before .before .before .pre .0) (c .before .before .before .before .if1 .left) (sym (c .before .digits-at .ensures) ∙ c .if3 .left)
+    let b = c .before .before .before .before .before in
+    let a = b .before .before .before .before .before .before .args in
+    let digits = rw (b .before .before .m .given .1) at (b .before .before .before .before .digits-at .ensures) in
+    let bracket = rw (c .before .before .before .m2 .given .1) at (b .byte .ensures) in
+    more-left (a .l .now) (a .c .at) (a .n) digits bracket (sym (c .before .at-end .ensures) ∙ c .if1 .left)
 
 pub table-at-spec : {M : Type 1} → statement M
 table-at-spec =
     tie.close
     (tie.spec
-    sub-if1
-    add-if1
-    returns
-    add-if2
-    shared-slice-read-if2
-    returns-2
     digits-at-requires
+    enum-known-m
+    enum-told
+    returns
+    byte-requires
+    enum-known-m-2
+    enum-told-2
+    returns-2
+    at-end-requires
     returns-3
     returns-4)
