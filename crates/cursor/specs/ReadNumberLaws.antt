@@ -73,10 +73,10 @@ valued-none s a e h =
     record { after-start = omega arith; before-end = h; small = rw z (omega arith); value = refl }
 
 -- three digits are below a thousand
-pub valued-small : (s : List ℕ) (a e i n : ℕ) → Valued s a e i n → i ≤ a + 3 → n < 1000
+pub valued-small : (s : List ℕ) (a e i n : ℕ) → Valued s a e i n → i ≤ a + maxDigits → n < 1000
 valued-small s a e i n v h =
-    let few : i - a ≤ 3 = omega arith in
-    let p : 10 ^ (i - a) ≤ 10 ^ 3 = pow-le-pow-right (omega arith) few in
+    let few : i - a ≤ maxDigits = omega arith in
+    let p : 10 ^ (i - a) ≤ 10 ^ maxDigits = pow-le-pow-right (omega arith) few in
     omega arith
 
 pub valued-more : (s : List ℕ) (a e i n d : ℕ)
@@ -104,22 +104,22 @@ never : (a b : Bool) → b ≡ false → false ≡ a && b
 never true b e = sym e
 never false b e = refl
 
-by-first : (ds : List ℕ) → 1 < length ds → length ds ≤ 3 → not (eqb (getD ds 0 0) 0x30) ≡ isNumber ds
+by-first : (ds : List ℕ) → 1 < length ds → length ds ≤ maxDigits → not (eqb (getD ds 0 0) 0x30) ≡ isNumber ds
 unfolding isNumber
 by-first [] h g = absurd (omega arith)
 by-first (d ∷ []) h g = absurd (omega arith)
-by-first (d ∷ e ∷ ds) h g = rw (le-leb (length (d ∷ e ∷ ds)) 3 g) (and-true (not (eqb d 0x30)))
+by-first (d ∷ e ∷ ds) h g = rw (le-leb (length (d ∷ e ∷ ds)) maxDigits g) (and-true (not (eqb d 0x30)))
   where
     and-true : (a : Bool) → a ≡ a && true
     and-true true = refl
     and-true false = refl
 
 module _ (s : List ℕ) (a e : ℕ) (h : a ≤ e) (g : e ≤ length s) where
-  pub number-short : isNumber (take (e - a) (drop a s)) ≡ true → e ≤ a + 3
+  pub number-short : isNumber (take (e - a) (drop a s)) ≡ true → e ≤ a + maxDigits
   unfolding isNumber
   number-short t =
       let ds = take (e - a) (drop a s) in
-      let l : length ds ≤ 3 = leb-true _ _ (and-right (noLeadingZero ds) (leb (length ds) maxDigits) t) in
+      let l : length ds ≤ maxDigits = leb-true _ _ (and-right (noLeadingZero ds) (leb (length ds) maxDigits) t) in
       omega (arith, part-length s a e h g)
 
   pub no-digits : e - a ≡ 0 → false ≡ isNumber (take (e - a) (drop a s))
@@ -130,11 +130,11 @@ module _ (s : List ℕ) (a e : ℕ) (h : a ≤ e) (g : e ≤ length s) where
   unfolding isNumber
   one-digit z = rw (z, drop-cons s a 0 (omega arith)) refl
 
-  pub many-digits : 3 < e - a → false ≡ isNumber (take (e - a) (drop a s))
+  pub many-digits : maxDigits < e - a → false ≡ isNumber (take (e - a) (drop a s))
   unfolding isNumber
-  many-digits l = never (noLeadingZero (take (e - a) (drop a s))) _ (rw (part-length s a e h g) (lt-leb (e - a) 3 l))
+  many-digits l = never (noLeadingZero (take (e - a) (drop a s))) _ (rw (part-length s a e h g) (lt-leb (e - a) maxDigits l))
 
-  pub some-digits : 1 < e - a → e - a ≤ 3 → not (eqb (getD s a 0) 0x30) ≡ isNumber (take (e - a) (drop a s))
+  pub some-digits : 1 < e - a → e - a ≤ maxDigits → not (eqb (getD s a 0) 0x30) ≡ isNumber (take (e - a) (drop a s))
   unfolding isNumber
   some-digits l m =
       let ds = take (e - a) (drop a s) in

@@ -6,7 +6,7 @@ use Prim.Native.Nat.{ℕ, suc, _≤_, _<_}
 use native.Mathlib.Omega.{arith}
 use lib.ListN.{length, drop}
 use Rattle.limits.specs.Limits.{maxDepth}
-use Rattle.text.specs.Bytes.{Read, found, bad}
+use Rattle.text.specs.Bytes.{Read, bad}
 use Rattle.names.specs.Name.{Name, among}
 use Rattle.names.specs.Pack.{nameOf}
 use Rattle.rows.specs.WordLaws.{rowwise-same}

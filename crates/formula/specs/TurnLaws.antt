@@ -1,6 +1,6 @@
 -- A byte after what was read so far, as a space before a further operand: less of the text is left after it, and where it is
 -- missing no operand follows. Assumes nothing.
-use mathlib.Core.Path.{_≡_, refl, sym, ap, _∙_}
+use mathlib.Core.Path.{_≡_, refl, sym, _∙_}
 use mathlib.Core.Bool.{Bool, true, false}
 use mathlib.Core.List.{List, [], _∷_}
 use Prim.Native.Nat.{ℕ, _≤_, _<_}
@@ -12,8 +12,8 @@ use Rattle.bits.specs.Logic.{pick}
 use Rattle.bits.specs.LogicLaws.{true-false}
 use Rattle.text.specs.Bytes.{Read, found, bad, after, eat, space}
 use Rattle.text.specs.EatLaws.{bad-found, eat-found, eat-lengths}
-use Rattle.formula.specs.Tree.{Formula, Operands, none, more}
-use Rattle.formula.specs.Reader.{nextIs, spaceNext, readFormula, readOperands}
+use Rattle.formula.specs.Tree.{Formula, none, more}
+use Rattle.formula.specs.Reader.{spaceNext, readFormula, readOperands}
 use Rattle.formula.specs.ReaderLaws.{formula-shorter, operands-more, operands-none}
 use Rattle.formula.specs.Skim.{spelling, left}
 

@@ -15,7 +15,7 @@ use Rattle.names.specs.Name.{Name}
 use Rattle.rows.specs.Words.{Rowwise}
 use Rattle.rows.specs.WordLaws.{rowwise-same, rowwise-one, rowwise-two}
 use Rattle.cursor.specs.Opening.{Gate}
-use Rattle.cursor.specs.Item.{At, MovedIs, from}
+use Rattle.cursor.specs.Item.{At, MovedIs}
 use Rattle.cursor.specs.declared.Cursor.{Cursor}
 use Rattle.cursor.specs.declared.Moved.{Moved}
 use Rattle.formula.specs.Tree.{Formula, negation, gate, Operands, none, more, depth, depths, knows, knowsAll}

@@ -1,5 +1,6 @@
 // Formulas on a text: one pass over a formula's text tells whether it is spelled right, how deep it is nested, whether
-// its names are inputs, and its value on every row. Rests on cursor for what stands at a place, and on rows for tables.
+// its names are inputs, and its value on every row. Of a formula that is nested too deeply only that and its spelling
+// are told. Rests on cursor for what stands at a place, and on rows for tables.
 ghost use mathlib.Core.Path.{_≡_};
 ghost use mathlib.Core.List.{[], _∷_, map};
 ghost use mathlib.Core.Bool.{Bool, true, false};

@@ -9,11 +9,11 @@ use Rattle.bits.specs.LogicLaws.{and-left, and-right, and-both}
 use Rattle.limits.specs.Limits.{maxName}
 use Rattle.names.specs.Name.{Name, Operator, none-op, operator, isOperator, allNameBytes, startsWithLetter, isName}
 
-pub is-name : (n : Name) → startsWithLetter n ≡ true → allNameBytes n ≡ true → length n ≤ 8 → operator n ≡ none-op → isName n ≡ true
+pub is-name : (n : Name) → startsWithLetter n ≡ true → allNameBytes n ≡ true → length n ≤ maxName → operator n ≡ none-op → isName n ≡ true
 unfolding isName
 is-name n l a h o =
     and-both (startsWithLetter n && allNameBytes n && leb (length n) maxName) (not (isOperator (operator n)))
-    (and-both (startsWithLetter n && allNameBytes n) (leb (length n) maxName) (and-both (startsWithLetter n) (allNameBytes n) l a) (le-leb (length n) 8 h))
+    (and-both (startsWithLetter n && allNameBytes n) (leb (length n) maxName) (and-both (startsWithLetter n) (allNameBytes n) l a) (le-leb (length n) maxName h))
     (ap (λ (p : Operator). not (isOperator p)) o)
 
 module _ (n : Name) (e : isName n ≡ true) where
@@ -30,7 +30,7 @@ module _ (n : Name) (e : isName n ≡ true) where
   pub name-bytes : allNameBytes n ≡ true
   name-bytes = and-right (startsWithLetter n) (allNameBytes n) letter-and-bytes
 
-  pub name-short : length n ≤ 8
+  pub name-short : length n ≤ maxName
   name-short = leb-true (length n) maxName (and-right (startsWithLetter n && allNameBytes n) (leb (length n) maxName) short-and-bytes)
 
   pub name-no-operator : isOperator (operator n) ≡ false
@@ -44,10 +44,10 @@ module _ (n : Name) where
   unfolding isName
   no-letter-no-name e = ap (λ (t : Bool). t && allNameBytes n && leb (length n) maxName && not (isOperator (operator n))) e
 
-  pub long-no-name : 8 < length n → isName n ≡ false
+  pub long-no-name : maxName < length n → isName n ≡ false
   unfolding isName
   long-no-name h =
-      ap (λ (t : Bool). startsWithLetter n && allNameBytes n && t && not (isOperator (operator n))) (lt-leb (length n) 8 h)
+      ap (λ (t : Bool). startsWithLetter n && allNameBytes n && t && not (isOperator (operator n))) (lt-leb (length n) maxName h)
       ∙ ap (λ (t : Bool). t && not (isOperator (operator n))) (and-false (startsWithLetter n && allNameBytes n))
 
   pub operator-no-name : isOperator (operator n) ≡ true → isName n ≡ false

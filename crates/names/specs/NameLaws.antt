@@ -6,6 +6,7 @@ use mathlib.Core.List.{List, [], _∷_, _++_}
 use Prim.Native.Nat.{ℕ, _+_, _≤_, _<_}
 use native.Mathlib.Omega.{arith}
 use lib.ListN.{length, length-append}
+use Rattle.limits.specs.Limits.{maxName}
 use Rattle.bits.specs.Logic.{pick}
 use Rattle.bits.specs.LogicLaws.{true-false, and-both}
 use Rattle.text.specs.Bytes.{found, bad}
@@ -43,7 +44,7 @@ word-name-bytes (b ∷ s) =
     (λ e. and-both (nameByte b) (allNameBytes (word s)) e (word-name-bytes s))
     (λ _. refl)
 
-pub word-back : (s : List ℕ) → length (word s) ≤ 8 → nameOf (pack (word s)) ≡ word s
+pub word-back : (s : List ℕ) → length (word s) ≤ maxName → nameOf (pack (word s)) ≡ word s
 word-back s h = name-bytes-back (word s) (word-name-bytes s) h
 
 letter-name-byte : (b : ℕ) → letter b ≡ true → nameByte b ≡ true

@@ -11,6 +11,7 @@ use native.Mathlib.Decide.{ℕ-discrete}
 use lib.Dec.{eqb, leb}
 use lib.ListN.{length}
 use borrow.Author.Tests.{eq-eqb, ne-eqb, leb-true}
+use Rattle.limits.specs.Limits.{maxName}
 use Rattle.bits.specs.Logic.{pick}
 use Rattle.bits.specs.LogicLaws.{and-left, and-right}
 use Rattle.text.specs.Bytes.{same}
@@ -41,7 +42,7 @@ pack-unpacked (suc k) v h =
 
 pub pack-name-of : (v : ℕ) → v < 2 ^ 64 → pack (nameOf v) ≡ v
 unfolding nameOf
-pack-name-of v h = pack-unpacked 8 v h
+pack-name-of v h = pack-unpacked maxName v h
 
 -- ---- bytes, packed and unpacked
 -- a list of bytes, none of them 0
@@ -73,9 +74,9 @@ unpack-packed zero (b ∷ s) h z = absurd (omega arith)
 unpack-packed (suc k) (b ∷ s) h z =
     unpack-byte k b (pack s) (z .0) (z .1) ∙ ap (λ (x : List ℕ). b ∷ x) (unpack-packed k s (omega arith) (z .2))
 
-pub name-of-pack : (n : Name) → length n ≤ 8 → NoZero n → nameOf (pack n) ≡ n
+pub name-of-pack : (n : Name) → length n ≤ maxName → NoZero n → nameOf (pack n) ≡ n
 unfolding nameOf
-name-of-pack n h z = unpack-packed 8 n h z
+name-of-pack n h z = unpack-packed maxName n h z
 
 -- ---- the bytes of a name are none of them 0
 either-true : (a b : Bool) → a || b ≡ true → (a ≡ true) ⊎ (b ≡ true)
@@ -101,7 +102,7 @@ name-bytes-no-zero (b ∷ s) e =
     let h = name-byte-bounds b (and-left (nameByte b) (allNameBytes s) e) in
     (h .0, h .1, name-bytes-no-zero s (and-right (nameByte b) (allNameBytes s) e))
 
-pub name-bytes-back : (n : Name) → allNameBytes n ≡ true → length n ≤ 8 → nameOf (pack n) ≡ n
+pub name-bytes-back : (n : Name) → allNameBytes n ≡ true → length n ≤ maxName → nameOf (pack n) ≡ n
 name-bytes-back n e h = name-of-pack n h (name-bytes-no-zero n e)
 
 pub name-back : (n : Name) → isName n ≡ true → nameOf (pack n) ≡ n

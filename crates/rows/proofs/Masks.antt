@@ -6,6 +6,7 @@ use Prim.Native.Nat.{ℕ, _+_, _-_, _*_, _≤_, _<_}
 use native.Mathlib.Omega.{arith}
 use lib.Arith.{digits-div, digits-mod}
 use lib.ListN.{getD}
+use Rattle.limits.specs.Limits.{maxInputs, tableWords}
 use Rattle.bits.specs.Digit.{on, digit}
 use Rattle.bits.specs.DigitLaws.{on-ones, on-zero, on-above}
 use Rattle.rows.specs.Every.{every, same}
@@ -50,5 +51,5 @@ high-word p w h e = record { each = λ k l. on-ones 64 k l ∙ sym e ∙ high-di
 pub high-none : (p w : ℕ) → 6 ≤ p → on w (p - 6) ≡ false → WordOf (λ r. on r p) w 0
 high-none p w h e = record { each = λ k l. on-zero k ∙ sym e ∙ high-digit p w k h l }
 
-pub past-word : (p w : ℕ) → 10 ≤ p → w < 16 → WordOf (λ r. on r p) w 0
+pub past-word : (p w : ℕ) → maxInputs ≤ p → w < tableWords → WordOf (λ r. on r p) w 0
 past-word p w h b = high-none p w (omega arith) (on-above 4 w (p - 6) (omega arith) (omega arith))

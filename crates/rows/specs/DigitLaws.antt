@@ -10,6 +10,7 @@ use native.Mathlib.Nat.{add-zero, zero-add, add-suc, suc-add}
 use native.Mathlib.Numerals.{add-one}
 use lib.ListN.{length, getD, set, length-append, List·getD-append}
 use lib.Seq.{sets, getD-at}
+use Rattle.limits.specs.Limits.{maxRows}
 use Rattle.rows.specs.EveryLaws.{last-or-below}
 use Rattle.rows.specs.Words.{rowOn, Rowwise}
 use Rattle.rows.specs.Digits.{digit, digitsUpto}
@@ -35,7 +36,7 @@ digits-same f g zero h = refl
 digits-same f g (suc n) h =
     ap₂ (λ (l : List ℕ) (b : Bool). l ++ (digit b ∷ [])) (digits-same f g n (λ i l. h i (omega arith))) (h n (omega arith))
 
-pub digits-rowwise : {f : ℕ → Bool} {ws : List ℕ} → Rowwise f ws → (n : ℕ) → n ≤ 1024 → digitsUpto (rowOn ws) n ≡ digitsUpto f n
+pub digits-rowwise : {f : ℕ → Bool} {ws : List ℕ} → Rowwise f ws → (n : ℕ) → n ≤ maxRows → digitsUpto (rowOn ws) n ≡ digitsUpto f n
 digits-rowwise {f} {ws} t n h = digits-same (rowOn ws) f n (λ i l. t .each i (omega arith))
 
 -- ---- writing them one after the other

@@ -9,6 +9,7 @@ use native.Mathlib.Omega.{arith}
 use lib.Arith.{digits-div, digits-mod}
 use lib.ListN.{length, getD, replicate, getD-replicate}
 use lib.Seq.{ext-getD}
+use Rattle.limits.specs.Limits.{maxRows, tableWords}
 use Rattle.bits.specs.Digit.{on}
 use Rattle.bits.specs.DigitLaws.{on-above, equal-digits}
 use Rattle.rows.specs.Words.{rowOn, Rowwise, WordOf, Sized}
@@ -17,7 +18,7 @@ pub row-word : (ws : List ℕ) (w k : ℕ) → k < 64 → rowOn ws (w * 64 + k) 
 unfolding rowOn
 row-word ws w k h = ap₂ (λ (i j : ℕ). on (getD ws i 0) j) (digits-div w h) (digits-mod w h)
 
-pub rowwise : (f : ℕ → Bool) (ws : List ℕ) → ((w : ℕ) → w < 16 → WordOf f w (getD ws w 0)) → Rowwise f ws
+pub rowwise : (f : ℕ → Bool) (ws : List ℕ) → ((w : ℕ) → w < tableWords → WordOf f w (getD ws w 0)) → Rowwise f ws
 unfolding rowOn
 rowwise f ws h =
     record {
@@ -27,7 +28,7 @@ rowwise f ws h =
     }
 
 -- the same table said in another way
-pub rowwise-same : {f g : ℕ → Bool} {ws : List ℕ} → Rowwise f ws → ((r : ℕ) → r < 1024 → f r ≡ g r) → Rowwise g ws
+pub rowwise-same : {f g : ℕ → Bool} {ws : List ℕ} → Rowwise f ws → ((r : ℕ) → r < maxRows → f r ≡ g r) → Rowwise g ws
 rowwise-same t h = record { each = λ r l. t .each r l ∙ h r l }
 
 pub rowwise-self : {ws : List ℕ} → Rowwise (rowOn ws) ws
@@ -42,11 +43,11 @@ pub rowwise-two : (p : Bool → Bool → Bool) {f g : ℕ → Bool} {a b ws : Li
     → Rowwise (λ r. p (rowOn a r) (rowOn b r)) ws → Rowwise f a → Rowwise g b → Rowwise (λ r. p (f r) (g r)) ws
 rowwise-two p t s u = rowwise-same t (λ r l. ap₂ p (s .each r l) (u .each r l))
 
--- sixteen times a word whose digits are all alike
-pub repeated : (x : ℕ) (b : Bool) → ((k : ℕ) → k < 64 → on x k ≡ b) → Rowwise (λ r. b) (replicate 16 x)
+-- a table of one word whose digits are all alike
+pub repeated : (x : ℕ) (b : Bool) → ((k : ℕ) → k < 64 → on x k ≡ b) → Rowwise (λ r. b) (replicate tableWords x)
 repeated x b h =
-    rowwise (λ r. b) (replicate 16 x)
-    (λ w l. record { each = λ k g. ap (λ (y : ℕ). on y k) (getD-replicate 16 w x 0 l) ∙ h k g })
+    rowwise (λ r. b) (replicate tableWords x)
+    (λ w l. record { each = λ k g. ap (λ (y : ℕ). on y k) (getD-replicate tableWords w x 0 l) ∙ h k g })
 
 -- op on words does to each digit what p does to truth values; so it does to each row of a word
 pub word-of-two : (op : ℕ → ℕ → ℕ) (p : Bool → Bool → Bool) → ((x y k : ℕ) → on (op x y) k ≡ p (on x k) (on y k))
@@ -67,11 +68,11 @@ word-equal x y bx by h =
     ])
 
 pub equal-rows : {a b : List ℕ} → Sized a → Sized b
-    → ((r : ℕ) → r < 1024 → rowOn a r ≡ rowOn b r) → a ≡ b
+    → ((r : ℕ) → r < maxRows → rowOn a r ≡ rowOn b r) → a ≡ b
 equal-rows {a} {b} sa sb h =
     ext-getD 0 a b (sa .size ∙ sym (sb .size))
     (λ w l.
-    let s : length a ≡ 16 = sa .size in
-    let m : w < 16 = omega arith in
+    let s : length a ≡ tableWords = sa .size in
+    let m : w < tableWords = omega arith in
     word-equal (getD a w 0) (getD b w 0) (sa .fits w m) (sb .fits w m)
     (λ k g. sym (row-word a w k g) ∙ h (w * 64 + k) (omega arith) ∙ row-word b w k g))

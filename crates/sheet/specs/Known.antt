@@ -1,7 +1,7 @@
 -- What the code knows of a sheet, by the definitions. Assumes nothing.
 use mathlib.Core.Path.{_≡_}
 use mathlib.Core.Bool.{Bool, true, false}
-use Rattle.text.specs.Bytes.{Read, found, after, whole, closeBracket}
+use Rattle.text.specs.Bytes.{found, after, whole, closeBracket}
 use mathlib.Core.List.{List, [], _∷_, map}
 use mathlib.Core.Option.{Option, some, none}
 use Prim.Native.Nat.{ℕ, suc, _≤_, _<_, min}
@@ -19,7 +19,7 @@ use Rattle.cursor.specs.Item.{Kept}
 use Rattle.cursor.specs.declared.NameList.{NameList}
 use Rattle.sheet.specs.Lines.{Output, closed}
 use Rattle.sheet.specs.Value.{outputOn}
-use Rattle.sheet.specs.Examine.{Design, Examined, refused, valid, Step, no-to, next, within, outputNames, newName, withOutput}
+use Rattle.sheet.specs.Examine.{Design, Step, no-to, next, within, outputNames}
 use Rattle.sheet.specs.Examine as spec
 use Rattle.sheet.specs.declared.Place.{Place}
 use Rattle.sheet.specs.declared.Sheet.{Sheet}

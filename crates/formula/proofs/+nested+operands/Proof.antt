@@ -2,11 +2,10 @@
 -- text falls at each call. Assumes nothing.
 use mathlib.Core.Bool.{Bool}
 use mathlib.Core.List.{map}
-use mathlib.Core.Path.{_≡_, refl, sym, ap, _∙_, subst}
+use mathlib.Core.Path.{_∙_, subst}
 use native.Mathlib.Omega.{arith}
-use Prim.Native.Nat.{suc, _-_, _≤_}
+use Prim.Native.Nat.{_-_, _≤_}
 use lib.ListN.{length, drop}
-use Rattle.limits.specs.Limits.{maxDepth}
 use Rattle.text.specs.Bytes.{Read, space}
 use Rattle.names.specs.Pack.{nameOf}
 use Rattle.cursor.specs.Opening as spec

@@ -5,7 +5,7 @@ use mathlib.Core.Path.{_≡_, refl, sym, ap, _∙_}
 use native.Mathlib.Omega.{arith}
 use Prim.Native.Nat.{_≤_}
 use lib.ListN.{length, drop}
-use Rattle.text.specs.Bytes.{space, closeBracket}
+use Rattle.text.specs.Bytes.{space}
 use Rattle.cursor.specs.Opening as spec
 use Rattle.cursor.specs.Item.{from, gateOf}
 use Rattle.cursor.specs.MovedLaws.{moved-to, moved-nowhere}

@@ -1,3 +1,4 @@
+-- `combined`: the gate decides. Assumes nothing.
 use Rattle.formula.specs.Gates.{two}
 use Rattle.cursor.specs.declared.Gate.{Gate}
 use Rattle.cursor.specs.Item.{gateOf}
@@ -7,11 +8,6 @@ use Prim.Native.Nat.{ℕ}
 use borrow.Author.Needs.{needs}
 use Rattle.formula.proofs.combined.Statement.{statement}
 use Rattle.formula.proofs.combined.Tie as tie
-use Rattle.formula.proofs.combined.Reads as reads
-use Rattle.formula.proofs.combined.Lts as lts
-use Rattle.rows.proofs.both.Reads as both-reads
-use Rattle.rows.proofs.differ.Reads as differ-reads
-use Rattle.rows.proofs.either.Reads as either-reads
 
 enum-told : tie.Need-enum-told
 enum-told c = search needs

@@ -1,3 +1,4 @@
+-- `input`: the name's place among the inputs decides. Assumes nothing.
 use Rattle.formula.specs.Lookup.{found-inside, found-row, found-among, nowhere-among, nowhere-row}
 use Rattle.rows.specs.WordLaws.{rowwise-same}
 use mathlib.Core.Path.{sym, refl}
@@ -5,11 +6,6 @@ use native.Mathlib.Omega.{arith}
 use borrow.Author.Needs.{needs}
 use Rattle.formula.proofs.input.Statement.{statement}
 use Rattle.formula.proofs.input.Tie as tie
-use Rattle.formula.proofs.input.Reads as reads
-use Rattle.formula.proofs.input.Lts as lts
-use Rattle.names.proofs.find.Reads as find-reads
-use Rattle.rows.proofs.constant.Reads as constant-reads
-use Rattle.rows.proofs.input.Reads as input-reads
 
 find-requires : tie.Need-find-requires
 find-requires c κs = search needs
