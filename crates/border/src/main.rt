@@ -32,11 +32,17 @@ const LINE: usize = CLASSES + LABELS + 1;
 // The most lines that are read.
 const LINES: usize = 10000;
 
-// The value of a digit.
+// The value of a digit; 0 of another byte.
 fn digit(b: u8) -> u8
-    ensures { λ r. ⌜ r < 16 ⌝ }
+    ensures { λ r. ⌜ r ≤ 9 ⌝ }
 {
-    b % 16
+    if b < b'0' {
+        return 0;
+    }
+    if b > b'9' {
+        return 0;
+    }
+    b - b'0'
 }
 
 // n, or the most where it is more.

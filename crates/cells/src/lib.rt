@@ -17,12 +17,6 @@ pub const ALL_CELLS: u8 = MAX_CODES - 1;
 // Every code, as a set.
 pub const ALL_CODES: u64 = u64::MAX;
 
-// What stands for the code of a vertex that has none yet.
-pub const NO_CODE: u8 = MAX_CODES;
-
-// What stands for a vertex where there is none.
-pub const NO_VERTEX: usize = limits::MAX_VERTICES;
-
 // Whether c is in the set s.
 pub fn in_set(s: u64, c: u8) -> bool
     requires { ⌜ c < setRoom ⌝ }

@@ -21,7 +21,7 @@ use Rattle.bits.specs.DigitLaws.{on-and, on-or, on-zero, on-above, on-complemen
 use Rattle.cells.specs.Lists.{less-or-equal, never-both, false-where, and-off, and-on}
 use Rattle.cells.specs.Pigeon.{agree-and}
 use Rattle.cells.specs.Sets.{Without}
-use Rattle.numbering.specs.Given.{labelAt, item, Block, Blocks, Solves, Extends, Kept, Hopeless}
+use Rattle.numbering.specs.Given.{noCode, labelAt, item, Block, Blocks, Solves, Extends, Kept, Hopeless}
 use Rattle.holding.specs.Blocks.{on-both}
 use Rattle.coding.specs.Exchange.{Uniform, SameBlocks, swap, swap-blocks, swap-small, swap-stays, swap-first, swap-outside, solves-alike}
 
@@ -59,7 +59,7 @@ pub record Marks (gs used : List ℕ) : Type 0 where
 -- for each group the codes whose value some vertex with a code has
 pub record Used (gs codes : List ℕ) (v : ℕ) (used : List ℕ) : Type 0 where
   pub marks : Marks gs used
-  pub has : (k y : ℕ) → k < groupCount → y < v → item codes y < maxCodes → on (item used k) (item codes y) ≡ true
+  pub has : (k y : ℕ) → k < groupCount → y < v → item codes y < noCode → on (item used k) (item codes y) ≡ true
 
 -- all has the codes over the cells that two outputs read, gb the blocks of groups of these cells, and used their values
 -- in use
@@ -78,12 +78,12 @@ Fresh g a b = ((c : ℕ) × (c < maxCodes) × (on a c ≡ false) × Block g c b)
 
 -- g has the codes given so far
 abbrev pub Agrees : List ℕ → ℕ → (ℕ → ℕ) → Type 0
-Agrees codes v g = (x : ℕ) → x < v → item codes x < maxCodes → g x ≡ item codes x
+Agrees codes v g = (x : ℕ) → x < v → item codes x < noCode → g x ≡ item codes x
 
 -- where a solution goes on from the codes given, there is one whose code at a vertex without a code is in can; the first n
 -- groups have narrowed it, and it does not look at the others
 pub record Canon (gs used : List ℕ) (sh n can : ℕ) : Type 0 where
-  pub reach : (cl base ms caps spots codes : List ℕ) (v j x : ℕ) → maxCodes ≤ item codes x → Alike ms gs sh j → ((k y : ℕ) → k < groupCount → y < v → item codes y < maxCodes → on (item used k) (item codes y) ≡ true) → (g : ℕ → ℕ) → Solves cl base ms caps spots v j g → Agrees codes v g → x < v → (g' : ℕ → ℕ) × Solves cl base ms caps spots v j g' × Agrees codes v g' × (on can (g' x) ≡ true)
+  pub reach : (cl base ms caps spots codes : List ℕ) (v j x : ℕ) → noCode ≤ item codes x → Alike ms gs sh j → ((k y : ℕ) → k < groupCount → y < v → item codes y < noCode → on (item used k) (item codes y) ≡ true) → (g : ℕ → ℕ) → Solves cl base ms caps spots v j g → Agrees codes v g → x < v → (g' : ℕ → ℕ) × Solves cl base ms caps spots v j g' × Agrees codes v g' × (on can (g' x) ≡ true)
   pub blind : (k c d : ℕ) → n ≤ k → k < groupCount → c < maxCodes → d < maxCodes → ((i : ℕ) → i < maxCells → on (item gs k) i ≡ false → on c i ≡ on d i) → on can c ≡ true → on can d ≡ true
 
 -- the sets with the value of c in each of the first n groups

@@ -8,7 +8,7 @@ ghost use mathlib.Core.List.{List};
 ghost use Prim.Native.Nat.{ℕ, _+_, _*_, _<_, _≤_};
 ghost use lib.ListN.{length, getD};
 ghost use Rattle.limits.specs.Limits.{searchOutputs, maxVertices, labelCount, blockCount, maxCodes};
-ghost use Rattle.numbering.specs.Given.{Labels, Blocks, Plan, Kept, Told, item};
+ghost use Rattle.numbering.specs.Given.{noVertex, Labels, Blocks, Plan, Kept, Told, item};
 ghost use Rattle.holding.specs.Search.{Seeking, Empty};
 ghost use Rattle.coding.specs.Values.{groupCount, Groups, Marks, Over, Fresh, Canon, Marked, Valued};
 ghost use Rattle.coding.specs.Tried.{Covers};
@@ -96,9 +96,9 @@ pub fn settle_all(
 
 // Whether a vertex with n codes left is to be preferred to the best so far; none so far is no vertex.
 pub fn better(best: usize, least: u32, n: u32) -> bool
-    ensures { λ r. ⌜ (r ≡ false → best ≡ maxVertices → ⊥) ⌝ }
+    ensures { λ r. ⌜ (r ≡ false → best ≡ noVertex → ⊥) ⌝ }
 {
-    if best == cells::NO_VERTEX {
+    if best == numbering::NO_VERTEX {
         true
     } else {
         n < least
@@ -110,11 +110,11 @@ pub fn pick(dom: [u64; MAX_VERTICES], codes: [u8; MAX_VERTICES], v: usize, can: 
     requires { ⌜ v ≤ maxVertices ⌝ }
     ensures { λ r. ⌜ Seeking codes v r ⌝ }
 {
-    let mut best: usize = cells::NO_VERTEX;
+    let mut best: usize = numbering::NO_VERTEX;
     let mut least: u32 = 0;
     let mut y = 0;
     while y < v {
-        if codes[y] >= cells::NO_CODE {
+        if codes[y] >= numbering::NO_CODE {
             let n = u64::count_ones(dom[y] & can);
             if better(best, least, n) {
                 best = y;
@@ -199,7 +199,7 @@ pub fn find(
 {
     let can = allowed(gb, all, used);
     let x = pick(dom, codes, v, can);
-    if x == cells::NO_VERTEX {
+    if x == numbering::NO_VERTEX {
         let f = numbering::finish(cl, j, ms, ps, caps, v, codes);
         let all_codes = f.codes;
         return Search {

@@ -9,19 +9,18 @@ use lib.Bits.{bitAnd}
 use lib.Dec.{eqb}
 use lib.ListN.{length, set}
 use borrow.Author.Tests.{eq-eqb, eqb-true}
-use Rattle.limits.specs.Limits.{maxCodes}
 use Rattle.bits.specs.Logic.{orb}
 use Rattle.bits.specs.Digit.{on}
 use Rattle.cells.specs.Lists.{All, Pairs, all-map, never-both, false-where, or-on}
 use Rattle.cells.specs.Sets.{With}
-use Rattle.numbering.specs.Given.{labelAt, item, Block, Solves, Extends, Kept}
+use Rattle.numbering.specs.Given.{noCode, labelAt, item, Block, Solves, Extends, Kept}
 use Rattle.holding.specs.Blocks.{Minus, minus-keeps}
 use Rattle.holding.specs.Narrow.{Narrowed, narrowed-more}
 
 -- ======== definitions
 -- n of the first y vertices have codes in b, each of another class, and these classes are in seen
 pub record Crowd (cl codes : List ℕ) (o b y seen n : ℕ) : Type 0 where
-  pub found : (ws : List ℕ) × All (λ (w : ℕ). (w < y) × (item codes w < maxCodes) × (on b (item codes w) ≡ true) × (on seen (labelAt cl o w) ≡ true)) ws × Pairs (λ (a b : ℕ). labelAt cl o a ≡ labelAt cl o b → ⊥) ws × (length ws ≡ n)
+  pub found : (ws : List ℕ) × All (λ (w : ℕ). (w < y) × (item codes w < noCode) × (on b (item codes w) ≡ true) × (on seen (labelAt cl o w) ≡ true)) ws × Pairs (λ (a b : ℕ). labelAt cl o a ≡ labelAt cl o b → ⊥) ws × (length ws ≡ n)
   pub few : n ≤ y
 
 -- a code k at y where the block b is full: y's class is among those in it, or k is outside

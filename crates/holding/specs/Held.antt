@@ -15,16 +15,16 @@ use Rattle.bits.specs.Logic.{orb}
 use Rattle.bits.specs.Digit.{on}
 use Rattle.bits.specs.DigitLaws.{on-or, on-zero}
 use Rattle.cells.specs.Lists.{All, Pairs, all-map, less-or-equal, never-both, or-on}
-use Rattle.numbering.specs.Given.{labelAt, item, Block}
+use Rattle.numbering.specs.Given.{noCode, labelAt, item, Block}
 
 -- ======== definitions
 -- own has for each class the codes of the blocks that it holds among the first y vertices, owns how many blocks
 pub record Held (cl codes : List ℕ) (o mask y : ℕ) (own owns : List ℕ) : Type 0 where
   pub own-long : length own ≡ maxVertices
   pub owns-long : length owns ≡ maxVertices
-  pub inside : (w c : ℕ) → w < y → item codes w < maxCodes → c < maxCodes → bitAnd c mask ≡ bitAnd (item codes w) mask → on (getD own (labelAt cl o w) 0) c ≡ true
-  pub outside : (l c : ℕ) → l < maxVertices → c < maxCodes → on (getD own l 0) c ≡ true → (w : ℕ) × (w < y) × (item codes w < maxCodes) × (labelAt cl o w ≡ l) × (bitAnd (item codes w) mask ≡ bitAnd c mask)
-  pub lists : (l : ℕ) → l < maxVertices → (ws : List ℕ) × All (λ (w : ℕ). (w < y) × (item codes w < maxCodes) × (labelAt cl o w ≡ l)) ws × Pairs (λ (a b : ℕ). bitAnd (item codes a) mask ≡ bitAnd (item codes b) mask → ⊥) ws × (length ws ≡ getD owns l 0)
+  pub inside : (w c : ℕ) → w < y → item codes w < noCode → c < maxCodes → bitAnd c mask ≡ bitAnd (item codes w) mask → on (getD own (labelAt cl o w) 0) c ≡ true
+  pub outside : (l c : ℕ) → l < maxVertices → c < maxCodes → on (getD own l 0) c ≡ true → (w : ℕ) × (w < y) × (item codes w < noCode) × (labelAt cl o w ≡ l) × (bitAnd (item codes w) mask ≡ bitAnd c mask)
+  pub lists : (l : ℕ) → l < maxVertices → (ws : List ℕ) × All (λ (w : ℕ). (w < y) × (item codes w < noCode) × (labelAt cl o w ≡ l)) ws × Pairs (λ (a b : ℕ). bitAnd (item codes a) mask ≡ bitAnd (item codes b) mask → ⊥) ws × (length ws ≡ getD owns l 0)
   pub less : (l : ℕ) → l < maxVertices → getD owns l 0 ≤ y
 
 -- ======== the scan

@@ -10,18 +10,17 @@ use lib.Dec.{leb}
 use lib.ListN.{length, set}
 use lib.Seq.{getD-set-same, getD-set-other}
 use borrow.Author.Tests.{leb-true, le-leb}
-use Rattle.limits.specs.Limits.{maxVertices, maxCodes}
 use Rattle.bits.specs.LogicLaws.{true-false}
 use Rattle.bits.specs.Digit.{on}
 use Rattle.bits.specs.DigitLaws.{on-zero}
 use Rattle.cells.specs.Lists.{count, less-or-equal, never-both, false-where, count-drop}
-use Rattle.numbering.specs.Given.{item, Hopeless, Told}
+use Rattle.numbering.specs.Given.{noCode, noVertex, item, Hopeless, Told}
 
 -- ======== the next vertex
 -- the first y vertices have codes and best is no vertex, or one of them without a code is best
 pub record Seeking (codes : List ℕ) (y best : ℕ) : Type 0 where
-  pub none : best ≡ maxVertices → (x : ℕ) → x < y → item codes x < maxCodes
-  pub some : (best ≡ maxVertices → ⊥) → (best < y) × (maxCodes ≤ item codes best)
+  pub none : best ≡ noVertex → (x : ℕ) → x < y → item codes x < noCode
+  pub some : (best ≡ noVertex → ⊥) → (best < y) × (noCode ≤ item codes best)
 
 pub seeking-start : (codes : List ℕ) → Seeking codes 0 32
 seeking-start codes = record { none = λ e x h. absurd (omega arith); some = λ ne. absurd (ne refl) }
@@ -44,7 +43,7 @@ seeking-worse codes y best best' ne e s = subst (Seeking codes (y + 1)) (sym e) 
 -- ======== codes given
 -- how many vertices have no code
 abbrev pub uncoded : List ℕ → ℕ → ℕ
-uncoded codes v = count (λ (y : ℕ). leb maxCodes (item codes y)) v
+uncoded codes v = count (λ (y : ℕ). leb noCode (item codes y)) v
 
 pub uncoded-less : (codes : List ℕ) (v x c : ℕ) → length codes ≡ 32 → v ≤ 32 → x < v → 64 ≤ item codes x → c < 64 → uncoded (set codes x c) v < uncoded codes v
 uncoded-less codes v x c e w h k l = count-drop (λ (y : ℕ). leb 64 (item codes y)) (λ (y : ℕ). leb 64 (item (set codes x c) y)) v x h (le-leb 64 (item codes x) k)

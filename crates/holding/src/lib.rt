@@ -7,7 +7,7 @@ ghost use Prim.Native.Nat.{ℕ, _+_, _*_, _<_, _≤_, max};
 ghost use lib.ListN.{length, getD};
 ghost use Rattle.limits.specs.Limits.{searchOutputs, maxVertices, labelCount, blockCount, maxCodes};
 ghost use Rattle.bits.specs.Digit.{on};
-ghost use Rattle.numbering.specs.Given.{labelAt, item, Block, Labels, Blocks, Kept};
+ghost use Rattle.numbering.specs.Given.{noCode, labelAt, item, Block, Labels, Blocks, Kept};
 ghost use Rattle.holding.specs.Held.{Held};
 ghost use Rattle.holding.specs.Wants.{Wanted, needed};
 ghost use Rattle.holding.specs.Blocks.{Table, Minus, Spans};
@@ -78,7 +78,7 @@ pub fn held(
     let mut y = 0;
     while y < v {
         let c = codes[y];
-        if c < cells::NO_CODE {
+        if c < numbering::NO_CODE {
             let l = numbering::label(cl, o, y) as usize;
             if !cells::in_set(own[l], c) {
                 own[l] = own[l] | bs[o * MAX_CODES + c as usize];
@@ -179,9 +179,9 @@ pub fn total(base: &[u8], o: usize, owns: [u8; MAX_VERTICES]) -> usize
 
 // Whether a vertex with code c is in b; without a code it is not.
 pub fn inside(b: u64, c: u8) -> bool
-    ensures { λ r. ⌜ (r ≡ true → (c < maxCodes) × (on b c ≡ true)) ⌝ }
+    ensures { λ r. ⌜ (r ≡ true → (c < noCode) × (on b c ≡ true)) ⌝ }
 {
-    if c < cells::NO_CODE {
+    if c < numbering::NO_CODE {
         cells::in_set(b, c)
     } else {
         false
@@ -250,7 +250,7 @@ pub fn narrow(
     let mut r = dom;
     let mut y = 0;
     while y < v {
-        if codes[y] >= cells::NO_CODE {
+        if codes[y] >= numbering::NO_CODE {
             let l = numbering::label(cl, o, y) as usize;
             let need = numbering::label(base, o, l);
             r[y] = r[y] & keep(own[l], meet[l], owns[l], wants[l], need);
@@ -276,7 +276,7 @@ pub fn shut(
     let mut r = dom;
     let mut y = 0;
     while y < v {
-        if codes[y] >= cells::NO_CODE {
+        if codes[y] >= numbering::NO_CODE {
             let l = numbering::label(cl, o, y);
             if !cells::in_set(seen, l) {
                 r[y] = minus(r[y], b);

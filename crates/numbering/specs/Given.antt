@@ -1,5 +1,5 @@
 -- What the search for codes is given, and what it is to find. Labels: output o's class at vertex x stands at
--- o * maxVertices + x. A vertex without a code has maxCodes. A set of codes is a number of as many digits. Assumes nothing.
+-- o * maxVertices + x. A set of codes is a number of maxCodes digits. Assumes nothing.
 use mathlib.Core.Path.{_≡_}
 use mathlib.Core.Bool.{Bool, true, false}
 use mathlib.Core.List.{List}
@@ -11,6 +11,13 @@ use Rattle.limits.specs.Limits.{maxVertices, labelCount, blockCount, maxCodes, 
 use Rattle.bits.specs.Digit.{on}
 use Rattle.cells.specs.Lists.{count}
 use Rattle.cells.specs.Shared.{Fits}
+
+-- what stands for the code of a vertex that has none yet, and for a vertex where there is none
+abbrev pub noCode : ℕ
+noCode = maxCodes
+
+abbrev pub noVertex : ℕ
+noVertex = maxVertices
 
 abbrev pub labelAt : List ℕ → ℕ → ℕ → ℕ
 labelAt cl o x = getD cl (o * maxVertices + x) 0
@@ -47,7 +54,7 @@ pub record Solves (cl base ms caps spots : List ℕ) (v j : ℕ) (g : ℕ → �
 
 -- g has the codes given so far, and keeps to the sets that are left
 pub record Extends (codes dom : List ℕ) (v : ℕ) (g : ℕ → ℕ) : Type 0 where
-  pub coded : (x : ℕ) → x < v → item codes x < maxCodes → g x ≡ item codes x
+  pub coded : (x : ℕ) → x < v → item codes x < noCode → g x ≡ item codes x
   pub within : (x : ℕ) → x < v → on (item dom x) (g x) ≡ true
 
 -- each solution that keeps to dom keeps to r

@@ -13,6 +13,11 @@ ghost use Rattle.numbering.specs.Number.{Numbered, Number, Spread, Writt
 use limits::MAX_VERTICES;
 use limits::SEARCH_OUTPUTS;
 
+// What stands for the code of a vertex that has none yet, and for a vertex where there is none.
+pub const NO_CODE: u8 = cells::MAX_CODES;
+
+pub const NO_VERTEX: usize = MAX_VERTICES;
+
 // The class of vertex x for output o.
 pub fn label(cl: &[u8], o: usize, x: usize) -> u8
     requires { ⌜ (length (now cl) ≡ labelCount) × (o < searchOutputs) × (x < maxVertices) ⌝ }

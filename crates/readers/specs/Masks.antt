@@ -24,7 +24,7 @@ use Rattle.cells.specs.Lists.{All, Pairs, count, less-or-equal, never-both, fal
 use Rattle.cells.specs.Pigeon.{Agree, agree-and, and-agree}
 use Rattle.cells.specs.Codes.{Coded}
 use Rattle.cells.specs.Shared.{Split, Fits, sharedCode, crowd-bound, places-bound}
-use Rattle.numbering.specs.Given.{labelAt, item, Block, Blocks, Plan, Solves, Extends, Kept, Parted, Hopeless, Told}
+use Rattle.numbering.specs.Given.{noCode, labelAt, item, Block, Blocks, Plan, Solves, Extends, Kept, Parted, Hopeless, Told}
 use Rattle.coding.specs.Values.{Agrees}
 use Rattle.coding.specs.Tried.{Covers}
 use Rattle.holding.specs.Blocks.{Table, copies, copies-are, all-ones}
@@ -190,7 +190,7 @@ module _ (rows : List ℕ) (sh j : ℕ) (ms ps caps spots : List ℕ) (short : S
 -- vertex 0 has code 0, no other has a code, and any code may be taken
 pub record Start (codes dom : List ℕ) : Type 0 where
   pub first : item codes 0 ≡ 0
-  pub others : (x : ℕ) → x < maxVertices → (x ≡ 0 → ⊥) → item codes x ≡ maxCodes
+  pub others : (x : ℕ) → x < maxVertices → (x ≡ 0 → ⊥) → item codes x ≡ noCode
   pub any : (x : ℕ) → x < maxVertices → item dom x ≡ 2 ^ 64 - 1
 
 pub start-of : Start (0 ∷ copies 31 64) (copies 32 (2 ^ 64 - 1))

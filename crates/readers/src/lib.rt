@@ -174,7 +174,7 @@ pub struct State {
 pub fn begin() -> State
     ensures { λ r. ⌜ Start (r .codes) (r .dom) ⌝ }
 {
-    let mut codes = [cells::NO_CODE; MAX_VERTICES];
+    let mut codes = [numbering::NO_CODE; MAX_VERTICES];
     codes[0] = 0;
     State {
         codes,
