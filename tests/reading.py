@@ -63,7 +63,7 @@ class Module:
                 continue
             name = head["name"]
             self.declared[name] = self.declared.get(name, "") + "\n" + block
-            if re.match(r"(pub )?(record|data) ", block):
+            if re.match(r"(pub )?(record|data) |(unfoldable )?mutual", block):
                 for part in re.findall(r"^  (?:pub )?([^:\n]+?) :", block, re.M):
                     for member in part.split():
                         self.declared.setdefault(member, block)

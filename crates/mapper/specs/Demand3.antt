@@ -10,7 +10,7 @@ use Rattle.text.specs.Line.{lines}
 use Rattle.sheet.specs.Examine.{Design, Examined}
 use Rattle.network.specs.Network.{Network}
 use Rattle.network.specs.Printer.{printCount}
-use Rattle.network.specs.Parts.{lineAt}
+use Rattle.text.specs.Line.{lineAt}
 use Rattle.network.specs.Check.{Checked, same, differs, checkOf}
 use Rattle.network.specs.Answers.{Drawn}
 use Rattle.mapper.specs.Map.{MapAnswer, refused-by, mapped}

@@ -16,7 +16,7 @@ use Rattle.sheet.specs.ExaminationLaws.{valid-well-formed}
 use Rattle.classes.specs.Classes.{globalCount}
 use Rattle.network.specs.Network.{Network}
 use Rattle.network.specs.Printer.{printNetwork, networkLines}
-use Rattle.network.specs.Parts.{lineAt}
+use Rattle.text.specs.Line.{lineAt}
 use Rattle.network.specs.Wellformed.{Wellformed}
 use Rattle.network.specs.Answers.{WithinLimits, Computes, Drawn}
 use Rattle.network.specs.Check as c

@@ -7,7 +7,7 @@ use native.Mathlib.Omega.{arith}
 use lib.ListN.{length}
 use Rattle.bits.specs.LogicLaws.{true-false}
 use Rattle.names.specs.Name.{isName}
-use Rattle.names.specs.Front.{allNames}
+use Rattle.names.specs.Names.{allNames}
 use Rattle.names.specs.AllNamesLaws.{all-named}
 use Rattle.sheet.specs.Lines.{Output}
 use Rattle.sheet.specs.Examine.{Design, outputNames}

@@ -15,7 +15,7 @@ use Rattle.text.specs.Bytes.{bytes, space, newline, closeBracket}
 use Rattle.text.specs.Line.{endedLines}
 use Rattle.text.specs.Number.{printNumber}
 use Rattle.names.specs.Name.{Name, isName}
-use Rattle.names.specs.Front.{allNames}
+use Rattle.names.specs.Names.{allNames}
 use Rattle.names.specs.IsNameLaws.{name-short}
 use Rattle.rows.specs.Digits.{digit}
 use Rattle.sheet.specs.Lines.{endLine, Output}

@@ -37,7 +37,7 @@ four-vertices P p q r s (suc (suc (suc (suc x)))) h = absurd (omega arith)
 
 g-fewest : Fewest (sheetG "2") (networkG "0000") (designG 2) g-network
 unfolding computing
-g-fewest = fewest-of refl refl refl refl (lit≤ tt) (refl, tt) (two-needed (designG 2) 0 0 0 0 1 3 refl refl refl)
+g-fewest = fewest-of refl refl refl refl (lit≤ tt) (two-needed (designG 2) 0 0 0 0 1 3 refl refl refl)
 
 g-zero : (w : Network)
     → Permitted (designG 2) w
@@ -72,7 +72,7 @@ forced-network =
 forced-fewest : Fewest sheetForced (networkForced "0000") designForced forced-network
 unfolding computing
 forced-fewest =
-    fewest-of refl refl refl refl (lit≤ tt) (refl, (refl, (refl, tt))) (two-needed designForced 0 0 0 0 1 3 refl refl refl)
+    fewest-of refl refl refl refl (lit≤ tt) (two-needed designForced 0 0 0 0 1 3 refl refl refl)
 
 -- an output of width 1 reads one table or none
 one-or-none : {u : ℕ} {is : List ℕ}

@@ -10,8 +10,8 @@ use Rattle.text.specs.Bytes.{bytes}
 use Rattle.sheet.specs.Examine.{Design, valid, examine}
 use Rattle.classes.specs.Classes.{globalCount}
 use Rattle.mapper.specs.Computing.{computing}
-use Rattle.mapper.specs.Map.{MapAnswer, refused-by}
-use Rattle.mapper.specs.OutcomeLaws.{OutcomeFor, many-classes, none-computes, too-short, printed, outcome-for}
+use Rattle.mapper.specs.Map.{MapAnswer, refused-by, OutcomeFor, too-many-classes, no-network, buffer-short, written}
+use Rattle.mapper.specs.OutcomeLaws.{outcome-for}
 use Rattle.mapper.specs.Designs.{designI}
 use Rattle.mapper.specs.Worked.{Refuses}
 
@@ -24,10 +24,10 @@ sheetI n =
 -- ---- a sheet with too many classes is refused by 7
 module _ (s : List ℕ) (d : Design) (e : examine s ≡ valid d) (many : maxClasses < globalCount d (d .bound)) where
   says-7 : {b : List ℕ} {a : MapAnswer} {b' : List ℕ} → OutcomeFor d b a b' → (a ≡ refused-by 7 0) × (b' ≡ b)
-  says-7 (many-classes h) = (refl, refl)
-  says-7 (none-computes h n) = absurd (omega (arith, h, many))
-  says-7 (too-short w h p n) = absurd (omega (arith, h, many))
-  says-7 (printed w h p n) = absurd (omega (arith, h, many))
+  says-7 (too-many-classes h) = (refl, refl)
+  says-7 (no-network h n) = absurd (omega (arith, h, many))
+  says-7 (buffer-short w h p n) = absurd (omega (arith, h, many))
+  says-7 (written w h p n) = absurd (omega (arith, h, many))
 
   refuses-7 : Refuses s 7 0
   refuses-7 =

@@ -4,7 +4,7 @@ use mathlib.Core.Bool.{Bool, true, false, _||_}
 use mathlib.Core.List.{List, [], _∷_}
 use Rattle.bits.specs.LogicLaws.{true-false, and-left, and-right, and-both}
 use Rattle.names.specs.Name.{Name, isName, sameName, among, allAmong}
-use Rattle.names.specs.Front.{allNames}
+use Rattle.names.specs.Names.{allNames}
 use Rattle.names.specs.SameLaws.{same-name-true}
 
 pub named-among : (n : Name) (ns : List Name) → allNames ns ≡ true → among n ns ≡ true → isName n ≡ true

@@ -1,11 +1,17 @@
 -- Lists of names: "Single spaces separate items; none stands after "(" or before ")"." Assumes nothing.
+use mathlib.Core.Bool.{Bool, true, _&&_}
 use mathlib.Core.List.{List, [], _∷_, _++_}
 use Prim.Native.Nat.{ℕ, zero, suc}
 use lib.Dec.{eqb}
 use lib.ListN.{length}
 use Rattle.bits.specs.Logic.{pick}
 use Rattle.text.specs.Bytes.{Read, found, bad, after, space, closeBracket}
-use Rattle.names.specs.Name.{Name, readName}
+use Rattle.names.specs.Name.{Name, isName, readName}
+
+-- whether all are names
+unfoldable pub allNames : List Name → Bool
+allNames [] = true
+allNames (n ∷ ns) = isName n && allNames ns
 
 -- names, each after a space
 unfoldable pub printNames : List Name → List ℕ

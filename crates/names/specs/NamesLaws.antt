@@ -14,7 +14,8 @@ use Rattle.text.specs.EatLaws.{bad-found, found-item, found-rest, after-found}
 use Rattle.text.specs.After.{after-same}
 use Rattle.names.specs.Name.{Name, isName, readName}
 use Rattle.names.specs.Names.{printNames, namesWithin, readNames}
-use Rattle.names.specs.Front.{Stops, NameFront, allNames, NamesFront}
+use Rattle.names.specs.Front.{Stops, NameFront, NamesFront}
+use Rattle.names.specs.Names.{allNames}
 use Rattle.names.specs.NameLaws.{read-name-shorter}
 use Rattle.names.specs.ReadLaws.{space-stops, bracket-stops, name-read-of-print, name-print-of-read}
 

@@ -11,7 +11,8 @@ use Rattle.text.specs.EatLaws.{found-rest, eat-own, eat-found, after-found, pic
 use Rattle.text.specs.After.{after-same}
 use Rattle.text.specs.Number.{numeral}
 use Rattle.names.specs.Name.{Name, letter, nameByte, isName, readName, sameName}
-use Rattle.names.specs.Front.{Stops, allNames}
+use Rattle.names.specs.Front.{Stops}
+use Rattle.names.specs.Names.{allNames}
 use Rattle.names.specs.ReadLaws.{name-read-of-print, name-print-of-read}
 use Rattle.names.specs.SameLaws.{same-name-true, same-name-self}
 use Rattle.network.specs.Printer.{led, ledAll, lutName, lutHead, nodeHead}

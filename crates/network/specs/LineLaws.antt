@@ -12,7 +12,7 @@ use Rattle.text.specs.Bytes.{Read, found, after, eat, whole, bytes, closeBracke
 use Rattle.text.specs.EatLaws.{found-item, found-rest, eat-own, eat-found, after-found, whole-found}
 use Rattle.text.specs.After.{byte-found}
 use Rattle.names.specs.Name.{Name, isName}
-use Rattle.names.specs.Front.{allNames}
+use Rattle.names.specs.Names.{allNames}
 use Rattle.sheet.specs.Lines.{closed}
 use Rattle.network.specs.Network.{Node}
 use Rattle.network.specs.Printer.{ledAll, lutName, printDigits, lutHead, printLut, nodeHead, printNode}

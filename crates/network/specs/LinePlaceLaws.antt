@@ -12,7 +12,8 @@ use Rattle.sheet.specs.Examine.{Design}
 use Rattle.network.specs.Network.{Network, Node}
 use Rattle.network.specs.Printer.{networkLine, printLut, printNode, printCount, lutLines, nodeLines, networkLines}
 use Rattle.network.specs.Wellformed.{nodeAt}
-use Rattle.network.specs.Parts.{freeOf, namesOf, lineAt, lastLines, linesFromNode}
+use Rattle.network.specs.Parts.{freeOf, namesOf, lastLines, linesFromNode}
+use Rattle.text.specs.Line.{lineAt}
 use Rattle.network.specs.PartLaws.{names-count}
 
 luts-count : (bs : List Name) (i : ℕ) (ts : List (List Bool)) → length (lutLines bs i ts) ≡ length ts

@@ -10,7 +10,7 @@ use borrow.Author.Tests.{ne-eqb, leb-true}
 use Rattle.bits.specs.LogicLaws.{true-false, and-left}
 use Rattle.text.specs.Bytes.{bad, eat, bytes}
 use Rattle.names.specs.Name.{Name, letter, isName}
-use Rattle.names.specs.Front.{allNames}
+use Rattle.names.specs.Names.{allNames}
 use Rattle.names.specs.IsNameLaws.{name-starts}
 use Rattle.network.specs.Printer.{led, ledAll, lutName}
 use Rattle.network.specs.Reader.{none-of}

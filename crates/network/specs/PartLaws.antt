@@ -12,7 +12,7 @@ use Rattle.bits.specs.Logic.{pick}
 use Rattle.bits.specs.LogicLaws.{and-left, and-right, and-both}
 use Rattle.text.specs.Bytes.{eat}
 use Rattle.names.specs.Name.{Name, isName, among}
-use Rattle.names.specs.Front.{allNames}
+use Rattle.names.specs.Names.{allNames}
 use Rattle.sheet.specs.Lines.{Output}
 use Rattle.sheet.specs.Examine.{Design}
 use Rattle.classes.specs.Columns.{free}

@@ -2,7 +2,7 @@
 use mathlib.Core.Bool.{Bool}
 use mathlib.Core.List.{List, [], _∷_, _++_}
 use mathlib.Core.Option.{Option}
-use Prim.Native.Nat.{ℕ, _-_}
+use Prim.Native.Nat.{ℕ}
 use lib.Dec.{ltb}
 use lib.ListN.{length, getD, drop}
 use Rattle.bits.specs.Logic.{pick}
@@ -28,10 +28,6 @@ nodeRead d v o l = readNode (getD (namesOf d) o []) (freeOf d) (length (v .luts)
 -- the place of the node of output o; after the last node, that of the count
 abbrev pub nodePlace : Design → ℕ → Place
 nodePlace d o = pick (ltb o (length (d .outputs))) (at-node o) at-count
-
--- line l, from 1
-abbrev pub lineAt : List (List ℕ) → ℕ → List ℕ
-lineAt ls l = getD ls (l - 1) []
 
 -- the lines from the count on, beside u shared tables
 abbrev pub lastLines : ℕ → List (List ℕ)

@@ -15,7 +15,7 @@ use Rattle.text.specs.Line.{lines, endsLine}
 use Rattle.text.specs.Unbroken.{unbroken, allUnbroken}
 use Rattle.text.specs.EndedLaws.{lines-of-ended, ended-ends, ended-some}
 use Rattle.names.specs.Name.{Name, isName}
-use Rattle.names.specs.Front.{allNames}
+use Rattle.names.specs.Names.{allNames}
 use Rattle.sheet.specs.Examine.{Design}
 use Rattle.network.specs.Network.{Network, Node}
 use Rattle.network.specs.Printer.{networkLine, printLut, printNode, lutLines, nodeLines, networkLines, printNetwork}

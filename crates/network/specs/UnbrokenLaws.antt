@@ -13,7 +13,7 @@ use Rattle.text.specs.LineLaws.{unbroken-cons, unbroken-append}
 use Rattle.text.specs.Number.{numeral, printNumber}
 use Rattle.text.specs.NumberLaws.{print-unbroken}
 use Rattle.names.specs.Name.{Name, letter, nameByte, allNameBytes, isName}
-use Rattle.names.specs.Front.{allNames}
+use Rattle.names.specs.Names.{allNames}
 use Rattle.names.specs.IsNameLaws.{name-bytes}
 use Rattle.sheet.specs.Lines.{endLine}
 use Rattle.network.specs.Network.{Node}

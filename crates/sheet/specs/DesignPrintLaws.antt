@@ -16,7 +16,7 @@ use Rattle.text.specs.BytesLaws.{same-self}
 use Rattle.text.specs.Line.{lines}
 use Rattle.text.specs.EndedLaws.{lines-of-ended, ended-some}
 use Rattle.names.specs.Name.{Name, among, distinct, allAmong}
-use Rattle.names.specs.Front.{allNames}
+use Rattle.names.specs.Names.{allNames}
 use Rattle.names.specs.AllNamesLaws.{all-named}
 use Rattle.formula.specs.Tree.{constant, depth, knows}
 use Rattle.sheet.specs.Lines.{Output, designLine, endLine, printIn, printBound, printLimit, printOut, readOut}

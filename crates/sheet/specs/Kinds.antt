@@ -8,7 +8,7 @@ use Prim.Native.Nat.{ℕ, _<_}
 use Rattle.bits.specs.Logic.{pick}
 use Rattle.text.specs.Bytes.{same}
 use Rattle.names.specs.Name.{Name, isName}
-use Rattle.names.specs.Front.{allNames}
+use Rattle.names.specs.Names.{allNames}
 use Rattle.formula.specs.Printer.{spelled}
 use Rattle.sheet.specs.Lines.{Output, designLine, endLine, printIn, printBound, printLimit, printOut, readIn, readBound, readLimit, readOut}
 

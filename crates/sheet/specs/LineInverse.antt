@@ -15,7 +15,7 @@ use Rattle.text.specs.Numerals.{stops}
 use Rattle.text.specs.NumberLaws.{read-printed, number-found}
 use Rattle.names.specs.Name.{Name, readName}
 use Rattle.names.specs.Names.{printNames, readNames}
-use Rattle.names.specs.Front.{allNames}
+use Rattle.names.specs.Names.{allNames}
 use Rattle.names.specs.ReadLaws.{space-stops, bracket-stops, name-read-of-print, name-print-of-read}
 use Rattle.names.specs.NamesLaws.{names-read-of-print, names-print-of-read}
 use Rattle.formula.specs.Tree.{Formula}

@@ -15,7 +15,7 @@ use Rattle.text.specs.NumeralLaws.{numeral-low, numeral-high}
 use Rattle.text.specs.NumberLaws.{print-numerals}
 use Rattle.names.specs.Name.{Name, letter, nameByte, allNameBytes, isName}
 use Rattle.names.specs.Names.{printNames}
-use Rattle.names.specs.Front.{allNames}
+use Rattle.names.specs.Names.{allNames}
 use Rattle.names.specs.IsNameLaws.{name-bytes}
 use Rattle.cursor.specs.Opening.{Gate, and-gate, or-gate, xor-gate}
 use Rattle.formula.specs.Tree.{Formula, input, constant, negation, gate, Operands, none, more}

@@ -7,7 +7,7 @@ use Prim.Native.Nat.{ℕ, _≤_, _<_}
 use lib.ListN.{length, getD}
 use Rattle.limits.specs.Limits.{maxInputs, maxBound, maxLimit, maxOutputs, maxDepth}
 use Rattle.names.specs.Name.{Name, isName, among, distinct, allAmong}
-use Rattle.names.specs.Front.{allNames}
+use Rattle.names.specs.Names.{allNames}
 use Rattle.formula.specs.Tree.{constant, depth, knows}
 use Rattle.formula.specs.Printer.{spelled}
 use Rattle.sheet.specs.Lines.{Output}

@@ -1,8 +1,9 @@
 -- "One form a line, each line ended by byte 0x0A". Assumes nothing.
 use mathlib.Core.Bool.{Bool, true, false}
 use mathlib.Core.List.{List, [], _∷_, _++_}
-use Prim.Native.Nat.{ℕ}
+use Prim.Native.Nat.{ℕ, _-_}
 use lib.Dec.{eqb}
+use lib.ListN.{getD}
 use Rattle.bits.specs.Logic.{pick}
 use Rattle.text.specs.Bytes.{newline}
 
@@ -28,3 +29,7 @@ unfoldable pub endsLine : List ℕ → Bool
 endsLine [] = false
 endsLine (b ∷ []) = eqb b newline
 endsLine (b ∷ c ∷ s) = endsLine (c ∷ s)
+
+-- line l of some lines: "Lines count from 1"
+abbrev pub lineAt : List (List ℕ) → ℕ → List ℕ
+lineAt ls l = getD ls (l - 1) []
