@@ -9,7 +9,7 @@ use lib.ListN.{length, getD}
 use Rattle.bits.specs.Logic.{pick}
 use Rattle.text.specs.Bytes.{same, newline}
 use Rattle.text.specs.Line.{lines}
-use Rattle.limits.specs.Limits.{maxNetwork, maxCells}
+use Rattle.limits.specs.Limits.{maxCells, maxNetwork, firstLut}
 use Rattle.names.specs.Name.{Name}
 use Rattle.sheet.specs.Lines.{endLine}
 use Rattle.sheet.specs.Examine.{Design, outputNames, within}
@@ -118,5 +118,5 @@ wideNode d o n (x ∷ xs) =
 
 unfoldable pub offending : Design → Network → Option ℕ
 offending d w =
-    let nodes = wideNode d 0 (length (w .luts) + 2) (w .nodes) in
-    pick (leb (length (w .luts)) (d .limit)) nodes (some (d .limit + 2))
+    let nodes = wideNode d 0 (length (w .luts) + firstLut) (w .nodes) in
+    pick (leb (length (w .luts)) (d .limit)) nodes (some (d .limit + firstLut))
