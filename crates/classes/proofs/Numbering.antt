@@ -10,32 +10,33 @@ use native.Mathlib.Numerals.{add-one}
 use borrow.Author.Count.{below-more}
 use lib.ListN.{length, getD, set, length-set}
 use lib.Seq.{getD-set-same, getD-set-other}
+use Rattle.limits.specs.Limits.{maxVertices}
 use Rattle.classes.specs.Classes.{firstLike, classCount, classOf}
 use Rattle.classes.specs.ClassLaws.{Equivalence, first-like, count-most, first-counts, other-counts, class-of-first, class-of-earlier}
 use Rattle.classes.specs.Seen.{ClassesBy}
 
 -- the classes of the numbers below x, of which there are count
 pub record Numbered {A : Type 0} (number : A → ℕ) (blank : A) (same : ℕ → ℕ → Bool) (l : List A) (x count : ℕ) : Type 0 where
-  pub size : length l ≡ 32
+  pub size : length l ≡ maxVertices
   pub by : ClassesBy same x count (λ z. number (getD l z blank))
 
 module _ {A : Type 0} {number : A → ℕ} {blank : A} {same : ℕ → ℕ → Bool} where
-  pub numbered-none : {l : List A} → length l ≡ 32 → Numbered number blank same l 0 0
+  pub numbered-none : {l : List A} → length l ≡ maxVertices → Numbered number blank same l 0 0
   unfolding classCount
   numbered-none e = record { size = e; by = record { counted = refl; classes = λ z h. absurd (omega arith) } }
 
   -- what is stored at x is x's class, and the classes before stay
-  stored : (l : List A) (x count : ℕ) (a : A) → Numbered number blank same l x count → x < 32 → number a ≡ classOf same x
+  stored : (l : List A) (x count : ℕ) (a : A) → Numbered number blank same l x count → x < maxVertices → number a ≡ classOf same x
       → (z : ℕ) → z < x + 1 → number (getD (set l x a) z blank) ≡ classOf same z
   stored l x count a n h e =
-      let s : length l ≡ 32 = n .size in
+      let s : length l ≡ maxVertices = n .size in
       below-more (λ (z : ℕ). number (getD (set l x a) z blank) ≡ classOf same z) x
       (λ z b.
       ap number (getD-set-other l x z a blank (λ q. let w : z ≡ x = q in omega arith)) ∙ n .by .classes z b)
       (ap number (getD-set-same l x a blank (omega arith)) ∙ e)
 
   -- x's first relative y came before
-  pub numbered-old : {l m : List A} {x y count c : ℕ} → Equivalence same → Numbered number blank same l x count → x < 32 → y < x
+  pub numbered-old : {l m : List A} {x y count c : ℕ} → Equivalence same → Numbered number blank same l x count → x < maxVertices → y < x
       → y ≡ firstLike same x
       → m ≡ set l x (getD l y blank) → c ≡ count → Numbered number blank same m (x + 1) c
   numbered-old {l} {m} {x} {y} {count} {c} q n h b e f g =
@@ -51,7 +52,7 @@ module _ {A : Type 0} {number : A → ℕ} {blank : A} {same : ℕ → ℕ → B
       }
 
   -- x is its own first relative y
-  pub numbered-new : {l m : List A} {x y count c : ℕ} {a : A} → Numbered number blank same l x count → x < 32 → x ≤ y → y ≡ firstLike same x
+  pub numbered-new : {l m : List A} {x y count c : ℕ} {a : A} → Numbered number blank same l x count → x < maxVertices → x ≤ y → y ≡ firstLike same x
       → m ≡ set l x a → number a ≡ count → c ≡ count + 1 → Numbered number blank same m (x + 1) c
   numbered-new {l} {m} {x} {y} {count} {c} {a} n h b e f k g =
       let most : firstLike same x ≤ 0 + x = first-like same x .to-end in

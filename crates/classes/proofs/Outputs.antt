@@ -2,7 +2,7 @@
 -- far. Assumes nothing.
 use mathlib.Core.Path.{_≡_, sym, ap, ap₂, subst, _∙_}
 use mathlib.Core.List.{List, []}
-use Prim.Native.Nat.{ℕ, _+_, _*_, _^_, _≤_, _<_}
+use Prim.Native.Nat.{ℕ, _+_, _-_, _*_, _^_, _≤_, _<_}
 use native.Mathlib.Omega.{arith}
 use native.Mathlib.Numerals.{add-one}
 use borrow.Author.Count.{below-more}
@@ -11,6 +11,7 @@ use lib.Arith.{digits-lt}
 use lib.ListN.{length, getD, take, set, length-set, replicate, length-replicate, getD-replicate}
 use lib.Pow.{pow-mono, pow-add}
 use lib.Seq.{getD-set-same, getD-set-other, getD-take, length-take-le}
+use Rattle.limits.specs.Limits.{maxBound, maxOutputs, maxRows, maxVertices, maxFreeRows}
 use Rattle.sheet.specs.Examine.{Design}
 use Rattle.sheet.specs.Known.{Holds, tableAt}
 use Rattle.sheet.specs.declared.Sheet.{Sheet}
@@ -33,10 +34,10 @@ pub record OutlinedFor (d : Design) (locals : List Locals) (widths keys : List �
 
 pub record Outlined (k : Sheet) (sh : Shape) (locals : List Locals) (widths keys : List ℕ) (o : ℕ) : Type 0 where
   pub within : o ≤ k .outputs
-  pub locals-size : length locals ≡ 4
-  pub widths-size : length widths ≡ 4
-  pub keys-size : length keys ≡ 32
-  pub low : (x : ℕ) → x < sh .vertices → getD keys x 0 < 2 ^ (5 * o)
+  pub locals-size : length locals ≡ maxOutputs
+  pub widths-size : length widths ≡ maxOutputs
+  pub keys-size : length keys ≡ maxVertices
+  pub low : (x : ℕ) → x < sh .vertices → getD keys x 0 < 2 ^ (maxBound * o)
   pub right : (d : Design) → Holds d k → Proper d → OutlinedFor d locals widths keys o
 
 -- the parts of a shape that the code lends
@@ -47,17 +48,17 @@ abbrev pub freePart : Shape → List ℕ
 freePart sh = take (sh .frees) (sh .free)
 
 abbrev pub zeros : List ℕ
-zeros = replicate 32 0
+zeros = replicate maxVertices 0
 
-zero-key : (x : ℕ) → x < 32 → getD zeros x 0 ≡ 0
-zero-key x h = getD-replicate 32 x 0 0 h
+zero-key : (x : ℕ) → x < maxVertices → getD zeros x 0 ≡ 0
+zero-key x h = getD-replicate maxVertices x 0 0 h
 
 module _ {k : Sheet} {sh : Shape} (s : Shaped k sh) where
   pub vertex-fits : sh .vertices ≤ length (sh .vertex)
-  vertex-fits = let a : length (sh .vertex) ≡ 32 = s .vertex-size in let b : sh .vertices ≤ 32 = s .few-vertices in omega arith
+  vertex-fits = let a : length (sh .vertex) ≡ maxVertices = s .vertex-size in let b : sh .vertices ≤ maxVertices = s .few-vertices in omega arith
 
   pub free-fits : sh .frees ≤ length (sh .free)
-  free-fits = let a : length (sh .free) ≡ 512 = s .free-size in let b : sh .frees ≤ 512 = s .few-free in omega arith
+  free-fits = let a : length (sh .free) ≡ maxFreeRows = s .free-size in let b : sh .frees ≤ maxFreeRows = s .few-free in omega arith
 
   pub vertex-part : length (vertexPart sh) ≡ sh .vertices
   vertex-part = length-take-le (sh .vertices) (sh .vertex) vertex-fits
@@ -65,8 +66,8 @@ module _ {k : Sheet} {sh : Shape} (s : Shaped k sh) where
   pub free-part : length (freePart sh) ≡ sh .frees
   free-part = length-take-le (sh .frees) (sh .free) free-fits
 
-  pub few-part : length (vertexPart sh) ≤ 32
-  few-part = let e : length (vertexPart sh) ≡ sh .vertices = vertex-part in let f : sh .vertices ≤ 32 = s .few-vertices in omega arith
+  pub few-part : length (vertexPart sh) ≤ maxVertices
+  few-part = let e : length (vertexPart sh) ≡ sh .vertices = vertex-part in let f : sh .vertices ≤ maxVertices = s .few-vertices in omega arith
 
   pub parts-inside : Inside (vertexPart sh) (freePart sh)
   parts-inside =
@@ -74,20 +75,20 @@ module _ {k : Sheet} {sh : Shape} (s : Shaped k sh) where
         each = λ x y a b.
             let inx : x < sh .vertices = subst (λ (n : ℕ). x < n) vertex-part a in
             let iny : y < sh .frees = subst (λ (n : ℕ). y < n) free-part b in
-            subst (λ (n : ℕ). n < 1024)
+            subst (λ (n : ℕ). n < maxRows)
             (sym (ap₂ (λ (u w : ℕ). u + w) (getD-take (sh .vertices) (sh .vertex) x 0 inx) (getD-take (sh .frees) (sh .free) y 0 iny)))
             (s .inside x y inx iny);
       }
 
-  pub outlined-none : (l : Locals) → Outlined k sh (replicate 4 l) (replicate 4 0) zeros 0
+  pub outlined-none : (l : Locals) → Outlined k sh (replicate maxOutputs l) (replicate maxOutputs 0) zeros 0
   unfolding alikeUpto
   outlined-none l =
-      let few : sh .vertices ≤ 32 = s .few-vertices in
+      let few : sh .vertices ≤ maxVertices = s .few-vertices in
       record {
         within = omega arith;
-        locals-size = length-replicate 4 l;
-        widths-size = length-replicate {A = ℕ} 4 0;
-        keys-size = length-replicate {A = ℕ} 32 0;
+        locals-size = length-replicate maxOutputs l;
+        widths-size = length-replicate {A = ℕ} maxOutputs 0;
+        keys-size = length-replicate {A = ℕ} maxVertices 0;
         low = λ x h. let z : getD zeros x 0 ≡ 0 = zero-key x (omega arith) in omega arith;
         right = λ d h p.
             let same : sh .vertices ≡ vertexCount (d .bound) = s .right d h p .vertices in
@@ -98,14 +99,14 @@ module _ {k : Sheet} {sh : Shape} (s : Shaped k sh) where
             };
       }
 
-module _ {k : Sheet} {sh : Shape} {locals : List Locals} {widths keys : List ℕ} {o : ℕ} (s : Shaped k sh) (m : k .outputs ≤ 4)
+module _ {k : Sheet} {sh : Shape} {locals : List Locals} {widths keys : List ℕ} {o : ℕ} (s : Shaped k sh) (m : k .outputs ≤ maxOutputs)
     (q : Outlined k sh locals widths keys o) (h : o < k .outputs) (r : Locals)
     (c : ClassesBy (alikeSeen (tableAt (k .tables) o) (vertexPart sh) (freePart sh)) (length (vertexPart sh)) (r .count)
     (localAt (r .classes))) where
-  pub few-classes : r .count ≤ 32
+  pub few-classes : r .count ≤ maxVertices
   few-classes = classes-few c (few-part s)
 
-  low-class : (x : ℕ) → x < sh .vertices → localAt (r .classes) x < 32
+  low-class : (x : ℕ) → x < sh .vertices → localAt (r .classes) x < maxVertices
   low-class x l =
       classes-low c (few-part s)
       (same-column (seen (tableAt (k .tables) o) (vertexPart sh) (freePart sh)) (length (freePart sh)))
@@ -115,27 +116,27 @@ module _ {k : Sheet} {sh : Shape} {locals : List Locals} {widths keys : List ℕ
   output-keyable =
       record {
         low-key = λ x l.
-            let lt : getD keys x 0 < 2 ^ (5 * o) = q .low x l in
-            let most : 2 ^ (5 * o) ≤ 2 ^ 15 = pow-mono {j = 15} (omega arith) in
+            let lt : getD keys x 0 < 2 ^ (maxBound * o) = q .low x l in
+            let most : 2 ^ (maxBound * o) ≤ 2 ^ (maxBound * (maxOutputs - 1)) = pow-mono {j = maxBound * (maxOutputs - 1)} (omega arith) in
             omega arith;
         low-class = low-class;
       }
 
   low-more : (list : List ℕ) → KeysBy keys (localAt (r .classes)) (sh .vertices) list
-      → (x : ℕ) → x < sh .vertices → getD list x 0 < 2 ^ (5 * (o + 1))
+      → (x : ℕ) → x < sh .vertices → getD list x 0 < 2 ^ (maxBound * (o + 1))
   low-more list b x l =
-      let five : 5 * o + 5 ≡ 5 * (o + 1) = omega arith in
-      let lt : getD keys x 0 * 32 + localAt (r .classes) x < 2 ^ (5 * o) * 32 = digits-lt (q .low x l) (low-class x l) in
-      subst (λ (n : ℕ). n < 2 ^ (5 * (o + 1))) (sym (b .each x l))
-      (subst (λ (n : ℕ). getD keys x 0 * 32 + localAt (r .classes) x < n)
-      (sym (pow-add 2 (5 * o) 5) ∙ ap (λ (n : ℕ). 2 ^ n) five)
+      let next : maxBound * o + maxBound ≡ maxBound * (o + 1) = omega arith in
+      let lt : getD keys x 0 * maxVertices + localAt (r .classes) x < 2 ^ (maxBound * o) * maxVertices = digits-lt (q .low x l) (low-class x l) in
+      subst (λ (n : ℕ). n < 2 ^ (maxBound * (o + 1))) (sym (b .each x l))
+      (subst (λ (n : ℕ). getD keys x 0 * maxVertices + localAt (r .classes) x < n)
+      (sym (pow-add 2 (maxBound * o) maxBound) ∙ ap (λ (n : ℕ). 2 ^ n) next)
       lt)
 
-  pub outlined-more : (list : List ℕ) (w : ℕ) → KeysBy keys (localAt (r .classes)) (sh .vertices) list → w ≡ widthOf (r .count) → w ≤ 5
+  pub outlined-more : (list : List ℕ) (w : ℕ) → KeysBy keys (localAt (r .classes)) (sh .vertices) list → w ≡ widthOf (r .count) → w ≤ maxBound
       → Outlined k sh (set locals o r) (set widths o w) list (o + 1)
   outlined-more list w b e few =
-      let ls : length locals ≡ 4 = q .locals-size in
-      let ws : length widths ≡ 4 = q .widths-size in
+      let ls : length locals ≡ maxOutputs = q .locals-size in
+      let ws : length widths ≡ maxOutputs = q .widths-size in
       record {
         within = omega arith;
         locals-size = length-set locals o r ∙ ls;
@@ -178,7 +179,7 @@ module _ {k : Sheet} {sh : Shape} {locals : List Locals} {widths keys : List ℕ
 module _ {k : Sheet} {sh : Shape} {locals : List Locals} {widths keys : List ℕ} {o : ℕ} (s : Shaped k sh)
     (q : Outlined k sh locals widths keys o) where
   pub keys-fit : sh .vertices ≤ length keys
-  keys-fit = let a : length keys ≡ 32 = q .keys-size in let b : sh .vertices ≤ 32 = s .few-vertices in omega arith
+  keys-fit = let a : length keys ≡ maxVertices = q .keys-size in let b : sh .vertices ≤ maxVertices = s .few-vertices in omega arith
 
   pub keys-part : length (take (sh .vertices) keys) ≡ sh .vertices
   keys-part = length-take-le (sh .vertices) keys keys-fit

@@ -6,6 +6,7 @@ use native.Mathlib.Decide.{ℕ-discrete}
 use native.Mathlib.Omega.{arith}
 use lib.ListN.{length, getD, set, drop, length-set, length-map, replicate, drop-of-length-le}
 use lib.Seq.{getD-set-same, getD-set-other}
+use Rattle.limits.specs.Limits.{maxInputs, maxBound}
 use Rattle.names.specs.Name.{Name}
 use Rattle.sheet.specs.Known.{position}
 use Rattle.classes.specs.Columns.{free}
@@ -19,7 +20,7 @@ pub record PlacedFor (ns bs : List Name) (list : List ℕ) (next i : ℕ) : Type
   pub done : (k : ℕ) → i ≤ k → k < length ns → getD list k 0 ≡ digitOf bs (free ns bs) (getD ns k [])
 
 pub record Placed (places : List ℕ) (n : ℕ) (list : List ℕ) (next i : ℕ) : Type 0 where
-  pub size : length list ≡ 10
+  pub size : length list ≡ maxInputs
   pub within : i ≤ n
   pub low : next ≤ length places + (n - i)
   pub small : Small list
@@ -43,7 +44,7 @@ small-set {list} {i} {v} s h l =
           ];
     }
 
-pub placed-none : {places : List ℕ} {n : ℕ} {list : List ℕ} → length list ≡ 10 → Small list → Placed places n list (length places) n
+pub placed-none : {places : List ℕ} {n : ℕ} {list : List ℕ} → length list ≡ maxInputs → Small list → Placed places n list (length places) n
 unfolding free
 placed-none {places} {n} {list} e s =
     record {
@@ -60,14 +61,14 @@ placed-none {places} {n} {list} e s =
           };
     }
 
-module _ {places : List ℕ} {n : ℕ} {list : List ℕ} {next i j : ℕ} (s : Placed places n list next i) (m : n ≤ 10)
+module _ {places : List ℕ} {n : ℕ} {list : List ℕ} {next i j : ℕ} (s : Placed places n list next i) (m : n ≤ maxInputs)
     (pos : 0 < i) (at : PlaceIs places (i - 1) j) where
   -- the digit d of input i - 1 is stored, and the others stay
   store : (ns bs : List Name) (d next′ : ℕ) → length ns ≡ n → PlacedFor ns bs list next i
       → next′ ≡ length bs + length (free (drop (i - 1) ns) bs) → d ≡ digitOf bs (free ns bs) (getD ns (i - 1) [])
       → PlacedFor ns bs (set list (i - 1) d) next′ (i - 1)
   store ns bs d next′ k f e g =
-      let size : length list ≡ 10 = s .size in
+      let size : length list ≡ maxInputs = s .size in
       let within : i ≤ n = s .within in
       record {
         next-is = e;
@@ -80,9 +81,9 @@ module _ {places : List ℕ} {n : ℕ} {list : List ℕ} {next i j : ℕ} (s : P
       }
 
   -- the input is bound
-  pub placed-bound : length places ≤ 5 → j < length places → Placed places n (set list (i - 1) (length places - 1 - j)) next (i - 1)
+  pub placed-bound : length places ≤ maxBound → j < length places → Placed places n (set list (i - 1) (length places - 1 - j)) next (i - 1)
   placed-bound few h =
-      let size : length list ≡ 10 = s .size in
+      let size : length list ≡ maxInputs = s .size in
       let within : i ≤ n = s .within in
       let low : next ≤ length places + (n - i) = s .low in
       record {
@@ -103,9 +104,9 @@ module _ {places : List ℕ} {n : ℕ} {list : List ℕ} {next i j : ℕ} (s : P
       }
 
   -- the input is free
-  pub placed-free : length places ≤ 5 → length places ≤ j → Placed places n (set list (i - 1) next) (next + 1) (i - 1)
+  pub placed-free : length places ≤ maxBound → length places ≤ j → Placed places n (set list (i - 1) next) (next + 1) (i - 1)
   placed-free few h =
-      let size : length list ≡ 10 = s .size in
+      let size : length list ≡ maxInputs = s .size in
       let within : i ≤ n = s .within in
       let low : next ≤ length places + (n - i) = s .low in
       record {

@@ -6,6 +6,7 @@ use native.Mathlib.Omega.{arith}
 use native.Mathlib.Nat.{pow-suc}
 use native.Mathlib.Numerals.{add-one}
 use borrow.Author.Count.{below-more}
+use Rattle.limits.specs.Limits.{maxBound, maxVertices}
 use Rattle.classes.specs.Width.{widthOf}
 use Rattle.classes.specs.WidthLaws.{width-is}
 
@@ -16,10 +17,10 @@ pub record Doubling (count w most : ℕ) : Type 0 where
   pub too-low : (v : ℕ) → v < w → 2 ^ v < count
 
 module _ {count w most : ℕ} where
-  pub doubling-small : Doubling count w most → count ≤ 32 → w ≤ 5
+  pub doubling-small : Doubling count w most → count ≤ maxVertices → w ≤ maxBound
   doubling-small d h =
-      elim (decLt 5 w) as (λ _. w ≤ 5) [
-        | yes l ↦ (let p : 2 ^ 5 < count = d .too-low 5 l in absurd (omega arith))
+      elim (decLt maxBound w) as (λ _. w ≤ maxBound) [
+        | yes l ↦ (let p : 2 ^ maxBound < count = d .too-low maxBound l in absurd (omega arith))
         | no g ↦ omega arith
       ]
 
@@ -33,7 +34,7 @@ module _ {count w most : ℕ} where
         too-low = below-more (λ (v : ℕ). 2 ^ v < count) w (d .too-low) (subst (λ (n : ℕ). n < count) p l);
       }
 
-  pub doubled : Doubling count w most → count ≤ most → count ≤ 32 → (w ≡ widthOf count) × (w ≤ 5)
+  pub doubled : Doubling count w most → count ≤ most → count ≤ maxVertices → (w ≡ widthOf count) × (w ≤ maxBound)
   doubled d l h =
       (sym (width-is count w (subst (λ (n : ℕ). count ≤ n) (d .power) l) (d .too-low)), doubling-small d h)
 

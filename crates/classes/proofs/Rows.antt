@@ -11,6 +11,7 @@ use lib.Pow.{pow-mono}
 use lib.ListN.{length, getD, set, take, length-set, length-take}
 use lib.Seq.{take-suc, take-all, getD-set-same, getD-set-other}
 use Rattle.bits.specs.Digit.{on}
+use Rattle.limits.specs.Limits.{maxInputs, maxRows, maxVertices, maxFreeRows}
 use Rattle.rows.specs.Row.{bit, rowOf}
 use Rattle.classes.specs.Seen.{gathered, Gathered}
 use Rattle.classes.specs.DigitLaws.{gathered-lt, gathered-last}
@@ -36,18 +37,18 @@ module _ (l : List ℕ) (z : ℕ) where
   gather-all i h = ap (λ (m : List ℕ). gathered m z) (take-all i l h)
 
 -- a row of at most ten inputs
-pub gathered-small : (l : List ℕ) (z : ℕ) → length l ≤ 10 → gathered l z < 1024
+pub gathered-small : (l : List ℕ) (z : ℕ) → length l ≤ maxInputs → gathered l z < maxRows
 gathered-small l z h =
-    let few : 2 ^ length l ≤ 1024 = pow-mono h in
+    let few : 2 ^ length l ≤ maxRows = pow-mono h in
     let lt : gathered l z < 2 ^ length l = gathered-lt l z in
     omega arith
 
-pub gather-small : (l : List ℕ) (z i : ℕ) → length l ≤ 10 → gathered (take i l) z < 1024
+pub gather-small : (l : List ℕ) (z i : ℕ) → length l ≤ maxInputs → gathered (take i l) z < maxRows
 gather-small l z i h =
     let few : length (take i l) ≡ min i (length l) = length-take i l in
     gathered-small (take i l) z (omega arith)
 
-pub product-small : (i step : ℕ) → i ≤ 512 → step ≤ 32 → i * step ≤ 16384
+pub product-small : (i step : ℕ) → i ≤ maxFreeRows → step ≤ maxVertices → i * step ≤ maxFreeRows * maxVertices
 product-small i step h l = mul-le-mul h l
 
 -- the first i of the rows to fill are there

@@ -4,8 +4,9 @@ use Prim.Native.Nat.{ℕ, _*_, _%_, _^_, _≤_}
 use native.Mathlib.Omega.{arith}
 use native.Mathlib.Nat.{one-mul, mod-eq-of-lt}
 use lib.Pow.{pow-mono}
+use Rattle.limits.specs.Limits.{maxInputs, maxRows}
 
-pub shifted : (n : ℕ) → n ≤ 10 → (1 * 2 ^ n) % 2 ^ 64 ≡ 2 ^ n
+pub shifted : (n : ℕ) → n ≤ maxInputs → (1 * 2 ^ n) % 2 ^ 64 ≡ 2 ^ n
 shifted n h =
-    let few : 2 ^ n ≤ 1024 = pow-mono h in
+    let few : 2 ^ n ≤ maxRows = pow-mono h in
     ap (λ (x : ℕ). x % 2 ^ 64) (one-mul (2 ^ n)) ∙ mod-eq-of-lt (omega arith)

@@ -11,6 +11,7 @@ use lib.Pow.{pow-mono}
 use lib.Seq.{getD-take, length-take-le}
 use borrow.Author.Tests.{eq-eqb, eqb-true}
 use Rattle.bits.specs.LogicLaws.{and-left, and-right, and-both}
+use Rattle.limits.specs.Limits.{maxInputs, maxBound, maxVertices, maxFreeRows}
 use Rattle.names.specs.Name.{Name}
 use Rattle.sheet.specs.Examine.{Design}
 use Rattle.sheet.specs.Known.{Holds, tableAt}
@@ -41,14 +42,14 @@ module _ {same like : ℕ → ℕ → Bool} {v w count : ℕ} {class : ℕ → �
         classes = λ x l. moved .classes x l ∙ class-agrees same like w x h l;
       }
 
-module _ {same : ℕ → ℕ → Bool} {v count : ℕ} {class : ℕ → ℕ} (c : ClassesBy same v count class) (few : v ≤ 32) where
-  pub classes-few : count ≤ 32
+module _ {same : ℕ → ℕ → Bool} {v count : ℕ} {class : ℕ → ℕ} (c : ClassesBy same v count class) (few : v ≤ maxVertices) where
+  pub classes-few : count ≤ maxVertices
   classes-few =
       let e : count ≡ classCount same v = c .counted in
       let m : classCount same v ≤ v = count-most same v in
       omega arith
 
-  pub classes-low : Equivalence same → (x : ℕ) → x < v → class x < 32
+  pub classes-low : Equivalence same → (x : ℕ) → x < v → class x < maxVertices
   classes-low q x l =
       let e : class x ≡ classOf same x = c .classes x l in
       let b : classOf same x < classCount same v = class-below same q v x l in
@@ -57,15 +58,15 @@ module _ {same : ℕ → ℕ → Bool} {v count : ℕ} {class : ℕ → ℕ} (c 
 
 -- ---- one output
 module _ (d : Design) (k : Sheet) (sh : Shape) (h : Holds d k) (p : Proper d) (s : ShapeIs d sh)
-    (sv : length (sh .vertex) ≡ 32) (sf : length (sh .free) ≡ 512) where
+    (sv : length (sh .vertex) ≡ maxVertices) (sf : length (sh .free) ≡ maxFreeRows) where
   part-vertex : length (take (sh .vertices) (sh .vertex)) ≡ vertexCount (d .bound)
   part-vertex =
-      let few : sh .vertices ≤ 32 = s .few-vertices in
+      let few : sh .vertices ≤ maxVertices = s .few-vertices in
       length-take-le (sh .vertices) (sh .vertex) (omega arith) ∙ s .vertices
 
   part-free : length (take (sh .frees) (sh .free)) ≡ freeCount (d .inputs) (d .bound)
   part-free =
-      let few : sh .frees ≤ 512 = s .few-free in
+      let few : sh .frees ≤ maxFreeRows = s .few-free in
       length-take-le (sh .frees) (sh .free) (omega arith) ∙ s .free-rows
 
   value-seen : (o x y : ℕ) → o < k .outputs → x < vertexCount (d .bound) → y < freeCount (d .inputs) (d .bound)
@@ -82,7 +83,7 @@ module _ (d : Design) (k : Sheet) (sh : Shape) (h : Holds d k) (p : Proper d) (s
       (getD-take (sh .frees) (sh .free) y 0 iny ∙ s .at-free y iny)
       ∙ sym (join-add ns bs x y) in
       let lt : joinRow ns bs x y < 2 ^ length ns = join-lt ns bs x y in
-      let most : 2 ^ length ns ≤ 2 ^ 10 = pow-mono {j = 10} (p .few-inputs) in
+      let most : 2 ^ length ns ≤ 2 ^ maxInputs = pow-mono {j = maxInputs} (p .few-inputs) in
       ap (rowOn (tableAt (k .tables) o)) row ∙ h .tabled o l .each (joinRow ns bs x y) (omega arith)
 
   alike-seen : (o x y : ℕ) → o < k .outputs → x < vertexCount (d .bound) → y < vertexCount (d .bound)
@@ -105,18 +106,18 @@ module _ (d : Design) (k : Sheet) (sh : Shape) (h : Holds d k) (p : Proper d) (s
       = classes-agree c part-vertex (λ x y a b. alike-seen o x y l a b) in
       record {
         counted = by .counted;
-        few = classes-few by (subst (λ (n : ℕ). n ≤ 32) (s .vertices) (s .few-vertices));
+        few = classes-few by (subst (λ (n : ℕ). n ≤ maxVertices) (s .vertices) (s .few-vertices));
         classes = by .classes;
       }
 
   -- ---- every output
-  pub globals-are : (m : ℕ) (keys : List ℕ) (r : Globals) → m ≡ length (d .outputs) → length keys ≡ 32
+  pub globals-are : (m : ℕ) (keys : List ℕ) (r : Globals) → m ≡ length (d .outputs) → length keys ≡ maxVertices
       → ((x y : ℕ) → x < vertexCount (d .bound) → y < vertexCount (d .bound) → sameKey keys x y ≡ alikeUpto d (d .bound) m x y)
       → ClassesBy (sameKey (take (sh .vertices) keys)) (length (take (sh .vertices) keys)) (r .count) (globalAt (r .classes))
       → GlobalsAre d r
   unfolding globalCount globalClass
   globals-are m keys r e size same c =
-      let few : sh .vertices ≤ 32 = s .few-vertices in
+      let few : sh .vertices ≤ maxVertices = s .few-vertices in
       let long : length (take (sh .vertices) keys) ≡ vertexCount (d .bound)
       = length-take-le (sh .vertices) keys (omega arith) ∙ s .vertices in
       let key : (x : ℕ) → x < vertexCount (d .bound) → getD (take (sh .vertices) keys) x 0 ≡ getD keys x 0
@@ -127,31 +128,31 @@ module _ (d : Design) (k : Sheet) (sh : Shape) (h : Holds d k) (p : Proper d) (s
       ap₂ (λ (u w : ℕ). eqb u w) (key x a) (key y b) ∙ same x y a b ∙ ap (λ (n : ℕ). alikeUpto d (d .bound) n x y) e) in
       record {
         counted = by .counted;
-        few = classes-few by (subst (λ (n : ℕ). n ≤ 32) (s .vertices) (s .few-vertices));
+        few = classes-few by (subst (λ (n : ℕ). n ≤ maxVertices) (s .vertices) (s .few-vertices));
         classes = by .classes;
       }
 
-pub width-known : (d : Design) (o w : ℕ) (r : Locals) → LocalsAre d o r → w ≡ widthOf (r .count) → w ≤ 5 → WidthIs d o w
+pub width-known : (d : Design) (o w : ℕ) (r : Locals) → LocalsAre d o r → w ≡ widthOf (r .count) → w ≤ maxBound → WidthIs d o w
 unfolding width
 width-known d o w r l e few = record { is = e ∙ ap widthOf (l .counted); few = few }
 
 -- ---- keys
-key-both : (a b c e : ℕ) → c < 32 → e < 32 → eqb (a * 32 + c) (b * 32 + e) ≡ (eqb a b && eqb c e)
+key-both : (a b c e : ℕ) → c < maxVertices → e < maxVertices → eqb (a * maxVertices + c) (b * maxVertices + e) ≡ (eqb a b && eqb c e)
 key-both a b c e l g =
-    same-test (eqb (a * 32 + c) (b * 32 + e)) (eqb a b && eqb c e)
+    same-test (eqb (a * maxVertices + c) (b * maxVertices + e)) (eqb a b && eqb c e)
     (λ t.
-    let q : a * 32 + c ≡ b * 32 + e = eqb-true (a * 32 + c) (b * 32 + e) t in
+    let q : a * maxVertices + c ≡ b * maxVertices + e = eqb-true (a * maxVertices + c) (b * maxVertices + e) t in
     and-both (eqb a b) (eqb c e) (eq-eqb a b (omega arith)) (eq-eqb c e (omega arith)))
     (λ t.
     let q : a ≡ b = eqb-true a b (and-left (eqb a b) (eqb c e) t) in
     let r : c ≡ e = eqb-true c e (and-right (eqb a b) (eqb c e) t) in
-    eq-eqb (a * 32 + c) (b * 32 + e) (omega arith))
+    eq-eqb (a * maxVertices + c) (b * maxVertices + e) (omega arith))
 
 -- keys that tell vertices apart by the first o outputs, each with output o's class, tell them apart by one output more
 module _ (d : Design) (o : ℕ) (keys list : List ℕ) (r : Locals) (l : LocalsAre d o r)
     (same : (x y : ℕ) → x < vertexCount (d .bound) → y < vertexCount (d .bound) → sameKey keys x y ≡ alikeUpto d (d .bound) o x y)
-    (join : (x : ℕ) → x < vertexCount (d .bound) → getD list x 0 ≡ getD keys x 0 * 32 + localAt (r .classes) x)
-    (low : (x : ℕ) → x < vertexCount (d .bound) → localAt (r .classes) x < 32) where
+    (join : (x : ℕ) → x < vertexCount (d .bound) → getD list x 0 ≡ getD keys x 0 * maxVertices + localAt (r .classes) x)
+    (low : (x : ℕ) → x < vertexCount (d .bound) → localAt (r .classes) x < maxVertices) where
   pub keys-more : (x y : ℕ) → x < vertexCount (d .bound) → y < vertexCount (d .bound)
       → sameKey list x y ≡ alikeUpto d (d .bound) (suc o) x y
   unfolding alikeUpto localClass

@@ -9,6 +9,7 @@ use native.Mathlib.Nat.{mul-one, zero-mul, zero-add, add-zero}
 use lib.ListN.{length, getD, take, length-map, List·getD-eq-default}
 use lib.Pow.{pow-mono, pow-pos}
 use lib.Seq.{ext-getD, getD-take, length-take-le}
+use Rattle.limits.specs.Limits.{maxInputs, maxBound, maxRows, maxVertices, maxFreeRows}
 use Rattle.names.specs.Name.{Name}
 use Rattle.sheet.specs.Examine.{Design}
 use Rattle.sheet.specs.Known.{Holds, position}
@@ -39,10 +40,10 @@ proper-counts d k h p =
     }
 
 -- the digits of all inputs, as one list
-digit-list : (ns bs : List Name) (places list : List ℕ) (n : ℕ) → n ≤ 10 → DigitsAre places n list → Parted ns bs → length ns ≡ n
+digit-list : (ns bs : List Name) (places list : List ℕ) (n : ℕ) → n ≤ maxInputs → DigitsAre places n list → Parted ns bs → length ns ≡ n
     → places ≡ map (position ns) bs → take n list ≡ map (digitOf bs (free ns bs)) ns
 digit-list ns bs places list n few s p e q =
-    let size : length list ≡ 10 = s .size in
+    let size : length list ≡ maxInputs = s .size in
     let long : length (take n list) ≡ n = length-take-le n list (omega arith) in
     let other : length (map (digitOf bs (free ns bs)) ns) ≡ length ns = length-map ns (digitOf bs (free ns bs)) in
     ext-getD 0 (take n list) (map (digitOf bs (free ns bs)) ns) (omega arith)
@@ -51,7 +52,7 @@ digit-list ns bs places list n few s p e q =
     ∙ sym (map-at (digitOf bs (free ns bs)) ns i (omega arith)))
 
 -- the digits of n inputs are few and small
-pub small-part : (list : List ℕ) (n : ℕ) → Small list → n ≤ 10 → length list ≡ 10 → (length (take n list) ≤ 10) × Small (take n list)
+pub small-part : (list : List ℕ) (n : ℕ) → Small list → n ≤ maxInputs → length list ≡ maxInputs → (length (take n list) ≤ maxInputs) × Small (take n list)
 small-part list n s few e =
     let long : length (take n list) ≡ n = length-take-le n list (omega arith) in (
       omega arith,
@@ -64,44 +65,44 @@ small-part list n s few e =
       },
     )
 
-pub few-power : (b v : ℕ) → v ≡ 2 ^ b → b ≤ 5 → v ≤ 32
-few-power b v e l = subst (λ (n : ℕ). n ≤ 32) (sym e) (pow-mono {j = 5} l)
+pub few-power : (b v : ℕ) → v ≡ 2 ^ b → b ≤ maxBound → v ≤ maxVertices
+few-power b v e l = subst (λ (n : ℕ). n ≤ maxVertices) (sym e) (pow-mono {j = maxBound} l)
 
 module _ (k : Sheet) (list : List ℕ) (sh : Shape) (c : Counts k) (s : DigitsAre (take (k .bounds) (k .bound)) (k .inputs) list)
     (v : sh .vertices ≡ 2 ^ k .bounds) (f : sh .frees ≡ 2 ^ (k .inputs - k .bounds))
     (gv : Gathered (take (k .inputs) list) 1 (sh .vertex)) (gf : Gathered (take (k .inputs) list) (sh .vertices) (sh .free))
-    (sv : length (sh .vertex) ≡ 32) (sf : length (sh .free) ≡ 512) where
-  few-vertices : sh .vertices ≤ 32
+    (sv : length (sh .vertex) ≡ maxVertices) (sf : length (sh .free) ≡ maxFreeRows) where
+  few-vertices : sh .vertices ≤ maxVertices
   few-vertices = few-power (k .bounds) (sh .vertices) v (c .few-bound)
 
-  few-free : sh .frees ≤ 512
+  few-free : sh .frees ≤ maxFreeRows
   few-free =
-      let a : k .inputs ≤ 10 = c .few-inputs in
+      let a : k .inputs ≤ maxInputs = c .few-inputs in
       let b : 1 ≤ k .bounds = c .some-bound in
-      let few : k .inputs - k .bounds ≤ 9 = omega arith in
-      subst (λ (n : ℕ). n ≤ 512) (sym f) (pow-mono {j = 9} few)
+      let few : k .inputs - k .bounds ≤ maxInputs - 1 = omega arith in
+      subst (λ (n : ℕ). n ≤ maxFreeRows) (sym f) (pow-mono {j = maxInputs - 1} few)
 
   at-vertex : (x : ℕ) → x < sh .vertices → getD (sh .vertex) x 0 ≡ gathered (take (k .inputs) list) x
   at-vertex x l =
-      let few : sh .vertices ≤ 32 = few-vertices in
+      let few : sh .vertices ≤ maxVertices = few-vertices in
       gv .each x (omega arith) ∙ ap (gathered (take (k .inputs) list)) (mul-one x)
 
   at-free : (y : ℕ) → y < sh .frees → getD (sh .free) y 0 ≡ gathered (take (k .inputs) list) (y * 2 ^ k .bounds)
   at-free y l =
-      let few : sh .frees ≤ 512 = few-free in
+      let few : sh .frees ≤ maxFreeRows = few-free in
       gf .each y (omega arith) ∙ ap (λ (n : ℕ). gathered (take (k .inputs) list) (y * n)) v
 
-  inside : (x y : ℕ) → x < sh .vertices → y < sh .frees → getD (sh .vertex) x 0 + getD (sh .free) y 0 < 1024
+  inside : (x y : ℕ) → x < sh .vertices → y < sh .frees → getD (sh .vertex) x 0 + getD (sh .free) y 0 < maxRows
   inside x y l m =
       let digits : List ℕ = take (k .inputs) list in
-      let size : length list ≡ 10 = s .size in
-      let few : k .inputs ≤ 10 = c .few-inputs in
+      let size : length list ≡ maxInputs = s .size in
+      let few : k .inputs ≤ maxInputs = c .few-inputs in
       let long : length digits ≡ k .inputs = length-take-le (k .inputs) list (omega arith) in
       let sum : getD (sh .vertex) x 0 + getD (sh .free) y 0 ≡ gathered digits (y * 2 ^ k .bounds + x)
       = ap₂ (λ (a b : ℕ). a + b) (at-vertex x l) (at-free y m)
       ∙ gathered-add digits (k .bounds) x y (subst (λ (n : ℕ). x < n) v l) in
       let lt : gathered digits (y * 2 ^ k .bounds + x) < 2 ^ length digits = gathered-lt digits (y * 2 ^ k .bounds + x) in
-      let most : 2 ^ length digits ≤ 2 ^ 10 = pow-mono {j = 10} (omega arith) in
+      let most : 2 ^ length digits ≤ 2 ^ maxInputs = pow-mono {j = maxInputs} (omega arith) in
       omega arith
 
   shape-right : (d : Design) → Holds d k → Proper d → ShapeIs d sh

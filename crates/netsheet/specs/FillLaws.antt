@@ -6,6 +6,7 @@ use native.Mathlib.Omega.{arith}
 use native.Mathlib.Numerals.{add-one}
 use lib.ListN.{length, getD, take, drop, set, length-set, drop-of-length-le}
 use lib.Seq.{take-suc, take-suc-set, take-all}
+use Rattle.limits.specs.Limits.{maxInputs, maxBound}
 use Rattle.names.specs.Name.{Name}
 use Rattle.names.specs.Pack.{nameOf}
 use Rattle.names.specs.Word.{PositionIs}
@@ -19,13 +20,13 @@ use Rattle.netsheet.specs.Named.{FreesAre}
 -- ---- the names at the places before i
 pub record Copied (names places list : List ℕ) (i : ℕ) : Type 0 where
   pub within : i ≤ length places
-  pub room : length list ≡ 5
+  pub room : length list ≡ maxBound
   pub filled : take i list ≡ map (λ (p : ℕ). getD names p 0) (take i places)
 
-pub copied-none : (names places list : List ℕ) → length list ≡ 5 → Copied names places list 0
+pub copied-none : (names places list : List ℕ) → length list ≡ maxBound → Copied names places list 0
 copied-none names places list h = record { within = omega arith; room = h; filled = refl }
 
-pub copied-more : {names places list : List ℕ} {i : ℕ} → Copied names places list i → length places ≤ 5 → i < length places
+pub copied-more : {names places list : List ℕ} {i : ℕ} → Copied names places list i → length places ≤ maxBound → i < length places
     → Copied names places (set list i (getD names (getD places i 0) 0)) (i + 1)
 copied-more {names} {places} {list} {i} p few h =
     let look : ℕ → ℕ = λ q. getD names q 0 in
@@ -42,7 +43,7 @@ copied-more {names} {places} {list} {i} p few h =
     }
 
 pub copied-all : {names places list : List ℕ} {i : ℕ} → Copied names places list i → length places ≤ i
-    → (length list ≡ 5) × (take (length places) list ≡ map (λ (p : ℕ). getD names p 0) places)
+    → (length list ≡ maxBound) × (take (length places) list ≡ map (λ (p : ℕ). getD names p 0) places)
 copied-all {names} {places} {list} {i} p h =
     let e : i ≡ length places = omega (arith, p .within) in
     (p .room, ap (λ (n : ℕ). take n list) (sym e) ∙ p .filled ∙ ap (map (λ (q : ℕ). getD names q 0)) (take-all i places h))
@@ -50,11 +51,11 @@ copied-all {names} {places} {list} {i} p h =
 -- ---- the free names of those before i
 pub record Parting (names bound list : List ℕ) (count i : ℕ) : Type 0 where
   pub within : i ≤ length names
-  pub room : length list ≡ 10
+  pub room : length list ≡ maxInputs
   pub few : count ≤ i
   pub to-come : free (map nameOf names) (map nameOf bound) ≡ map nameOf (take count list) ++ free (map nameOf (drop i names)) (map nameOf bound)
 
-pub parting-none : (names bound list : List ℕ) → length list ≡ 10 → Parting names bound list 0 0
+pub parting-none : (names bound list : List ℕ) → length list ≡ maxInputs → Parting names bound list 0 0
 parting-none names bound list h = record { within = omega arith; room = h; few = omega arith; to-come = refl }
 
 module _ {names bound list : List ℕ} {count i : ℕ} (p : Parting names bound list count i) (more : i < length names) where
@@ -75,7 +76,7 @@ module _ {names bound list : List ℕ} {count i : ℕ} (p : Parting names bound 
             (free-bound (nameOf (getD names i 0)) (map nameOf (drop (i + 1) names)) (map nameOf bound) (found-among bound (getD names i 0) j h));
       }
 
-  pub parting-free : PositionIs bound (getD names i 0) Nowhere → length names ≤ 10
+  pub parting-free : PositionIs bound (getD names i 0) Nowhere → length names ≤ maxInputs
       → Parting names bound (set list count (getD names i 0)) (count + 1) (i + 1)
   parting-free h ten =
       let f = p .few in

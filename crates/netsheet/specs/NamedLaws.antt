@@ -9,6 +9,7 @@ use lib.ListN.{length, getD, take, List·getD-map}
 use lib.Seq.{getD-take, length-take-le}
 use Rattle.bits.specs.Logic.{pick}
 use Rattle.bits.specs.LogicLaws.{true-false, and-left, and-right}
+use Rattle.limits.specs.Limits.{maxInputs, maxBound}
 use Rattle.names.specs.Name.{Name, sameName, among, allAmong}
 use Rattle.names.specs.SameLaws.{same-name-true}
 use Rattle.names.specs.Pack.{nameOf, unpackWithin}
@@ -79,14 +80,14 @@ names-of-all : (vs ps : List ℕ) → map nameOf (map (λ (p : ℕ). getD vs p 0
 names-of-all vs [] = refl
 names-of-all vs (p ∷ ps) = ap₂ (λ (n : Name) (ms : List Name). n ∷ ms) (name-at vs p) (names-of-all vs ps)
 
-module _ (k : Sheet) (r : Ranged k) (ten : length (k .names) ≡ 10) (five : length (k .bound) ≡ 5) where
+module _ (k : Sheet) (r : Ranged k) (names-size : length (k .names) ≡ maxInputs) (places-size : length (k .bound) ≡ maxBound) where
   inputs-counted : length (take (k .inputs) (k .names)) ≡ k .inputs
   inputs-counted = length-take-le (k .inputs) (k .names) (omega (arith, r .few-inputs))
 
   places-counted : length (take (k .bounds) (k .bound)) ≡ k .bounds
   places-counted = length-take-le (k .bounds) (k .bound) (omega (arith, r .few-bound))
 
-  pub places-fit : (length (take (k .bounds) (k .bound)) ≤ 5)
+  pub places-fit : (length (take (k .bounds) (k .bound)) ≤ maxBound)
       × ((i : ℕ) → i < length (take (k .bounds) (k .bound)) → getD (take (k .bounds) (k .bound)) i 0 < length (take (k .inputs) (k .names)))
   places-fit =
       let m = inputs-counted in

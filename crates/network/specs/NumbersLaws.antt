@@ -3,7 +3,7 @@
 use mathlib.Core.Path.{_≡_, refl, sym, ap, ap₂, _∙_}
 use mathlib.Core.Bool.{Bool, true}
 use mathlib.Core.List.{List, [], _∷_, _++_, append-nil}
-use Prim.Native.Nat.{ℕ, zero, suc, _+_, _*_, _/_, _%_, _^_, _≤_, _<_}
+use Prim.Native.Nat.{ℕ, zero, suc, _+_, _-_, _*_, _/_, _%_, _^_, _≤_, _<_}
 use native.Mathlib.Omega.{arith}
 use native.Mathlib.Nat.{mod-eq-of-lt, one-mul, pow-suc}
 use native.Mathlib.Numerals.{add-one}
@@ -13,6 +13,7 @@ use lib.Pow.{pow-mono, high, low}
 use Rattle.bits.specs.Logic.{pick}
 use Rattle.bits.specs.Digit.{on, digit}
 use Rattle.bits.specs.DigitLaws.{on-above}
+use Rattle.limits.specs.Limits.{maxCells, maxCodes}
 use Rattle.rows.specs.PartLaws.{on-low}
 use Rattle.network.specs.Numbers.{numbersOf}
 
@@ -65,8 +66,8 @@ shifted-byte i h =
     let a : 2 ^ i ≤ 2 ^ 7 = pow-mono {j = 7} (omega arith) in
     ap (λ (x : ℕ). x % 256) (one-mul (2 ^ i)) ∙ mod-eq-of-lt (omega arith)
 
--- a mask of numbers below 6 stays one in eight bits
-pub mask-fits : (i m : ℕ) → i < 6 → m < 2 ^ i → m + 2 ^ i < 64
+-- a mask of the numbers of shared tables stays one in eight bits
+pub mask-fits : (i m : ℕ) → i < maxCells → m < 2 ^ i → m + 2 ^ i < maxCodes
 mask-fits i m h small =
-    let a : 2 ^ i ≤ 2 ^ 5 = pow-mono {j = 5} (omega arith) in
+    let a : 2 ^ i ≤ 2 ^ (maxCells - 1) = pow-mono {j = maxCells - 1} (omega arith) in
     omega arith

@@ -1,5 +1,6 @@
 -- `digits`: each turn gives one input its digit, from the last input to the first. Assumes nothing.
 use borrow.Author.Needs.{needs}
+use Rattle.limits.specs.Limits.{maxInputs}
 use Rattle.classes.proofs.Placing.{Placed, small-zeros, placed-none, placed-bound, placed-free, placed-all}
 use Rattle.classes.proofs.digits.Statement.{statement}
 use Rattle.classes.proofs.digits.Tie as tie
@@ -11,7 +12,7 @@ abbrev μ-loop : tie.MeasureT-loop
 μ-loop bound n b list₀ next₀ i₀ list next i = i
 
 loop-holds : tie.Need-loop-holds Inv-loop μ-loop
-loop-holds c = placed-none (search needs) (small-zeros 10)
+loop-holds c = placed-none (search needs) (small-zeros maxInputs)
 
 sub-i : tie.Need-sub-i Inv-loop μ-loop
 sub-i c = search needs

@@ -4,6 +4,7 @@ use Prim.Native.Nat.{_≤_, _-_}
 use native.Mathlib.Omega.{arith}
 use borrow.Author.Needs.{needs}
 use lib.ListN.{length, length-set}
+use Rattle.limits.specs.Limits.{maxFreeRows}
 use Rattle.classes.proofs.Rows.{Filled, filled-none, filled-more, filled-all, product-small}
 use Rattle.classes.proofs.fill.Statement.{statement}
 use Rattle.classes.proofs.fill.Tie as tie
@@ -21,7 +22,7 @@ mul-gather : tie.Need-mul-gather Inv-loop μ-loop
 mul-gather c =
     let start = c .before .before .before .before in
     let i = c .before .loop .i in
-    let few : i ≤ 512 = (let a = start .pre .0 in let b = c .before .loop .inv .0 in let d = c .loop-test .taken in omega arith) in
+    let few : i ≤ maxFreeRows = (let a = start .pre .0 in let b = c .before .loop .inv .0 in let d = c .loop-test .taken in omega arith) in
     omega (arith, product-small i (start .args .step) few (start .pre .1))
 
 gather-requires : tie.Need-gather-requires Inv-loop μ-loop
