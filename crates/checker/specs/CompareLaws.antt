@@ -1,16 +1,14 @@
 -- The comparison, output by output and row by row: what the code knows after some of them is that these agree, and so what
 -- it says at the end is the definition's answer. Assumes nothing.
 use mathlib.Core.Path.{_≡_, sym, ap, ap₂, _∙_}
-use mathlib.Core.Bool.{Bool, true, false}
+use mathlib.Core.Bool.{true, false}
 use mathlib.Core.List.{List}
 use Prim.Native.Nat.{ℕ, _+_, _^_, _≤_, _<_}
 use native.Mathlib.Omega.{arith}
 use borrow.Author.Count.{below-more}
-use borrow.Author.Tests.{not-false}
 use lib.ListN.{length, getD}
 use lib.Pow.{pow-mono}
 use Rattle.bits.specs.Logic.{xorb}
-use Rattle.bits.specs.LogicLaws.{true-false}
 use Rattle.limits.specs.Limits.{maxInputs, maxRows}
 use Rattle.rows.specs.Words.{rowOn}
 use Rattle.sheet.specs.Examine.{Design}
@@ -22,22 +20,11 @@ use Rattle.network.specs.Network.{Network}
 use Rattle.network.specs.Value.{networkOn}
 use Rattle.network.specs.Check.{same, differs}
 use Rattle.network.specs.Answers.{compared, LowestDifference}
-use Rattle.network.specs.CompareLaws.{same-compared, differs-compared}
+use Rattle.network.specs.CompareLaws.{xor-none, xor-some, same-compared, differs-compared}
 use Rattle.checker.specs.Code.{oneAt}
 use Rattle.checker.specs.Filling.{Ready, Filled}
 use Rattle.checker.specs.Drawing.{Places, Drawing, SomeDrawing}
 use Rattle.checker.specs.DrawingLaws.{drawing-ready, filled-right}
-
--- ---- two values
-agree-both : (a b : Bool) → xorb a b ≡ false → b ≡ a
-agree-both true b e = not-false b e
-agree-both false b e = e
-
-apart-both : (a b : Bool) → xorb a b ≡ true → b ≡ a → ⊥
-apart-both true true e q = true-false (sym e)
-apart-both true false e q = true-false (sym q)
-apart-both false true e q = true-false q
-apart-both false false e q = true-false (sym e)
 
 -- ---- what the code knows
 -- the first o outputs agree on every row
@@ -98,7 +85,7 @@ module _ {t : List ℕ} {k : Sheet} {n : Places} {sh : Shape} where
         record {
           right = λ d w h.
               below-more (λ (q : ℕ). networkOn d w o q ≡ outputOn d o q) r (s .right d w h)
-              (agree-both (outputOn d o r) (networkOn d w o r) (sym (told h) ∙ e));
+              (xor-none (outputOn d o r) (networkOn d w o r) (sym (told h) ∙ e));
         }
 
     pub ended-differs : Agreed t k n sh o
@@ -112,7 +99,7 @@ module _ {t : List ℕ} {k : Sheet} {n : Places} {sh : Shape} where
               record {
                 is-output = output-is h o l;
                 is-row = row-below h;
-                apart = apart-both (outputOn d o r) (networkOn d w o r) (sym (told h) ∙ e);
+                apart = xor-some (outputOn d o r) (networkOn d w o r) (sym (told h) ∙ e);
                 rows-below = s .right d w h;
                 outputs-below = a .right d w h;
               };

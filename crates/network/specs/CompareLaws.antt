@@ -18,7 +18,7 @@ use Rattle.network.specs.Answers.{compared, Computes, LowestDifference}
 use Rattle.network.specs.FirstOfLaws.{none-fails, fails-none, FirstAt, some-first, first-some}
 
 -- ---- two values
-xor-none : (a b : Bool) → xorb a b ≡ false → b ≡ a
+pub xor-none : (a b : Bool) → xorb a b ≡ false → b ≡ a
 xor-none true b e = not-false b e
 xor-none false b e = e
 
@@ -26,7 +26,7 @@ none-xor : (a b : Bool) → b ≡ a → xorb a b ≡ false
 none-xor true b e = ap not e
 none-xor false b e = e
 
-xor-some : (a b : Bool) → xorb a b ≡ true → b ≡ a → ⊥
+pub xor-some : (a b : Bool) → xorb a b ≡ true → b ≡ a → ⊥
 xor-some a b e q = true-false (sym e ∙ none-xor a b q)
 
 some-xor : (a b : Bool) → (b ≡ a → ⊥) → xorb a b ≡ true
