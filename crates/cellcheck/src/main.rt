@@ -41,8 +41,12 @@ fn both(s: &[u8]) {
     }
 }
 
+// The bytes of a design sheet, the one between the sheets, those of a network sheet, and one by which a longer text is seen to
+// be too long.
+const ROOM: usize = limits::MAX_SHEET + 1 + limits::MAX_NETWORK + 1;
+
 fn main() {
-    let mut text = [0u8; 16384];
+    let mut text = [0u8; ROOM];
     let n = console::read_text(&mut text);
     both(&text[..n]);
 }

@@ -21,8 +21,8 @@ fn answer(sheet: &[u8], buffer: &mut [u8]) {
 }
 
 fn main() {
-    let mut sheet = [0u8; 4097];
+    let mut sheet = [0u8; limits::MAX_SHEET + 1];
     let n = console::read_text(&mut sheet);
-    let mut network = [0u8; 8192];
+    let mut network = [0u8; limits::MAX_NETWORK];
     answer(&sheet[..n], &mut network);
 }

@@ -20,8 +20,8 @@ ghost use Rattle.checker.specs.Code.{oneAt, codeAt, isOne};
 ghost use Rattle.checker.specs.Filling.{Room, Put, Ready, Filled};
 ghost use Rattle.checker.specs.Drawing.{placesOf, Drawing, SomeDrawing};
 use classes::Shape;
-use classes::Vertex;
 use design::Examined;
+use limits::Vertex;
 use netsheet::NetworkSheet;
 use sheet::Sheet;
 

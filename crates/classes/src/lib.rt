@@ -13,6 +13,7 @@ ghost use Rattle.classes.specs.Width.{widthOf};
 ghost use Rattle.classes.specs.Proper.{Proper};
 ghost use Rattle.classes.specs.Seen.{PlaceIs, DigitsAre, Small, gathered, Gathered, Inside, alikeSeen, sameKey, Keyable, KeysBy, ClassesBy};
 ghost use Rattle.classes.specs.Answer.{Counts, Shaped, localAt, globalAt, ClassesAre};
+use limits::Vertex;
 use sheet::Sheet;
 
 // The rows of a design by their parts: vertex x and free row y stand on row vertex[x] + free[y].
@@ -22,9 +23,6 @@ pub struct Shape {
     pub vertex: [usize; limits::MAX_VERTICES],
     pub free: [usize; limits::MAX_FREE_ROWS],
 }
-
-// The number of a vertex.
-pub struct Vertex(pub usize);
 
 // The number of a local class of one output.
 pub struct LocalClass(pub usize);

@@ -4,10 +4,13 @@ ghost use Rattle.io.specs.Counts.{Counts};
 use libc::STDIN_FILENO;
 use libc::STDOUT_FILENO;
 
+// How much is read at a time of what is dropped.
+const AT_A_TIME: usize = 4096;
+
 // Reads further, and answers whether there may be more.
 fn read_on() -> bool {
-    let mut rest = [0u8; 4096];
-    io::read_full(STDIN_FILENO, &mut rest) == 4096
+    let mut rest = [0u8; AT_A_TIME];
+    io::read_full(STDIN_FILENO, &mut rest) == AT_A_TIME
 }
 
 // Reads standard input to its end. A loop has to end, and nothing says that the input does: the turns are counted down from

@@ -13,7 +13,7 @@ use borrow.Author.Tests.{eq-eqb, ne-eqb}
 use Rattle.bits.specs.Logic.{pick}
 use Rattle.network.specs.Check.{firstOf}
 use Rattle.limits.specs.Limits.{maxVertices, maxCodes}
-use Rattle.classes.specs.declared.Vertex.{Vertex}
+use Rattle.limits.specs.declared.Vertex.{Vertex}
 use Rattle.listing.specs.Listed.{vertexAt, FirstIs, Firsts}
 
 abbrev vertex : ℕ → Vertex

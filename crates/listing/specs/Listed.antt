@@ -8,7 +8,7 @@ use lib.ListN.{length, getD, take}
 use Rattle.limits.specs.Limits.{maxInputs, maxCells, maxVertices, maxCodes}
 use Rattle.names.specs.Name.{Name}
 use Rattle.names.specs.Pack.{nameOf}
-use Rattle.classes.specs.declared.Vertex.{Vertex}
+use Rattle.limits.specs.declared.Vertex.{Vertex}
 use Rattle.network.specs.Check.{firstOf}
 use Rattle.listing.specs.declared.Names.{Names}
 

@@ -11,7 +11,7 @@ ghost use Rattle.classes.specs.Columns.{free};
 ghost use Rattle.network.specs.Printer.{lutName};
 ghost use Rattle.serving.specs.Build.{numbers, codeIn};
 ghost use Rattle.listing.specs.Listed.{maxNames, shown, item, oneDigit, Firsts};
-use classes::Vertex;
+use limits::Vertex;
 use names::Position;
 
 // The most names of a list: a node lists the shared tables that it reads, then the free inputs.

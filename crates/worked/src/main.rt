@@ -33,7 +33,7 @@ fn sheets_b() {
 }
 
 fn sheets_i() {
-    let mut buffer = [0u8; 8192];
+    let mut buffer = [0u8; limits::MAX_NETWORK];
     answer(
         b"(design 1)\n(in a b c d e x y)\n(bound a b c d e)\n(limit 4)\n(out f (or (and a x) (and e y)))\n(out g (xor b x))\n(out h (xor c x))\n(end)\n",
         &mut buffer,

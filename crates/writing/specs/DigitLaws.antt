@@ -17,7 +17,7 @@ use Rattle.rows.specs.Digits.{digit}
 use Rattle.rows.specs.Words.{rowOn}
 use Rattle.classes.specs.Columns.{valuesUpto}
 use Rattle.classes.specs.Seen.{seen}
-use Rattle.classes.specs.declared.Vertex.{Vertex}
+use Rattle.limits.specs.declared.Vertex.{Vertex}
 use Rattle.network.specs.Printer.{printDigits}
 use Rattle.network.specs.Check.{firstOf}
 use Rattle.serving.specs.Build.{codeIn}

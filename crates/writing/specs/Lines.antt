@@ -13,7 +13,7 @@ use Rattle.sheet.specs.Lines.{endLine}
 use Rattle.classes.specs.Columns.{valuesUpto}
 use Rattle.classes.specs.Seen.{Inside, seen}
 use Rattle.classes.specs.declared.Shape.{Shape}
-use Rattle.classes.specs.declared.Vertex.{Vertex}
+use Rattle.limits.specs.declared.Vertex.{Vertex}
 use Rattle.network.specs.Network.{Node}
 use Rattle.network.specs.Printer.{printCount}
 use Rattle.network.specs.Check.{firstOf}

@@ -9,7 +9,7 @@ use Rattle.text.specs.Bytes.{bytes, newline, closeBracket}
 use Rattle.names.specs.Name.{Name}
 use Rattle.sheet.specs.Lines.{endLine}
 use Rattle.classes.specs.Columns.{valuesUpto}
-use Rattle.classes.specs.declared.Vertex.{Vertex}
+use Rattle.limits.specs.declared.Vertex.{Vertex}
 use Rattle.network.specs.Network.{Node}
 use Rattle.network.specs.Printer.{ledAll, lutName, printDigits, lutHead, printLut, nodeHead, printNode, printCount}
 use Rattle.serving.specs.Build.{codeIn}

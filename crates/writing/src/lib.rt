@@ -19,7 +19,7 @@ ghost use Rattle.listing.specs.Listed.{maxNames, oneDigit, shown, item};
 ghost use Rattle.writing.specs.Lines.{headLine, linesUpto, lastLines, cellOn, cellBy, nodeBy, Bounded};
 ghost use Rattle.writing.specs.Room.{headRoom, listRoom, lutHeadRoom, lutRoom, lutsRoom, nodeHeadRoom, nodeRoom, nodesRoom, endRoom};
 ghost use mathlib.Core.Bool.{true};
-use classes::Vertex;
+use limits::Vertex;
 use listing::Names;
 use sheet::Sheet;
 
