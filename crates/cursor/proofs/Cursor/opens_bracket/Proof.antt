@@ -53,7 +53,8 @@ returns-2 c =
     let g = c .before .before .before .before .before .before .m .given in
     let w = c .before .before .before .before .operator in
     let b = c .before .before .byte2 in
-    unspaced-bad s t (c .before .before .before .before .before .before .before .before .before .before .pre) (g .0 .0) (moved-to s (m .result) (eat (openBracket ∷ []) t) (m .ensures) (g .0 .0) (g .1))
+    unspaced-bad s t (c .before .before .before .before .before .before .before .before .before .before .pre) (g .0 .0)
+    (moved-to s (m .result) (eat (openBracket ∷ []) t) (m .ensures) (g .0 .0) (g .1))
     (w .result) (w .ensures) (moved-nowhere s (b .result) (eat (space ∷ []) (from s (w .result .next))) (b .ensures) (c .enum-told2 .given .1))
 
 enum-told-3 : tie.Need-enum-told-3
