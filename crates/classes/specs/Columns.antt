@@ -1,4 +1,5 @@
--- "Columns, classes, width": columns, when two of them are equal and when they conflict, for a list of bound inputs that is given.
+-- "Columns, classes, width": columns, when two of them are equal and when they conflict, for a list of bound inputs that is
+-- given.
 -- "Rows of bound inputs (vertices) take the order of the `bound` line, free rows the order of the `in` line."
 -- Assumes nothing.
 use mathlib.Core.Bool.{Bool, true, false, _&&_, _||_, Bool·beq}
