@@ -52,27 +52,45 @@ module _ (cl : List ℕ) (o l q : ℕ) where
 
   pub counting-skip : (x seen g seen' g' : ℕ) → seen' ≡ seen → g' ≡ g → Counting cl o l q x seen g → Counting cl o l q (x + 1) seen' g'
   counting-skip x seen g seen' g' a b s = subst (λ (z : ℕ). Counting cl o l q (x + 1) z g') (sym a) (subst (Counting cl o l q (x + 1) seen) (sym b) (record {
-    found = (let r = s .found in (r .0, all-map (λ (y : ℕ). (y < x) × (labelAt cl o y ≡ l) × (on seen (labelAt cl q y) ≡ true)) (λ (y : ℕ). (y < x + 1) × (labelAt cl o y ≡ l) × (on seen (labelAt cl q y) ≡ true)) (r .0) (λ y p. ((let z = p .0 in omega arith), p .1, p .2)) (r .1), r .2, r .3));
+    found = (let r = s .found in (
+      r .0,
+      all-map (λ (y : ℕ). (y < x) × (labelAt cl o y ≡ l) × (on seen (labelAt cl q y) ≡ true))
+          (λ (y : ℕ). (y < x + 1) × (labelAt cl o y ≡ l) × (on seen (labelAt cl q y) ≡ true)) (r .0) (λ y p. ((let z = p .0 in omega arith), p .1, p .2)) (r .1),
+      r .2,
+      r .3,
+    ));
     few = (let z = s .few in omega arith);
   }))
 
   -- a class of q that was not met so far; t and k are the classes read at x
-  pub counting-new : (x seen g seen' g' t k w : ℕ) → t ≡ labelAt cl o x → t ≡ l → k ≡ labelAt cl q x → false ≡ on seen k → With seen k w → seen' ≡ w → g' ≡ g + 1 → Counting cl o l q x seen g → Counting cl o l q (x + 1) seen' g'
+  pub counting-new : (x seen g seen' g' t k w : ℕ) → t ≡ labelAt cl o x → t ≡ l → k ≡ labelAt cl q x → false ≡ on seen k
+      → With seen k w → seen' ≡ w → g' ≡ g + 1 → Counting cl o l q x seen g → Counting cl o l q (x + 1) seen' g'
   counting-new x seen g seen' g' t k w et el ek off is a b s = subst (λ (z : ℕ). Counting cl o l q (x + 1) z g') (sym a) (subst (Counting cl o l q (x + 1) w) (sym b) (record {
     found = (let r = s .found in (
       x ∷ r .0,
       (
         ((omega arith), sym et ∙ el, subst (λ (z : ℕ). on w z ≡ true) ek (is k ∙ ap (λ (z : Bool). orb (on seen k) z) (eq-eqb k k refl) ∙ or-on (on seen k))),
-        all-map (λ (y : ℕ). (y < x) × (labelAt cl o y ≡ l) × (on seen (labelAt cl q y) ≡ true)) (λ (y : ℕ). (y < x + 1) × (labelAt cl o y ≡ l) × (on w (labelAt cl q y) ≡ true)) (r .0) (λ y p. ((let z = p .0 in omega arith), p .1, is (labelAt cl q y) ∙ ap (λ (z : Bool). orb z (eqb (labelAt cl q y) k)) (p .2))) (r .1),
+        all-map (λ (y : ℕ). (y < x) × (labelAt cl o y ≡ l) × (on seen (labelAt cl q y) ≡ true)) (λ (y : ℕ). (y < x + 1) × (labelAt cl o y ≡ l) × (on w (labelAt cl q y) ≡ true)) (r .0)
+            (λ y p. ((let z = p .0 in omega arith), p .1, is (labelAt cl q y) ∙ ap (λ (z : Bool). orb z (eqb (labelAt cl q y) k)) (p .2))) (r .1),
       ),
-      (all-map (λ (y : ℕ). (y < x) × (labelAt cl o y ≡ l) × (on seen (labelAt cl q y) ≡ true)) (λ (y : ℕ). labelAt cl q x ≡ labelAt cl q y → ⊥) (r .0) (λ y p e. never-both (subst (λ (z : ℕ). on seen z ≡ true) (sym (ek ∙ e)) (p .2)) (sym off)) (r .1), r .2),
+      (
+        all-map (λ (y : ℕ). (y < x) × (labelAt cl o y ≡ l) × (on seen (labelAt cl q y) ≡ true)) (λ (y : ℕ). labelAt cl q x ≡ labelAt cl q y → ⊥) (r .0)
+            (λ y p e. never-both (subst (λ (z : ℕ). on seen z ≡ true) (sym (ek ∙ e)) (p .2)) (sym off)) (r .1),
+        r .2,
+      ),
       (let z = r .3 in omega arith),
     ));
     few = (let z = s .few in omega arith);
   }))
 
   pub counting-end : (v x seen g : ℕ) → v ≤ x → x ≤ v → Counting cl o l q x seen g → Kinds cl v o l q g
-  counting-end v x seen g a b s = let r = s .found in (r .0, all-map (λ (y : ℕ). (y < x) × (labelAt cl o y ≡ l) × (on seen (labelAt cl q y) ≡ true)) (λ (y : ℕ). (y < v) × (labelAt cl o y ≡ l)) (r .0) (λ y p. ((let z = p .0 in omega arith), p .1)) (r .1), r .2, r .3)
+  counting-end v x seen g a b s = let r = s .found in (
+    r .0,
+    all-map (λ (y : ℕ). (y < x) × (labelAt cl o y ≡ l) × (on seen (labelAt cl q y) ≡ true)) (λ (y : ℕ). (y < v) × (labelAt cl o y ≡ l)) (r .0)
+        (λ y p. ((let z = p .0 in omega arith), p .1)) (r .1),
+    r .2,
+    r .3,
+  )
 
 -- what kinds answers
 pub record FewKinds (cl : List ℕ) (v o l q g : ℕ) : Type 0 where
@@ -99,7 +117,8 @@ rounded g p h k = go ((g + p - 1) / p) k (div-mul-le-self (g + p - 1) p)
 
 -- the need so far, n, has a reason among the outputs before q
 pub need-more : (cl rows : List ℕ) (v j o l q g p n n' : ℕ) → q < j → FewKinds cl v o l q g → p ≡ apart rows o q → 0 < p → n < (g + p - 1) / p → n' ≡ (g + p - 1) / p → Reason cl rows v j o l n'
-need-more cl rows v j o l q g p n n' h k e z lt a = inr (q, g, h, k .kinds, subst (λ (x : ℕ). (x - 1) * apart rows o q < g) (sym a) (subst (λ (x : ℕ). ((g + p - 1) / p - 1) * x < g) e (rounded g p z (omega arith))))
+need-more cl rows v j o l q g p n n' h k e z lt a = inr
+    (q, g, h, k .kinds, subst (λ (x : ℕ). (x - 1) * apart rows o q < g) (sym a) (subst (λ (x : ℕ). ((g + p - 1) / p - 1) * x < g) e (rounded g p z (omega arith))))
 
 -- ======== the table
 pub based-more : (cl rows : List ℕ) (v j n x : ℕ) (base : List ℕ) → n < 256 → Reason cl rows v j (n / 32) (n % 32) x → Based cl rows v j n base → Based cl rows v j (n + 1) (set base n x)
@@ -107,7 +126,8 @@ based-more cl rows v j n x base h e s = record {
   long = length-set base n x ∙ s .long;
   reasons = λ i k. ⊎-elim
       (λ a. subst (Reason cl rows v j (i / 32) (i % 32)) (sym (getD-set-other base n i x 0 (λ q. let z : i ≡ n = q in omega arith))) (s .reasons i a))
-      (λ q. subst (λ (i : ℕ). Reason cl rows v j (i / 32) (i % 32) (item (set base n x) i)) (sym q) (subst (Reason cl rows v j (n / 32) (n % 32)) (sym (getD-set-same base n x 0 (let z = s .long in omega arith))) e))
+      (λ q. subst (λ (i : ℕ). Reason cl rows v j (i / 32) (i % 32) (item (set base n x) i)) (sym q)
+      (subst (Reason cl rows v j (n / 32) (n % 32)) (sym (getD-set-same base n x 0 (let z = s .long in omega arith))) e))
       (less-or-equal i n (omega arith));
   rest = λ i k. getD-set-other base n i x 0 (λ q. let z : i ≡ n = q in omega arith) ∙ s .rest i (omega arith);
 }

@@ -69,6 +69,8 @@ lowest-on zero n ne h = absurd (ne (omega arith))
 lowest-on (suc d) n ne h = go (n % 2) refl
     (λ e. lowest-on d (n / 2) (λ q. ne (omega arith)) (let p : 2 ^ suc d ≡ 2 ^ d * 2 = pow-suc 2 d in omega arith))
   where
-    go : (r : ℕ) → n % 2 ≡ r → (n % 2 ≡ 0 → (trailingZeros d (n / 2) < d) × (on (n / 2) (trailingZeros d (n / 2)) ≡ true)) → (under r (trailingZeros d (n / 2)) < suc d) × (on n (under r (trailingZeros d (n / 2))) ≡ true)
+    go : (r : ℕ) → n % 2 ≡ r
+        → (n % 2 ≡ 0 → (trailingZeros d (n / 2) < d) × (on (n / 2) (trailingZeros d (n / 2)) ≡ true))
+        → (under r (trailingZeros d (n / 2)) < suc d) × (on n (under r (trailingZeros d (n / 2))) ≡ true)
     go zero e ih = let r = ih e in ((let z = r .0 in omega arith), on-half n (trailingZeros d (n / 2)) ∙ r .1)
     go (suc r) e ih = ((omega arith), (let p : n / 1 % 2 ≡ 1 = omega arith in rw p refl))

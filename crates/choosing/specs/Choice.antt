@@ -86,7 +86,8 @@ module _ (v m u : ℕ) (cl budgets : List ℕ) (R F : ℕ → ℕ) (few : u ≤ 
   normal-count o h = count-short (R o) u few (N .short o) ∙ N .full o h
 
   pub normal-order : (o : ℕ) (rows : List ℕ) (same : ℕ) → o < m → Alike rows o same → ((p : ℕ) → p < o → R p ≡ item rows p) → disorder (R o) same ≡ 0
-  normal-order o rows same h a e = on-none (disorder (R o) same) (λ i. on-and (bitAnd (R o / 2) (2 ^ 8 - 1 - R o)) same i ∙ ap (λ (b : Bool). andb b (on same i)) (on-and (R o / 2) (2 ^ 8 - 1 - R o) i) ∙ go i (on (R o / 2) i) refl (on same i) refl)
+  normal-order o rows same h a e = on-none (disorder (R o) same)
+      (λ i. on-and (bitAnd (R o / 2) (2 ^ 8 - 1 - R o)) same i ∙ ap (λ (b : Bool). andb b (on same i)) (on-and (R o / 2) (2 ^ 8 - 1 - R o) i) ∙ go i (on (R o / 2) i) refl (on same i) refl)
     where
       go : (i : ℕ) (a : Bool) → on (R o / 2) i ≡ a → (b : Bool) → on same i ≡ b → andb (andb a (on (2 ^ 8 - 1 - R o) i)) b ≡ false
       go i false p b q = refl
@@ -101,9 +102,11 @@ module _ (v m u : ℕ) (cl budgets : List ℕ) (R F : ℕ → ℕ) (few : u ≤ 
 pub rows-more : (budgets : List ℕ) (u n r : ℕ) (rows : List ℕ) → n < 8 → u ≤ 6 → r < 2 ^ u → count (on r) 6 ≡ min (item budgets n) u → Rows budgets u n rows → Rows budgets u (n + 1) (set rows n r)
 rows-more budgets u n r rows h few l e s = record {
   long = length-set rows n r ∙ s .long;
-  low = λ o k. ⊎-elim (λ a. subst (λ (z : ℕ). z < 2 ^ u) (sym (old o a)) (s .low o a)) (λ q. subst (λ (o : ℕ). item (set rows n r) o < 2 ^ u) (sym q) (subst (λ (z : ℕ). z < 2 ^ u) (sym new) l)) (less-or-equal o n (omega arith));
+  low = λ o k. ⊎-elim (λ a. subst (λ (z : ℕ). z < 2 ^ u) (sym (old o a)) (s .low o a))
+      (λ q. subst (λ (o : ℕ). item (set rows n r) o < 2 ^ u) (sym q) (subst (λ (z : ℕ). z < 2 ^ u) (sym new) l)) (less-or-equal o n (omega arith));
   full = λ o k. ⊎-elim (λ a. subst (λ (z : ℕ). count (on z) u ≡ min (item budgets o) u) (sym (old o a)) (s .full o a))
-      (λ q. subst (λ (o : ℕ). count (on (item (set rows n r) o)) u ≡ min (item budgets o) u) (sym q) (subst (λ (z : ℕ). count (on z) u ≡ min (item budgets n) u) (sym new) (sym (count-short r u few l) ∙ e)))
+      (λ q. subst (λ (o : ℕ). count (on (item (set rows n r) o)) u ≡ min (item budgets o) u) (sym q)
+      (subst (λ (z : ℕ). count (on z) u ≡ min (item budgets n) u) (sym new) (sym (count-short r u few l) ∙ e)))
       (less-or-equal o n (omega arith));
 }
   where
@@ -126,8 +129,10 @@ alike-start rows same = record { alike = λ i p e h. absurd (omega arith) }
 pub alike-more : (rows : List ℕ) (n same r : ℕ) → length rows ≡ 8 → n < 8 → r < 64 → Alike rows n same → Alike (set rows n r) (n + 1) (bitAnd same (2 ^ 8 - 1 - bitXor r (r / 2)))
 alike-more rows n same r long h low s = record {
   alike = λ i p e k. ⊎-elim
-      (λ a. let old = getD-set-other rows n p r 0 (λ q. let z : p ≡ n = q in omega arith) in ap (λ (z : ℕ). on z i) old ∙ s .alike i p (and-left (on same i) _ (sym (both i) ∙ e)) a ∙ ap (λ (z : ℕ). on z (suc i)) (sym old))
-      (λ q. subst (λ (p : ℕ). on (item (set rows n r) p) i ≡ on (item (set rows n r) p) (suc i)) (sym q) (ap (λ (z : ℕ). on z i) new ∙ eq i (and-right (on same i) _ (sym (both i) ∙ e)) ∙ ap (λ (z : ℕ). on z (suc i)) (sym new)))
+      (λ a. let old = getD-set-other rows n p r 0 (λ q. let z : p ≡ n = q in omega arith) in ap (λ (z : ℕ). on z i) old ∙ s .alike i p (and-left (on same i) _ (sym (both i) ∙ e)) a ∙ ap
+      (λ (z : ℕ). on z (suc i)) (sym old))
+      (λ q. subst (λ (p : ℕ). on (item (set rows n r) p) i ≡ on (item (set rows n r) p) (suc i)) (sym q)
+      (ap (λ (z : ℕ). on z i) new ∙ eq i (and-right (on same i) _ (sym (both i) ∙ e)) ∙ ap (λ (z : ℕ). on z (suc i)) (sym new)))
       (less-or-equal p n (omega arith));
 }
   where
@@ -157,7 +162,8 @@ alike-more rows n same r long h low s = record {
     eq i e = go (decLt i 8)
       where
         go : Dec (i < 8) → on r i ≡ on r (suc i)
-        go (yes l) = same-of (on r i) (on r (suc i)) (ap (λ (b : Bool). not (xorb (on r i) b)) (on-half r i) ∙ ap not (sym (on-xor r (r / 2) i)) ∙ sym (on-complement 8 (bitXor r (r / 2)) i xor-low l) ∙ e)
+        go (yes l) = same-of (on r i) (on r (suc i))
+            (ap (λ (b : Bool). not (xorb (on r i) b)) (on-half r i) ∙ ap not (sym (on-xor r (r / 2) i)) ∙ sym (on-complement 8 (bitXor r (r / 2)) i xor-low l) ∙ e)
         go (no l) = on-above 6 r i low (omega arith) ∙ sym (on-above 6 r (suc i) low (omega arith))
 
 -- ---- rows tried for output n
@@ -169,26 +175,38 @@ module _ (cl budgets : List ℕ) (v m u n : ℕ) (rows : List ℕ) where
   pub tried-start : Tried cl budgets v m u n rows 0
   tried-start = record { past = λ R F N e. omega arith }
 
-  tried-next : (r : ℕ) → ((R F : ℕ → ℕ) → Normal u v m (Differ (labelAt cl)) (item budgets) R F → ((p : ℕ) → p < n → R p ≡ item rows p) → R n ≡ r → ⊥) → Tried cl budgets v m u n rows r → Tried cl budgets v m u n rows (r + 1)
+  tried-next : (r : ℕ)
+      → ((R F : ℕ → ℕ) → Normal u v m (Differ (labelAt cl)) (item budgets) R F → ((p : ℕ) → p < n → R p ≡ item rows p) → R n ≡ r → ⊥)
+      → Tried cl budgets v m u n rows r → Tried cl budgets v m u n rows (r + 1)
   tried-next r bad t = record { past = λ R F N e. ⊎-elim (λ (l : r < R n). omega arith) (λ q. absurd (bad R F N e (sym q))) (less-or-equal r (R n) (let z = t .past R F N e in omega arith)) }
 
-  pub tried-unfit : (r want same : ℕ) (ok : Bool) → u ≤ 6 → n < m → want ≡ min (item budgets n) u → Alike rows n same → ok ≡ false → Suits r want same ok → Tried cl budgets v m u n rows r → Tried cl budgets v m u n rows (r + 1)
+  pub tried-unfit : (r want same : ℕ) (ok : Bool) → u ≤ 6 → n < m → want ≡ min (item budgets n) u → Alike rows n same
+      → ok ≡ false → Suits r want same ok → Tried cl budgets v m u n rows r → Tried cl budgets v m u n rows (r + 1)
   tried-unfit r want same ok few h w a q s = tried-next r (λ R F N e z. s .wrong q
       (ap (λ (x : ℕ). count (on x) 6) (sym z) ∙ normal-count v m u cl budgets R F few N n h ∙ sym w)
       (ap (λ (x : ℕ). disorder x same) (sym z) ∙ normal-order v m u cl budgets R F few N n rows same h a e))
 
   agrees : (r : ℕ) (R : ℕ → ℕ) → length rows ≡ 8 → n < 8 → ((p : ℕ) → p < n → R p ≡ item rows p) → R n ≡ r → (p : ℕ) → p < n + 1 → R p ≡ item (set rows n r) p
-  agrees r R long h e z p k = ⊎-elim (λ a. e p a ∙ sym (getD-set-other rows n p r 0 (λ q. let z : p ≡ n = q in omega arith))) (λ q. subst (λ (p : ℕ). R p ≡ item (set rows n r) p) (sym q) (z ∙ sym (getD-set-same rows n r 0 (omega arith)))) (less-or-equal p n (omega arith))
+  agrees r R long h e z p k = ⊎-elim (λ a. e p a ∙ sym (getD-set-other rows n p r 0 (λ q. let z : p ≡ n = q in omega arith)))
+      (λ q. subst (λ (p : ℕ). R p ≡ item (set rows n r) p) (sym q) (z ∙ sym (getD-set-same rows n r 0 (omega arith)))) (less-or-equal p n (omega arith))
 
   -- no codes serve the rows so far
-  pub tried-dead : (r : ℕ) (codes : List ℕ) (ok : Bool) → length rows ≡ 8 → n < 8 → n < m → ok ≡ false → Decided cl v (n + 1) (set rows n r) ok codes → Tried cl budgets v m u n rows r → Tried cl budgets v m u n rows (r + 1)
-  tried-dead r codes ok long h k q d = tried-next r (λ R F N e z. dead ok q d F (record { tells = λ o x y i a b c s. N .coded .tells o x y (omega arith) a b c (ap (bitAnd (F x)) (agrees r R long h e z o i) ∙ s ∙ sym (ap (bitAnd (F y)) (agrees r R long h e z o i))) }) (N .zero))
+  pub tried-dead : (r : ℕ) (codes : List ℕ) (ok : Bool) → length rows ≡ 8 → n < 8 → n < m → ok ≡ false
+      → Decided cl v (n + 1) (set rows n r) ok codes → Tried cl budgets v m u n rows r
+      → Tried cl budgets v m u n rows (r + 1)
+  tried-dead r codes ok long h k q d = tried-next r
+      (λ R F N e z. dead ok q d F (record {
+        tells = λ o x y i a b c s. N .coded .tells o x y (omega arith) a b c
+            (ap (bitAnd (F x)) (agrees r R long h e z o i) ∙ s ∙ sym (ap (bitAnd (F y)) (agrees r R long h e z o i)));
+      }) (N .zero))
     where
       dead : (ok : Bool) → ok ≡ false → Decided cl v (n + 1) (set rows n r) ok codes → (f : ℕ → ℕ) → Coded v (n + 1) (Differ (labelAt cl)) (item (set rows n r)) f → f 0 ≡ 0 → ⊥
       dead false q d = d
       dead true q d = absurd (true-false q)
 
-  pub tried-lost : (r : ℕ) (ok : Bool) (rows' codes : List ℕ) → length rows ≡ 8 → n < 8 → ok ≡ false → Chosen cl budgets v m u (n + 1) (set rows n r) ok rows' codes → Tried cl budgets v m u n rows r → Tried cl budgets v m u n rows (r + 1)
+  pub tried-lost : (r : ℕ) (ok : Bool) (rows' codes : List ℕ) → length rows ≡ 8 → n < 8 → ok ≡ false
+      → Chosen cl budgets v m u (n + 1) (set rows n r) ok rows' codes → Tried cl budgets v m u n rows r
+      → Tried cl budgets v m u n rows (r + 1)
   tried-lost r ok rows' codes long h q c = tried-next r (λ R F N e z. lost ok q c .none R F N (agrees r R long h e z))
     where
       lost : (ok : Bool) → ok ≡ false → Chosen cl budgets v m u (n + 1) (set rows n r) ok rows' codes → Lost cl budgets v m u (n + 1) (set rows n r)
@@ -200,13 +218,17 @@ module _ (cl budgets : List ℕ) (v m u n : ℕ) (rows : List ℕ) where
 
 -- no codes serve the rows so far
 pub lost-of : (cl budgets : List ℕ) (v m u n : ℕ) (rows : List ℕ) → n ≤ m → Decided cl v n rows false rows → Lost cl budgets v m u n rows
-lost-of cl budgets v m u n rows h d = record { none = λ R F N q. d F (record { tells = λ o x y i a b c p. N .coded .tells o x y (omega arith) a b c (ap (bitAnd (F x)) (q o i) ∙ p ∙ sym (ap (bitAnd (F y)) (q o i))) }) (N .zero) }
+lost-of cl budgets v m u n rows h d = record
+    { none = λ R F N q. d F (record { tells = λ o x y i a b c p. N .coded .tells o x y (omega arith) a b c (ap (bitAnd (F x)) (q o i) ∙ p ∙ sym (ap (bitAnd (F y)) (q o i))) }) (N .zero) }
 
 -- all rows are chosen: the codes decide
-pub chosen-end : (cl budgets : List ℕ) (v m u n : ℕ) (rows rows' codes : List ℕ) (ok : Bool) → n ≡ m → rows' ≡ rows → Rows budgets u n rows → Decided cl v m rows ok codes → Chosen cl budgets v m u n rows ok rows' codes
-chosen-end cl budgets v m u n rows rows' codes true e q s d = subst (λ (z : List ℕ). Found cl budgets v m u z codes) (sym q) record { rows-fit = subst (λ (z : ℕ). Rows budgets u z rows) e s; coded = d }
+pub chosen-end : (cl budgets : List ℕ) (v m u n : ℕ) (rows rows' codes : List ℕ) (ok : Bool) → n ≡ m → rows' ≡ rows
+    → Rows budgets u n rows → Decided cl v m rows ok codes → Chosen cl budgets v m u n rows ok rows' codes
+chosen-end cl budgets v m u n rows rows' codes true e q s d = subst (λ (z : List ℕ). Found cl budgets v m u z codes) (sym q) record
+    { rows-fit = subst (λ (z : ℕ). Rows budgets u z rows) e s; coded = d }
 chosen-end cl budgets v m u n rows rows' codes false e q s d = subst (λ (z : ℕ). Lost cl budgets v m u z rows) (sym e) (lost-of cl budgets v m u m rows (omega arith) d)
 
-pub chosen-found : (cl budgets : List ℕ) (v m u n n' : ℕ) (rows rows₀ rows' codes : List ℕ) (ok : Bool) → ok ≡ true → Chosen cl budgets v m u n' rows₀ ok rows' codes → Chosen cl budgets v m u n rows ok rows' codes
+pub chosen-found : (cl budgets : List ℕ) (v m u n n' : ℕ) (rows rows₀ rows' codes : List ℕ) (ok : Bool) → ok ≡ true
+    → Chosen cl budgets v m u n' rows₀ ok rows' codes → Chosen cl budgets v m u n rows ok rows' codes
 chosen-found cl budgets v m u n n' rows rows₀ rows' codes true e c = c
 chosen-found cl budgets v m u n n' rows rows₀ rows' codes false e c = absurd (true-false (sym e))

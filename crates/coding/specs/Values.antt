@@ -83,7 +83,10 @@ Agrees codes v g = (x : ℕ) → x < v → item codes x < noCode → g x ≡ ite
 -- where a solution goes on from the codes given, there is one whose code at a vertex without a code is in can; the first n
 -- groups have narrowed it, and it does not look at the others
 pub record Canon (gs used : List ℕ) (sh n can : ℕ) : Type 0 where
-  pub reach : (cl base ms caps spots codes : List ℕ) (v j x : ℕ) → noCode ≤ item codes x → Alike ms gs sh j → ((k y : ℕ) → k < groupCount → y < v → item codes y < noCode → on (item used k) (item codes y) ≡ true) → (g : ℕ → ℕ) → Solves cl base ms caps spots v j g → Agrees codes v g → x < v → (g' : ℕ → ℕ) × Solves cl base ms caps spots v j g' × Agrees codes v g' × (on can (g' x) ≡ true)
+  pub reach : (cl base ms caps spots codes : List ℕ) (v j x : ℕ) → noCode ≤ item codes x → Alike ms gs sh j
+      → ((k y : ℕ) → k < groupCount → y < v → item codes y < noCode → on (item used k) (item codes y) ≡ true)
+      → (g : ℕ → ℕ) → Solves cl base ms caps spots v j g → Agrees codes v g → x < v
+      → (g' : ℕ → ℕ) × Solves cl base ms caps spots v j g' × Agrees codes v g' × (on can (g' x) ≡ true)
   pub blind : (k c d : ℕ) → n ≤ k → k < groupCount → c < maxCodes → d < maxCodes → ((i : ℕ) → i < maxCells → on (item gs k) i ≡ false → on c i ≡ on d i) → on can c ≡ true → on can d ≡ true
 
 -- the sets with the value of c in each of the first n groups
@@ -139,7 +142,8 @@ module _ (gs used : List ℕ) (sh all : ℕ) (o : Over sh all) where
 
   -- over the cells of sh, digit by digit
   over-of : (c : ℕ) → c < 64 → ((i : ℕ) → i < 6 → on sh i ≡ false → on c i ≡ false) → on all c ≡ true
-  over-of c l z = o .is c l ∙ eq-eqb (bitAnd c rest) (bitAnd 0 rest) (equal-digits (bitAnd c rest) (bitAnd 0 rest) (λ i. on-and c rest i ∙ none i (decLt i 6) ∙ sym (on-and 0 rest i ∙ ap (λ (b : Bool). andb b (on rest i)) (on-zero i))))
+  over-of c l z = o .is c l ∙ eq-eqb (bitAnd c rest) (bitAnd 0 rest)
+      (equal-digits (bitAnd c rest) (bitAnd 0 rest) (λ i. on-and c rest i ∙ none i (decLt i 6) ∙ sym (on-and 0 rest i ∙ ap (λ (b : Bool). andb b (on rest i)) (on-zero i))))
     where
       none : (i : ℕ) → Dec (i < 6) → andb (on c i) (on rest i) ≡ false
       none i (no n) = ap (λ (b : Bool). andb b (on rest i)) (on-above 6 c i l (omega arith))
@@ -150,7 +154,8 @@ module _ (gs used : List ℕ) (sh all : ℕ) (o : Over sh all) where
           case false e = ap (λ (b : Bool). andb b (on rest i)) (z i y e)
 
   of-over : (c i : ℕ) → c < 64 → i < 6 → on all c ≡ true → on sh i ≡ false → on c i ≡ false
-  of-over c i l h t e = go (on c i) (sym (ap (λ (b : Bool). andb (on c i) b) (on-complement 8 sh i (let w = o .low in omega arith) (omega arith) ∙ ap not e)) ∙ sym (on-and c rest i) ∙ ap (λ (n : ℕ). on n i) (eqb-true (bitAnd c rest) (bitAnd 0 rest) (sym (o .is c l) ∙ t)) ∙ on-and 0 rest i ∙ ap (λ (b : Bool). andb b (on rest i)) (on-zero i))
+  of-over c i l h t e = go (on c i) (sym (ap (λ (b : Bool). andb (on c i) b) (on-complement 8 sh i (let w = o .low in omega arith) (omega arith) ∙ ap not e)) ∙ sym (on-and c rest i) ∙ ap
+      (λ (n : ℕ). on n i) (eqb-true (bitAnd c rest) (bitAnd 0 rest) (sym (o .is c l) ∙ t)) ∙ on-and 0 rest i ∙ ap (λ (b : Bool). andb b (on rest i)) (on-zero i))
     where
       go : (b : Bool) → andb b true ≡ false → b ≡ false
       go false e = refl
@@ -162,12 +167,16 @@ module _ (gs used : List ℕ) (sh all : ℕ) (o : Over sh all) where
       blind : (k c d : ℕ) → 0 ≤ k → k < 3 → c < 64 → d < 64 → ((i : ℕ) → i < 6 → on (item gs k) i ≡ false → on c i ≡ on d i) → on all c ≡ true → on all d ≡ true
       blind k c d n l p q e t = over-of d q (λ i h z. sym (e i h (false-where (on (item gs k) i) (λ w. never-both (groups .among k i l w) z))) ∙ of-over c i p h t z)
 
-      reach : (cl base ms caps spots codes : List ℕ) (v j x : ℕ) → 64 ≤ item codes x → Alike ms gs sh j → ((k y : ℕ) → k < 3 → y < v → item codes y < 64 → on (item used k) (item codes y) ≡ true) → (g : ℕ → ℕ) → Solves cl base ms caps spots v j g → Agrees codes v g → x < v → (g' : ℕ → ℕ) × Solves cl base ms caps spots v j g' × Agrees codes v g' × (on all (g' x) ≡ true)
+      reach : (cl base ms caps spots codes : List ℕ) (v j x : ℕ) → 64 ≤ item codes x → Alike ms gs sh j
+          → ((k y : ℕ) → k < 3 → y < v → item codes y < 64 → on (item used k) (item codes y) ≡ true) → (g : ℕ → ℕ)
+          → Solves cl base ms caps spots v j g → Agrees codes v g → x < v
+          → (g' : ℕ → ℕ) × Solves cl base ms caps spots v j g' × Agrees codes v g' × (on all (g' x) ≡ true)
       reach cl base ms caps spots codes v j x u a has g f e h = (
         G,
         solves-alike cl base ms caps spots v j g G (record { there = λ q y z l b c r. same q y l ∙ r ∙ sym (same q z l); back = λ q y z l b c r. sym (same q y l) ∙ r ∙ same q z l }) small f,
         (λ y l t. at-other y (λ q. let z = subst (λ (n : ℕ). item codes n < 64) q t in omega arith) ∙ e y l t),
-        ap (on all) at-x ∙ over-of (bitAnd (g x) sh) (let w = and-le-l (g x) sh in let z = f .small x h in omega arith) (λ i l z. on-and (g x) sh i ∙ ap (λ (b : Bool). andb (on (g x) i) b) z ∙ and-off (on (g x) i)),
+        ap (on all) at-x ∙ over-of (bitAnd (g x) sh) (let w = and-le-l (g x) sh in let z = f .small x h in omega arith)
+            (λ i l z. on-and (g x) sh i ∙ ap (λ (b : Bool). andb (on (g x) i) b) z ∙ and-off (on (g x) i)),
       )
         where
           G : ℕ → ℕ
@@ -184,7 +193,8 @@ module _ (gs used : List ℕ) (sh all : ℕ) (o : Over sh all) where
             where
               go : Dec (y ≡ x) → bitAnd (G y) (item ms q) ≡ bitAnd (g y) (item ms q)
               go (no ne) = ap (λ (n : ℕ). bitAnd n (item ms q)) (at-other y ne)
-              go (yes r) = ap (λ (n : ℕ). bitAnd (G n) (item ms q)) r ∙ ap (λ (n : ℕ). bitAnd n (item ms q)) at-x ∙ agree-and 6 (item ms q) (bitAnd (g x) sh) (g x) (a .short q l) (λ i b t. on-and (g x) sh i ∙ ap (λ (b : Bool). andb (on (g x) i) b) (a .masked q i l t) ∙ and-on (on (g x) i)) ∙ ap (λ (n : ℕ). bitAnd (g n) (item ms q)) (sym r)
+              go (yes r) = ap (λ (n : ℕ). bitAnd (G n) (item ms q)) r ∙ ap (λ (n : ℕ). bitAnd n (item ms q)) at-x ∙ agree-and 6 (item ms q) (bitAnd (g x) sh) (g x) (a .short q l)
+                  (λ i b t. on-and (g x) sh i ∙ ap (λ (b : Bool). andb (on (g x) i) b) (a .masked q i l t) ∙ and-on (on (g x) i)) ∙ ap (λ (n : ℕ). bitAnd (g n) (item ms q)) (sym r)
 
           small : (y : ℕ) → y < v → G y < 64
           small y l = go (ℕ-discrete y x)
@@ -211,14 +221,19 @@ module _ (gs used : List ℕ) (sh n can b : ℕ) (h : n < 3) (groups : Groups gs
   pub canon-more : Canon gs used sh (n + 1) (bitAnd can (bitOr a₀ b))
   canon-more = record { reach = reach; blind = blind }
     where
-      blind : (k c d : ℕ) → n + 1 ≤ k → k < 3 → c < 64 → d < 64 → ((i : ℕ) → i < 6 → on (item gs k) i ≡ false → on c i ≡ on d i) → on (bitAnd can (bitOr a₀ b)) c ≡ true → on (bitAnd can (bitOr a₀ b)) d ≡ true
+      blind : (k c d : ℕ) → n + 1 ≤ k → k < 3 → c < 64 → d < 64
+          → ((i : ℕ) → i < 6 → on (item gs k) i ≡ false → on c i ≡ on d i) → on (bitAnd can (bitOr a₀ b)) c ≡ true
+          → on (bitAnd can (bitOr a₀ b)) d ≡ true
       blind k c d m l p q e t =
           let w : andb (on can c) (on (bitOr a₀ b) c) ≡ true = sym (on-and can (bitOr a₀ b) c) ∙ t in
           on-both can (bitOr a₀ b) d
           (s .blind k c d (omega arith) l p q e (and-left (on can c) _ w))
           (passes c d p q (agree-and 6 g₀ c d (groups .low n h) (λ i z y. e i z (groups .disjoint n k i h l (λ r. omega arith) y))) (and-right (on can c) _ w))
 
-      reach : (cl base ms caps spots codes : List ℕ) (v j x : ℕ) → 64 ≤ item codes x → Alike ms gs sh j → ((k y : ℕ) → k < 3 → y < v → item codes y < 64 → on (item used k) (item codes y) ≡ true) → (g : ℕ → ℕ) → Solves cl base ms caps spots v j g → Agrees codes v g → x < v → (g' : ℕ → ℕ) × Solves cl base ms caps spots v j g' × Agrees codes v g' × (on (bitAnd can (bitOr a₀ b)) (g' x) ≡ true)
+      reach : (cl base ms caps spots codes : List ℕ) (v j x : ℕ) → 64 ≤ item codes x → Alike ms gs sh j
+          → ((k y : ℕ) → k < 3 → y < v → item codes y < 64 → on (item used k) (item codes y) ≡ true) → (g : ℕ → ℕ)
+          → Solves cl base ms caps spots v j g → Agrees codes v g → x < v
+          → (g' : ℕ → ℕ) × Solves cl base ms caps spots v j g' × Agrees codes v g' × (on (bitAnd can (bitOr a₀ b)) (g' x) ≡ true)
       reach cl base ms caps spots codes v j x u alike has g f e l = go (s .reach cl base ms caps spots codes v j x u alike has g f e l)
         where
           Out : Type 0
@@ -231,7 +246,8 @@ module _ (gs used : List ℕ) (sh n can b : ℕ) (h : n < 3) (groups : Groups gs
           exchange : (i : In) (c : ℕ) → c < 64 → on a₀ c ≡ false → Block g₀ c b → on a₀ (i .0 x) ≡ false → Out
           exchange i c lc off is out = (
             F,
-            solves-alike cl base ms caps spots v j (i .0) F (swap-blocks g₀ low ms v j (i .0 x) c (i .0) (alike .short) (λ o k. alike .uniform n o h k)) (λ y k. swap-small g₀ low (i .0 x) c (i .0 y) (i .1 .small y k)) (i .1),
+            solves-alike cl base ms caps spots v j (i .0) F (swap-blocks g₀ low ms v j (i .0 x) c (i .0) (alike .short) (λ o k. alike .uniform n o h k))
+                (λ y k. swap-small g₀ low (i .0 x) c (i .0 y) (i .1 .small y k)) (i .1),
             (λ y k t. stays y k t ∙ i .2 y k t),
             on-both can (bitOr a₀ b) (F x)
                 (s .blind n (i .0 x) (F x) (omega arith) h (i .1 .small x l) small (λ d z t. sym (swap-outside g₀ low (i .0 x) c (i .0 x) d z t)) (i .3))
@@ -275,7 +291,8 @@ marked-more gs used c n b r h is s = record {
   long = length-set r n _ ∙ s .long;
   done = λ k l. ⊎-elim
       (λ a. let q = s .done k a in (q .0, q .1, getD-set-other r n k _ 0 (λ z. let y : k ≡ n = z in omega arith) ∙ q .2))
-      (λ e. subst (λ (k : ℕ). (b' : ℕ) × Block (item gs k) c b' × (item (set r n (bitOr (item r n) b)) k ≡ bitOr (item used k) b')) (sym e) (b, is, getD-set-same r n _ 0 (let z = s .long in omega arith) ∙ ap (λ (z : ℕ). bitOr z b) (s .rest n (omega arith))))
+      (λ e. subst (λ (k : ℕ). (b' : ℕ) × Block (item gs k) c b' × (item (set r n (bitOr (item r n) b)) k ≡ bitOr (item used k) b')) (sym e)
+      (b, is, getD-set-same r n _ 0 (let z = s .long in omega arith) ∙ ap (λ (z : ℕ). bitOr z b) (s .rest n (omega arith))))
       (less-or-equal k n (omega arith));
   rest = λ k l. getD-set-other r n k _ 0 (λ z. let y : k ≡ n = z in omega arith) ∙ s .rest k (omega arith);
 }
@@ -298,10 +315,13 @@ module _ (codes : List ℕ) (v x c : ℕ) (long : length codes ≡ 32) (few : v 
   }
     where
       has : (k y : ℕ) → k < 3 → y < v → item (set codes x c) y < 64 → Dec (y ≡ x) → on (item r k) (item (set codes x c) y) ≡ true
-      has k y a b t (yes e) = let q = m .done k a in ap₂ on (q .2) (ap (item (set codes x c)) e ∙ here) ∙ in-r (item used k) (q .0) c (q .1 c l ∙ eq-eqb (bitAnd c (item gs k)) (bitAnd c (item gs k)) refl)
+      has k y a b t (yes e) = let q = m .done k a in ap₂ on (q .2) (ap (item (set codes x c)) e ∙ here) ∙ in-r (item used k) (q .0) c
+          (q .1 c l ∙ eq-eqb (bitAnd c (item gs k)) (bitAnd c (item gs k)) refl)
       has k y a b t (no ne) = let q = m .done k a in ap₂ on (q .2) (there y ne) ∙ in-l (item used k) (q .0) (item codes y) (u .has k y a b (subst (λ (z : ℕ). z < 64) (there y ne) t))
 
-  pub valued-more : (ms gb : List ℕ) (all j : ℕ) (used r : List ℕ) → c < 64 → ((gs : List ℕ) → Blocks gs gb 3 → Marked gs used c 3 r) → Valued ms gb all j codes v used → Valued ms gb all j (set codes x c) v r
+  pub valued-more : (ms gb : List ℕ) (all j : ℕ) (used r : List ℕ) → c < 64
+      → ((gs : List ℕ) → Blocks gs gb 3 → Marked gs used c 3 r) → Valued ms gb all j codes v used
+      → Valued ms gb all j (set codes x c) v r
   valued-more ms gb all j used r l m w = record {
     gs = w .gs;
     sh = w .sh;

@@ -44,7 +44,8 @@ pub record Answered (cl budgets : List ℕ) (v m limit : ℕ) (found : Bool) (u 
 pub zeroed-more : (codes : List ℕ) (n : ℕ) (r : List ℕ) (x : ℕ) → n < 32 → x ≡ bitXor (item codes n) (item codes 0) → Zeroed codes n r → Zeroed codes (n + 1) (set r n x)
 zeroed-more codes n r x h e s = record {
   long = length-set r n x ∙ s .long;
-  done = λ k i. ⊎-elim (λ a. getD-set-other r n k x 0 (λ q. let z : k ≡ n = q in omega arith) ∙ s .done k a) (λ q. subst (λ (k : ℕ). item (set r n x) k ≡ bitXor (item codes k) (item codes 0)) (sym q) (getD-set-same r n x 0 (let z = s .long in omega arith) ∙ e)) (less-or-equal k n (omega arith));
+  done = λ k i. ⊎-elim (λ a. getD-set-other r n k x 0 (λ q. let z : k ≡ n = q in omega arith) ∙ s .done k a)
+      (λ q. subst (λ (k : ℕ). item (set r n x) k ≡ bitXor (item codes k) (item codes 0)) (sym q) (getD-set-same r n x 0 (let z = s .long in omega arith) ∙ e)) (less-or-equal k n (omega arith));
 }
 
 xor-same : (a b c : Bool) → xorb a c ≡ xorb b c → a ≡ b
@@ -62,7 +63,9 @@ xor-self a = on-none (bitXor a a) (λ i. on-xor a a i ∙ self (on a i))
     self true = refl
     self false = refl
 
-pub zeroed-coded : (cl : List ℕ) (v m u : ℕ) (rows codes r : List ℕ) → v ≤ 32 → ((o : ℕ) → o < m → item rows o < 2 ^ u) → Zeroed codes 32 r → Coded v m (Differ (labelAt cl)) (item rows) (item codes) → Coded v m (Differ (labelAt cl)) (item rows) (item r)
+pub zeroed-coded : (cl : List ℕ) (v m u : ℕ) (rows codes r : List ℕ) → v ≤ 32 → ((o : ℕ) → o < m → item rows o < 2 ^ u)
+    → Zeroed codes 32 r → Coded v m (Differ (labelAt cl)) (item rows) (item codes)
+    → Coded v m (Differ (labelAt cl)) (item rows) (item r)
 zeroed-coded cl v m u rows codes r few low z c = record {
   tells = λ o x y h a b d e. c .tells o x y h a b d (agree-and u (item rows o) (item codes x) (item codes y) (low o h) (λ i l t.
       xor-same (on (item codes x) i) (on (item codes y) i) (on (item codes 0) i)
@@ -75,7 +78,8 @@ zeroed-coded cl v m u rows codes r few low z c = record {
 pub atleast-start : (cl budgets : List ℕ) (v m : ℕ) → AtLeast cl budgets v m 0
 atleast-start cl budgets v m = record { enough = λ k s. omega arith }
 
-pub atleast-more : (cl budgets : List ℕ) (v m u : ℕ) (rows rows' codes : List ℕ) (ok : Bool) → ok ≡ false → Chosen cl budgets v m u 0 rows ok rows' codes → AtLeast cl budgets v m u → AtLeast cl budgets v m (u + 1)
+pub atleast-more : (cl budgets : List ℕ) (v m u : ℕ) (rows rows' codes : List ℕ) (ok : Bool) → ok ≡ false
+    → Chosen cl budgets v m u 0 rows ok rows' codes → AtLeast cl budgets v m u → AtLeast cl budgets v m (u + 1)
 atleast-more cl budgets v m u rows rows' codes true e c a = absurd (true-false e)
 atleast-more cl budgets v m u rows rows' codes false e c a = record {
   enough = λ k s. elim (decLt u (length k)) as (λ _. u + 1 ≤ length k) [
@@ -85,7 +89,9 @@ atleast-more cl budgets v m u rows rows' codes false e c a = record {
 }
 
 -- Theorem B, found
-pub answer-found : (cl budgets : List ℕ) (v m u limit : ℕ) (rows rows' codes r : List ℕ) (ok : Bool) → v ≤ 32 → u ≤ limit → ok ≡ true → Chosen cl budgets v m u 0 rows ok rows' codes → Zeroed codes 32 r → AtLeast cl budgets v m u → Answered cl budgets v m limit true u rows' r
+pub answer-found : (cl budgets : List ℕ) (v m u limit : ℕ) (rows rows' codes r : List ℕ) (ok : Bool) → v ≤ 32
+    → u ≤ limit → ok ≡ true → Chosen cl budgets v m u 0 rows ok rows' codes → Zeroed codes 32 r
+    → AtLeast cl budgets v m u → Answered cl budgets v m limit true u rows' r
 answer-found cl budgets v m u limit rows rows' codes r false few h e c z a = absurd (true-false (sym e))
 answer-found cl budgets v m u limit rows rows' codes r true few h e c z a = record {
   few = h;
@@ -94,7 +100,8 @@ answer-found cl budgets v m u limit rows rows' codes r true few h e c z a = reco
   answer = (
     rw (cells-length u 0 (item rows') (item r)) h,
     record {
-      serves = core-serves u v m (Differ (labelAt cl)) (item budgets) (item rows') (item r) (zeroed-coded cl v m u rows' codes r few (c .rows-fit .low) z (c .coded)) (c .rows-fit .low) (λ o k. (let q = c .rows-fit .full o k in omega arith));
+      serves = core-serves u v m (Differ (labelAt cl)) (item budgets) (item rows') (item r) (zeroed-coded cl v m u rows' codes r few (c .rows-fit .low) z (c .coded)) (c .rows-fit .low)
+          (λ o k. (let q = c .rows-fit .full o k in omega arith));
       zero = cells-zero u 0 (item rows') (item r) (z .done 0 (omega arith) ∙ xor-self (item codes 0));
       fewest = λ k s. rw (cells-length u 0 (item rows') (item r)) (a .enough k s);
     },

@@ -35,7 +35,8 @@ pub record Returned (l from : List ℕ) (n : ℕ) (r : List ℕ) : Type 0 where
 pub picked-more : (l from : List ℕ) (n x : ℕ) (r : List ℕ) → n < 8 → x ≡ item l (item from n) → Picked l from n r → Picked l from (n + 1) (set r n x)
 picked-more l from n x r h e s = record {
   long = length-set r n x ∙ s .long;
-  done = λ k b. ⊎-elim (λ a. getD-set-other r n k x 0 (λ q. let z : k ≡ n = q in omega arith) ∙ s .done k a) (λ q. subst (λ (k : ℕ). item (set r n x) k ≡ item l (item from k)) (sym q) (getD-set-same r n x 0 (let z = s .long in omega arith) ∙ e)) (less-or-equal k n (omega arith));
+  done = λ k b. ⊎-elim (λ a. getD-set-other r n k x 0 (λ q. let z : k ≡ n = q in omega arith) ∙ s .done k a)
+      (λ q. subst (λ (k : ℕ). item (set r n x) k ≡ item l (item from k)) (sym q) (getD-set-same r n x 0 (let z = s .long in omega arith) ∙ e)) (less-or-equal k n (omega arith));
 }
 
 pub returned-more : (l from : List ℕ) (n o x : ℕ) (r : List ℕ) → o < 8 → o ≡ item from n → x ≡ item l n → Returned l from n r → Returned l from (n + 1) (set r o x)
@@ -49,7 +50,8 @@ returned-more l from n o x r h p e s = record { long = length-set r o x ∙ s .l
         (less-or-equal j n (omega arith))
 
 -- the answer in the order from is the answer
-module _ (cl labels budgets budgets' from rows rows' codes : List ℕ) (v m limit u : ℕ) (few : v ≤ 32) (outs : m ≤ 8) (order : Order from m) (t : Taken cl from 256 labels) (p : Picked budgets from 8 budgets') (b : Returned rows from m rows') where
+module _ (cl labels budgets budgets' from rows rows' codes : List ℕ) (v m limit u : ℕ) (few : v ≤ 32) (outs : m ≤ 8) (order : Order from m) (t : Taken cl from 256 labels)
+    (p : Picked budgets from 8 budgets') (b : Returned rows from m rows') where
   label : (i x : ℕ) → i < m → x < v → labelAt labels i x ≡ labelAt cl (item from i) x
   label i x h a = taken-at cl from labels t i x (omega arith) (omega arith)
 
@@ -62,7 +64,8 @@ module _ (cl labels budgets budgets' from rows rows' codes : List ℕ) (v m limi
 
   -- a core that serves, for the outputs in the order from
   turned : (k : List Cell) → Serves v m (Differ (labelAt cl)) (item budgets) k → Serves v m (Differ (labelAt labels)) (item budgets') (renumbered (item from) k)
-  turned k s = renumbered-serves v m (Differ (labelAt cl)) (Differ (labelAt labels)) (item budgets) (item budgets') (item from) k (order .low) (λ o x y h a c d q. d (label o x h a ∙ q ∙ sym (label o y h c))) (λ o h. p .done o (omega arith)) s
+  turned k s = renumbered-serves v m (Differ (labelAt cl)) (Differ (labelAt labels)) (item budgets) (item budgets') (item from) k (order .low)
+      (λ o x y h a c d q. d (label o x h a ∙ q ∙ sym (label o y h c))) (λ o h. p .done o (omega arith)) s
 
   budget : (o : ℕ) (h : o < m) → item budgets o ≡ item budgets' (at o h .0)
   budget o h = let w = at o h in ap (item budgets) (sym (w .2)) ∙ sym (p .done (w .0) (let z = w .1 in omega arith))
@@ -75,7 +78,9 @@ module _ (cl labels budgets budgets' from rows rows' codes : List ℕ) (v m limi
     full = λ e o h. let w = at o h in ap (λ (z : ℕ). count (on z) u) (w .3) ∙ a .full e (w .0) (w .1) ∙ ap (λ (z : ℕ). min z u) (sym (budget o h));
   }
     where
-      back : (found : Bool) → Answer v m (Differ (labelAt labels)) (item budgets') limit found (coreOf u (item rows) (item codes)) → Answer v m (Differ (labelAt cl)) (item budgets) limit found (coreOf u (item rows') (item codes))
+      back : (found : Bool)
+          → Answer v m (Differ (labelAt labels)) (item budgets') limit found (coreOf u (item rows) (item codes))
+          → Answer v m (Differ (labelAt cl)) (item budgets) limit found (coreOf u (item rows') (item codes))
       back true s = (
         rw (cells-length u 0 (item rows') (item codes)) (a .few),
         record {
@@ -83,7 +88,8 @@ module _ (cl labels budgets budgets' from rows rows' codes : List ℕ) (v m limi
               (λ o h. let w = at o h in (w .0, w .1, (λ x y i j d. differs (w .0) x y (w .1) i j (subst (λ (z : ℕ). Differ (labelAt cl) z x y) (sym (w .2)) d)), budget o h, w .3))
               (s .1 .serves);
           zero = cells-zero-as u 0 (item rows) (item rows') (item codes) (s .1 .zero);
-          fewest = λ k q. rw (cells-length u 0 (item rows') (item codes), sym (renumbered-length (item from) k), sym (cells-length u 0 (item rows) (item codes))) (s .1 .fewest (renumbered (item from) k) (turned k q));
+          fewest = λ k q. rw (cells-length u 0 (item rows') (item codes), sym (renumbered-length (item from) k), sym (cells-length u 0 (item rows) (item codes)))
+              (s .1 .fewest (renumbered (item from) k) (turned k q));
         },
       )
       back false s = λ k q. subst (λ (n : ℕ). limit < n) (renumbered-length (item from) k) (s (renumbered (item from) k) (turned k q))

@@ -53,13 +53,16 @@ table-more ms n bs b h e t = record {
   long = length-set bs n b ∙ t .long;
   filled = λ i l. ⊎-elim
       (λ a. subst (Block (item ms (i / 64)) (i % 64)) (sym (getD-set-other bs n i b 0 (λ q. let z : i ≡ n = q in omega arith))) (t .filled i a))
-      (λ q. subst (λ (i : ℕ). Block (item ms (i / 64)) (i % 64) (getD (set bs n b) i 0)) (sym q) (subst (Block (item ms (n / 64)) (n % 64)) (sym (getD-set-same bs n b 0 (let z = t .long in omega arith))) e))
+      (λ q. subst (λ (i : ℕ). Block (item ms (i / 64)) (i % 64) (getD (set bs n b) i 0)) (sym q)
+      (subst (Block (item ms (n / 64)) (n % 64)) (sym (getD-set-same bs n b 0 (let z = t .long in omega arith))) e))
       (less-or-equal i n (omega arith));
 }
 
 -- the codes of one block have one entry: that of the code with the digits of the mask alone
-pub entry-again : (ms : List ℕ) (n : ℕ) (bs : List ℕ) (m f : ℕ) → m ≡ item ms (n / 64) → f ≡ bitAnd (n % 64) m → (f ≡ n % 64 → ⊥) → Table ms n bs → Block (item ms (n / 64)) (n % 64) (getD bs (n / 64 * 64 + f) 0)
-entry-again ms n bs m f e d ne t = λ k h. first .0 k h ∙ ap (λ (z : ℕ). eqb (bitAnd k (item ms (n / 64))) z) (ap (λ (z : ℕ). bitAnd z (item ms (n / 64))) (d ∙ ap (bitAnd (n % 64)) e) ∙ twice (n % 64) (item ms (n / 64)))
+pub entry-again : (ms : List ℕ) (n : ℕ) (bs : List ℕ) (m f : ℕ) → m ≡ item ms (n / 64) → f ≡ bitAnd (n % 64) m
+    → (f ≡ n % 64 → ⊥) → Table ms n bs → Block (item ms (n / 64)) (n % 64) (getD bs (n / 64 * 64 + f) 0)
+entry-again ms n bs m f e d ne t = λ k h. first .0 k h ∙ ap (λ (z : ℕ). eqb (bitAnd k (item ms (n / 64))) z)
+    (ap (λ (z : ℕ). bitAnd z (item ms (n / 64))) (d ∙ ap (bitAnd (n % 64)) e) ∙ twice (n % 64) (item ms (n / 64)))
   where
     low : f < n % 64
     low = let z = and-le-l (n % 64) m in let w : f ≡ bitAnd (n % 64) m = d in elim (ℕ-discrete f (n % 64)) as (λ _. f < n % 64) [ yes q ↦ absurd (ne q) | no q ↦ omega arith ]
@@ -72,7 +75,8 @@ entry-again ms n bs m f e d ne t = λ k h. first .0 k h ∙ ap (λ (z : ℕ). eq
 
     first : Block (item ms (n / 64)) f (getD bs (n / 64 * 64 + f) 0) × (f < 64)
     first = (
-      subst (λ (z : ℕ). Block (item ms (n / 64)) z (getD bs (n / 64 * 64 + f) 0)) code (subst (λ (z : ℕ). Block (item ms z) ((n / 64 * 64 + f) % 64) (getD bs (n / 64 * 64 + f) 0)) at (t .filled (n / 64 * 64 + f) (let z = low in omega arith))),
+      subst (λ (z : ℕ). Block (item ms (n / 64)) z (getD bs (n / 64 * 64 + f) 0)) code
+          (subst (λ (z : ℕ). Block (item ms z) ((n / 64 * 64 + f) % 64) (getD bs (n / 64 * 64 + f) 0)) at (t .filled (n / 64 * 64 + f) (let z = low in omega arith))),
       (let z = low in omega arith),
     )
 

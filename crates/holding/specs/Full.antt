@@ -20,7 +20,8 @@ use Rattle.holding.specs.Narrow.{Narrowed, narrowed-more}
 -- ======== definitions
 -- n of the first y vertices have codes in b, each of another class, and these classes are in seen
 pub record Crowd (cl codes : List ℕ) (o b y seen n : ℕ) : Type 0 where
-  pub found : (ws : List ℕ) × All (λ (w : ℕ). (w < y) × (item codes w < noCode) × (on b (item codes w) ≡ true) × (on seen (labelAt cl o w) ≡ true)) ws × Pairs (λ (a b : ℕ). labelAt cl o a ≡ labelAt cl o b → ⊥) ws × (length ws ≡ n)
+  pub found : (ws : List ℕ) × All (λ (w : ℕ). (w < y) × (item codes w < noCode) × (on b (item codes w) ≡ true) × (on seen (labelAt cl o w) ≡ true)) ws × Pairs
+      (λ (a b : ℕ). labelAt cl o a ≡ labelAt cl o b → ⊥) ws × (length ws ≡ n)
   pub few : n ≤ y
 
 -- a code k at y where the block b is full: y's class is among those in it, or k is outside
@@ -42,7 +43,9 @@ module _ (cl codes : List ℕ) (o b : ℕ) where
   }))
 
   -- y has a code in b, and its class l was not met so far
-  pub crowd-more : (y seen n l t seen' n' : ℕ) → l ≡ labelAt cl o y → item codes y < 64 → on b (item codes y) ≡ true → on seen l ≡ false → With seen l t → seen' ≡ t → n' ≡ n + 1 → Crowd cl codes o b y seen n → Crowd cl codes o b (y + 1) seen' n'
+  pub crowd-more : (y seen n l t seen' n' : ℕ) → l ≡ labelAt cl o y → item codes y < 64 → on b (item codes y) ≡ true
+      → on seen l ≡ false → With seen l t → seen' ≡ t → n' ≡ n + 1 → Crowd cl codes o b y seen n
+      → Crowd cl codes o b (y + 1) seen' n'
   crowd-more y seen n l t seen' n' q low in-b off is e f s = subst (λ (z : ℕ). Crowd cl codes o b (y + 1) z n') (sym e) (subst (Crowd cl codes o b (y + 1) t) (sym f) (record {
     found = (let r = s .found in (
       y ∷ r .0,
@@ -61,8 +64,11 @@ module _ (cl base ms caps spots : List ℕ) (v j o : ℕ) (codes dom : List ℕ)
   keeps-out : (g : ℕ → ℕ) → Solves cl base ms caps spots v j g → Extends codes dom v g → (y : ℕ) → y < v → on seen (labelAt cl o y) ≡ false → on b (g y) ≡ true → ⊥
   keeps-out g f e y i off t =
       let r = s .found in
-      let a = f .fits .crowd o (bitAnd c (item ms o)) (y ∷ r .0) h
-      ((i, block-of (g y) (f .small y i) t), all-map (In cl codes o b v seen) (λ (w : ℕ). (w < v) × (bitAnd (g w) (item ms o) ≡ bitAnd c (item ms o))) (r .0) (λ w p. (p .0, ap (λ (z : ℕ). bitAnd z (item ms o)) (e .coded w (p .0) (p .1)) ∙ block-of (item codes w) (p .1) (p .2))) (r .1))
+      let a = f .fits .crowd o (bitAnd c (item ms o)) (y ∷ r .0) h (
+        (i, block-of (g y) (f .small y i) t),
+        all-map (In cl codes o b v seen) (λ (w : ℕ). (w < v) × (bitAnd (g w) (item ms o) ≡ bitAnd c (item ms o))) (r .0)
+            (λ w p. (p .0, ap (λ (z : ℕ). bitAnd z (item ms o)) (e .coded w (p .0) (p .1)) ∙ block-of (item codes w) (p .1) (p .2))) (r .1),
+      )
       (all-map (In cl codes o b v seen) (λ (w : ℕ). labelAt cl o y ≡ labelAt cl o w → ⊥) (r .0) (λ w p d. never-both (p .3) (ap (on seen) (sym d) ∙ off)) (r .1), r .2) in
       let z = r .3 in omega arith
     where
@@ -78,5 +84,8 @@ module _ (cl base ms caps spots : List ℕ) (v j o : ℕ) (codes dom : List ℕ)
   }
 
 -- the same as the code says it: q is y's class
-pub shut-more : (cl : List ℕ) (o seen b n q d : ℕ) (dom r r' : List ℕ) (t : Bool) → n < 32 → q ≡ labelAt cl o n → t ≡ on seen q → t ≡ false → Minus (item r n) b d → r' ≡ set r n d → Narrowed (Free cl o seen b) dom n r → Narrowed (Free cl o seen b) dom (n + 1) r'
-shut-more cl o seen b n q d dom r r' t h e a f m g s = narrowed-more (Free cl o seen b) dom n d r r' h (λ k l p st. minus-keeps (item r n) b d k m l p (st (subst (λ (z : ℕ). on seen z ≡ false) e (sym a ∙ f)))) g s
+pub shut-more : (cl : List ℕ) (o seen b n q d : ℕ) (dom r r' : List ℕ) (t : Bool) → n < 32 → q ≡ labelAt cl o n
+    → t ≡ on seen q → t ≡ false → Minus (item r n) b d → r' ≡ set r n d → Narrowed (Free cl o seen b) dom n r
+    → Narrowed (Free cl o seen b) dom (n + 1) r'
+shut-more cl o seen b n q d dom r r' t h e a f m g s = narrowed-more (Free cl o seen b) dom n d r r' h
+    (λ k l p st. minus-keeps (item r n) b d k m l p (st (subst (λ (z : ℕ). on seen z ≡ false) e (sym a ∙ f)))) g s

@@ -23,8 +23,11 @@ pub record Held (cl codes : List ℕ) (o mask y : ℕ) (own owns : List ℕ) : T
   pub own-long : length own ≡ maxVertices
   pub owns-long : length owns ≡ maxVertices
   pub inside : (w c : ℕ) → w < y → item codes w < noCode → c < maxCodes → bitAnd c mask ≡ bitAnd (item codes w) mask → on (getD own (labelAt cl o w) 0) c ≡ true
-  pub outside : (l c : ℕ) → l < maxVertices → c < maxCodes → on (getD own l 0) c ≡ true → (w : ℕ) × (w < y) × (item codes w < noCode) × (labelAt cl o w ≡ l) × (bitAnd (item codes w) mask ≡ bitAnd c mask)
-  pub lists : (l : ℕ) → l < maxVertices → (ws : List ℕ) × All (λ (w : ℕ). (w < y) × (item codes w < noCode) × (labelAt cl o w ≡ l)) ws × Pairs (λ (a b : ℕ). bitAnd (item codes a) mask ≡ bitAnd (item codes b) mask → ⊥) ws × (length ws ≡ getD owns l 0)
+  pub outside : (l c : ℕ) → l < maxVertices → c < maxCodes → on (getD own l 0) c ≡ true
+      → (w : ℕ) × (w < y) × (item codes w < noCode) × (labelAt cl o w ≡ l) × (bitAnd (item codes w) mask ≡ bitAnd c mask)
+  pub lists : (l : ℕ) → l < maxVertices
+      → (ws : List ℕ) × All (λ (w : ℕ). (w < y) × (item codes w < noCode) × (labelAt cl o w ≡ l)) ws × Pairs (λ (a b : ℕ). bitAnd (item codes a) mask ≡ bitAnd (item codes b) mask → ⊥) ws ×
+      (length ws ≡ getD owns l 0)
   pub less : (l : ℕ) → l < maxVertices → getD owns l 0 ≤ y
 
 -- ======== the scan
@@ -55,7 +58,9 @@ module _ (cl codes : List ℕ) (o mask : ℕ) where
     less = λ l h. let z = s .less l h in omega arith;
   }
 
-  pub held-old : (y : ℕ) (own owns : List ℕ) → labelAt cl o y < 32 → item codes y < 64 → on (getD own (labelAt cl o y) 0) (item codes y) ≡ true → Held cl codes o mask y own owns → Held cl codes o mask (y + 1) own owns
+  pub held-old : (y : ℕ) (own owns : List ℕ) → labelAt cl o y < 32 → item codes y < 64
+      → on (getD own (labelAt cl o y) 0) (item codes y) ≡ true → Held cl codes o mask y own owns
+      → Held cl codes o mask (y + 1) own owns
   held-old y own owns b u t s = record {
     own-long = s .own-long;
     owns-long = s .owns-long;
@@ -69,7 +74,10 @@ module _ (cl codes : List ℕ) (o mask : ℕ) where
     less = λ l h. let z = s .less l h in omega arith;
   }
 
-  pub held-new : (y bs : ℕ) (own owns : List ℕ) → labelAt cl o y < 32 → item codes y < 64 → on (getD own (labelAt cl o y) 0) (item codes y) ≡ false → Block mask (item codes y) bs → Held cl codes o mask y own owns → Held cl codes o mask (y + 1) (set own (labelAt cl o y) (bitOr (getD own (labelAt cl o y) 0) bs)) (set owns (labelAt cl o y) (getD owns (labelAt cl o y) 0 + 1))
+  pub held-new : (y bs : ℕ) (own owns : List ℕ) → labelAt cl o y < 32 → item codes y < 64
+      → on (getD own (labelAt cl o y) 0) (item codes y) ≡ false → Block mask (item codes y) bs
+      → Held cl codes o mask y own owns
+      → Held cl codes o mask (y + 1) (set own (labelAt cl o y) (bitOr (getD own (labelAt cl o y) 0) bs)) (set owns (labelAt cl o y) (getD owns (labelAt cl o y) 0 + 1))
   held-new y bs own owns b u t is s = record {
     own-long = length-set own q new ∙ s .own-long;
     owns-long = length-set owns q _ ∙ s .owns-long;
@@ -102,7 +110,8 @@ module _ (cl codes : List ℕ) (o mask : ℕ) where
       more l c e = go (ℕ-discrete l q)
         where
           go : Dec (l ≡ q) → on (getD (set own q new) l 0) c ≡ true
-          go (yes p) = subst (λ (i : ℕ). on (getD (set own q new) i 0) c ≡ true) (sym p) (ap (λ (z : ℕ). on z c) same ∙ on-or (getD own q 0) bs c ∙ ap (λ (a : Bool). orb a (on bs c)) (subst (λ (i : ℕ). on (getD own i 0) c ≡ true) p e))
+          go (yes p) = subst (λ (i : ℕ). on (getD (set own q new) i 0) c ≡ true) (sym p)
+              (ap (λ (z : ℕ). on z c) same ∙ on-or (getD own q 0) bs c ∙ ap (λ (a : Bool). orb a (on bs c)) (subst (λ (i : ℕ). on (getD own i 0) c ≡ true) p e))
           go (no p) = ap (λ (z : ℕ). on z c) (other l p) ∙ e
 
       hit : (c : ℕ) → c < 64 → bitAnd c mask ≡ bitAnd (item codes y) mask → on (getD (set own q new) q 0) c ≡ true
@@ -138,14 +147,16 @@ module _ (cl codes : List ℕ) (o mask : ℕ) where
                   never-both (subst (λ (i : ℕ). on (getD own i 0) (item codes y) ≡ true) (a .2 ∙ p) (s .inside w (item codes y) (a .0) (a .1) u e)) t) (r .1),
               r .2,
             ),
-            (let e : getD owns' l 0 ≡ getD owns q 0 + 1 = subst (λ (i : ℕ). getD owns' i 0 ≡ getD owns q 0 + 1) (sym p) (getD-set-same owns q (getD owns q 0 + 1) 0 (let z = s .owns-long in omega arith)) in
+            (let e : getD owns' l 0 ≡ getD owns q 0 + 1 = subst (λ (i : ℕ). getD owns' i 0 ≡ getD owns q 0 + 1) (sym p)
+                (getD-set-same owns q (getD owns q 0 + 1) 0 (let z = s .owns-long in omega arith)) in
                 let f : length (r .0) ≡ getD owns q 0 = r .3 ∙ ap (λ (i : ℕ). getD owns i 0) p in omega arith),
           )
 
       bound : (l : ℕ) → l < 32 → Dec (l ≡ q) → getD owns' l 0 ≤ y + 1
       bound l h (no p) = let e = getD-set-other owns q l (getD owns q 0 + 1) 0 p in let z = s .less l h in omega arith
       bound l h (yes p) =
-          let e : getD owns' l 0 ≡ getD owns q 0 + 1 = subst (λ (i : ℕ). getD owns' i 0 ≡ getD owns q 0 + 1) (sym p) (getD-set-same owns q (getD owns q 0 + 1) 0 (let z = s .owns-long in omega arith)) in
+          let e : getD owns' l 0 ≡ getD owns q 0 + 1 = subst (λ (i : ℕ). getD owns' i 0 ≡ getD owns q 0 + 1) (sym p)
+          (getD-set-same owns q (getD owns q 0 + 1) 0 (let z = s .owns-long in omega arith)) in
           let z = s .less q b in omega arith
 
 -- the scan of what is held, as the code says it: q is the class read
@@ -153,10 +164,16 @@ module _ (cl codes : List ℕ) (o mask y : ℕ) (own owns own' owns' : List ℕ)
   pub at-skip : 64 ≤ item codes y → own' ≡ own → owns' ≡ owns → Held cl codes o mask y own owns → Held cl codes o mask (y + 1) own' owns'
   at-skip h a b s = subst (λ (z : List ℕ). Held cl codes o mask (y + 1) z owns') (sym a) (subst (Held cl codes o mask (y + 1) own) (sym b) (held-skip cl codes o mask y own owns h s))
 
-  pub at-old : (q : ℕ) → q ≡ labelAt cl o y → labelAt cl o y < 32 → item codes y < 64 → true ≡ on (getD own q 0) (item codes y) → own' ≡ own → owns' ≡ owns → Held cl codes o mask y own owns → Held cl codes o mask (y + 1) own' owns'
-  at-old q e l h t a b s = subst (λ (z : List ℕ). Held cl codes o mask (y + 1) z owns') (sym a) (subst (Held cl codes o mask (y + 1) own) (sym b) (held-old cl codes o mask y own owns l h (sym (subst (λ (z : ℕ). true ≡ on (getD own z 0) (item codes y)) e t)) s))
+  pub at-old : (q : ℕ) → q ≡ labelAt cl o y → labelAt cl o y < 32 → item codes y < 64
+      → true ≡ on (getD own q 0) (item codes y) → own' ≡ own → owns' ≡ owns → Held cl codes o mask y own owns
+      → Held cl codes o mask (y + 1) own' owns'
+  at-old q e l h t a b s = subst (λ (z : List ℕ). Held cl codes o mask (y + 1) z owns') (sym a)
+      (subst (Held cl codes o mask (y + 1) own) (sym b) (held-old cl codes o mask y own owns l h (sym (subst (λ (z : ℕ). true ≡ on (getD own z 0) (item codes y)) e t)) s))
 
-  pub at-new : (q bs : ℕ) → q ≡ labelAt cl o y → labelAt cl o y < 32 → item codes y < 64 → false ≡ on (getD own q 0) (item codes y) → Block mask (item codes y) bs → own' ≡ set own q (bitOr (getD own q 0) bs) → owns' ≡ set owns q (getD owns q 0 + 1) → Held cl codes o mask y own owns → Held cl codes o mask (y + 1) own' owns'
+  pub at-new : (q bs : ℕ) → q ≡ labelAt cl o y → labelAt cl o y < 32 → item codes y < 64
+      → false ≡ on (getD own q 0) (item codes y) → Block mask (item codes y) bs
+      → own' ≡ set own q (bitOr (getD own q 0) bs) → owns' ≡ set owns q (getD owns q 0 + 1)
+      → Held cl codes o mask y own owns → Held cl codes o mask (y + 1) own' owns'
   at-new q bs e l h t is a b s =
       let new = held-new cl codes o mask y bs own owns l h (sym (subst (λ (z : ℕ). false ≡ on (getD own z 0) (item codes y)) e t)) is s in
       subst (λ (z : List ℕ). Held cl codes o mask (y + 1) z owns') (sym (a ∙ ap (λ (z : ℕ). set own z (bitOr (getD own z 0) bs)) e))

@@ -57,9 +57,14 @@ module _ (P : ℕ → ℕ → Type 0) (dom : List ℕ) where
   })
 
 -- the same as the code says it: q is y's class
-pub keep-more : (cl base : List ℕ) (o n q need d : ℕ) (own meet owns wants dom r r' : List ℕ) → n < 32 → q ≡ labelAt cl o n → need ≡ labelAt base o q → ((k : ℕ) → k < 64 → Keeps (item own q) (item meet q) (item owns q) (item wants q) need k → on d k ≡ true) → r' ≡ set r n (bitAnd (item r n) d) → Narrowed (Stays cl base o own meet owns wants) dom n r → Narrowed (Stays cl base o own meet owns wants) dom (n + 1) r'
+pub keep-more : (cl base : List ℕ) (o n q need d : ℕ) (own meet owns wants dom r r' : List ℕ) → n < 32
+    → q ≡ labelAt cl o n → need ≡ labelAt base o q
+    → ((k : ℕ) → k < 64 → Keeps (item own q) (item meet q) (item owns q) (item wants q) need k → on d k ≡ true)
+    → r' ≡ set r n (bitAnd (item r n) d) → Narrowed (Stays cl base o own meet owns wants) dom n r
+    → Narrowed (Stays cl base o own meet owns wants) dom (n + 1) r'
 keep-more cl base o n q need d own meet owns wants dom r r' h e a f g s = narrowed-more (Stays cl base o own meet owns wants) dom n (bitAnd (item r n) d) r r' h (λ k l p st.
-    on-both (item r n) d k p (f k l (subst (λ (z : ℕ). Keeps (item own q) (item meet q) (item owns q) (item wants q) z k) (sym a) (subst (λ (z : ℕ). Keeps (item own z) (item meet z) (item owns z) (item wants z) (labelAt base o z) k) (sym e) st)))) g s
+    on-both (item r n) d k p (f k l (subst (λ (z : ℕ). Keeps (item own q) (item meet q) (item owns q) (item wants q) z k) (sym a)
+    (subst (λ (z : ℕ). Keeps (item own z) (item meet z) (item owns z) (item wants z) (labelAt base o z) k) (sym e) st)))) g s
 
 -- a sum, one more
 pub sum-next : (f : ℕ → ℕ) (l t x : ℕ) → x ≡ f l → t ≡ sum f l → t + x ≡ sum f (l + 1)
@@ -76,7 +81,9 @@ module _ (cl base ms caps spots : List ℕ) (v j o : ℕ) (codes dom own owns : 
   settled-none wants meet r want l = record { keeps = λ g f e. absurd (let z = enough cl base ms caps spots v j o codes dom own owns wants meet g h low s want f e in omega arith) }
 
   -- no place is left
-  pub settled-tight : (wants meet r : List ℕ) → Wanted cl o (item ms o) v dom own owns wants meet → needed wants base o ≡ item spots o → Narrowed (Stays cl base o own meet owns wants) dom v r → Kept cl base ms caps spots v j codes dom r
+  pub settled-tight : (wants meet r : List ℕ) → Wanted cl o (item ms o) v dom own owns wants meet
+      → needed wants base o ≡ item spots o → Narrowed (Stays cl base o own meet owns wants) dom v r
+      → Kept cl base ms caps spots v j codes dom r
   settled-tight wants meet r want t n = record {
     keeps = λ g f e. record {
       coded = e .coded;
@@ -90,5 +97,7 @@ module _ (cl base ms caps spots : List ℕ) (v j o : ℕ) (codes dom own owns : 
 pub kept-start : (cl base ms caps spots : List ℕ) (v j : ℕ) (codes dom : List ℕ) → Kept cl base ms caps spots v j codes dom dom
 kept-start cl base ms caps spots v j codes dom = record { keeps = λ g f e. e }
 
-pub kept-more : (cl base ms caps spots : List ℕ) (v j : ℕ) (codes dom r r' : List ℕ) → Kept cl base ms caps spots v j codes dom r → Kept cl base ms caps spots v j codes r r' → Kept cl base ms caps spots v j codes dom r'
+pub kept-more : (cl base ms caps spots : List ℕ) (v j : ℕ) (codes dom r r' : List ℕ)
+    → Kept cl base ms caps spots v j codes dom r → Kept cl base ms caps spots v j codes r r'
+    → Kept cl base ms caps spots v j codes dom r'
 kept-more cl base ms caps spots v j codes dom r r' a b = record { keeps = λ g f e. b .keeps g f (a .keeps g f e) }

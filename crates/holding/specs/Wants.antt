@@ -62,13 +62,18 @@ module _ (cl : List ℕ) (o mask : ℕ) (dom own owns : List ℕ) where
   }))
 
   -- y's class q can take none of its blocks at y; t has the codes of the blocks that y can take
-  pub wanted-more : (y q t n : ℕ) (wants meet wants' meet' : List ℕ) → q ≡ labelAt cl o y → q < 32 → bitAnd (item dom y) (item own q) ≡ 0 → ((k : ℕ) → k < 64 → Near mask (item dom y) k → on t k ≡ true) → (bitAnd (item meet q) t ≡ 0 → n ≡ item owns q + 2) × ((bitAnd (item meet q) t ≡ 0 → ⊥) → n ≡ item owns q + 1) → meet' ≡ set meet q (bitAnd (item meet q) t) → wants' ≡ set wants q n → Wanted cl o mask y dom own owns wants meet → Wanted cl o mask (y + 1) dom own owns wants' meet'
-  wanted-more y q t n wants meet wants' meet' e h z near count a b s = subst (λ (z : List ℕ). Wanted cl o mask (y + 1) dom own owns z meet') (sym b) (subst (Wanted cl o mask (y + 1) dom own owns W) (sym a) (record {
-    long = length-set wants q n ∙ s .long;
-    meet-long = length-set meet q m ∙ s .meet-long;
-    each = λ l b. each l b (ℕ-discrete l q);
-    meets = λ l k b i c. meets l k b i c (ℕ-discrete l q);
-  }))
+  pub wanted-more : (y q t n : ℕ) (wants meet wants' meet' : List ℕ) → q ≡ labelAt cl o y → q < 32
+      → bitAnd (item dom y) (item own q) ≡ 0 → ((k : ℕ) → k < 64 → Near mask (item dom y) k → on t k ≡ true)
+      → (bitAnd (item meet q) t ≡ 0 → n ≡ item owns q + 2) × ((bitAnd (item meet q) t ≡ 0 → ⊥) → n ≡ item owns q + 1)
+      → meet' ≡ set meet q (bitAnd (item meet q) t) → wants' ≡ set wants q n
+      → Wanted cl o mask y dom own owns wants meet → Wanted cl o mask (y + 1) dom own owns wants' meet'
+  wanted-more y q t n wants meet wants' meet' e h z near count a b s = subst (λ (z : List ℕ). Wanted cl o mask (y + 1) dom own owns z meet') (sym b)
+      (subst (Wanted cl o mask (y + 1) dom own owns W) (sym a) (record {
+        long = length-set wants q n ∙ s .long;
+        meet-long = length-set meet q m ∙ s .meet-long;
+        each = λ l b. each l b (ℕ-discrete l q);
+        meets = λ l k b i c. meets l k b i c (ℕ-discrete l q);
+      }))
     where
       W : List ℕ
       W = set wants q n
@@ -91,14 +96,16 @@ module _ (cl : List ℕ) (o mask : ℕ) (dom own owns : List ℕ) where
 
       each : (l : ℕ) → l < 32 → Dec (l ≡ q) → Each (y + 1) l (item W l) (item M l)
       each l b (yes p) = subst (λ (l : ℕ). Each (y + 1) l (item W l) (item M l)) (sym p) (inr ((y, (omega arith), sym e, z), number (ℕ-discrete m 0)))
-      each l b (no ne) = subst (λ (w : ℕ). Each (y + 1) l w (item M l)) (sym (getD-set-other wants q l n 0 ne)) (subst (λ (c : ℕ). Each (y + 1) l (item wants l) c) (sym (getD-set-other meet q l m 0 ne)) (up-one y l (item wants l) (item meet l) (s .each l b)))
+      each l b (no ne) = subst (λ (w : ℕ). Each (y + 1) l w (item M l)) (sym (getD-set-other wants q l n 0 ne))
+          (subst (λ (c : ℕ). Each (y + 1) l (item wants l) c) (sym (getD-set-other meet q l m 0 ne)) (up-one y l (item wants l) (item meet l) (s .each l b)))
 
       All-near : ℕ → ℕ → Type 0
       All-near l k = (x : ℕ) → x < y + 1 → labelAt cl o x ≡ l → bitAnd (item dom x) (item own l) ≡ 0 → Near mask (item dom x) k
 
       meets : (l k : ℕ) → l < 32 → k < 64 → All-near l k → Dec (l ≡ q) → on (item M l) k ≡ true
       meets l k b i c (no ne) = ap (λ (n : ℕ). on n k) (getD-set-other meet q l m 0 ne) ∙ s .meets l k b i (λ x d. c x (omega arith))
-      meets l k b i c (yes p) = subst (λ (l : ℕ). on (item M l) k ≡ true) (sym p) (ap (λ (n : ℕ). on n k) m-here ∙ on-and (item meet q) t k ∙ ap₂ andb (s .meets q k h i (λ x d r u. at-q x (omega arith) r u)) (near k i (at-q y (omega arith) (sym e) z)))
+      meets l k b i c (yes p) = subst (λ (l : ℕ). on (item M l) k ≡ true) (sym p)
+          (ap (λ (n : ℕ). on n k) m-here ∙ on-and (item meet q) t k ∙ ap₂ andb (s .meets q k h i (λ x d r u. at-q x (omega arith) r u)) (near k i (at-q y (omega arith) (sym e) z)))
         where
           at-q : (x : ℕ) → x < y + 1 → labelAt cl o x ≡ q → bitAnd (item dom x) (item own q) ≡ 0 → Near mask (item dom x) k
           at-q x d r u = c x d (r ∙ sym p) (subst (λ (l : ℕ). bitAnd (item dom x) (item own l) ≡ 0) (sym p) u)

@@ -52,7 +52,8 @@ honest-more cl v mem i w k ok h word b s = record {
     new = getD-set-same mem i w 0 (let z = s .long in omega arith)
 
     at : (j : ℕ) → j < 256 → Dec (j ≡ i) → item (set mem i w) j % 2 ≡ 1 → Barred cl v (item (set mem i w) j / 2)
-    at j l (yes q) e = subst (λ (z : ℕ). Barred cl v (item (set mem i w) z / 2)) (sym q) (subst (λ (z : ℕ). Barred cl v (z / 2)) (sym new) (subst (Barred cl v) (sym (word .half odd)) (b (word .not-ok odd))))
+    at j l (yes q) e = subst (λ (z : ℕ). Barred cl v (item (set mem i w) z / 2)) (sym q)
+        (subst (λ (z : ℕ). Barred cl v (z / 2)) (sym new) (subst (Barred cl v) (sym (word .half odd)) (b (word .not-ok odd))))
       where
         odd : w % 2 ≡ 1
         odd = ap (λ (z : ℕ). z % 2) (sym new) ∙ subst (λ (z : ℕ). item (set mem i w) z % 2 ≡ 1) q e

@@ -63,7 +63,8 @@ pub record Kept (cl base ms caps spots : List ℕ) (v j : ℕ) (codes dom r : Li
 
 -- codes over all cells that tell the classes of the first j outputs apart
 pub record Parted (cl ms ps : List ℕ) (v j : ℕ) (r : List ℕ) : Type 0 where
-  pub parted : (o x y : ℕ) → o < j → x < v → y < v → bitAnd (item r x) (item ms o) ≡ bitAnd (item r y) (item ms o) → bitAnd (item r x) (item ps o) ≡ bitAnd (item r y) (item ps o) → labelAt cl o x ≡ labelAt cl o y
+  pub parted : (o x y : ℕ) → o < j → x < v → y < v → bitAnd (item r x) (item ms o) ≡ bitAnd (item r y) (item ms o)
+      → bitAnd (item r x) (item ps o) ≡ bitAnd (item r y) (item ps o) → labelAt cl o x ≡ labelAt cl o y
 
 -- no solution goes on from the codes given
 pub record Hopeless (cl base ms caps spots : List ℕ) (v j : ℕ) (codes dom : List ℕ) : Type 0 where

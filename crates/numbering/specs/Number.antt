@@ -70,11 +70,18 @@ module _ (cl codes : List ℕ) (o mask x : ℕ) (nums : List ℕ) where
   pub number-old : (y : ℕ) → y < x → K y ≡ K x → labelAt cl o y ≡ labelAt cl o x → Numbered cl codes o mask x nums → Number cl codes o mask x nums (item nums y)
   number-old y h e l s = record {
     new = λ w a b c. s .apart w y a h (b ∙ sym e) c ∙ l;
-    others = (let r = s .fellows y h in (r .0, all-map (λ (w : ℕ). (w < y) × (K w ≡ K y) × (labelAt cl o w ≡ labelAt cl o y → ⊥)) (λ (w : ℕ). (w < x) × (K w ≡ K x) × (labelAt cl o w ≡ labelAt cl o x → ⊥)) (r .0) (λ w p. ((let z = p .0 in omega arith), p .1 ∙ e, λ q. p .2 (q ∙ sym l))) (r .1), r .2, r .3));
+    others = (let r = s .fellows y h in (
+      r .0,
+      all-map (λ (w : ℕ). (w < y) × (K w ≡ K y) × (labelAt cl o w ≡ labelAt cl o y → ⊥))
+          (λ (w : ℕ). (w < x) × (K w ≡ K x) × (labelAt cl o w ≡ labelAt cl o x → ⊥)) (r .0) (λ w p. ((let z = p .0 in omega arith), p .1 ∙ e, λ q. p .2 (q ∙ sym l))) (r .1),
+      r .2,
+      r .3,
+    ));
     small = (let z = s .low y h in omega arith);
   }
 
-  up : (y next : ℕ) → Passed cl codes o mask x nums y next → (ws : List ℕ) × All (λ (w : ℕ). (w < y + 1) × (K w ≡ K x)) ws × Pairs (λ (a b : ℕ). labelAt cl o a ≡ labelAt cl o b → ⊥) ws × (length ws ≡ next)
+  up : (y next : ℕ) → Passed cl codes o mask x nums y next
+      → (ws : List ℕ) × All (λ (w : ℕ). (w < y + 1) × (K w ≡ K x)) ws × Pairs (λ (a b : ℕ). labelAt cl o a ≡ labelAt cl o b → ⊥) ws × (length ws ≡ next)
   up y next p = let r = p .seen in (r .0, all-map (λ (w : ℕ). (w < y) × (K w ≡ K x)) (λ (w : ℕ). (w < y + 1) × (K w ≡ K x)) (r .0) (λ w a. ((let z = a .0 in omega arith), a .1)) (r .1), r .2, r .3)
 
   pub passed-miss : (y next : ℕ) → (K y ≡ K x → ⊥) → Passed cl codes o mask x nums y next → Passed cl codes o mask x nums (y + 1) next
@@ -95,13 +102,19 @@ module _ (cl codes : List ℕ) (o mask x : ℕ) (nums : List ℕ) where
   }
 
   -- or with the highest so far
-  pub passed-high : (y next : ℕ) → y < x → K y ≡ K x → (labelAt cl o y ≡ labelAt cl o x → ⊥) → next ≤ item nums y → Numbered cl codes o mask x nums → Passed cl codes o mask x nums y next → Passed cl codes o mask x nums (y + 1) (item nums y + 1)
+  pub passed-high : (y next : ℕ) → y < x → K y ≡ K x → (labelAt cl o y ≡ labelAt cl o x → ⊥) → next ≤ item nums y
+      → Numbered cl codes o mask x nums → Passed cl codes o mask x nums y next
+      → Passed cl codes o mask x nums (y + 1) (item nums y + 1)
   passed-high y next l e ne h s p = record {
     none = λ w b k. ⊎-elim (λ l. p .none w l k) (λ q. subst (λ (i : ℕ). labelAt cl o i ≡ labelAt cl o x → ⊥) (sym q) ne) (less-or-equal w y (omega arith));
     above = λ w b k. ⊎-elim (λ l. let z = p .above w l k in omega arith) (λ q. subst (λ (i : ℕ). item nums i < item nums y + 1) (sym q) (omega arith)) (less-or-equal w y (omega arith));
     seen = (let r = s .fellows y l in (
       y ∷ r .0,
-      (((omega arith), e), all-map (λ (w : ℕ). (w < y) × (K w ≡ K y) × (labelAt cl o w ≡ labelAt cl o y → ⊥)) (λ (w : ℕ). (w < y + 1) × (K w ≡ K x)) (r .0) (λ w a. ((let z = a .0 in omega arith), a .1 ∙ e)) (r .1)),
+      (
+        ((omega arith), e),
+        all-map (λ (w : ℕ). (w < y) × (K w ≡ K y) × (labelAt cl o w ≡ labelAt cl o y → ⊥)) (λ (w : ℕ). (w < y + 1) × (K w ≡ K x)) (r .0)
+            (λ w a. ((let z = a .0 in omega arith), a .1 ∙ e)) (r .1),
+      ),
       (all-map (λ (w : ℕ). (w < y) × (K w ≡ K y) × (labelAt cl o w ≡ labelAt cl o y → ⊥)) (λ (w : ℕ). labelAt cl o y ≡ labelAt cl o w → ⊥) (r .0) (λ w a q. a .2 (sym q)) (r .1), r .2),
       (let z = r .3 in omega arith),
     ));
@@ -112,16 +125,25 @@ module _ (cl codes : List ℕ) (o mask x : ℕ) (nums : List ℕ) where
   pub at-miss : (y next next' : ℕ) → (K y ≡ K x → ⊥) → next' ≡ next → Passed cl codes o mask x nums y next → Passed cl codes o mask x nums (y + 1) next'
   at-miss y next next' ne e p = subst (Passed cl codes o mask x nums (y + 1)) (sym e) (passed-miss y next ne p)
 
-  pub at-low : (y next next' l q : ℕ) → l ≡ labelAt cl o y → q ≡ labelAt cl o x → (l ≡ q → ⊥) → item nums y < next → next' ≡ next → Passed cl codes o mask x nums y next → Passed cl codes o mask x nums (y + 1) next'
+  pub at-low : (y next next' l q : ℕ) → l ≡ labelAt cl o y → q ≡ labelAt cl o x → (l ≡ q → ⊥) → item nums y < next
+      → next' ≡ next → Passed cl codes o mask x nums y next → Passed cl codes o mask x nums (y + 1) next'
   at-low y next next' l q a b ne h e p = subst (Passed cl codes o mask x nums (y + 1)) (sym e) (passed-low y next (λ r. ne (a ∙ r ∙ sym b)) h p)
 
-  pub at-high : (y next next' l q : ℕ) → y < x → K y ≡ K x → l ≡ labelAt cl o y → q ≡ labelAt cl o x → (l ≡ q → ⊥) → next ≤ item nums y → next' ≡ item nums y + 1 → Numbered cl codes o mask x nums → Passed cl codes o mask x nums y next → Passed cl codes o mask x nums (y + 1) next'
+  pub at-high : (y next next' l q : ℕ) → y < x → K y ≡ K x → l ≡ labelAt cl o y → q ≡ labelAt cl o x → (l ≡ q → ⊥)
+      → next ≤ item nums y → next' ≡ item nums y + 1 → Numbered cl codes o mask x nums
+      → Passed cl codes o mask x nums y next → Passed cl codes o mask x nums (y + 1) next'
   at-high y next next' l q i k a b ne h e s p = subst (Passed cl codes o mask x nums (y + 1)) (sym e) (passed-high y next i k (λ r. ne (a ∙ r ∙ sym b)) h s p)
 
   pub number-new : (y next : ℕ) → x ≤ y → y ≤ x → Passed cl codes o mask x nums y next → Number cl codes o mask x nums next
   number-new y next a b q = let e : y ≡ x = omega arith in let p = subst (λ (i : ℕ). Passed cl codes o mask x nums i next) e q in record {
     new = λ w h k c. absurd (let z = p .above w h k in omega arith);
-    others = (let r = p .seen in (r .0, all-map (λ (w : ℕ). (w < x) × (K w ≡ K x)) (λ (w : ℕ). (w < x) × (K w ≡ K x) × (labelAt cl o w ≡ labelAt cl o x → ⊥)) (r .0) (λ w a. (a .0, a .1, p .none w (a .0) (a .1))) (r .1), r .2, r .3));
+    others = (let r = p .seen in (
+      r .0,
+      all-map (λ (w : ℕ). (w < x) × (K w ≡ K x)) (λ (w : ℕ). (w < x) × (K w ≡ K x) × (labelAt cl o w ≡ labelAt cl o x → ⊥)) (r .0)
+          (λ w a. (a .0, a .1, p .none w (a .0) (a .1))) (r .1),
+      r .2,
+      r .3,
+    ));
     small = p .under;
   }
 
@@ -129,8 +151,10 @@ module _ (cl codes : List ℕ) (o mask x : ℕ) (nums : List ℕ) where
   numbered-more n b m s = record {
     long = length-set nums x n ∙ s .long;
     apart = λ y z h k e f. pair y z (less-or-equal y x (omega arith)) (less-or-equal z x (omega arith)) e f;
-    fellows = λ y h. ⊎-elim (λ l. subst (Fellows cl codes o mask y y) (sym (old y l)) (s .fellows y l)) (λ q. subst (λ (i : ℕ). Fellows cl codes o mask i i (item (set nums x n) i)) (sym q) (subst (Fellows cl codes o mask x x) (sym here) (m .others))) (less-or-equal y x (omega arith));
-    low = λ y h. ⊎-elim (λ l. let z = s .low y l in let w = old y l in omega arith) (λ q. subst (λ (i : ℕ). item (set nums x n) i ≤ i) (sym q) (let z = m .small in let w = here in omega arith)) (less-or-equal y x (omega arith));
+    fellows = λ y h. ⊎-elim (λ l. subst (Fellows cl codes o mask y y) (sym (old y l)) (s .fellows y l))
+        (λ q. subst (λ (i : ℕ). Fellows cl codes o mask i i (item (set nums x n) i)) (sym q) (subst (Fellows cl codes o mask x x) (sym here) (m .others))) (less-or-equal y x (omega arith));
+    low = λ y h. ⊎-elim (λ l. let z = s .low y l in let w = old y l in omega arith)
+        (λ q. subst (λ (i : ℕ). item (set nums x n) i ≤ i) (sym q) (let z = m .small in let w = here in omega arith)) (less-or-equal y x (omega arith));
   }
     where
       here : item (set nums x n) x ≡ n
@@ -174,14 +198,16 @@ spread-start n p = record { digits = λ k h. absurd (omega arith); rest = λ k h
 -- digit i of p is 0: nothing is added
 pub spread-skip : (n p i r : ℕ) → on p i ≡ false → Spread n p i r → Spread n p (i + 1) r
 spread-skip n p i r e s = record {
-  digits = λ k h. ⊎-elim (s .digits k) (λ q. subst (λ (z : ℕ). on r z ≡ andb (on p z) (on n (count (on p) z))) (sym q) (s .rest i (omega arith) ∙ sym (ap (λ (b : Bool). andb b (on n (count (on p) i))) e))) (less-or-equal k i (omega arith));
+  digits = λ k h. ⊎-elim (s .digits k) (λ q. subst (λ (z : ℕ). on r z ≡ andb (on p z) (on n (count (on p) z))) (sym q)
+      (s .rest i (omega arith) ∙ sym (ap (λ (b : Bool). andb b (on n (count (on p) i))) e))) (less-or-equal k i (omega arith));
   rest = λ k h. s .rest k (omega arith);
 }
 
 -- digit i of p is 1, and the next digit of n is 0
 pub spread-zero : (n p i r : ℕ) → on p i ≡ true → on n (count (on p) i) ≡ false → Spread n p i r → Spread n p (i + 1) r
 spread-zero n p i r e f s = record {
-  digits = λ k h. ⊎-elim (s .digits k) (λ q. subst (λ (z : ℕ). on r z ≡ andb (on p z) (on n (count (on p) z))) (sym q) (s .rest i (omega arith) ∙ sym (ap₂ andb e f))) (less-or-equal k i (omega arith));
+  digits = λ k h. ⊎-elim (s .digits k) (λ q. subst (λ (z : ℕ). on r z ≡ andb (on p z) (on n (count (on p) z))) (sym q) (s .rest i (omega arith) ∙ sym (ap₂ andb e f)))
+      (less-or-equal k i (omega arith));
   rest = λ k h. s .rest k (omega arith);
 }
 
@@ -252,7 +278,9 @@ pub wrote-start : (nums : List ℕ) (p cap : ℕ) (codes : List ℕ) → length 
 wrote-start nums p cap codes e = record { long = e; less = λ y h. absurd (omega arith); here = λ y i h. absurd (omega arith); there = λ y i h. absurd (omega arith); rest = λ y h. refl }
 
 -- the new code: what is outside of p, and the number spread over p
-pub wrote-more : (nums : List ℕ) (p cap x : ℕ) (codes r : List ℕ) (s : ℕ) → x < 32 → p < 256 → item nums x < cap → Spread (item nums x) p 6 s → Wrote nums p cap x codes r → Wrote nums p cap (x + 1) codes (set r x (bitOr (bitAnd (item r x) (2 ^ 8 - 1 - p)) s))
+pub wrote-more : (nums : List ℕ) (p cap x : ℕ) (codes r : List ℕ) (s : ℕ) → x < 32 → p < 256 → item nums x < cap
+    → Spread (item nums x) p 6 s → Wrote nums p cap x codes r
+    → Wrote nums p cap (x + 1) codes (set r x (bitOr (bitAnd (item r x) (2 ^ 8 - 1 - p)) s))
 wrote-more nums p cap x codes r s b q h sp w = record {
   long = length-set r x n ∙ w .long;
   less = λ y k. ⊎-elim (w .less y) (λ e. subst (λ (i : ℕ). item nums i < cap) (sym e) h) (less-or-equal y x (omega arith));
@@ -273,17 +301,20 @@ wrote-more nums p cap x codes r s b q h sp w = record {
     old y ne = getD-set-other r x y n 0 ne
 
     digit : (i : ℕ) → i < 6 → on n i ≡ orb (andb (on (item r x) i) (not (on p i))) (andb (on p i) (on (item nums x) (count (on p) i)))
-    digit i l = on-or (bitAnd (item r x) (2 ^ 8 - 1 - p)) s i ∙ ap₂ orb (on-and (item r x) (2 ^ 8 - 1 - p) i ∙ ap (λ (t : Bool). andb (on (item r x) i) t) (on-complement 8 p i q (omega arith))) (sp .digits i l)
+    digit i l = on-or (bitAnd (item r x) (2 ^ 8 - 1 - p)) s i ∙ ap₂ orb
+        (on-and (item r x) (2 ^ 8 - 1 - p) i ∙ ap (λ (t : Bool). andb (on (item r x) i) t) (on-complement 8 p i q (omega arith))) (sp .digits i l)
 
     all : (a : Bool) → orb (andb a true) false ≡ a
     all true = refl
     all false = refl
 
     in-p : (i : ℕ) → i < 6 → on p i ≡ true → on n i ≡ on (item nums x) (count (on p) i)
-    in-p i l m = digit i l ∙ ap (λ (t : Bool). orb (andb (on (item r x) i) (not t)) (andb t (on (item nums x) (count (on p) i)))) m ∙ ap (λ (t : Bool). orb t (on (item nums x) (count (on p) i))) (and-off (on (item r x) i))
+    in-p i l m = digit i l ∙ ap (λ (t : Bool). orb (andb (on (item r x) i) (not t)) (andb t (on (item nums x) (count (on p) i)))) m ∙ ap
+        (λ (t : Bool). orb t (on (item nums x) (count (on p) i))) (and-off (on (item r x) i))
 
     out-p : (i : ℕ) → i < 6 → on p i ≡ false → on n i ≡ on (item codes x) i
-    out-p i l m = digit i l ∙ ap (λ (t : Bool). orb (andb (on (item r x) i) (not t)) (andb t (on (item nums x) (count (on p) i)))) m ∙ all (on (item r x) i) ∙ ap (λ (z : ℕ). on z i) (w .rest x (omega arith))
+    out-p i l m = digit i l ∙ ap (λ (t : Bool). orb (andb (on (item r x) i) (not t)) (andb t (on (item nums x) (count (on p) i)))) m ∙ all (on (item r x) i) ∙ ap (λ (z : ℕ). on z i)
+        (w .rest x (omega arith))
 
 -- what writing answers: the codes written, or a number too large
 abbrev pub Written : List ℕ → ℕ → ℕ → ℕ → List ℕ → Bool → List ℕ → Type 0
@@ -302,7 +333,8 @@ written-large nums p cap v codes true r e w = absurd (true-false e)
 pub record Finished (cl ms ps : List ℕ) (v o : ℕ) (codes r : List ℕ) : Type 0 where
   pub long : length r ≡ maxVertices
   pub kept : (x i : ℕ) → x < v → i < maxCells → ((q : ℕ) → q < o → on (item ps q) i ≡ false) → on (item r x) i ≡ on (item codes x) i
-  pub parted : (q x y : ℕ) → q < o → x < v → y < v → bitAnd (item r x) (item ms q) ≡ bitAnd (item r y) (item ms q) → bitAnd (item r x) (item ps q) ≡ bitAnd (item r y) (item ps q) → labelAt cl q x ≡ labelAt cl q y
+  pub parted : (q x y : ℕ) → q < o → x < v → y < v → bitAnd (item r x) (item ms q) ≡ bitAnd (item r y) (item ms q)
+      → bitAnd (item r x) (item ps q) ≡ bitAnd (item r y) (item ps q) → labelAt cl q x ≡ labelAt cl q y
 
 pub finished-start : (cl ms ps : List ℕ) (v : ℕ) (codes : List ℕ) → length codes ≡ 32 → Finished cl ms ps v 0 codes codes
 finished-start cl ms ps v codes e = record { long = e; kept = λ x i h l k. refl; parted = λ q x y h. absurd (omega arith) }
@@ -312,7 +344,9 @@ module _ (cl ms ps caps : List ℕ) (v j : ℕ) (plan : Plan ms ps caps j) where
   off-where true h = absurd (h refl)
   off-where false h = refl
 
-  pub finished-more : (o : ℕ) (codes nums r r' : List ℕ) → o < j → Numbered cl codes o (item ms o) v nums → Wrote nums (item ps o) (item caps o) v r r' → Finished cl ms ps v o codes r → Finished cl ms ps v (o + 1) codes r'
+  pub finished-more : (o : ℕ) (codes nums r r' : List ℕ) → o < j → Numbered cl codes o (item ms o) v nums
+      → Wrote nums (item ps o) (item caps o) v r r' → Finished cl ms ps v o codes r
+      → Finished cl ms ps v (o + 1) codes r'
   finished-more o codes nums r r' h num w f = record {
     long = w .long;
     kept = λ x i a l k. w .there x i a l (k o (omega arith)) ∙ f .kept x i a l (λ q b. k q (omega arith));
@@ -320,19 +354,23 @@ module _ (cl ms ps caps : List ℕ) (v j : ℕ) (plan : Plan ms ps caps j) where
   }
     where
       -- a mask that p has no digit of sees no change
-      same : (mask x y : ℕ) → mask < 64 → ((i : ℕ) → on mask i ≡ true → on (item ps o) i ≡ false) → x < v → y < v → bitAnd (item r' x) mask ≡ bitAnd (item r' y) mask → bitAnd (item r x) mask ≡ bitAnd (item r y) mask
+      same : (mask x y : ℕ) → mask < 64 → ((i : ℕ) → on mask i ≡ true → on (item ps o) i ≡ false) → x < v → y < v
+          → bitAnd (item r' x) mask ≡ bitAnd (item r' y) mask → bitAnd (item r x) mask ≡ bitAnd (item r y) mask
       same mask x y s d a b e = agree-and 6 mask (item r x) (item r y) s (λ i l m. sym (w .there x i a l (d i m)) ∙ and-agree 6 mask (item r' x) (item r' y) e i l m ∙ w .there y i b l (d i m))
 
-      before : (q x y : ℕ) → q < o → x < v → y < v → bitAnd (item r' x) (item ms q) ≡ bitAnd (item r' y) (item ms q) → bitAnd (item r' x) (item ps q) ≡ bitAnd (item r' y) (item ps q) → labelAt cl q x ≡ labelAt cl q y
+      before : (q x y : ℕ) → q < o → x < v → y < v → bitAnd (item r' x) (item ms q) ≡ bitAnd (item r' y) (item ms q)
+          → bitAnd (item r' x) (item ps q) ≡ bitAnd (item r' y) (item ps q) → labelAt cl q x ≡ labelAt cl q y
       before q x y l a b e g = f .parted q x y l a b
           (same (item ms q) x y (plan .short-shared q (omega arith)) (λ i m. off-where _ (λ t. never-both m (plan .private o q i h (omega arith) t))) a b e)
           (same (item ps q) x y (plan .short q (omega arith)) (λ i m. plan .single q o i (omega arith) h (λ z. omega arith) m) a b g)
 
       -- what o's shared cells see is as it was given
       given : (x i : ℕ) → x < v → i < 6 → on (item ms o) i ≡ true → on (item r' x) i ≡ on (item codes x) i
-      given x i a l m = w .there x i a l (off-where _ (λ t. never-both m (plan .private o o i h h t))) ∙ f .kept x i a l (λ q b. off-where _ (λ t. never-both m (plan .private q o i (omega arith) h t)))
+      given x i a l m = w .there x i a l (off-where _ (λ t. never-both m (plan .private o o i h h t))) ∙ f .kept x i a l
+          (λ q b. off-where _ (λ t. never-both m (plan .private q o i (omega arith) h t)))
 
-      at : (x y : ℕ) → x < v → y < v → bitAnd (item r' x) (item ms o) ≡ bitAnd (item r' y) (item ms o) → bitAnd (item r' x) (item ps o) ≡ bitAnd (item r' y) (item ps o) → labelAt cl o x ≡ labelAt cl o y
+      at : (x y : ℕ) → x < v → y < v → bitAnd (item r' x) (item ms o) ≡ bitAnd (item r' y) (item ms o)
+          → bitAnd (item r' x) (item ps o) ≡ bitAnd (item r' y) (item ps o) → labelAt cl o x ≡ labelAt cl o y
       at x y a b e g = num .apart x y a b
           (agree-and 6 (item ms o) (item codes x) (item codes y) (plan .short-shared o h) (λ i l m. sym (given x i a l m) ∙ and-agree 6 (item ms o) (item r' x) (item r' y) e i l m ∙ given y i b l m))
           (equal-digits (item nums x) (item nums y) (λ k. go k (decLt k (count (on (item ps o)) 6))))
@@ -343,23 +381,34 @@ module _ (cl ms ps caps : List ℕ) (v j : ℕ) (plan : Plan ms ps caps j) where
           go : (k : ℕ) → Dec (k < count (on (item ps o)) 6) → on (item nums x) k ≡ on (item nums y) k
           go k (yes l) =
               let d = nth (on (item ps o)) 6 k l in
-              ap (on (item nums x)) (sym (d .3)) ∙ sym (w .here x (d .0) a (d .1) (d .2)) ∙ and-agree 6 (item ps o) (item r' x) (item r' y) g (d .0) (d .1) (d .2) ∙ w .here y (d .0) b (d .1) (d .2) ∙ ap (on (item nums y)) (d .3)
+              ap (on (item nums x)) (sym (d .3)) ∙ sym (w .here x (d .0) a (d .1) (d .2)) ∙ and-agree 6 (item ps o) (item r' x) (item r' y) g (d .0) (d .1) (d .2) ∙ w .here y (d .0) b (d .1)
+              (d .2) ∙ ap (on (item nums y)) (d .3)
           go k (no l) = on-above (count (on (item ps o)) 6) (item nums x) k (fits x a) (omega arith) ∙ sym (on-above (count (on (item ps o)) 6) (item nums y) k (fits y b) (omega arith))
 
-      here : (q x y : ℕ) → q ≡ o → x < v → y < v → bitAnd (item r' x) (item ms q) ≡ bitAnd (item r' y) (item ms q) → bitAnd (item r' x) (item ps q) ≡ bitAnd (item r' y) (item ps q) → labelAt cl q x ≡ labelAt cl q y
-      here q x y p a b e g = ap (λ (z : ℕ). labelAt cl z x) p ∙ at x y a b (subst (λ (z : ℕ). bitAnd (item r' x) (item ms z) ≡ bitAnd (item r' y) (item ms z)) p e) (subst (λ (z : ℕ). bitAnd (item r' x) (item ps z) ≡ bitAnd (item r' y) (item ps z)) p g) ∙ ap (λ (z : ℕ). labelAt cl z y) (sym p)
+      here : (q x y : ℕ) → q ≡ o → x < v → y < v → bitAnd (item r' x) (item ms q) ≡ bitAnd (item r' y) (item ms q)
+          → bitAnd (item r' x) (item ps q) ≡ bitAnd (item r' y) (item ps q) → labelAt cl q x ≡ labelAt cl q y
+      here q x y p a b e g = ap (λ (z : ℕ). labelAt cl z x) p ∙ at x y a b (subst (λ (z : ℕ). bitAnd (item r' x) (item ms z) ≡ bitAnd (item r' y) (item ms z)) p e)
+          (subst (λ (z : ℕ). bitAnd (item r' x) (item ps z) ≡ bitAnd (item r' y) (item ps z)) p g) ∙ ap (λ (z : ℕ). labelAt cl z y) (sym p)
 
   pub finished-all : (o : ℕ) (codes r : List ℕ) → j ≤ o → Finished cl ms ps v o codes r → Parted cl ms ps v j r
   finished-all o codes r h f = record { parted = λ q x y a. f .parted q x y (omega arith) }
 
 -- a number that the private cells cannot hold: no solution has these codes
-pub crowded : (cl base ms caps spots : List ℕ) (v j o : ℕ) (codes dom nums : List ℕ) (x : ℕ) → o < j → x < v → ((y : ℕ) → y < v → item codes y < 64) → item caps o ≤ item nums x → Numbered cl codes o (item ms o) v nums → Hopeless cl base ms caps spots v j codes dom
+pub crowded : (cl base ms caps spots : List ℕ) (v j o : ℕ) (codes dom nums : List ℕ) (x : ℕ) → o < j → x < v
+    → ((y : ℕ) → y < v → item codes y < 64) → item caps o ≤ item nums x → Numbered cl codes o (item ms o) v nums
+    → Hopeless cl base ms caps spots v j codes dom
 crowded cl base ms caps spots v j o codes dom nums x h b all k s = record {
   none = λ g f e.
       let same : (w : ℕ) → w < v → bitAnd (g w) (item ms o) ≡ bitAnd (item codes w) (item ms o) = λ w l. ap (λ (z : ℕ). bitAnd z (item ms o)) (e .coded w l (all w l)) in
       let r = s .fellows x b in
-      let a = f .fits .crowd o (bitAnd (item codes x) (item ms o)) (x ∷ r .0) h
-      ((b, same x b), all-map (λ (w : ℕ). (w < x) × (key cl codes o (item ms o) w ≡ key cl codes o (item ms o) x) × (labelAt cl o w ≡ labelAt cl o x → ⊥)) (λ (w : ℕ). (w < v) × (bitAnd (g w) (item ms o) ≡ bitAnd (item codes x) (item ms o))) (r .0) (λ w p. let z : w < v = (let y = p .0 in omega arith) in (z, same w z ∙ p .1)) (r .1))
-      (all-map (λ (w : ℕ). (w < x) × (key cl codes o (item ms o) w ≡ key cl codes o (item ms o) x) × (labelAt cl o w ≡ labelAt cl o x → ⊥)) (λ (w : ℕ). labelAt cl o x ≡ labelAt cl o w → ⊥) (r .0) (λ w p q. p .2 (sym q)) (r .1), r .2) in
+      let a = f .fits .crowd o (bitAnd (item codes x) (item ms o)) (x ∷ r .0) h (
+        (b, same x b),
+        all-map (λ (w : ℕ). (w < x) × (key cl codes o (item ms o) w ≡ key cl codes o (item ms o) x) × (labelAt cl o w ≡ labelAt cl o x → ⊥))
+            (λ (w : ℕ). (w < v) × (bitAnd (g w) (item ms o) ≡ bitAnd (item codes x) (item ms o))) (r .0) (λ w p. let z : w < v = (let y = p .0 in omega arith) in (z, same w z ∙ p .1)) (r .1),
+      ) (
+        all-map (λ (w : ℕ). (w < x) × (key cl codes o (item ms o) w ≡ key cl codes o (item ms o) x) × (labelAt cl o w ≡ labelAt cl o x → ⊥)) (λ (w : ℕ). labelAt cl o x ≡ labelAt cl o w → ⊥)
+            (r .0) (λ w p q. p .2 (sym q)) (r .1),
+        r .2,
+      ) in
       let z = r .3 in omega arith;
 }

@@ -134,13 +134,15 @@ packed-bound rows n perm o k h s = let l : 8 - o ≤ 7 = omega arith in let p : 
 
 pub packed-more : (rows : List ℕ) (n : ℕ) (perm : List ℕ) (o o' k e k' : ℕ) → o ≤ 8 → o ≡ suc o' → k' ≡ k * 128 + e → Part rows n perm o' e → Packed rows n perm o k → Packed rows n perm o' k'
 packed-more rows n perm o o' k e k' b h q t s = subst (Packed rows n perm o') (sym q) record {
-  low = (let p : 128 ^ (8 - o') ≡ 128 ^ (8 - o) * 128 = ap (λ (z : ℕ). 128 ^ z) (let r : 8 - o' ≡ suc (8 - o) = omega arith in r) ∙ pow-suc 128 (8 - o) in let z = s .low in let w = t .small in omega arith);
+  low = (let p : 128 ^ (8 - o') ≡ 128 ^ (8 - o) * 128 = ap (λ (z : ℕ). 128 ^ z) (let r : 8 - o' ≡ suc (8 - o) = omega arith in r) ∙ pow-suc 128 (8 - o) in let z = s .low in
+      let w = t .small in omega arith);
   each = each;
 }
   where
     each : (j : ℕ) → o' + j < 8 → Part rows n perm (o' + j) (entry (k * 128 + e) j)
     each zero l = subst (λ (z : ℕ). Part rows n perm z (entry (k * 128 + e) 0)) (let r : o' ≡ o' + 0 = omega arith in r) (subst (Part rows n perm o') (sym (entry-first k e (t .small))) t)
-    each (suc j) l = subst (λ (z : ℕ). Part rows n perm z (entry (k * 128 + e) (suc j))) (let r : o + j ≡ o' + suc j = omega arith in r) (subst (Part rows n perm (o + j)) (sym (entry-later k e j (t .small))) (s .each j (omega arith)))
+    each (suc j) l = subst (λ (z : ℕ). Part rows n perm z (entry (k * 128 + e) (suc j))) (let r : o + j ≡ o' + suc j = omega arith in r)
+        (subst (Part rows n perm (o + j)) (sym (entry-later k e j (t .small))) (s .each j (omega arith)))
 
 -- what is made of the rows rules them out
 pub asks-of : (rows : List ℕ) (n : ℕ) (perm : List ℕ) (k : ℕ) → Short rows n → Order perm 6 → Packed rows n perm 0 k → Asks rows n k
@@ -187,26 +189,31 @@ module _ (k o rest n : ℕ) (from rows : List ℕ) (h : o < 8) where
   passed s j = entry-half rest j ∙ s .later (suc j) ∙ ap (entry k) (let r : o + suc j ≡ o + 1 + j = omega arith in r)
 
   pub gathered-skip : (n' : ℕ) (from' rows' : List ℕ) → n' ≡ n → from' ≡ from → rows' ≡ rows → Gathered k o rest n from rows → Gathered k (o + 1) (rest / 128) n' from' rows'
-  gathered-skip n' from' rows' a b c s = subst (λ (z : ℕ). Gathered k (o + 1) (rest / 128) z from' rows') (sym a) (subst (λ (z : List ℕ). Gathered k (o + 1) (rest / 128) n z rows') (sym b) (subst (Gathered k (o + 1) (rest / 128) n from) (sym c) record {
-    from-long = s .from-long;
-    rows-long = s .rows-long;
-    few = (let z = s .few in omega arith);
-    later = passed s;
-    from-low = s .from-low;
-    asked = s .asked;
-    row = s .row;
-  }))
+  gathered-skip n' from' rows' a b c s = subst (λ (z : ℕ). Gathered k (o + 1) (rest / 128) z from' rows') (sym a)
+      (subst (λ (z : List ℕ). Gathered k (o + 1) (rest / 128) n z rows') (sym b) (subst (Gathered k (o + 1) (rest / 128) n from) (sym c) record {
+        from-long = s .from-long;
+        rows-long = s .rows-long;
+        few = (let z = s .few in omega arith);
+        later = passed s;
+        from-low = s .from-low;
+        asked = s .asked;
+        row = s .row;
+      }))
 
-  pub gathered-more : (e n' : ℕ) (from' rows' : List ℕ) → e ≡ rest % 128 → e < 64 → n' ≡ n + 1 → from' ≡ set from n o → rows' ≡ set rows n e → Gathered k o rest n from rows → Gathered k (o + 1) (rest / 128) n' from' rows'
-  gathered-more e n' from' rows' q l a b c s = subst (λ (z : ℕ). Gathered k (o + 1) (rest / 128) z from' rows') (sym a) (subst (λ (z : List ℕ). Gathered k (o + 1) (rest / 128) (n + 1) z rows') (sym b) (subst (Gathered k (o + 1) (rest / 128) (n + 1) (set from n o)) (sym c) record {
-    from-long = length-set from n o ∙ s .from-long;
-    rows-long = length-set rows n e ∙ s .rows-long;
-    few = (let z = s .few in omega arith);
-    later = passed s;
-    from-low = λ i b. low i b (ℕ-discrete i n);
-    asked = λ i b. ⊎-elim (λ g. subst (λ (z : ℕ). entry k z < 64) (sym (old i g)) (s .asked i g)) (λ g. subst (λ (i : ℕ). entry k (item (set from n o) i) < 64) (sym g) (subst (λ (z : ℕ). entry k z < 64) (sym new) (let z = here in omega arith))) (less-or-equal i n (omega arith));
-    row = λ i b. ⊎-elim (λ g. old-row i g ∙ s .row i g ∙ ap (entry k) (sym (old i g))) (λ g. subst (λ (i : ℕ). item (set rows n e) i ≡ entry k (item (set from n o) i)) (sym g) (new-row ∙ sym here ∙ ap (entry k) (sym new))) (less-or-equal i n (omega arith));
-  }))
+  pub gathered-more : (e n' : ℕ) (from' rows' : List ℕ) → e ≡ rest % 128 → e < 64 → n' ≡ n + 1 → from' ≡ set from n o
+      → rows' ≡ set rows n e → Gathered k o rest n from rows → Gathered k (o + 1) (rest / 128) n' from' rows'
+  gathered-more e n' from' rows' q l a b c s = subst (λ (z : ℕ). Gathered k (o + 1) (rest / 128) z from' rows') (sym a)
+      (subst (λ (z : List ℕ). Gathered k (o + 1) (rest / 128) (n + 1) z rows') (sym b) (subst (Gathered k (o + 1) (rest / 128) (n + 1) (set from n o)) (sym c) record {
+        from-long = length-set from n o ∙ s .from-long;
+        rows-long = length-set rows n e ∙ s .rows-long;
+        few = (let z = s .few in omega arith);
+        later = passed s;
+        from-low = λ i b. low i b (ℕ-discrete i n);
+        asked = λ i b. ⊎-elim (λ g. subst (λ (z : ℕ). entry k z < 64) (sym (old i g)) (s .asked i g))
+            (λ g. subst (λ (i : ℕ). entry k (item (set from n o) i) < 64) (sym g) (subst (λ (z : ℕ). entry k z < 64) (sym new) (let z = here in omega arith))) (less-or-equal i n (omega arith));
+        row = λ i b. ⊎-elim (λ g. old-row i g ∙ s .row i g ∙ ap (entry k) (sym (old i g)))
+            (λ g. subst (λ (i : ℕ). item (set rows n e) i ≡ entry k (item (set from n o) i)) (sym g) (new-row ∙ sym here ∙ ap (entry k) (sym new))) (less-or-equal i n (omega arith));
+      }))
     where
       here : entry k o ≡ e
       here = ap (entry k) (let r : o ≡ o + 0 = omega arith in r) ∙ sym (s .later 0) ∙ entry-now rest ∙ sym q
@@ -234,18 +241,26 @@ gathered-short k o rest n from rows s i h = let e = s .row i h in let z = s .ask
 pub taken-more : (cl from : List ℕ) (i x : ℕ) (r : List ℕ) → i < 256 → x ≡ labelAt cl (item from (i / 32)) (i % 32) → Taken cl from i r → Taken cl from (i + 1) (set r i x)
 taken-more cl from i x r h e s = record {
   long = length-set r i x ∙ s .long;
-  done = λ k b. ⊎-elim (λ a. getD-set-other r i k x 0 (λ q. let z : k ≡ i = q in omega arith) ∙ s .done k a) (λ q. subst (λ (k : ℕ). getD (set r i x) k 0 ≡ labelAt cl (item from (k / 32)) (k % 32)) (sym q) (getD-set-same r i x 0 (let z = s .long in omega arith) ∙ e)) (less-or-equal k i (omega arith));
+  done = λ k b. ⊎-elim (λ a. getD-set-other r i k x 0 (λ q. let z : k ≡ i = q in omega arith) ∙ s .done k a)
+      (λ q. subst (λ (k : ℕ). getD (set r i x) k 0 ≡ labelAt cl (item from (k / 32)) (k % 32)) (sym q) (getD-set-same r i x 0 (let z = s .long in omega arith) ∙ e)) (less-or-equal k i (omega arith));
 }
 
 module _ (cl from r : List ℕ) (p : Taken cl from 256 r) where
   pub taken-at : (o x : ℕ) → o < 8 → x < 32 → labelAt r o x ≡ labelAt cl (item from o) x
-  taken-at o x h k = p .done (o * 32 + x) (omega arith) ∙ ap₂ (λ (a b : ℕ). labelAt cl (item from a) b) (let e : (o * 32 + x) / 32 ≡ o = omega arith in e) (let e : (o * 32 + x) % 32 ≡ x = omega arith in e)
+  taken-at o x h k = p .done (o * 32 + x) (omega arith) ∙ ap₂ (λ (a b : ℕ). labelAt cl (item from a) b) (let e : (o * 32 + x) / 32 ≡ o = omega arith in e)
+      (let e : (o * 32 + x) % 32 ≡ x = omega arith in e)
 
   pub taken-labels : Labels cl → ((i : ℕ) → i < 8 → item from i < 8) → Labels r
-  taken-labels labels low = record { long = p .long; low = λ k h. subst (λ (z : ℕ). z < 32) (sym (p .done k h)) (labels .low (item from (k / 32) * 32 + k % 32) (let z = low (k / 32) (omega arith) in omega arith)) }
+  taken-labels labels low = record {
+    long = p .long;
+    low = λ k h. subst (λ (z : ℕ). z < 32) (sym (p .done k h))
+        (labels .low (item from (k / 32) * 32 + k % 32) (let z = low (k / 32) (omega arith) in omega arith));
+  }
 
 -- no codes for the outputs gathered: none for the question
-pub barred-of : (cl : List ℕ) (v k rest n : ℕ) (from rows labels codes : List ℕ) (ok : Bool) → v ≤ 32 → n ≤ 8 → Gathered k 8 rest n from rows → Taken cl from 256 labels → ok ≡ false → Decided labels v n rows ok codes → Barred cl v k
+pub barred-of : (cl : List ℕ) (v k rest n : ℕ) (from rows labels codes : List ℕ) (ok : Bool) → v ≤ 32 → n ≤ 8
+    → Gathered k 8 rest n from rows → Taken cl from 256 labels → ok ≡ false → Decided labels v n rows ok codes
+    → Barred cl v k
 barred-of cl v k rest n from rows labels codes true few outs s p q d = absurd (true-false q)
 barred-of cl v k rest n from rows labels codes false few outs s p q d = record {
   none = λ f z h. d f

@@ -57,7 +57,8 @@ pub grouping-same : (rows gs gs' : List ℕ) (sh j done done' : ℕ) → gs' ≡
 grouping-same rows gs gs' sh j done done' a b s = subst (λ (z : List ℕ). Grouping rows z sh j done') (sym a) (subst (λ (z : ℕ). Grouping rows gs sh j z) (sym b) s)
 
 -- g has cells of sh that are not in done
-module _ (rows gs : List ℕ) (sh j done n g c : ℕ) (h : n < 3) (low : sh < 64) (is : g ≡ bitAnd c sh) (apart : bitAnd g done ≡ 0) (whole : (o : ℕ) → o < j → Uniform (item rows o) g) (s : Grouping rows gs sh j done) where
+module _ (rows gs : List ℕ) (sh j done n g c : ℕ) (h : n < 3) (low : sh < 64) (is : g ≡ bitAnd c sh) (apart : bitAnd g done ≡ 0) (whole : (o : ℕ) → o < j → Uniform (item rows o) g)
+    (s : Grouping rows gs sh j done) where
   here : item (set gs n g) n ≡ g
   here = getD-set-same gs n g 0 (let z = s .long in omega arith)
 
@@ -90,7 +91,8 @@ module _ (rows gs : List ℕ) (sh j done n g c : ℕ) (h : n < 3) (low : sh < 64
     long = length-set gs n g ∙ s .long;
     groups = record {
       low = each (λ (k x : ℕ). x < 64) (let w = and-le-r c sh in omega arith) (s .groups .low);
-      among = λ k i l. each (λ (k x : ℕ). on x i ≡ true → on sh i ≡ true) (λ t. and-right (on c i) (on sh i) (sym (on-and c sh i) ∙ ap (λ (z : ℕ). on z i) (sym is) ∙ t)) (λ k m t. s .groups .among k i m t) k l;
+      among = λ k i l. each (λ (k x : ℕ). on x i ≡ true → on sh i ≡ true) (λ t. and-right (on c i) (on sh i) (sym (on-and c sh i) ∙ ap (λ (z : ℕ). on z i) (sym is) ∙ t))
+          (λ k m t. s .groups .among k i m t) k l;
       disjoint = λ k l i p q ne. disjoint k l i p q ne (ℕ-discrete k n) (ℕ-discrete l n);
     };
     uniform = λ k o l b. each (λ (k x : ℕ). Uniform (item rows o) x) (whole o b) (λ k m. s .uniform k o m b) k l;
@@ -112,7 +114,10 @@ module _ (rows gs : List ℕ) (sh j done n g c : ℕ) (h : n < 3) (low : sh < 64
           ap (λ (z : ℕ). on z i) (there l b) ∙ s .groups .disjoint k l i p q ne (sym (ap (λ (z : ℕ). on z i) (there k a)) ∙ t)
 
 -- vertex 0 has code 0: its values are in use
-pub start-valued : (ms gs gb used codes dom : List ℕ) (sh all j v done : ℕ) → v ≤ 32 → ((o : ℕ) → o < j → item ms o < 64) → ((o i : ℕ) → o < j → on (item ms o) i ≡ true → on sh i ≡ true) → Over sh all → Blocks gs gb 3 → Grouping ms gs sh j done → Start codes dom → Marked gs (0 ∷ 0 ∷ 0 ∷ []) 0 3 used → Valued ms gb all j codes v used
+pub start-valued : (ms gs gb used codes dom : List ℕ) (sh all j v done : ℕ) → v ≤ 32
+    → ((o : ℕ) → o < j → item ms o < 64) → ((o i : ℕ) → o < j → on (item ms o) i ≡ true → on sh i ≡ true) → Over sh all
+    → Blocks gs gb 3 → Grouping ms gs sh j done → Start codes dom → Marked gs (0 ∷ 0 ∷ 0 ∷ []) 0 3 used
+    → Valued ms gb all j codes v used
 start-valued ms gs gb used codes dom sh all j v done few short masked over b g s m = record {
   gs = gs;
   sh = sh;
@@ -134,7 +139,8 @@ start-valued ms gs gb used codes dom sh all j v done few short masked over b g s
 
     -- what is in use is the block of code 0
     is : (k c : ℕ) → k < 3 → c < 64 → on (item used k) c ≡ eqb (bitAnd c (item gs k)) (bitAnd 0 (item gs k))
-    is k c h l = let q = m .done k h in ap (λ (z : ℕ). on z c) (q .2) ∙ on-or _ (q .0) c ∙ ap (λ (z : ℕ). orb (on z c) (on (q .0) c)) (nothing k h) ∙ ap (λ (b : Bool). orb b (on (q .0) c)) (on-zero c) ∙ q .1 c l
+    is k c h l = let q = m .done k h in ap (λ (z : ℕ). on z c) (q .2) ∙ on-or _ (q .0) c ∙ ap (λ (z : ℕ). orb (on z c) (on (q .0) c)) (nothing k h) ∙ ap (λ (b : Bool). orb b (on (q .0) c))
+        (on-zero c) ∙ q .1 c l
 
     closed : (k : ℕ) → k < 3 → (c d : ℕ) → c < 64 → d < 64 → bitAnd c (item gs k) ≡ bitAnd d (item gs k) → on (item used k) c ≡ true → on (item used k) d ≡ true
     closed k h c d p q e t = is k d h q ∙ ap (λ (z : ℕ). eqb z (bitAnd 0 (item gs k))) (sym e) ∙ sym (is k c h p) ∙ t

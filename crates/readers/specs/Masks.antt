@@ -92,7 +92,16 @@ seen-all rows j o once many h short s = record {
 
 -- ======== the plan, output by output
 pub planned-start : (rows : List ℕ) (sh : ℕ) → Planned rows sh 0 (zeros 8) (zeros 8) (zeros 8) (zeros 8)
-planned-start rows sh = record { ms-long = refl; ps-long = refl; caps-long = refl; spots-long = refl; shared = λ o h. absurd (omega arith); private = λ o h. absurd (omega arith); caps-are = λ o h. absurd (omega arith); spots-are = λ o h. absurd (omega arith) }
+planned-start rows sh = record {
+  ms-long = refl;
+  ps-long = refl;
+  caps-long = refl;
+  spots-long = refl;
+  shared = λ o h. absurd (omega arith);
+  private = λ o h. absurd (omega arith);
+  caps-are = λ o h. absurd (omega arith);
+  spots-are = λ o h. absurd (omega arith);
+}
 
 store : (P : ℕ → ℕ → Type 0) (l : List ℕ) (n x : ℕ) → length l ≡ 8 → n < 8 → ((k : ℕ) → k < n → P k (item l k)) → P n x → (k : ℕ) → k < n + 1 → P k (item (set l n x) k)
 store P l n x e h a b k i = ⊎-elim
@@ -100,7 +109,10 @@ store P l n x e h a b k i = ⊎-elim
     (λ q. subst (λ (z : ℕ). P z (item (set l n x) z)) (sym q) (subst (P n) (sym (getD-set-same l n x 0 (omega arith))) b))
     (less-or-equal k n (omega arith))
 
-pub planned-more : (rows : List ℕ) (sh n : ℕ) (ms ps caps spots : List ℕ) (m p a b : ℕ) → n < 8 → m ≡ bitAnd (item rows n) sh → p ≡ bitAnd (item rows n) (2 ^ 8 - 1 - sh) → a ≡ 2 ^ count (on p) 6 → b ≡ 2 ^ count (on (item rows n)) 6 → Planned rows sh n ms ps caps spots → Planned rows sh (n + 1) (set ms n m) (set ps n p) (set caps n a) (set spots n b)
+pub planned-more : (rows : List ℕ) (sh n : ℕ) (ms ps caps spots : List ℕ) (m p a b : ℕ) → n < 8
+    → m ≡ bitAnd (item rows n) sh → p ≡ bitAnd (item rows n) (2 ^ 8 - 1 - sh) → a ≡ 2 ^ count (on p) 6
+    → b ≡ 2 ^ count (on (item rows n)) 6 → Planned rows sh n ms ps caps spots
+    → Planned rows sh (n + 1) (set ms n m) (set ps n p) (set caps n a) (set spots n b)
 planned-more rows sh n ms ps caps spots m p a b h em ep ea eb s = record {
   ms-long = length-set ms n m ∙ s .ms-long;
   ps-long = length-set ps n p ∙ s .ps-long;
@@ -108,7 +120,8 @@ planned-more rows sh n ms ps caps spots m p a b h em ep ea eb s = record {
   spots-long = length-set spots n b ∙ s .spots-long;
   shared = store (λ (k x : ℕ). x ≡ bitAnd (item rows k) sh) ms n m (s .ms-long) h (s .shared) em;
   private = store (λ (k x : ℕ). x ≡ bitAnd (item rows k) (2 ^ 8 - 1 - sh)) ps n p (s .ps-long) h (s .private) ep;
-  caps-are = λ k i. store (λ (k x : ℕ). x ≡ 2 ^ count (on (bitAnd (item rows k) (2 ^ 8 - 1 - sh))) 6) caps n a (s .caps-long) h (λ k i. s .caps-are k i ∙ ap (λ (z : ℕ). 2 ^ count (on z) 6) (s .private k i)) (ea ∙ ap (λ (z : ℕ). 2 ^ count (on z) 6) ep) k i
+  caps-are = λ k i. store (λ (k x : ℕ). x ≡ 2 ^ count (on (bitAnd (item rows k) (2 ^ 8 - 1 - sh))) 6) caps n a (s .caps-long) h
+      (λ k i. s .caps-are k i ∙ ap (λ (z : ℕ). 2 ^ count (on z) 6) (s .private k i)) (ea ∙ ap (λ (z : ℕ). 2 ^ count (on z) 6) ep) k i
       ∙ sym (ap (λ (z : ℕ). 2 ^ count (on z) 6) (store (λ (k x : ℕ). x ≡ bitAnd (item rows k) (2 ^ 8 - 1 - sh)) ps n p (s .ps-long) h (s .private) ep k i));
   spots-are = store (λ (k x : ℕ). x ≡ 2 ^ count (on (item rows k)) 6) spots n b (s .spots-long) h (s .spots-are) eb;
 }
@@ -119,7 +132,8 @@ module _ (rows : List ℕ) (sh j : ℕ) (ms ps caps spots : List ℕ) (short : S
   shared-on o i h = ap (λ (z : ℕ). on z i) (p .shared o h) ∙ on-and (item rows o) sh i
 
   private-on : (o i : ℕ) → o < j → i < 6 → on (item ps o) i ≡ andb (on (item rows o) i) (not (on sh i))
-  private-on o i h l = ap (λ (z : ℕ). on z i) (p .private o h) ∙ on-and (item rows o) (2 ^ 8 - 1 - sh) i ∙ ap (λ (b : Bool). andb (on (item rows o) i) b) (on-complement 8 sh i (let z = c .low in omega arith) (omega arith))
+  private-on o i h l = ap (λ (z : ℕ). on z i) (p .private o h) ∙ on-and (item rows o) (2 ^ 8 - 1 - sh) i ∙ ap (λ (b : Bool). andb (on (item rows o) i) b)
+      (on-complement 8 sh i (let z = c .low in omega arith) (omega arith))
 
   pub private-low : (o : ℕ) → o < j → item ps o < 64
   private-low o h = let e = p .private o h in let w = and-le-l (item rows o) (2 ^ 8 - 1 - sh) in let z = short o h in omega arith
@@ -165,18 +179,23 @@ module _ (rows : List ℕ) (sh j : ℕ) (ms ps caps spots : List ℕ) (short : S
 
       whole : (o i : ℕ) → o < j → Dec (i < 6) → on (item rows o) i ≡ orb (on (item ms o) i) (on (item ps o) i)
       whole o i h (yes l) = parts (on (item rows o) i) (on sh i) ∙ sym (ap₂ orb (shared-on o i h) (private-on o i h l))
-      whole o i h (no l) = on-above 6 (item rows o) i (short o h) (omega arith) ∙ sym (ap₂ orb (on-above 6 (item ms o) i (shared-low o h) (omega arith)) (on-above 6 (item ps o) i (private-low o h) (omega arith)))
+      whole o i h (no l) = on-above 6 (item rows o) i (short o h) (omega arith) ∙ sym
+          (ap₂ orb (on-above 6 (item ms o) i (shared-low o h) (omega arith)) (on-above 6 (item ps o) i (private-low o h) (omega arith)))
 
   -- codes that part by shared and private cells part by what is read
   pub coded-of : (cl : List ℕ) (v : ℕ) (r : List ℕ) → Parted cl ms ps v j r → Coded v j (Differ (labelAt cl)) (item rows) (item r)
   coded-of cl v r t = record {
     tells = λ o x y h a b d e. d (t .parted o x y h a b
-        (agree-and 6 (item ms o) (item r x) (item r y) (shared-low o h) (λ i l m. and-agree 6 (item rows o) (item r x) (item r y) e i l (and-left (on (item rows o) i) (on sh i) (sym (shared-on o i h) ∙ m))))
+        (agree-and 6 (item ms o) (item r x) (item r y) (shared-low o h)
+        (λ i l m. and-agree 6 (item rows o) (item r x) (item r y) e i l (and-left (on (item rows o) i) (on sh i) (sym (shared-on o i h) ∙ m))))
         (agree-and 6 (item ps o) (item r x) (item r y) (private-low o h) (λ i l m. and-agree 6 (item rows o) (item r x) (item r y) e i l (private-read o i h m .0))));
   }
 
   -- a core gives codes over the shared cells; what base promises is asked
-  pub solves-of : (cl base : List ℕ) (v : ℕ) (f : ℕ → ℕ) → Coded v j (Differ (labelAt cl)) (item rows) f → ((o l : ℕ) → o < j → l < 32 → (xs : List ℕ) × All (λ (x : ℕ). (x < v) × (labelAt cl o x ≡ l)) xs × Pairs (λ (x y : ℕ). bitAnd (sharedCode sh f x) (item ms o) ≡ bitAnd (sharedCode sh f y) (item ms o) → ⊥) xs × (labelAt base o l ≤ length xs)) → Solves cl base ms caps spots v j (sharedCode sh f)
+  pub solves-of : (cl base : List ℕ) (v : ℕ) (f : ℕ → ℕ) → Coded v j (Differ (labelAt cl)) (item rows) f
+      → ((o l : ℕ) → o < j → l < 32 → (xs : List ℕ) × All (λ (x : ℕ). (x < v) × (labelAt cl o x ≡ l)) xs × Pairs
+      (λ (x y : ℕ). bitAnd (sharedCode sh f x) (item ms o) ≡ bitAnd (sharedCode sh f y) (item ms o) → ⊥) xs × (labelAt base o l ≤ length xs))
+      → Solves cl base ms caps spots v j (sharedCode sh f)
   solves-of cl base v f k need = record {
     fits = record {
       crowd = λ o b xs h a q. subst (λ (z : ℕ). length xs ≤ z) (sym (p .caps-are o h)) (crowd-bound v j 6 (labelAt cl) (item rows) (item ms) (item ps) sh split-of f k o b xs h a q);
@@ -208,7 +227,8 @@ start-agrees sh codes dom v f few z s x h l = go (ℕ-discrete x 0)
     go (no ne) = absurd (let e = s .others x (omega arith) ne in omega arith)
 
 pub start-covers : (cl base ms caps spots : List ℕ) (v j : ℕ) (codes dom d : List ℕ) → v ≤ 32 → Start codes dom → Kept cl base ms caps spots v j codes dom d → Covers cl base ms caps spots v j codes d
-start-covers cl base ms caps spots v j codes dom d few s k = record { covers = λ g f a. k .keeps g f (record { coded = a; within = λ x h. ap (λ (z : ℕ). on z (g x)) (s .any x (omega arith)) ∙ on-ones 64 (g x) (f .small x h) }) .within }
+start-covers cl base ms caps spots v j codes dom d few s k = record
+    { covers = λ g f a. k .keeps g f (record { coded = a; within = λ x h. ap (λ (z : ℕ). on z (g x)) (s .any x (omega arith)) ∙ on-ones 64 (g x) (f .small x h) }) .within }
 
 -- the answer: codes that tell the classes apart, or none with code 0 at vertex 0
 abbrev pub Decided : List ℕ → ℕ → ℕ → List ℕ → Bool → List ℕ → Type 0
@@ -224,4 +244,6 @@ blocks-of ms bs j t = record {
 
 -- what base promises of every core
 pub record Bounds (cl base : List ℕ) (rows : List ℕ) (sh : ℕ) (ms : List ℕ) (v j : ℕ) : Type 0 where
-  pub needs : (f : ℕ → ℕ) → Coded v j (Differ (labelAt cl)) (item rows) f → (o l : ℕ) → o < j → l < maxVertices → (xs : List ℕ) × All (λ (x : ℕ). (x < v) × (labelAt cl o x ≡ l)) xs × Pairs (λ (x y : ℕ). bitAnd (sharedCode sh f x) (item ms o) ≡ bitAnd (sharedCode sh f y) (item ms o) → ⊥) xs × (labelAt base o l ≤ length xs)
+  pub needs : (f : ℕ → ℕ) → Coded v j (Differ (labelAt cl)) (item rows) f → (o l : ℕ) → o < j → l < maxVertices
+      → (xs : List ℕ) × All (λ (x : ℕ). (x < v) × (labelAt cl o x ≡ l)) xs × Pairs (λ (x y : ℕ). bitAnd (sharedCode sh f x) (item ms o) ≡ bitAnd (sharedCode sh f y) (item ms o) → ⊥) xs ×
+      (labelAt base o l ≤ length xs)
