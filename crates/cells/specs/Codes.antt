@@ -22,7 +22,8 @@ use Rattle.bits.specs.DigitLaws.{on-zero}
 use Rattle.cells.specs.Core.{Cell, Apart, bit, reading, Serves, ZeroFirst, cellsFrom, coreOf}
 use Rattle.cells.specs.Lists.{count, bit-le, less-or-equal, never-both, count-alike}
 use Rattle.cells.specs.Pigeon.{Agree, agree-and, and-agree}
-use Rattle.cells.specs.Free.{retabled, retabled-length, retabled-reading, retabled-apart, zeroed, zeroed-first, zeroed-same, filled, filled-length, filled-apart, filled-reading, padded, padded-length, padded-serves}
+use Rattle.cells.specs.Free.{retabled, retabled-length, retabled-reading, retabled-apart, zeroed, zeroed-first, zeroed-same, filled, filled-length, filled-apart}
+use Rattle.cells.specs.Free.{filled-reading, padded, padded-length, padded-serves}
 use Rattle.cells.specs.Sorted.{Sorted, sort, sort-apart, sort-reading, sort-length, sort-sorted, neighbours}
 
 -- ======== definitions
@@ -138,13 +139,15 @@ zero-code [] z = refl
 zero-code (c ∷ l) z = ap₂ (λ (a b : ℕ). a + 2 * b) (ap bit (z .0)) (zero-code l (z .1))
 
 -- a core that serves with at most u cells gives one of u cells in normal form
-pub normal-of : (u v m : ℕ) (Conflict : ℕ → ℕ → ℕ → Type 0) (budget : ℕ → ℕ) (l : List Cell) → length l ≤ u → Serves v m Conflict budget l → (rows : ℕ → ℕ) × (codes : ℕ → ℕ) × Normal u v m Conflict budget rows codes
+pub normal-of : (u v m : ℕ) (Conflict : ℕ → ℕ → ℕ → Type 0) (budget : ℕ → ℕ) (l : List Cell) → length l ≤ u
+    → Serves v m Conflict budget l → (rows : ℕ → ℕ) × (codes : ℕ → ℕ) × Normal u v m Conflict budget rows codes
 normal-of u v m Conflict budget l h s = (
   rowOf k,
   codeOf k,
   record {
     coded = record { tells = λ o x y i p q c e. number-apart o x y k (apart o x y (w .tells o x y i p q c)) (λ i r. and-agree (suc i) (rowOf k o) (codeOf k x) (codeOf k y) e i (omega arith) r) };
-    full = λ o i. subst (λ (n : ℕ). count (on (rowOf k o)) n ≡ min (budget o) u) long (number-reading o k ∙ retabled-reading zeroed o k₂ ∙ sort-reading m o k₁ ∙ filled-reading o d k₀ ∙ (let b = w .within o i in let z = long₀ in omega arith));
+    full = λ o i. subst (λ (n : ℕ). count (on (rowOf k o)) n ≡ min (budget o) u) long
+        (number-reading o k ∙ retabled-reading zeroed o k₂ ∙ sort-reading m o k₁ ∙ filled-reading o d k₀ ∙ (let b = w .within o i in let z = long₀ in omega arith));
     short = λ o. subst (λ (n : ℕ). rowOf k o < 2 ^ n) long (number-lt (λ c. c .readers o) k);
     low = λ x. subst (λ (n : ℕ). codeOf k x < 2 ^ n) long (number-lt (λ c. c .table x) k);
     zero = zero-code k (zeroed-first k₂);
@@ -201,7 +204,8 @@ unfolding cellsFrom reading count
 cells-reading o zero i rows codes = refl
 cells-reading o (suc n) i rows codes =
     ap₂ (λ (a : Bool) (b : ℕ). bit a + b) (ap (on (rows o)) (let e : i ≡ i + 0 = omega arith in e))
-    (cells-reading o n (suc i) rows codes ∙ count-alike (λ (k : ℕ). on (rows o) (suc i + k)) (λ (k : ℕ). on (rows o) (i + suc k)) n (λ k h. ap (on (rows o)) (let e : suc i + k ≡ i + suc k = omega arith in e)))
+    (cells-reading o n (suc i) rows codes ∙ count-alike (λ (k : ℕ). on (rows o) (suc i + k)) (λ (k : ℕ). on (rows o) (i + suc k)) n
+    (λ k h. ap (on (rows o)) (let e : suc i + k ≡ i + suc k = omega arith in e)))
     ∙ sym (count-shift (λ (k : ℕ). on (rows o) (i + k)) n)
 
 -- either a cell tells x from y, or the codes agree in what o reads
@@ -214,7 +218,8 @@ cells-apart o x y (suc n) i rows codes = go (on (rows o) i) refl (on (codes x) i
     Rest = Apart o x y (cellsFrom n (suc i) rows codes) ⊎ ((k : ℕ) → suc i ≤ k → k < suc i + n → on (rows o) k ≡ true → on (codes x) k ≡ on (codes y) k)
 
     Goal : Type 0
-    Goal = (((on (rows o) i ≡ true) × (on (codes x) i ≡ on (codes y) i → ⊥)) ⊎ Apart o x y (cellsFrom n (suc i) rows codes)) ⊎ ((k : ℕ) → i ≤ k → k < i + suc n → on (rows o) k ≡ true → on (codes x) k ≡ on (codes y) k)
+    Goal = (((on (rows o) i ≡ true) × (on (codes x) i ≡ on (codes y) i → ⊥)) ⊎ Apart o x y (cellsFrom n (suc i) rows codes)) ⊎
+        ((k : ℕ) → i ≤ k → k < i + suc n → on (rows o) k ≡ true → on (codes x) k ≡ on (codes y) k)
 
     alike : (on (rows o) i ≡ true → on (codes x) i ≡ on (codes y) i) → Rest → Goal
     alike e = ⊎-elim (λ a. inl (inr a)) (λ h. inr (λ k a b r. ⊎-elim
@@ -229,8 +234,12 @@ cells-apart o x y (suc n) i rows codes = go (on (rows o) i) refl (on (codes x) i
     go true er true ea false eb = λ h. inl (inl (er, λ e. true-false (sym ea ∙ e ∙ eb)))
     go true er false ea true eb = λ h. inl (inl (er, λ e. true-false (sym eb ∙ sym e ∙ ea)))
 
-pub core-serves : (u v m : ℕ) (Conflict : ℕ → ℕ → ℕ → Type 0) (budget rows codes : ℕ → ℕ) → Coded v m Conflict rows codes → ((o : ℕ) → o < m → rows o < 2 ^ u) → ((o : ℕ) → o < m → count (on (rows o)) u ≤ budget o) → Serves v m Conflict budget (coreOf u rows codes)
+pub core-serves : (u v m : ℕ) (Conflict : ℕ → ℕ → ℕ → Type 0) (budget rows codes : ℕ → ℕ)
+    → Coded v m Conflict rows codes → ((o : ℕ) → o < m → rows o < 2 ^ u)
+    → ((o : ℕ) → o < m → count (on (rows o)) u ≤ budget o) → Serves v m Conflict budget (coreOf u rows codes)
 core-serves u v m Conflict budget rows codes c short within = record {
-  tells = λ o x y i p q k. ⊎-elim (λ a. a) (λ h. absurd (c .tells o x y i p q k (agree-and u (rows o) (codes x) (codes y) (short o i) (λ k l r. h k (omega arith) (omega arith) r)))) (cells-apart o x y u 0 rows codes);
-  within = λ o i. subst (λ (n : ℕ). n ≤ budget o) (sym (cells-reading o u 0 rows codes ∙ count-alike (λ (k : ℕ). on (rows o) (0 + k)) (on (rows o)) u (λ k h. ap (on (rows o)) (let e : 0 + k ≡ k = omega arith in e)))) (within o i);
+  tells = λ o x y i p q k. ⊎-elim (λ a. a) (λ h. absurd (c .tells o x y i p q k (agree-and u (rows o) (codes x) (codes y) (short o i) (λ k l r. h k (omega arith) (omega arith) r))))
+      (cells-apart o x y u 0 rows codes);
+  within = λ o i. subst (λ (n : ℕ). n ≤ budget o) (sym (cells-reading o u 0 rows codes ∙ count-alike (λ (k : ℕ). on (rows o) (0 + k)) (on (rows o)) u
+      (λ k h. ap (on (rows o)) (let e : 0 + k ≡ k = omega arith in e)))) (within o i);
 }

@@ -64,7 +64,10 @@ zeroed-same c x y = go (c .table 0)
 
 -- ---- seen through a map of vertices: with rep x the first vertex of x's joint class, each table is constant on joint
 -- classes; with a list of representatives and back, the problem of the joint classes is the problem
-pub mapped-serves : (rep : ℕ → ℕ) (v v' m : ℕ) (Conflict Conflict' : ℕ → ℕ → ℕ → Type 0) (budget : ℕ → ℕ) → ((x : ℕ) → x < v' → rep x < v) → ((o x y : ℕ) → o < m → x < v' → y < v' → Conflict' o x y → Conflict o (rep x) (rep y)) → (l : List Cell) → Serves v m Conflict budget l → Serves v' m Conflict' budget (retabled (λ c x. c .table (rep x)) l)
+pub mapped-serves : (rep : ℕ → ℕ) (v v' m : ℕ) (Conflict Conflict' : ℕ → ℕ → ℕ → Type 0) (budget : ℕ → ℕ)
+    → ((x : ℕ) → x < v' → rep x < v)
+    → ((o x y : ℕ) → o < m → x < v' → y < v' → Conflict' o x y → Conflict o (rep x) (rep y)) → (l : List Cell)
+    → Serves v m Conflict budget l → Serves v' m Conflict' budget (retabled (λ c x. c .table (rep x)) l)
 mapped-serves rep v v' m Conflict Conflict' budget b h l s = record {
   tells = λ o x y i p q k. retabled-apart (λ c x. c .table (rep x)) o (rep x) (rep y) x y (λ c e. e) l (s .tells o (rep x) (rep y) i (b x p) (b y q) (h o x y i p q k));
   within = λ o i. subst (λ (n : ℕ). n ≤ budget o) (sym (retabled-reading (λ c x. c .table (rep x)) o l)) (s .within o i);
@@ -98,7 +101,9 @@ filled-reading o d (c ∷ l) = go (c .readers o) refl (ltb 0 (d o)) refl (filled
     n : ℕ
     n = reading o (filled (λ (o : ℕ). d o - bit (not (c .readers o))) l)
 
-    go : (b : Bool) → c .readers o ≡ b → (t : Bool) → ltb 0 (d o) ≡ t → n ≡ min (reading o l + (d o - bit (not (c .readers o)))) (length l) → reading o l ≤ length l → bit (orb b t) + n ≡ min (bit b + reading o l + d o) (suc (length l))
+    go : (b : Bool) → c .readers o ≡ b → (t : Bool) → ltb 0 (d o) ≡ t
+        → n ≡ min (reading o l + (d o - bit (not (c .readers o)))) (length l) → reading o l ≤ length l
+        → bit (orb b t) + n ≡ min (bit b + reading o l + d o) (suc (length l))
     go true e t f ih h = let q : bit (not (c .readers o)) ≡ 0 = ap (λ (z : Bool). bit (not z)) e in omega arith
     go false e true f ih h = let q : bit (not (c .readers o)) ≡ 1 = ap (λ (z : Bool). bit (not z)) e in let k = ltb-true 0 (d o) f in omega arith
     go false e false f ih h = let q : bit (not (c .readers o)) ≡ 1 = ap (λ (z : Bool). bit (not z)) e in let k = ltb-false 0 (d o) f in omega arith

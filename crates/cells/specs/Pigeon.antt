@@ -36,7 +36,8 @@ agree-and u mask a b h g = equal-digits (bitAnd a mask) (bitAnd b mask) (λ k. o
     go k false e = and-off (on a k) ∙ sym (and-off (on b k))
 
 pub and-agree : (u mask a b : ℕ) → bitAnd a mask ≡ bitAnd b mask → Agree u mask a b
-and-agree u mask a b e i l m = sym (and-on (on a i)) ∙ sym (ap (λ (x : Bool). andb (on a i) x) m) ∙ sym (on-and a mask i) ∙ ap (λ (x : ℕ). on x i) e ∙ on-and b mask i ∙ ap (λ (x : Bool). andb (on b i) x) m ∙ and-on (on b i)
+and-agree u mask a b e i l m = sym (and-on (on a i)) ∙ sym (ap (λ (x : Bool). andb (on a i) x) m) ∙ sym (on-and a mask i) ∙ ap (λ (x : ℕ). on x i) e ∙ on-and b mask i ∙ ap
+    (λ (x : Bool). andb (on b i) x) m ∙ and-on (on b i)
 
 no-two : (R : ℕ → ℕ → Type 0) (xs : List ℕ) → ((x y : ℕ) → R x y → ⊥) → Pairs R xs → length xs ≤ 1
 no-two R [] h p = omega arith
@@ -62,7 +63,8 @@ module _ (f : ℕ → ℕ) (mask : ℕ) where
       more x y e r g = r (λ i l m. ⊎-elim (λ k. g i k m) (λ q. subst (λ (z : ℕ). on (f x) z ≡ on (f y) z) (sym q) (e (subst (λ (z : ℕ). on mask z ≡ true) q m))) (less-or-equal i u l))
 
       half : (d : ℕ → Bool) (b : Bool) → ((x : ℕ) → d x ≡ true → digit x ≡ b) → ((ys : List ℕ) → Pairs (Apart u) ys → length ys ≤ 2 ^ count (on mask) u) → length (part d xs) ≤ 2 ^ count (on mask) u
-      half d b e ih = ih (part d xs) (pairs-map (λ (x : ℕ). d x ≡ true) (Apart (suc u)) (Apart u) (part d xs) (λ x y p q. more x y (λ m. e x p ∙ sym (e y q))) (part-has d xs) (pairs-part (Apart (suc u)) d xs p))
+      half d b e ih = ih (part d xs) (pairs-map (λ (x : ℕ). d x ≡ true) (Apart (suc u)) (Apart u) (part d xs) (λ x y p q. more x y (λ m. e x p ∙ sym (e y q))) (part-has d xs)
+          (pairs-part (Apart (suc u)) d xs p))
 
       go : (b : Bool) → on mask u ≡ b → ((ys : List ℕ) → Pairs (Apart u) ys → length ys ≤ 2 ^ count (on mask) u) → Goal b
       go false e ih =
@@ -103,7 +105,9 @@ module _ (P : ℕ → Type 0) (R : ℕ → ℕ → Type 0) (key : ℕ → ℕ) (
   bucket-more size ih (x ∷ xs) l a p =
       let h = part-length same (x ∷ xs) in
       let r = ih others (small (eq-eqb (key x) (key x) refl)) (all-part P other (x ∷ xs) a) (pairs-part R other (x ∷ xs) p) in
-      let b : length (part same (x ∷ xs)) ≤ n = full (key x) (part same (x ∷ xs)) (all-both P (λ (y : ℕ). key y ≡ key x) (part same (x ∷ xs)) (all-part P same (x ∷ xs) a) (all-map (λ (y : ℕ). same y ≡ true) (λ (y : ℕ). key y ≡ key x) (part same (x ∷ xs)) (λ y e. eqb-true (key y) (key x) e) (part-has same (x ∷ xs)))) (pairs-part R same (x ∷ xs) p) in (
+      let b : length (part same (x ∷ xs)) ≤ n = full (key x) (part same (x ∷ xs))
+      (all-both P (λ (y : ℕ). key y ≡ key x) (part same (x ∷ xs)) (all-part P same (x ∷ xs) a)
+      (all-map (λ (y : ℕ). same y ≡ true) (λ (y : ℕ). key y ≡ key x) (part same (x ∷ xs)) (λ y e. eqb-true (key y) (key x) e) (part-has same (x ∷ xs)))) (pairs-part R same (x ∷ xs) p) in (
         x ∷ r .0,
         (a .0, r .1),
         (all-map (λ (y : ℕ). other y ≡ true) (Keys x) (r .0) (λ y e q. eqb-false (key y) (key x) (not-true (same y) e) (sym q)) (r .4 other (part-has other (x ∷ xs))), r .2),

@@ -75,13 +75,19 @@ module _ (v j u : ℕ) (cls : ℕ → ℕ → ℕ) (rows shared private : ℕ �
       go (no d) = absurd (c .tells o x y h p q d (agree-and u (rows o) (f x) (f y) (s .short o h) a))
 
   -- a block holds at most 2 to the private cells classes
-  pub crowd-bound : (o k : ℕ) (xs : List ℕ) → o < j → All (λ (x : ℕ). (x < v) × (block shared (sharedCode sh f) o x ≡ k)) xs → Pairs (λ (x y : ℕ). cls o x ≡ cls o y → ⊥) xs → length xs ≤ 2 ^ count (on (private o)) u
-  crowd-bound o k xs h a p = pigeon f (private o) u xs (pairs-map (λ (x : ℕ). (x < v) × (block shared (sharedCode sh f) o x ≡ k)) (λ (x y : ℕ). cls o x ≡ cls o y → ⊥) (λ (x y : ℕ). Agree u (private o) (f x) (f y) → ⊥) xs
+  pub crowd-bound : (o k : ℕ) (xs : List ℕ) → o < j
+      → All (λ (x : ℕ). (x < v) × (block shared (sharedCode sh f) o x ≡ k)) xs
+      → Pairs (λ (x y : ℕ). cls o x ≡ cls o y → ⊥) xs → length xs ≤ 2 ^ count (on (private o)) u
+  crowd-bound o k xs h a p = pigeon f (private o) u xs (pairs-map (λ (x : ℕ). (x < v) × (block shared (sharedCode sh f) o x ≡ k)) (λ (x y : ℕ). cls o x ≡ cls o y → ⊥)
+      (λ (x y : ℕ). Agree u (private o) (f x) (f y) → ⊥) xs
       (λ x y m n r b. r (agree-class o x y h (m .0) (n .0) (both o x y h (same-block o x y h (m .1 ∙ sym (n .1))) b))) a p)
 
   -- there are at most 2 to the cells read pairs of a class and a block
-  pub places-bound : (o : ℕ) (xs : List ℕ) → o < j → All (λ (x : ℕ). x < v) xs → Pairs (λ (x y : ℕ). cls o x ≡ cls o y → block shared (sharedCode sh f) o x ≡ block shared (sharedCode sh f) o y → ⊥) xs → length xs ≤ 2 ^ count (on (rows o)) u
-  places-bound o xs h a p = pigeon f (rows o) u xs (pairs-map (λ (x : ℕ). x < v) (λ (x y : ℕ). cls o x ≡ cls o y → block shared (sharedCode sh f) o x ≡ block shared (sharedCode sh f) o y → ⊥) (λ (x y : ℕ). Agree u (rows o) (f x) (f y) → ⊥) xs
+  pub places-bound : (o : ℕ) (xs : List ℕ) → o < j → All (λ (x : ℕ). x < v) xs
+      → Pairs (λ (x y : ℕ). cls o x ≡ cls o y → block shared (sharedCode sh f) o x ≡ block shared (sharedCode sh f) o y → ⊥) xs
+      → length xs ≤ 2 ^ count (on (rows o)) u
+  places-bound o xs h a p = pigeon f (rows o) u xs (pairs-map (λ (x : ℕ). x < v) (λ (x y : ℕ). cls o x ≡ cls o y → block shared (sharedCode sh f) o x ≡ block shared (sharedCode sh f) o y → ⊥)
+      (λ (x y : ℕ). Agree u (rows o) (f x) (f y) → ⊥) xs
       (λ x y m n r b. r (agree-class o x y h m n b) (agree-block o x y h b)) a p)
 
 -- ---- the classes of an output, each in as many blocks as it needs, need as many places together
@@ -90,7 +96,8 @@ module _ (v : ℕ) (label key : ℕ → ℕ) where
   abbrev pub Group : ℕ → ℕ → Type 0
   Group l n = (xs : List ℕ) × All (λ (x : ℕ). (x < v) × (label x ≡ l)) xs × Pairs (λ (x y : ℕ). key x ≡ key y → ⊥) xs × (n ≤ length xs)
 
-  pub gather : (need : ℕ → ℕ) (n : ℕ) → ((l : ℕ) → l < n → Group l (need l)) → (xs : List ℕ) × All (λ (x : ℕ). (x < v) × (label x < n)) xs × Pairs (λ (x y : ℕ). label x ≡ label y → key x ≡ key y → ⊥) xs × (sum need n ≤ length xs)
+  pub gather : (need : ℕ → ℕ) (n : ℕ) → ((l : ℕ) → l < n → Group l (need l))
+      → (xs : List ℕ) × All (λ (x : ℕ). (x < v) × (label x < n)) xs × Pairs (λ (x y : ℕ). label x ≡ label y → key x ≡ key y → ⊥) xs × (sum need n ≤ length xs)
   unfolding sum
   gather need zero h = ([], tt, tt, omega arith)
   gather need (suc n) h =
@@ -102,7 +109,8 @@ module _ (v : ℕ) (label key : ℕ → ℕ) where
             (all-map (λ (x : ℕ). (x < v) × (label x ≡ n)) (λ (x : ℕ). (x < v) × (label x < suc n)) (q .0) (λ x p. (p .0, (let z = p .1 in omega arith))) (q .1)),
         pairs-append R (r .0) (q .0) (r .2)
             (pairs-map (λ (x : ℕ). (x < v) × (label x ≡ n)) (λ (x y : ℕ). key x ≡ key y → ⊥) R (q .0) (λ x y a b d e. d) (q .1) (q .2))
-            (all-map (λ (x : ℕ). (x < v) × (label x < n)) (λ (x : ℕ). All (R x) (q .0)) (r .0) (λ x a. all-map (λ (y : ℕ). (y < v) × (label y ≡ n)) (R x) (q .0) (λ y b e k. let z = a .1 in let w = b .1 in omega arith) (q .1)) (r .1)),
+            (all-map (λ (x : ℕ). (x < v) × (label x < n)) (λ (x : ℕ). All (R x) (q .0)) (r .0)
+            (λ x a. all-map (λ (y : ℕ). (y < v) × (label y ≡ n)) (R x) (q .0) (λ y b e k. let z = a .1 in let w = b .1 in omega arith) (q .1)) (r .1)),
         (let a = r .3 in let b = q .3 in simp length-append (omega arith)),
       )
     where

@@ -95,7 +95,8 @@ module _ (g : ℕ) (low : g < 64) where
   swap-kept a b c i l na nb = go (on g i) refl
     where
       go : (t : Bool) → on g i ≡ t → on (swap a b c) i ≡ on c i
-      go true e = renamed-in (other (bitAnd a g) (bitAnd b g) (bitAnd c g)) c i l e ∙ ap (λ (z : ℕ). on z i) (other-c (bitAnd a g) (bitAnd b g) (bitAnd c g) na nb) ∙ on-and c g i ∙ ap (λ (t : Bool). andb (on c i) t) e ∙ and-on (on c i)
+      go true e = renamed-in (other (bitAnd a g) (bitAnd b g) (bitAnd c g)) c i l e ∙ ap (λ (z : ℕ). on z i) (other-c (bitAnd a g) (bitAnd b g) (bitAnd c g) na nb) ∙ on-and c g i ∙ ap
+          (λ (t : Bool). andb (on c i) t) e ∙ and-on (on c i)
       go false e = renamed-out (other (bitAnd a g) (bitAnd b g) (bitAnd c g)) c i l e
 
   -- exchanging values keeps blocks: one way
@@ -105,7 +106,8 @@ module _ (g : ℕ) (low : g < 64) where
       digit : (i : ℕ) → i < 6 → on m i ≡ true → (t : Bool) → on g i ≡ t → Uniform m g → on (swap a b c) i ≡ on (swap a b d) i
       digit i l t false w u = renamed-out (other (bitAnd a g) (bitAnd b g) (bitAnd c g)) c i l w ∙ and-agree 6 m c d e i l t ∙ sym (renamed-out (other (bitAnd a g) (bitAnd b g) (bitAnd d g)) d i l w)
       digit i l t true w (inr z) = absurd (never-both (on-and m g i ∙ ap₂ andb t w) (ap (λ (n : ℕ). on n i) z ∙ on-zero i))
-      digit i l t true w (inl z) = renamed-in (other (bitAnd a g) (bitAnd b g) (bitAnd c g)) c i l w ∙ ap (λ (n : ℕ). on (other (bitAnd a g) (bitAnd b g) n) i) same ∙ sym (renamed-in (other (bitAnd a g) (bitAnd b g) (bitAnd d g)) d i l w)
+      digit i l t true w (inl z) = renamed-in (other (bitAnd a g) (bitAnd b g) (bitAnd c g)) c i l w ∙ ap (λ (n : ℕ). on (other (bitAnd a g) (bitAnd b g) n) i) same ∙ sym
+          (renamed-in (other (bitAnd a g) (bitAnd b g) (bitAnd d g)) d i l w)
         where
           all : (i : ℕ) → on g i ≡ true → on m i ≡ true
           all i w = and-left (on m i) (on g i) (sym (on-and m g i) ∙ ap (λ (n : ℕ). on n i) z ∙ w)
@@ -118,7 +120,8 @@ module _ (g : ℕ) (low : g < 64) where
   swap-back a b c d m h u e = agree-and 6 m c d h (λ i l t. digit i l t (on g i) refl u)
     where
       digit : (i : ℕ) → i < 6 → on m i ≡ true → (t : Bool) → on g i ≡ t → Uniform m g → on c i ≡ on d i
-      digit i l t false w u = sym (renamed-out (other (bitAnd a g) (bitAnd b g) (bitAnd c g)) c i l w) ∙ and-agree 6 m (swap a b c) (swap a b d) e i l t ∙ renamed-out (other (bitAnd a g) (bitAnd b g) (bitAnd d g)) d i l w
+      digit i l t false w u = sym (renamed-out (other (bitAnd a g) (bitAnd b g) (bitAnd c g)) c i l w) ∙ and-agree 6 m (swap a b c) (swap a b d) e i l t ∙ renamed-out
+          (other (bitAnd a g) (bitAnd b g) (bitAnd d g)) d i l w
       digit i l t true w (inr z) = absurd (never-both (on-and m g i ∙ ap₂ andb t w) (ap (λ (n : ℕ). on n i) z ∙ on-zero i))
       digit i l t true w (inl z) = and-agree 6 g c d same i l w
         where
@@ -126,7 +129,8 @@ module _ (g : ℕ) (low : g < 64) where
           all i w = and-left (on m i) (on g i) (sym (on-and m g i) ∙ ap (λ (n : ℕ). on n i) z ∙ w)
 
           same : bitAnd c g ≡ bitAnd d g
-          same = other-same (bitAnd a g) (bitAnd b g) (bitAnd c g) (bitAnd d g) (sym (swap-value a b c) ∙ agree-and 6 g (swap a b c) (swap a b d) low (λ i l w. and-agree 6 m (swap a b c) (swap a b d) e i l (all i w)) ∙ swap-value a b d)
+          same = other-same (bitAnd a g) (bitAnd b g) (bitAnd c g) (bitAnd d g)
+              (sym (swap-value a b c) ∙ agree-and 6 g (swap a b c) (swap a b d) low (λ i l w. and-agree 6 m (swap a b c) (swap a b d) e i l (all i w)) ∙ swap-value a b d)
 
   pub swap-blocks : (ms : List ℕ) (v j a b : ℕ) (f : ℕ → ℕ) → ((o : ℕ) → o < j → item ms o < 64) → ((o : ℕ) → o < j → Uniform (item ms o) g) → SameBlocks ms v j f (λ (x : ℕ). swap a b (f x))
   swap-blocks ms v j a b f short u = record {
@@ -138,7 +142,8 @@ module _ (g : ℕ) (low : g < 64) where
   pub swap-small : (a b c : ℕ) → c < 64 → swap a b c < 64
   swap-small a b c h = below (swap a b c) (λ i l. on-or (bitAnd c (2 ^ 8 - 1 - g)) (bitAnd (other (bitAnd a g) (bitAnd b g) (bitAnd c g)) g) i
       ∙ ap₂ orb (on-and c (2 ^ 8 - 1 - g) i ∙ ap (λ (t : Bool). andb t (on (2 ^ 8 - 1 - g) i)) (on-above 6 c i h l))
-      (on-and (other (bitAnd a g) (bitAnd b g) (bitAnd c g)) g i ∙ ap (λ (t : Bool). andb (on (other (bitAnd a g) (bitAnd b g) (bitAnd c g)) i) t) (on-above 6 g i low l) ∙ and-off (on (other (bitAnd a g) (bitAnd b g) (bitAnd c g)) i)))
+      (on-and (other (bitAnd a g) (bitAnd b g) (bitAnd c g)) g i ∙ ap (λ (t : Bool). andb (on (other (bitAnd a g) (bitAnd b g) (bitAnd c g)) i) t) (on-above 6 g i low l) ∙ and-off
+      (on (other (bitAnd a g) (bitAnd b g) (bitAnd c g)) i)))
     where
       below : (n : ℕ) → ((i : ℕ) → 6 ≤ i → on n i ≡ false) → n < 64
       below n z = let e : bitAnd n 63 ≡ n = equal-digits (bitAnd n 63) n (λ i. on-and n 63 i ∙ case i (decLt i 6)) in let w = and-le-r n 63 in omega arith
@@ -164,7 +169,8 @@ module _ (g : ℕ) (low : g < 64) where
   swap-outside a b c i l e = renamed-out (other (bitAnd a g) (bitAnd b g) (bitAnd c g)) c i l e
 
 -- ======== solutions with the same blocks
-pub solves-alike : (cl base ms caps spots : List ℕ) (v j : ℕ) (g h : ℕ → ℕ) → SameBlocks ms v j g h → ((x : ℕ) → x < v → h x < 64) → Solves cl base ms caps spots v j g → Solves cl base ms caps spots v j h
+pub solves-alike : (cl base ms caps spots : List ℕ) (v j : ℕ) (g h : ℕ → ℕ) → SameBlocks ms v j g h
+    → ((x : ℕ) → x < v → h x < 64) → Solves cl base ms caps spots v j g → Solves cl base ms caps spots v j h
 solves-alike cl base ms caps spots v j g h s small f = record {
   fits = record { crowd = crowd; places = places; needs = needs-of };
   small = small;
@@ -172,13 +178,25 @@ solves-alike cl base ms caps spots v j g h s small f = record {
   where
     crowd : (o b : ℕ) (xs : List ℕ) → o < j → All (λ (x : ℕ). (x < v) × (block (item ms) h o x ≡ b)) xs → Pairs (λ (x y : ℕ). labelAt cl o x ≡ labelAt cl o y → ⊥) xs → length xs ≤ item caps o
     crowd o b [] k a p = omega arith
-    crowd o b (x ∷ xs) k a p = f .fits .crowd o (block (item ms) g o x) (x ∷ xs) k
-        ((a .0 .0, refl), all-map (λ (x : ℕ). (x < v) × (block (item ms) h o x ≡ b)) (λ (y : ℕ). (y < v) × (block (item ms) g o y ≡ block (item ms) g o x)) xs (λ y q. (q .0, s .back o y x k (q .0) (a .0 .0) (q .1 ∙ sym (a .0 .1)))) (a .1)) p
+    crowd o b (x ∷ xs) k a p = f .fits .crowd o (block (item ms) g o x) (x ∷ xs) k (
+      (a .0 .0, refl),
+      all-map (λ (x : ℕ). (x < v) × (block (item ms) h o x ≡ b)) (λ (y : ℕ). (y < v) × (block (item ms) g o y ≡ block (item ms) g o x)) xs
+          (λ y q. (q .0, s .back o y x k (q .0) (a .0 .0) (q .1 ∙ sym (a .0 .1)))) (a .1),
+    ) p
 
-    places : (o : ℕ) (xs : List ℕ) → o < j → All (λ (x : ℕ). x < v) xs → Pairs (λ (x y : ℕ). labelAt cl o x ≡ labelAt cl o y → block (item ms) h o x ≡ block (item ms) h o y → ⊥) xs → length xs ≤ item spots o
-    places o xs k a p = f .fits .places o xs k a (pairs-map (λ (x : ℕ). x < v) (λ (x y : ℕ). labelAt cl o x ≡ labelAt cl o y → block (item ms) h o x ≡ block (item ms) h o y → ⊥) (λ (x y : ℕ). labelAt cl o x ≡ labelAt cl o y → block (item ms) g o x ≡ block (item ms) g o y → ⊥) xs (λ x y q r d e b. d e (s .there o x y k q r b)) a p)
+    places : (o : ℕ) (xs : List ℕ) → o < j → All (λ (x : ℕ). x < v) xs
+        → Pairs (λ (x y : ℕ). labelAt cl o x ≡ labelAt cl o y → block (item ms) h o x ≡ block (item ms) h o y → ⊥) xs
+        → length xs ≤ item spots o
+    places o xs k a p = f .fits .places o xs k a (pairs-map (λ (x : ℕ). x < v) (λ (x y : ℕ). labelAt cl o x ≡ labelAt cl o y → block (item ms) h o x ≡ block (item ms) h o y → ⊥)
+        (λ (x y : ℕ). labelAt cl o x ≡ labelAt cl o y → block (item ms) g o x ≡ block (item ms) g o y → ⊥) xs (λ x y q r d e b. d e (s .there o x y k q r b)) a p)
 
-    needs-of : (o l : ℕ) → o < j → l < 32 → (xs : List ℕ) × All (λ (x : ℕ). (x < v) × (labelAt cl o x ≡ l)) xs × Pairs (λ (x y : ℕ). block (item ms) h o x ≡ block (item ms) h o y → ⊥) xs × (labelAt base o l ≤ length xs)
+    needs-of : (o l : ℕ) → o < j → l < 32
+        → (xs : List ℕ) × All (λ (x : ℕ). (x < v) × (labelAt cl o x ≡ l)) xs × Pairs (λ (x y : ℕ). block (item ms) h o x ≡ block (item ms) h o y → ⊥) xs × (labelAt base o l ≤ length xs)
     needs-of o l k i =
-        let r = f .fits .needs o l k i in
-        (r .0, r .1, pairs-map (λ (x : ℕ). (x < v) × (labelAt cl o x ≡ l)) (λ (x y : ℕ). block (item ms) g o x ≡ block (item ms) g o y → ⊥) (λ (x y : ℕ). block (item ms) h o x ≡ block (item ms) h o y → ⊥) (r .0) (λ x y q t d e. d (s .back o x y k (q .0) (t .0) e)) (r .1) (r .2), r .3)
+        let r = f .fits .needs o l k i in (
+          r .0,
+          r .1,
+          pairs-map (λ (x : ℕ). (x < v) × (labelAt cl o x ≡ l)) (λ (x y : ℕ). block (item ms) g o x ≡ block (item ms) g o y → ⊥)
+              (λ (x y : ℕ). block (item ms) h o x ≡ block (item ms) h o y → ⊥) (r .0) (λ x y q t d e. d (s .back o x y k (q .0) (t .0) e)) (r .1) (r .2),
+          r .3,
+        )

@@ -25,8 +25,12 @@ pub record Trying (cl base ms caps spots : List ℕ) (v j : ℕ) (codes dom : Li
   pub tried : (g : ℕ → ℕ) → Solves cl base ms caps spots v j g → Extends codes dom v g → on can (g x) ≡ true → on left (g x) ≡ true
 
 -- ======== laws
-pub covers-more : (codes : List ℕ) (v x c : ℕ) → length codes ≡ 32 → v ≤ 32 → x < v → (cl base ms caps spots : List ℕ) (j : ℕ) (dom d : List ℕ) → 64 ≤ item codes x → Kept cl base ms caps spots v j (set codes x c) dom d → Covers cl base ms caps spots v j codes dom → Covers cl base ms caps spots v j (set codes x c) d
-covers-more codes v x c long few h cl base ms caps spots j dom d u k s = record { covers = λ g f a. k .keeps g f (record { coded = a; within = s .covers g f (agrees-less codes v x c long few h g u a) }) .within }
+pub covers-more : (codes : List ℕ) (v x c : ℕ) → length codes ≡ 32 → v ≤ 32 → x < v
+    → (cl base ms caps spots : List ℕ) (j : ℕ) (dom d : List ℕ) → 64 ≤ item codes x
+    → Kept cl base ms caps spots v j (set codes x c) dom d → Covers cl base ms caps spots v j codes dom
+    → Covers cl base ms caps spots v j (set codes x c) d
+covers-more codes v x c long few h cl base ms caps spots j dom d u k s = record
+    { covers = λ g f a. k .keeps g f (record { coded = a; within = s .covers g f (agrees-less codes v x c long few h g u a) }) .within }
 
 -- ======== the codes of a vertex, one after another
 module _ (cl base ms caps spots : List ℕ) (v j : ℕ) (codes dom : List ℕ) (x can : ℕ) (h : x < v) where
@@ -34,7 +38,9 @@ module _ (cl base ms caps spots : List ℕ) (v j : ℕ) (codes dom : List ℕ) (
   trying-start = record { tried = λ g f e t. on-both (item dom x) can (g x) (e .within x h) t }
 
   -- code c led to nothing
-  pub trying-more : (left c left' : ℕ) (d : List ℕ) → length codes ≡ 32 → v ≤ 32 → Without left c left' → Kept cl base ms caps spots v j (set codes x c) dom d → Hopeless cl base ms caps spots v j (set codes x c) d → Trying cl base ms caps spots v j codes dom x can left → Trying cl base ms caps spots v j codes dom x can left'
+  pub trying-more : (left c left' : ℕ) (d : List ℕ) → length codes ≡ 32 → v ≤ 32 → Without left c left'
+      → Kept cl base ms caps spots v j (set codes x c) dom d → Hopeless cl base ms caps spots v j (set codes x c) d
+      → Trying cl base ms caps spots v j codes dom x can left → Trying cl base ms caps spots v j codes dom x can left'
   trying-more left c left' d long few w k bad t = record { tried = λ g f e i. go g f e i (ℕ-discrete (g x) c) }
     where
       go : (g : ℕ → ℕ) → Solves cl base ms caps spots v j g → Extends codes dom v g → on can (g x) ≡ true → Dec (g x ≡ c) → on left' (g x) ≡ true
@@ -42,7 +48,10 @@ module _ (cl base ms caps spots : List ℕ) (v j : ℕ) (codes dom : List ℕ) (
       go g f e i (yes q) = absurd (bad .none g f (k .keeps g f (record { coded = agrees-more codes v x c long few h g q (e .coded); within = e .within })))
 
   -- no code is left: a solution would have led to one with a code in can
-  pub trying-end : (gb used : List ℕ) (all left : ℕ) → 64 ≤ item codes x → left ≡ 0 → Valued ms gb all j codes v used → ((gs : List ℕ) (sh : ℕ) → Over sh all → Blocks gs gb 3 → Groups gs sh → Marks gs used → Canon gs used sh 3 can) → Covers cl base ms caps spots v j codes dom → Trying cl base ms caps spots v j codes dom x can left → Hopeless cl base ms caps spots v j codes dom
+  pub trying-end : (gb used : List ℕ) (all left : ℕ) → 64 ≤ item codes x → left ≡ 0 → Valued ms gb all j codes v used
+      → ((gs : List ℕ) (sh : ℕ) → Over sh all → Blocks gs gb 3 → Groups gs sh → Marks gs used → Canon gs used sh 3 can)
+      → Covers cl base ms caps spots v j codes dom → Trying cl base ms caps spots v j codes dom x can left
+      → Hopeless cl base ms caps spots v j codes dom
   trying-end gb used all left u z w n s t = record {
     none = λ g f e.
         let r = n (w .gs) (w .sh) (w .over) (w .blocks) (w .groups) (w .values .marks) .reach cl base ms caps spots codes v j x u (w .alike) (w .values .has) g f (e .coded) h in

@@ -45,7 +45,8 @@ module _ (v m n : ℕ) (care value : ℕ → ℕ → ℕ → Bool) (rows codes :
   composes c = record {
     gives = λ o x r h a b e. entry-is (produces care rows codes o (seen rows codes o x) r) (λ (y : ℕ). value o y r) v x a
         (ap₂ andb (eq-eqb (seen rows codes o x) (seen rows codes o x) refl) e)
-        (λ y l p. same (value o y r) (value o x r) (λ d. c .tells o y x h l a (r, b, and-right (eqb (seen rows codes o y) (seen rows codes o x)) (care o y r) p, e, d) (eqb-true (seen rows codes o y) (seen rows codes o x) (and-left (eqb (seen rows codes o y) (seen rows codes o x)) (care o y r) p))));
+        (λ y l p. same (value o y r) (value o x r) (λ d. c .tells o y x h l a (r, b, and-right (eqb (seen rows codes o y) (seen rows codes o x)) (care o y r) p, e, d)
+        (eqb-true (seen rows codes o y) (seen rows codes o x) (and-left (eqb (seen rows codes o y) (seen rows codes o x)) (care o y r) p))));
   }
 
   -- an entry whose code no vertex produces is 0
@@ -70,5 +71,7 @@ module _ (u v m n : ℕ) (care value : ℕ → ℕ → ℕ → Bool) (budget row
   pub serves-composes : Serves v m (Against n care value) budget (coreOf u rows codes) → Composes v m n care value rows codes (composition v care value rows codes)
   serves-composes s = composes v m n care value rows codes (record { tells = λ o x y h a b c. cells-tell o x y u 0 rows codes (s .tells o x y h a b c) })
 
-  pub composed-serves : (comp : ℕ → ℕ → ℕ → Bool) → ((o : ℕ) → o < m → rows o < 2 ^ u) → ((o : ℕ) → o < m → count (on (rows o)) u ≤ budget o) → Composes v m n care value rows codes comp → Serves v m (Against n care value) budget (coreOf u rows codes)
+  pub composed-serves : (comp : ℕ → ℕ → ℕ → Bool) → ((o : ℕ) → o < m → rows o < 2 ^ u)
+      → ((o : ℕ) → o < m → count (on (rows o)) u ≤ budget o) → Composes v m n care value rows codes comp
+      → Serves v m (Against n care value) budget (coreOf u rows codes)
   composed-serves comp low within c = core-serves u v m (Against n care value) budget rows codes (composed-tells v m n care value rows codes comp c) low within

@@ -22,7 +22,8 @@ use Rattle.holding.specs.Held.{Held}
 use Rattle.holding.specs.Wants.{New, Wanted, need, needed}
 
 -- ======== the rules
-module _ (cl base ms caps spots : List ℕ) (v j o : ℕ) (codes dom own owns : List ℕ) (g : ℕ → ℕ) (h : o < j) (low : (x : ℕ) → x < v → labelAt cl o x < 32) (s : Held cl codes o (item ms o) v own owns) (f : Solves cl base ms caps spots v j g) (e : Extends codes dom v g) where
+module _ (cl base ms caps spots : List ℕ) (v j o : ℕ) (codes dom own owns : List ℕ) (g : ℕ → ℕ) (h : o < j) (low : (x : ℕ) → x < v → labelAt cl o x < 32)
+    (s : Held cl codes o (item ms o) v own owns) (f : Solves cl base ms caps spots v j g) (e : Extends codes dom v g) where
   abbrev mask : ℕ
   mask = item ms o
 
@@ -50,14 +51,17 @@ module _ (cl base ms caps spots : List ℕ) (v j o : ℕ) (codes dom own owns : 
         ((i, q), p .1),
         (
           all-map (λ (w : ℕ). (w < v) × (item codes w < 64) × (labelAt cl o w ≡ l)) (λ (w : ℕ). key y ≡ key w → ⊥) (r .0) (λ w a k.
-              never-both (subst (λ (i : ℕ). on (getD own i 0) (g y) ≡ true) (a .2) (s .inside w (g y) (a .0) (a .1) (f .small y i) (k ∙ ap (λ (z : ℕ). bitAnd z mask) (e .coded w (a .0) (a .1))))) off) (r .1),
+              never-both (subst (λ (i : ℕ). on (getD own i 0) (g y) ≡ true) (a .2) (s .inside w (g y) (a .0) (a .1) (f .small y i) (k ∙ ap (λ (z : ℕ). bitAnd z mask) (e .coded w (a .0) (a .1)))))
+              off) (r .1),
           p .2,
         ),
         (let z = p .3 in omega arith),
       )
 
   -- two vertices whose codes are in none of the blocks held, and in different blocks, add two
-  two-group : (l x y : ℕ) → l < 32 → x < v → y < v → labelAt cl o x ≡ l → labelAt cl o y ≡ l → on (getD own l 0) (g x) ≡ false → on (getD own l 0) (g y) ≡ false → (key x ≡ key y → ⊥) → Group v (labelAt cl o) key l (getD owns l 0 + 2)
+  two-group : (l x y : ℕ) → l < 32 → x < v → y < v → labelAt cl o x ≡ l → labelAt cl o y ≡ l
+      → on (getD own l 0) (g x) ≡ false → on (getD own l 0) (g y) ≡ false → (key x ≡ key y → ⊥)
+      → Group v (labelAt cl o) key l (getD owns l 0 + 2)
   unfolding held-group more-group
   two-group l x y b i k p q off no-y ne =
       let r = s .lists l b in
@@ -68,7 +72,8 @@ module _ (cl base ms caps spots : List ℕ) (v j o : ℕ) (codes dom own owns : 
           (
             ne,
             all-map (λ (w : ℕ). (w < v) × (item codes w < 64) × (labelAt cl o w ≡ l)) (λ (w : ℕ). key x ≡ key w → ⊥) (r .0) (λ w a d.
-                never-both (subst (λ (i : ℕ). on (getD own i 0) (g x) ≡ true) (a .2) (s .inside w (g x) (a .0) (a .1) (f .small x i) (d ∙ ap (λ (z : ℕ). bitAnd z mask) (e .coded w (a .0) (a .1))))) off) (r .1),
+                never-both (subst (λ (i : ℕ). on (getD own i 0) (g x) ≡ true) (a .2)
+                (s .inside w (g x) (a .0) (a .1) (f .small x i) (d ∙ ap (λ (z : ℕ). bitAnd z mask) (e .coded w (a .0) (a .1))))) off) (r .1),
           ),
           t .2,
         ),
@@ -80,7 +85,9 @@ module _ (cl base ms caps spots : List ℕ) (v j o : ℕ) (codes dom own owns : 
   outside-held l y i z = false-where _ (λ t. never-both (on-and (item dom y) (item own l) (g y) ∙ ap₂ andb (e .within y i) t) (ap (λ (n : ℕ). on n (g y)) z ∙ on-zero (g y)))
 
   -- all such vertices of a class below n have x's block, or one has another
-  same-or-other : (l x n : ℕ) → n ≤ v → ((y : ℕ) → y < n → labelAt cl o y ≡ l → bitAnd (item dom y) (item own l) ≡ 0 → key y ≡ key x) ⊎ ((y : ℕ) × (y < n) × (labelAt cl o y ≡ l) × (bitAnd (item dom y) (item own l) ≡ 0) × (key x ≡ key y → ⊥))
+  same-or-other : (l x n : ℕ) → n ≤ v
+      → ((y : ℕ) → y < n → labelAt cl o y ≡ l → bitAnd (item dom y) (item own l) ≡ 0 → key y ≡ key x) ⊎
+      ((y : ℕ) × (y < n) × (labelAt cl o y ≡ l) × (bitAnd (item dom y) (item own l) ≡ 0) × (key x ≡ key y → ⊥))
   same-or-other l x zero k = inl (λ y i. absurd (omega arith))
   same-or-other l x (suc n) k = ⊎-elim
       (λ a. here a (ℕ-discrete (labelAt cl o n) l) (ℕ-discrete (bitAnd (item dom n) (item own l)) 0) (ℕ-discrete (key n) (key x)))
@@ -103,7 +110,8 @@ module _ (cl base ms caps spots : List ℕ) (v j o : ℕ) (codes dom own owns : 
       here a (yes p) (yes z) (no q) = inr (n, (omega arith), p, z, λ t. q (sym t))
 
 -- ---- with what is wanted
-module _ (cl base ms caps spots : List ℕ) (v j o : ℕ) (codes dom own owns wants meet : List ℕ) (g : ℕ → ℕ) (h : o < j) (low : (x : ℕ) → x < v → labelAt cl o x < 32) (s : Held cl codes o (item ms o) v own owns) (want : Wanted cl o (item ms o) v dom own owns wants meet) (f : Solves cl base ms caps spots v j g) (e : Extends codes dom v g) where
+module _ (cl base ms caps spots : List ℕ) (v j o : ℕ) (codes dom own owns wants meet : List ℕ) (g : ℕ → ℕ) (h : o < j) (low : (x : ℕ) → x < v → labelAt cl o x < 32)
+    (s : Held cl codes o (item ms o) v own owns) (want : Wanted cl o (item ms o) v dom own owns wants meet) (f : Solves cl base ms caps spots v j g) (e : Extends codes dom v g) where
   abbrev key' : ℕ → ℕ
   key' x = block (item ms) g o x
 
@@ -113,7 +121,8 @@ module _ (cl base ms caps spots : List ℕ) (v j o : ℕ) (codes dom own owns wa
   one : (l y : ℕ) → l < 32 → y < v → labelAt cl o y ≡ l → on (getD own l 0) (g y) ≡ false → Group v (labelAt cl o) key' l (getD owns l 0 + 1)
   one = more-group cl base ms caps spots v j o codes dom own owns g h low s f e
 
-  two : (l x y : ℕ) → l < 32 → x < v → y < v → labelAt cl o x ≡ l → labelAt cl o y ≡ l → on (getD own l 0) (g x) ≡ false → on (getD own l 0) (g y) ≡ false → (key' x ≡ key' y → ⊥) → Group v (labelAt cl o) key' l (getD owns l 0 + 2)
+  two : (l x y : ℕ) → l < 32 → x < v → y < v → labelAt cl o x ≡ l → labelAt cl o y ≡ l → on (getD own l 0) (g x) ≡ false
+      → on (getD own l 0) (g y) ≡ false → (key' x ≡ key' y → ⊥) → Group v (labelAt cl o) key' l (getD owns l 0 + 2)
   two = two-group cl base ms caps spots v j o codes dom own owns g h low s f e
 
   none : (l y : ℕ) → y < v → bitAnd (item dom y) (item own l) ≡ 0 → on (item own l) (g y) ≡ false
@@ -170,11 +179,16 @@ module _ (cl base ms caps spots : List ℕ) (v j o : ℕ) (codes dom own owns wa
       grow l c (no p) = subst (Group v (labelAt cl o) key' l) (sym (n-other l p)) (need-group l c)
 
   -- no place is left: a class that holds what it needs, and wants no more, keeps to its blocks
-  pub keeps-to : (y : ℕ) → y < v → needed wants base o ≡ item spots o → labelAt base o (labelAt cl o y) ≤ getD owns (labelAt cl o y) 0 → getD wants (labelAt cl o y) 0 ≡ getD owns (labelAt cl o y) 0 → on (getD own (labelAt cl o y) 0) (g y) ≡ true
+  pub keeps-to : (y : ℕ) → y < v → needed wants base o ≡ item spots o
+      → labelAt base o (labelAt cl o y) ≤ getD owns (labelAt cl o y) 0
+      → getD wants (labelAt cl o y) 0 ≡ getD owns (labelAt cl o y) 0 → on (getD own (labelAt cl o y) 0) (g y) ≡ true
   keeps-to y b t k same = true-where _ (λ off. absurd (no-more (labelAt cl o y) (getD owns (labelAt cl o y) 0 + 1) (low y b) t (omega arith) (one (labelAt cl o y) y (low y b) b refl off)))
 
   -- and one that wants just one more keeps to its blocks and to those in common
-  pub keeps-near : (y : ℕ) → y < v → needed wants base o ≡ item spots o → labelAt base o (labelAt cl o y) ≤ getD owns (labelAt cl o y) 0 + 1 → getD wants (labelAt cl o y) 0 ≡ getD owns (labelAt cl o y) 0 + 1 → (on (getD own (labelAt cl o y) 0) (g y) ≡ true) ⊎ (on (getD meet (labelAt cl o y) 0) (g y) ≡ true)
+  pub keeps-near : (y : ℕ) → y < v → needed wants base o ≡ item spots o
+      → labelAt base o (labelAt cl o y) ≤ getD owns (labelAt cl o y) 0 + 1
+      → getD wants (labelAt cl o y) 0 ≡ getD owns (labelAt cl o y) 0 + 1
+      → (on (getD own (labelAt cl o y) 0) (g y) ≡ true) ⊎ (on (getD meet (labelAt cl o y) 0) (g y) ≡ true)
   keeps-near y b t k same = case (on (getD own q 0) (g y)) refl
     where
       q : ℕ

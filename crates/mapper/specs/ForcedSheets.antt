@@ -146,7 +146,9 @@ one-read d w o p a h e =
     let k = subst (λ (n : ℕ). o < n) (sym (p .wellformed .node-each)) h in
     first-read (subst (λ (n : ℕ). Rising 0 n (nodeAt (w .nodes) o .reads)) a (p .wellformed .node-fits o k .rises)) e
 
-node-digits : (d : Design) (w : Network) (o : ℕ) → Permitted d w → o < length (d .outputs) → nodeAt (w .nodes) o .reads ≡ 0 ∷ [] → length (nodeAt (w .nodes) o .digits) ≡ 2 ^ (1 + length (free (d .inputs) (d .bound)))
+node-digits : (d : Design) (w : Network) (o : ℕ) → Permitted d w → o < length (d .outputs)
+    → nodeAt (w .nodes) o .reads ≡ 0 ∷ []
+    → length (nodeAt (w .nodes) o .digits) ≡ 2 ^ (1 + length (free (d .inputs) (d .bound)))
 node-digits d w o p h e =
     p .wellformed .node-fits o (subst (λ (n : ℕ). o < n) (sym (p .wellformed .node-each)) h) .counted
     ∙ ap (λ (is : List ℕ). 2 ^ (length is + length (free (d .inputs) (d .bound)))) e

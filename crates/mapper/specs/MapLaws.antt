@@ -130,13 +130,16 @@ module _ (d : Design) (cl budgets : List ℕ) (v m limit : ℕ) (g : Given d cl 
       ∙ zero-at (item rows) (item codes) u 0 i (a .answer .1 .zero) k
 
   -- the codes of the built network are those of the vertices' numbers
-  found-code : (o x : ℕ) → o < length (d .outputs) → x < vertexCount (d .bound) → codeAt (built d u (item rows) (item codes)) (nodeAt (built d u (item rows) (item codes) .nodes) o .reads) x ≡ codeIn (numbers u 0 (item rows o)) (item codes x)
+  found-code : (o x : ℕ) → o < length (d .outputs) → x < vertexCount (d .bound)
+      → codeAt (built d u (item rows) (item codes)) (nodeAt (built d u (item rows) (item codes) .nodes) o .reads) x ≡ codeIn (numbers u 0 (item rows o)) (item codes x)
   unfolding nodeBuilt codeIn
   found-code o x h l =
       ap (λ (n : Node). rowOf (map (λ i. lutAt (built d u (item rows) (item codes)) i x) (n .reads))) (built-node d u (item rows) (item codes) o h)
       ∙ ap rowOf (tables-at d u (item rows) (item codes) (parts-of (d .inputs) (d .bound) (proper-of d f .parted)) (columns-of d) served o x l)
 
-  entry-none : (o j : ℕ) → o < length (d .outputs) → ((x : ℕ) → x < vertexCount (d .bound) → codeIn (numbers u 0 (item rows o)) (item codes x) ≡ j / freeCount (d .inputs) (d .bound) → ⊥) → entry d (item codes) o (numbers u 0 (item rows o)) j ≡ false
+  entry-none : (o j : ℕ) → o < length (d .outputs)
+      → ((x : ℕ) → x < vertexCount (d .bound) → codeIn (numbers u 0 (item rows o)) (item codes x) ≡ j / freeCount (d .inputs) (d .bound) → ⊥)
+      → entry d (item codes) o (numbers u 0 (item rows o)) j ≡ false
   unfolding entry
   entry-none o j h n =
       ap (entryAt d o (j % freeCount (d .inputs) (d .bound)))
@@ -156,7 +159,10 @@ module _ (d : Design) (cl budgets : List ℕ) (v m limit : ℕ) (g : Given d cl 
       past : (j n : ℕ) → (j < n → ⊥) → {k : ℕ} → k ≡ n → k ≤ j
       past j n h e = omega arith
 
-  found-unproduced : (o j : ℕ) → o < length (d .outputs) → ((x : ℕ) → x < vertexCount (d .bound) → codeAt (built d u (item rows) (item codes)) (nodeAt (built d u (item rows) (item codes) .nodes) o .reads) x ≡ j / freeCount (d .inputs) (d .bound) → ⊥) → getD (nodeAt (built d u (item rows) (item codes) .nodes) o .digits) j false ≡ false
+  found-unproduced : (o j : ℕ) → o < length (d .outputs)
+      → ((x : ℕ) → x < vertexCount (d .bound) → codeAt (built d u (item rows) (item codes)) (nodeAt (built d u (item rows) (item codes) .nodes) o .reads) x ≡ j / freeCount (d .inputs) (d .bound)
+      → ⊥)
+      → getD (nodeAt (built d u (item rows) (item codes) .nodes) o .digits) j false ≡ false
   unfolding nodeBuilt
   found-unproduced o j h n =
       ap (λ (x : Node). getD (x .digits) j false) (built-node d u (item rows) (item codes) o h)

@@ -27,9 +27,14 @@ use Rattle.readers.specs.Masks.{Short, Common, Planned, Bounds}
 
 -- n - 1 buckets of p hold less than g, and z buckets of p hold g: n is at most z
 enough : (n p g z : ℕ) → (n - 1) * p < g → g ≤ z * p → n ≤ z
-enough n p g z a b = elim (decLt (n - 1) z) as (λ _. n ≤ z) [ yes l ↦ omega arith | no l ↦ absurd (let m : z * p ≤ (n - 1) * p = mul-le-mul-right p (let h : z ≤ n - 1 = omega arith in h) in omega arith) ]
+enough n p g z a b = elim (decLt (n - 1) z) as (λ _. n ≤ z) [
+  | yes l ↦ omega arith
+  | no l ↦ absurd
+      (let m : z * p ≤ (n - 1) * p = mul-le-mul-right p (let h : z ≤ n - 1 = omega arith in h) in omega arith)
+]
 
-module _ (cl rows : List ℕ) (sh v j : ℕ) (ms ps caps spots : List ℕ) (short : Short rows j) (c : Common rows j sh) (p : Planned rows sh j ms ps caps spots) (f : ℕ → ℕ) (k : Coded v j (Differ (labelAt cl)) (item rows) f) where
+module _ (cl rows : List ℕ) (sh v j : ℕ) (ms ps caps spots : List ℕ) (short : Short rows j) (c : Common rows j sh) (p : Planned rows sh j ms ps caps spots) (f : ℕ → ℕ)
+    (k : Coded v j (Differ (labelAt cl)) (item rows) f) where
   -- cells that both read, and cells that only q reads
   abbrev common : ℕ → ℕ → ℕ
   common o q = bitAnd (item rows q) (item rows o)
@@ -82,12 +87,15 @@ module _ (cl rows : List ℕ) (sh v j : ℕ) (ms ps caps spots : List ℕ) (shor
       go (yes e) y = (
         y .0,
         y .1,
-        pairs-map (In o l) (λ (a b : ℕ). labelAt cl q a ≡ labelAt cl q b → ⊥) (Blocks o) (y .0) (λ a b s t d. absurd (d (subst (λ (z : ℕ). labelAt cl z a ≡ labelAt cl z b) e (s .1 ∙ sym (t .1))))) (y .1) (y .2),
-        enough n (apart rows o q) g (length (y .0)) (r .4) (let z : length (y .0) * 1 ≤ length (y .0) * apart rows o q = mul-le-mul-left (length (y .0)) (pow-pos (count (on (only o q)) 6)) in let w = mul-one (length (y .0)) in let d = y .3 in omega arith),
+        pairs-map (In o l) (λ (a b : ℕ). labelAt cl q a ≡ labelAt cl q b → ⊥) (Blocks o) (y .0)
+            (λ a b s t d. absurd (d (subst (λ (z : ℕ). labelAt cl z a ≡ labelAt cl z b) e (s .1 ∙ sym (t .1))))) (y .1) (y .2),
+        enough n (apart rows o q) g (length (y .0)) (r .4) (let z : length (y .0) * 1 ≤ length (y .0) * apart rows o q = mul-le-mul-left (length (y .0)) (pow-pos (count (on (only o q)) 6)) in
+            let w = mul-one (length (y .0)) in let d = y .3 in omega arith),
       )
       go (no ne) y =
           let b = buckets (In o l) (λ (a b : ℕ). labelAt cl q a ≡ labelAt cl q b → ⊥) (λ (x : ℕ). bitAnd (f x) (common o q)) (apart rows o q)
-          (λ key xs a s. pigeon f (only o q) 6 xs (pairs-map (λ (x : ℕ). In o l x × (bitAnd (f x) (common o q) ≡ key)) (λ (a b : ℕ). labelAt cl q a ≡ labelAt cl q b → ⊥) (λ (x y : ℕ). Agree 6 (only o q) (f x) (f y) → ⊥) xs
+          (λ key xs a s. pigeon f (only o q) 6 xs (pairs-map (λ (x : ℕ). In o l x × (bitAnd (f x) (common o q) ≡ key)) (λ (a b : ℕ). labelAt cl q a ≡ labelAt cl q b → ⊥)
+          (λ (x y : ℕ). Agree 6 (only o q) (f x) (f y) → ⊥) xs
           (λ x y m t d w. d (class-same o q x y h (r .2) (m .0 .0) (t .0 .0) (m .1 ∙ sym (t .1)) w)) a s)) (y .0) (y .1) (y .2) in (
             b .0,
             b .1,
@@ -95,7 +103,8 @@ module _ (cl rows : List ℕ) (sh v j : ℕ) (ms ps caps spots : List ℕ) (shor
             enough n (apart rows o q) g (length (b .0)) (r .4) (let z = b .3 in let w = y .3 in omega arith),
           )
 
-pub bounds-of : (cl rows : List ℕ) (sh v j : ℕ) (ms ps caps spots base : List ℕ) → Short rows j → Common rows j sh → Planned rows sh j ms ps caps spots → Based cl rows v j (j * 32) base → Bounds cl base rows sh ms v j
+pub bounds-of : (cl rows : List ℕ) (sh v j : ℕ) (ms ps caps spots base : List ℕ) → Short rows j → Common rows j sh
+    → Planned rows sh j ms ps caps spots → Based cl rows v j (j * 32) base → Bounds cl base rows sh ms v j
 bounds-of cl rows sh v j ms ps caps spots base short c p b = record {
   needs = λ f k o l h i.
       needs-of cl rows sh v j ms ps caps spots short c p f k o l (labelAt base o l) h

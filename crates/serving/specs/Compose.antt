@@ -111,7 +111,8 @@ unfolding lutsBuilt
 luts-length d codes zero j = refl
 luts-length d codes (suc k) j = ap suc (luts-length d codes k (suc j))
 
-pub node-built : (d : Design) (u : ℕ) (rows codes : ℕ → ℕ) (k j o : ℕ) → o < k → getD (nodesBuilt d u rows codes k j) o (record { reads = []; digits = [] }) ≡ nodeBuilt d codes (j + o) (numbers u 0 (rows (j + o)))
+pub node-built : (d : Design) (u : ℕ) (rows codes : ℕ → ℕ) (k j o : ℕ) → o < k → getD (nodesBuilt d u rows codes k j) o (record { reads = []; digits = [] }) ≡ nodeBuilt d codes (j + o)
+    (numbers u 0 (rows (j + o)))
 unfolding nodesBuilt
 node-built d u rows codes zero j o h = absurd (omega arith)
 node-built d u rows codes (suc k) j zero h = ap (λ (n : ℕ). nodeBuilt d codes n (numbers u 0 (rows n))) (sym (add-zero j))
@@ -155,7 +156,11 @@ head-same a b l m e = ap (λ (x : List Bool). getD x 0 false) e
 tail-same : (a b : Bool) (l m : List Bool) → a ∷ l ≡ b ∷ m → l ≡ m
 tail-same a b l m e = cc
 
-apart-here : (o x y : ℕ) (rows codes : ℕ → ℕ) (k i : ℕ) (b : Bool) → on (rows o) i ≡ b → map (on (codes x)) (pick b (i ∷ numbers k (suc i) (rows o)) (numbers k (suc i) (rows o))) ≡ map (on (codes y)) (pick b (i ∷ numbers k (suc i) (rows o)) (numbers k (suc i) (rows o))) → (map (on (codes x)) (numbers k (suc i) (rows o)) ≡ map (on (codes y)) (numbers k (suc i) (rows o)) → Apart o x y (cellsFrom k (suc i) rows codes) → ⊥) → ((on (rows o) i ≡ true) × (on (codes x) i ≡ on (codes y) i → ⊥)) ⊎ Apart o x y (cellsFrom k (suc i) rows codes) → ⊥
+apart-here : (o x y : ℕ) (rows codes : ℕ → ℕ) (k i : ℕ) (b : Bool) → on (rows o) i ≡ b
+    → map (on (codes x)) (pick b (i ∷ numbers k (suc i) (rows o)) (numbers k (suc i) (rows o))) ≡ map (on (codes y)) (pick b (i ∷ numbers k (suc i) (rows o)) (numbers k (suc i) (rows o)))
+    → (map (on (codes x)) (numbers k (suc i) (rows o)) ≡ map (on (codes y)) (numbers k (suc i) (rows o)) → Apart o x y (cellsFrom k (suc i) rows codes) → ⊥)
+    → ((on (rows o) i ≡ true) × (on (codes x) i ≡ on (codes y) i → ⊥)) ⊎ Apart o x y (cellsFrom k (suc i) rows codes)
+    → ⊥
 apart-here o x y rows codes k i true r e ih a =
     ⊎-elim
     (λ p. p .1 (head-same (on (codes x) i) (on (codes y) i) (map (on (codes x)) (numbers k (suc i) (rows o))) (map (on (codes y)) (numbers k (suc i) (rows o))) e))
@@ -180,19 +185,25 @@ code-values is m n e =
 module _ (d : Design) (u : ℕ) (rows codes : ℕ → ℕ) (p : Parts (d .inputs) (d .bound)) (q : Columns d)
     (serves : ServesDesign d (coreOf u rows codes)) where
   -- vertices with one code in the tables that o reads have one column
-  one-code : (o x y : ℕ) → o < length (d .outputs) → x < vertexCount (d .bound) → y < vertexCount (d .bound) → codeIn (numbers u 0 (rows o)) (codes x) ≡ codeIn (numbers u 0 (rows o)) (codes y) → (z : ℕ) → z < freeCount (d .inputs) (d .bound) → valueAt d (d .bound) o x z ≡ valueAt d (d .bound) o y z
+  one-code : (o x y : ℕ) → o < length (d .outputs) → x < vertexCount (d .bound) → y < vertexCount (d .bound)
+      → codeIn (numbers u 0 (rows o)) (codes x) ≡ codeIn (numbers u 0 (rows o)) (codes y) → (z : ℕ)
+      → z < freeCount (d .inputs) (d .bound) → valueAt d (d .bound) o x z ≡ valueAt d (d .bound) o y z
   one-code o x y h a b e z c =
       q .agree-at o x y (λ f. not-apart o x y rows codes u 0 (code-values (numbers u 0 (rows o)) (codes x) (codes y) e) (serves .tells o x y h a b f)) z c
 
   -- the entry at a vertex's code and a free row is the vertex's value there
-  entry-right : (o x z j : ℕ) → o < length (d .outputs) → x < vertexCount (d .bound) → z < freeCount (d .inputs) (d .bound) → j ≡ codeIn (numbers u 0 (rows o)) (codes x) * freeCount (d .inputs) (d .bound) + z → entry d codes o (numbers u 0 (rows o)) j ≡ valueAt d (d .bound) o x z
+  entry-right : (o x z j : ℕ) → o < length (d .outputs) → x < vertexCount (d .bound)
+      → z < freeCount (d .inputs) (d .bound)
+      → j ≡ codeIn (numbers u 0 (rows o)) (codes x) * freeCount (d .inputs) (d .bound) + z
+      → entry d codes o (numbers u 0 (rows o)) j ≡ valueAt d (d .bound) o x z
   unfolding entry
   entry-right o x z j h a c e =
       let is = numbers u 0 (rows o) in
       let fl = length (free (d .inputs) (d .bound)) in
       let hi : j / freeCount (d .inputs) (d .bound) ≡ codeIn is (codes x) = ap (λ (n : ℕ). n / freeCount (d .inputs) (d .bound)) e ∙ high (codeIn is (codes x)) fl c in
       let lo : j % freeCount (d .inputs) (d .bound) ≡ z = ap (λ (n : ℕ). n % freeCount (d .inputs) (d .bound)) e ∙ low (codeIn is (codes x)) fl c in
-      let f = first-found (λ y. eqb (codeIn is (codes y)) (j / freeCount (d .inputs) (d .bound))) (vertexCount (d .bound)) 0 x (omega arith) (omega arith) (eq-eqb (codeIn is (codes x)) (j / freeCount (d .inputs) (d .bound)) (sym hi)) in
+      let f = first-found (λ y. eqb (codeIn is (codes y)) (j / freeCount (d .inputs) (d .bound))) (vertexCount (d .bound)) 0 x (omega arith) (omega arith)
+      (eq-eqb (codeIn is (codes x)) (j / freeCount (d .inputs) (d .bound)) (sym hi)) in
       ap₂ (λ (r : ℕ) (t : Option ℕ). entryAt d o r t) lo (f .is)
       ∙ one-code o (f .at) x h (omega (arith, f .below)) a (eqb-true (codeIn is (codes (f .at))) (j / freeCount (d .inputs) (d .bound)) (f .passes) ∙ hi) z c
 
@@ -208,7 +219,8 @@ module _ (d : Design) (u : ℕ) (rows codes : ℕ → ℕ) (p : Parts (d .inputs
   node-is o h = node-built d u rows codes (length (d .outputs)) 0 o h ∙ ap (λ (n : ℕ). nodeBuilt d codes n (numbers u 0 (rows n))) (zero-add o)
 
   -- the network has each output's value at every vertex and free row
-  at-parts : (o x z : ℕ) → o < length (d .outputs) → x < vertexCount (d .bound) → z < freeCount (d .inputs) (d .bound) → networkOn d (built d u rows codes) o (joinRow (d .inputs) (d .bound) x z) ≡ valueAt d (d .bound) o x z
+  at-parts : (o x z : ℕ) → o < length (d .outputs) → x < vertexCount (d .bound) → z < freeCount (d .inputs) (d .bound)
+      → networkOn d (built d u rows codes) o (joinRow (d .inputs) (d .bound) x z) ≡ valueAt d (d .bound) o x z
   unfolding nodeBuilt codeIn
   at-parts o x z h a c =
       let is = numbers u 0 (rows o) in
@@ -229,7 +241,8 @@ module _ (d : Design) (u : ℕ) (rows codes : ℕ → ℕ) (p : Parts (d .inputs
 
   free-below : (r : ℕ) → freeRowOf (d .inputs) (d .bound) r < freeCount (d .inputs) (d .bound)
   unfolding freeRowOf
-  free-below r = subst (λ (n : ℕ). rowOf (map (onRow (d .inputs) r) (free (d .inputs) (d .bound))) < 2 ^ n) (length-map (free (d .inputs) (d .bound)) (onRow (d .inputs) r)) (row-lt (map (onRow (d .inputs) r) (free (d .inputs) (d .bound))))
+  free-below r = subst (λ (n : ℕ). rowOf (map (onRow (d .inputs) r) (free (d .inputs) (d .bound))) < 2 ^ n) (length-map (free (d .inputs) (d .bound)) (onRow (d .inputs) r))
+      (row-lt (map (onRow (d .inputs) r) (free (d .inputs) (d .bound))))
 
   pub built-right : (o r : ℕ) → o < length (d .outputs) → r < 2 ^ length (d .inputs) → networkOn d (built d u rows codes) o r ≡ outputOn d o r
   unfolding valueAt

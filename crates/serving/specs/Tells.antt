@@ -81,13 +81,16 @@ map-same f g (i ∷ is) h = ap₂ (λ (b : Bool) (l : List Bool). b ∷ l) (h i)
 
 module _ (d : Design) (w : Network) (p : Parts (d .inputs) (d .bound)) where
   -- the free inputs' values on a row do not depend on its vertex
-  free-values : (x z : ℕ) → x < vertexCount (d .bound) → z < freeCount (d .inputs) (d .bound) → map (onRow (d .inputs) (joinRow (d .inputs) (d .bound) x z)) (free (d .inputs) (d .bound)) ≡ valuesOf (length (free (d .inputs) (d .bound))) z
+  free-values : (x z : ℕ) → x < vertexCount (d .bound) → z < freeCount (d .inputs) (d .bound)
+      → map (onRow (d .inputs) (joinRow (d .inputs) (d .bound) x z)) (free (d .inputs) (d .bound)) ≡ valuesOf (length (free (d .inputs) (d .bound))) z
   unfolding freeRowOf
   free-values x z a b =
       let l = map (onRow (d .inputs) (joinRow (d .inputs) (d .bound) x z)) (free (d .inputs) (d .bound)) in
       sym (values-row l) ∙ ap₂ valuesOf (length-map (free (d .inputs) (d .bound)) (onRow (d .inputs) (joinRow (d .inputs) (d .bound) x z))) (p .free-of x z a b)
 
-  pub node-at : (o x z : ℕ) → x < vertexCount (d .bound) → z < freeCount (d .inputs) (d .bound) → networkOn d w o (joinRow (d .inputs) (d .bound) x z) ≡ getD (nodeOf w o .digits) (rowOf (map (λ i. lutAt w i x) (nodeOf w o .reads) ++ valuesOf (length (free (d .inputs) (d .bound))) z)) false
+  pub node-at : (o x z : ℕ) → x < vertexCount (d .bound) → z < freeCount (d .inputs) (d .bound)
+      → networkOn d w o (joinRow (d .inputs) (d .bound) x z) ≡ getD (nodeOf w o .digits) (rowOf (map (λ i. lutAt w i x) (nodeOf w o .reads) ++ valuesOf (length (free (d .inputs) (d .bound))) z))
+      false
   unfolding networkOn nodeRow lutOn
   node-at o x z a b =
       ap₂ (λ (u v : List Bool). getD (nodeOf w o .digits) (rowOf (u ++ v)) false)
@@ -102,7 +105,9 @@ module _ (d : Design) (w : Network) (p : Parts (d .inputs) (d .bound))
   unfolding valueAt
   value-right o x z h = sym (right o (joinRow (d .inputs) (d .bound) x z) h (p .inside x z))
 
-  pub one-column : (o x y : ℕ) → o < length (d .outputs) → x < vertexCount (d .bound) → y < vertexCount (d .bound) → map (λ i. lutAt w i x) (nodeOf w o .reads) ≡ map (λ i. lutAt w i y) (nodeOf w o .reads) → (z : ℕ) → z < freeCount (d .inputs) (d .bound) → valueAt d (d .bound) o x z ≡ valueAt d (d .bound) o y z
+  pub one-column : (o x y : ℕ) → o < length (d .outputs) → x < vertexCount (d .bound) → y < vertexCount (d .bound)
+      → map (λ i. lutAt w i x) (nodeOf w o .reads) ≡ map (λ i. lutAt w i y) (nodeOf w o .reads) → (z : ℕ)
+      → z < freeCount (d .inputs) (d .bound) → valueAt d (d .bound) o x z ≡ valueAt d (d .bound) o y z
   one-column o x y h a b e z c =
       value-right o x z h ∙ node-at d w p o x z a c
       ∙ ap (λ (l : List Bool). getD (nodeOf w o .digits) (rowOf (l ++ valuesOf (length (free (d .inputs) (d .bound))) z)) false) e
@@ -201,7 +206,11 @@ unfolding networkCore
 core-length w = cells-count w (length (w .luts)) 0
 
 -- Theorem A, one way: a network with the design's value on every row, each node within its budget, has a core that serves
-pub network-serves : (d : Design) (w : Network) → Parts (d .inputs) (d .bound) → Columns d → ((o r : ℕ) → o < length (d .outputs) → r < 2 ^ length (d .inputs) → networkOn d w o r ≡ outputOn d o r) → ((o i : ℕ) → o < length (d .outputs) → has i (nodeOf w o .reads) ≡ true → i < length (w .luts)) → ((o : ℕ) → o < length (d .outputs) → length (nodeOf w o .reads) ≤ budget d (d .bound) o) → ServesDesign d (networkCore w)
+pub network-serves : (d : Design) (w : Network) → Parts (d .inputs) (d .bound) → Columns d
+    → ((o r : ℕ) → o < length (d .outputs) → r < 2 ^ length (d .inputs) → networkOn d w o r ≡ outputOn d o r)
+    → ((o i : ℕ) → o < length (d .outputs) → has i (nodeOf w o .reads) ≡ true → i < length (w .luts))
+    → ((o : ℕ) → o < length (d .outputs) → length (nodeOf w o .reads) ≤ budget d (d .bound) o)
+    → ServesDesign d (networkCore w)
 network-serves d w p q right known within =
     record {
       tells = network-tells d w p q right known;

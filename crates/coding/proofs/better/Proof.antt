@@ -11,11 +11,9 @@ use Rattle.coding.proofs.better.Tie as tie
 use Rattle.coding.proofs.better.Reads as reads
 use Rattle.coding.proofs.better.Lts as lts
 
--- src/lib.rt:184:1
 returns : tie.Need-returns
 returns c = λ e. absurd (true-false e)
 
--- src/lib.rt:184:1
 returns-2 : tie.Need-returns-2
 returns-2 c = λ e. c .if1 .left
 

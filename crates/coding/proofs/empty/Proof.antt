@@ -17,35 +17,27 @@ Inv-loop v dom y₀ y = y ≤ v
 abbrev μ-loop : tie.MeasureT-loop
 μ-loop v dom y₀ y = v - y
 
--- src/lib.rt:18:5
 loop-holds : tie.Need-loop-holds Inv-loop μ-loop
 loop-holds c = search needs
 
--- src/lib.rt:19:12
 mul-if1 : tie.Need-mul-if1 Inv-loop μ-loop
 mul-if1 c = let h = c .loop-test .taken in let z = c .before .before .pre in search needs
 
--- src/lib.rt:19:12
 array-read-if1 : tie.Need-array-read-if1 Inv-loop μ-loop
 array-read-if1 c = let h = c .loop-test .taken in let z = c .before .before .pre in search needs
 
--- src/lib.rt:20:13
 returns : tie.Need-returns Inv-loop μ-loop
 returns c = λ e. (c .before .before .loop .y, c .before .loop-test .taken, c .if1 .taken)
 
--- src/lib.rt:22:9
 add-y : tie.Need-add-y Inv-loop μ-loop
 add-y c = search needs
 
--- src/lib.rt:18:5
 loop-less : tie.Need-loop-less Inv-loop μ-loop
 loop-less c = search needs
 
--- src/lib.rt:18:5
 loop-again : tie.Need-loop-again Inv-loop μ-loop
 loop-again c = search needs
 
--- src/lib.rt:13:1
 returns-2 : tie.Need-returns-2 Inv-loop μ-loop
 returns-2 c = λ e. absurd (true-false (sym e))
 

@@ -20,51 +20,49 @@ Inv-loop v can dom codes best₀ least₀ y₀ best least y = (y ≤ v) × Seeki
 abbrev μ-loop : tie.MeasureT-loop
 μ-loop v can dom codes best₀ least₀ y₀ best least y = v - y
 
--- src/lib.rt:198:5
 loop-holds : tie.Need-loop-holds Inv-loop μ-loop
 loop-holds c = (omega arith, seeking-start (c .args .t2))
 
--- src/lib.rt:199:12
 array-read-if1 : tie.Need-array-read-if1 Inv-loop μ-loop
 array-read-if1 c = let h = c .loop-test .taken in let z = c .before .before .pre in search needs
 
--- src/lib.rt:200:37
 mul-n : tie.Need-mul-n Inv-loop μ-loop
 mul-n c = let h = c .before .loop-test .taken in let z = c .before .before .before .pre in search needs
 
--- src/lib.rt:200:37
 array-read-n : tie.Need-array-read-n Inv-loop μ-loop
 array-read-n c = let h = c .before .loop-test .taken in let z = c .before .before .before .pre in search needs
 
--- src/lib.rt:201:16
 better-requires : tie.Need-better-requires Inv-loop μ-loop
 better-requires c κs = search needs
 
--- src/lib.rt:206:9
 add-y : tie.Need-add-y Inv-loop μ-loop
 add-y c = search needs
 
--- src/lib.rt:198:5
 loop-less : tie.Need-loop-less Inv-loop μ-loop
 loop-less c = search needs
 
--- src/lib.rt:198:5
 loop-again : tie.Need-loop-again Inv-loop μ-loop
 loop-again c =
-    let h = c .before .loop-test .taken in
-    let z = c .before .before .before .pre in (
+    let loop-test = c .before .loop-test in
+    let loop = c .before .before .loop in
+    let args = c .before .before .before .args in
+    let pre = c .before .before .before .pre in
+    let h = loop-test .taken in
+    let z = pre in (
       omega arith,
       ⊎-elim
-          (λ w. seeking-better (c .before .before .before .args .t2) (c .before .before .loop .y) (c .before .before .loop .best) _ (omega arith) (w .0 .taken) (w .3) (c .before .before .loop .inv .1))
+          (λ w. seeking-better (args .t2) (loop .y) (loop .best) _ (omega arith) (w .0 .taken) (w .3) (loop .inv .1))
           (⊎-elim
-          (λ w. seeking-worse (c .before .before .before .args .t2) (c .before .before .loop .y) (c .before .before .loop .best) _ (w .1 .ensures (w .2 .left)) (w .3) (c .before .before .loop .inv .1))
-          (λ w. seeking-coded (c .before .before .before .args .t2) (c .before .before .loop .y) (c .before .before .loop .best) _ (w .0 .left) (w .1) (c .before .before .loop .inv .1)))
+          (λ w. seeking-worse (args .t2) (loop .y) (loop .best) _ (w .1 .ensures (w .2 .left)) (w .3) (loop .inv .1))
+          (λ w. seeking-coded (args .t2) (loop .y) (loop .best) _ (w .0 .left) (w .1) (loop .inv .1)))
           (c .if1 .came),
     )
 
--- src/lib.rt:191:1
 returns : tie.Need-returns Inv-loop μ-loop
-returns c = subst (λ (z : ℕ). Seeking (c .before .before .args .t2) z (c .before .loop .best)) (let h = c .loop-test .left in let z = c .before .loop .inv .0 in omega arith) (c .before .loop .inv .1)
+returns c =
+    let loop = c .before .loop in
+    let args = c .before .before .args in
+    subst (λ (z : ℕ). Seeking (args .t2) z (loop .best)) (let h = c .loop-test .left in let z = loop .inv .0 in omega arith) (loop .inv .1)
 
 pub pick-spec : {M : Type 1} → statement M
 pick-spec =

@@ -7,15 +7,12 @@ use Rattle.holding.proofs.inside.Reads as reads
 use Rattle.holding.proofs.inside.Lts as lts
 use Rattle.cells.proofs.in_set.Reads as in-set-reads
 
--- src/lib.rt:175:17
 in-set-requires : tie.Need-in-set-requires
 in-set-requires c κs = c .if1 .taken
 
--- src/lib.rt:172:1
 returns : tie.Need-returns
 returns c = λ e. (c .before .if1 .taken, sym (c .in-set .ensures) ∙ e)
 
--- src/lib.rt:172:1
 returns-2 : tie.Need-returns-2
 returns-2 c = λ e. absurd (true-false (sym e))
 

@@ -10,31 +10,24 @@ use Rattle.holding.proofs.keep.Tie as tie
 use Rattle.holding.proofs.keep.Reads as reads
 use Rattle.holding.proofs.keep.Lts as lts
 
--- src/lib.rt:192:13
 returns : tie.Need-returns
 returns c = λ k l s. s .held (c .before .if1 .taken) (c .if2 .taken)
 
--- src/lib.rt:194:24
 add-if3 : tie.Need-add-if3
 add-if3 c = let z = c .before .pre in search needs
 
--- src/lib.rt:195:20
 add-if4 : tie.Need-add-if4
 add-if4 c = let z = c .before .before .pre in search needs
 
--- src/lib.rt:196:13
 returns-2 : tie.Need-returns-2
 returns-2 c = λ k l s. on-either (c .before .before .before .args .own) (c .before .before .before .args .meet) k (s .near (c .before .if3 .taken) (c .if4 .taken))
 
--- src/lib.rt:186:1
 returns-3 : tie.Need-returns-3
 returns-3 c = λ k l s. on-ones 64 k l
 
--- src/lib.rt:186:1
 returns-4 : tie.Need-returns-4
 returns-4 c = λ k l s. on-ones 64 k l
 
--- src/lib.rt:186:1
 returns-5 : tie.Need-returns-5
 returns-5 c = λ k l s. on-ones 64 k l
 

@@ -23,50 +23,51 @@ Inv-loop base o owns t₀ l₀ t l = (l ≤ 32) × (t ≤ l * 255) × (t ≡ sum
 abbrev μ-loop : tie.MeasureT-loop
 μ-loop base o owns t₀ l₀ t l = 32 - l
 
--- src/lib.rt:86:5
 loop-holds : tie.Need-loop-holds Inv-loop μ-loop
 unfolding sum
 loop-holds c = (omega arith, omega arith, refl)
 
--- src/lib.rt:87:21
 array-read-larger : tie.Need-array-read-larger Inv-loop μ-loop
 array-read-larger c = search needs
 
--- src/lib.rt:87:30
 label-requires : tie.Need-label-requires Inv-loop μ-loop
 label-requires c κs = let h = c .loop-test .taken in (c .before .before .before .pre .0, c .before .before .before .pre .1, h)
 
--- src/lib.rt:87:14
 larger-requires : tie.Need-larger-requires Inv-loop μ-loop
 larger-requires c κs = search needs
 
--- src/lib.rt:87:14
 cast-t : tie.Need-cast-t Inv-loop μ-loop
 cast-t c = let z = c .larger .ensures .1 in record { fits = omega arith }
 
--- src/lib.rt:87:9
 add-t : tie.Need-add-t Inv-loop μ-loop
 add-t c = let z = c .larger .ensures .1 in let w = c .before .before .before .loop .inv .1 in let h = c .before .before .loop-test .taken in record { fits = omega arith }
 
--- src/lib.rt:88:9
 add-l : tie.Need-add-l Inv-loop μ-loop
 add-l c = search needs
 
--- src/lib.rt:86:5
 loop-less : tie.Need-loop-less Inv-loop μ-loop
 loop-less c = search needs
 
--- src/lib.rt:86:5
 loop-again : tie.Need-loop-again Inv-loop μ-loop
 loop-again c =
-    let h = c .before .before .loop-test .taken in
+    let label = c .before .label in
+    let loop-test = c .before .before .loop-test in
+    let loop = c .before .before .before .loop in
+    let args = c .before .before .before .before .before .args in
+    let h = loop-test .taken in
     let z = c .larger .ensures .1 in
-    let w = c .before .before .before .loop .inv .1 in
-    (omega arith, omega arith, sum-next (need (c .before .before .before .before .before .args .t3) (c .before .before .before .before .before .args .base .now) (c .before .before .before .before .before .args .o)) (c .before .before .before .loop .l) (c .before .before .before .loop .t) (c .larger .result) (c .larger .ensures .0 ∙ ap (max (getD (c .before .before .before .before .before .args .t3) (c .before .before .before .loop .l) 0)) (c .before .label .ensures)) (c .before .before .before .loop .inv .2))
+    let w = loop .inv .1 in (
+      omega arith,
+      omega arith,
+      sum-next (need (args .t3) (args .base .now) (args .o)) (loop .l) (loop .t) (c .larger .result)
+          (c .larger .ensures .0 ∙ ap (max (getD (args .t3) (loop .l) 0)) (label .ensures)) (loop .inv .2),
+    )
 
--- src/lib.rt:80:1
 returns : tie.Need-returns Inv-loop μ-loop
-returns c = c .before .loop .inv .2 ∙ ap (sum (need (c .before .before .before .args .t3) (c .before .before .before .args .base .now) (c .before .before .before .args .o))) (let z = c .loop-test .left in let w = c .before .loop .inv .0 in omega arith)
+returns c =
+    let loop = c .before .loop in
+    let args = c .before .before .before .args in
+    loop .inv .2 ∙ ap (sum (need (args .t3) (args .base .now) (args .o))) (let z = c .loop-test .left in let w = loop .inv .0 in omega arith)
 
 pub total-spec : {M : Type 1} → statement M
 total-spec =

@@ -11,23 +11,21 @@ use Rattle.memory.proofs.is_bad.Reads as reads
 use Rattle.memory.proofs.is_bad.Lts as lts
 use Rattle.memory.proofs.place.Reads as place-reads
 
--- src/lib.rt:32:9
 place-requires : tie.Need-place-requires
 place-requires c κs = search needs
 
--- src/lib.rt:33:13
 mul-w : tie.Need-mul-w
 mul-w c = search needs
 
--- src/lib.rt:33:13
 array-read-w : tie.Need-array-read-w
 array-read-w c = search needs
 
--- src/lib.rt:29:1
 returns : tie.Need-returns
-returns c = λ cl v s e. honest-found cl v (c .before .before .args .t1) (c .before .place .result) _ (c .before .before .args .k) (c .before .place .ensures) refl (c .if1 .taken) (eqb-true _ _ e) s
+returns c =
+    let place = c .before .place in
+    let args = c .before .before .args in
+    λ cl v s e. honest-found cl v (args .t1) (place .result) _ (args .k) (place .ensures) refl (c .if1 .taken) (eqb-true _ _ e) s
 
--- src/lib.rt:29:1
 returns-2 : tie.Need-returns-2
 returns-2 c = λ cl v s e. absurd (true-false (sym e))
 

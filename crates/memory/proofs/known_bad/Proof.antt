@@ -17,39 +17,30 @@ Inv-loop mem rows n from to a₀ a = 0 ≤ a
 abbrev μ-loop : tie.MeasureT-loop
 μ-loop mem rows n from to a₀ a = to - a
 
--- src/lib.rt:92:5
 loop-holds : tie.Need-loop-holds Inv-loop μ-loop
 loop-holds c = search needs
 
--- src/lib.rt:93:46
 cast-question : tie.Need-cast-question Inv-loop μ-loop
 cast-question c = let h = c .loop-test .taken in let b = c .before .before .pre .1 in record { fits = omega arith }
 
--- src/lib.rt:93:13
 question-requires : tie.Need-question-requires Inv-loop μ-loop
 question-requires c κs = (c .before .before .pre .0, c .before .before .pre .2)
 
--- src/lib.rt:94:12
 is-bad-requires : tie.Need-is-bad-requires Inv-loop μ-loop
 is-bad-requires c κs = search needs
 
--- src/lib.rt:95:13
 returns : tie.Need-returns Inv-loop μ-loop
 returns c = λ cl v s e. c .before .before .question .ensures .rules-out cl v (c .before .is-bad .ensures cl v s (c .if1 .taken))
 
--- src/lib.rt:97:9
 add-a : tie.Need-add-a Inv-loop μ-loop
 add-a c = let h = c .before .before .before .loop-test .taken in let b = c .before .before .before .before .before .pre .1 in omega arith
 
--- src/lib.rt:92:5
 loop-less : tie.Need-loop-less Inv-loop μ-loop
 loop-less c = search needs
 
--- src/lib.rt:92:5
 loop-again : tie.Need-loop-again Inv-loop μ-loop
 loop-again c = search needs
 
--- src/lib.rt:87:1
 returns-2 : tie.Need-returns-2 Inv-loop μ-loop
 returns-2 c = λ cl v s e. absurd (true-false (sym e))
 

@@ -9,23 +9,21 @@ use Rattle.memory.proofs.visit.Lts as lts
 use Rattle.memory.proofs.tell.Reads as tell-reads
 use Rattle.questions.proofs.question.Reads as question-reads
 
--- src/lib.rt:129:46
 cast-question : tie.Need-cast-question
 cast-question c = let b = c .before .before .pre .5 in record { fits = omega arith }
 
--- src/lib.rt:129:13
 question-requires : tie.Need-question-requires
 question-requires c κs = (c .before .before .pre .2, c .before .before .pre .3)
 
--- src/lib.rt:130:9
 tell-requires : tie.Need-tell-requires
 tell-requires c κs = (c .before .before .before .pre .0, c .before .before .before .pre .1, c .before .before .before .pre .4)
 
--- src/lib.rt:130:9
 returns : tie.Need-returns
-returns c = (c .tell .ensures .0, λ e. c .before .question .ensures .rules-out (c .before .before .before .before .args .cl .now) (c .before .before .before .before .args .v) (c .tell .ensures .1 e))
+returns c =
+    let question = c .before .question in
+    let args = c .before .before .before .before .args in
+    (c .tell .ensures .0, λ e. question .ensures .rules-out (args .cl .now) (args .v) (c .tell .ensures .1 e))
 
--- src/lib.rt:116:1
 returns-2 : tie.Need-returns-2
 returns-2 c = (c .before .before .pre .4, λ e. absurd (true-false e))
 

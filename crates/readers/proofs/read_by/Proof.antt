@@ -20,35 +20,27 @@ Inv-loop j i rows r₀ o₀ r o = o ≤ j
 abbrev μ-loop : tie.MeasureT-loop
 μ-loop j i rows r₀ o₀ r o = j - o
 
--- src/lib.rt:94:5
 loop-holds : tie.Need-loop-holds Inv-loop μ-loop
 loop-holds c = search needs
 
--- src/lib.rt:96:26
 array-read-in-set : tie.Need-array-read-in-set Inv-loop μ-loop
 array-read-in-set c = let h = c .loop-test .taken in let z = c .before .before .pre .0 in search needs
 
--- src/lib.rt:96:26
 cast-in-set : tie.Need-cast-in-set Inv-loop μ-loop
 cast-in-set c = search needs
 
--- src/lib.rt:96:12
 in-set-requires : tie.Need-in-set-requires Inv-loop μ-loop
 in-set-requires c κs = let z = c .before .before .pre .1 in omega arith
 
--- src/lib.rt:99:9
 add-o : tie.Need-add-o Inv-loop μ-loop
 add-o c = let h = c .before .before .loop-test .taken in let z = c .before .before .before .before .pre .0 in omega arith
 
--- src/lib.rt:94:5
 loop-less : tie.Need-loop-less Inv-loop μ-loop
 loop-less c = search needs
 
--- src/lib.rt:94:5
 loop-again : tie.Need-loop-again Inv-loop μ-loop
 loop-again c = search needs
 
--- src/lib.rt:89:1
 returns : tie.Need-returns Inv-loop μ-loop
 returns c = search needs
 

@@ -22,31 +22,28 @@ Inv-loop j g rows o₀ o = (o ≤ j) × ((q : ℕ) → q < o → Uniform (item r
 abbrev μ-loop : tie.MeasureT-loop
 μ-loop j g rows o₀ o = j - o
 
--- src/lib.rt:146:5
 loop-holds : tie.Need-loop-holds Inv-loop μ-loop
 loop-holds c = (omega arith, λ q h. absurd (omega arith))
 
--- src/lib.rt:147:17
 array-read-m : tie.Need-array-read-m Inv-loop μ-loop
 array-read-m c = let h = c .loop-test .taken in let z = c .before .before .pre in search needs
 
--- src/lib.rt:150:17
 returns : tie.Need-returns Inv-loop μ-loop
 returns c = λ e. absurd (true-false (sym e))
 
--- src/lib.rt:153:9
 add-o : tie.Need-add-o Inv-loop μ-loop
 add-o c = search needs
 
--- src/lib.rt:146:5
 loop-less : tie.Need-loop-less Inv-loop μ-loop
 loop-less c = search needs
 
--- src/lib.rt:146:5
 loop-again : tie.Need-loop-again Inv-loop μ-loop
-loop-again c = let h = c .before .loop-test .taken in (omega arith, uniform-more (c .before .before .before .args .t1) (c .before .before .before .args .g) (c .before .before .loop .o) (⊎-elim (λ w. inr (w .1 .left)) (λ w. inl (w .left)) (c .if1 .came)) (c .before .before .loop .inv .1))
+loop-again c =
+    let loop-test = c .before .loop-test in
+    let loop = c .before .before .loop in
+    let args = c .before .before .before .args in
+    let h = loop-test .taken in (omega arith, uniform-more (args .t1) (args .g) (loop .o) (⊎-elim (λ w. inr (w .1 .left)) (λ w. inl (w .left)) (c .if1 .came)) (loop .inv .1))
 
--- src/lib.rt:141:1
 returns-2 : tie.Need-returns-2 Inv-loop μ-loop
 returns-2 c = λ e o h. c .before .loop .inv .1 o (let z = c .loop-test .left in omega arith)
 

@@ -8,23 +8,18 @@ use Rattle.readers.proofs.useful.Lts as lts
 use Rattle.bounds.proofs.digits.Reads as digits-reads
 use Rattle.readers.proofs.uniform.Reads as uniform-reads
 
--- src/lib.rt:128:9
 returns : tie.Need-returns
 returns c = λ e. absurd (true-false (sym e))
 
--- src/lib.rt:130:8
 digits-requires : tie.Need-digits-requires
 digits-requires c κs = search needs
 
--- src/lib.rt:131:9
 returns-2 : tie.Need-returns-2
 returns-2 c = λ e. absurd (true-false (sym e))
 
--- src/lib.rt:133:5
 uniform-requires : tie.Need-uniform-requires
 uniform-requires c κs = search needs
 
--- src/lib.rt:123:1
 returns-3 : tie.Need-returns-3
 returns-3 c = λ e. (c .before .before .before .if1 .left, c .uniform .ensures e)
 

@@ -24,7 +24,10 @@ array-share-prefix-inputs : tie.Need-array-share-prefix-inputs
 array-share-prefix-inputs c = omega (arith, names-sized (c .before .before .args .k) (c .before .before .good .0))
 
 slice-aggregate-out-line : tie.Need-slice-aggregate-out-line
-slice-aggregate-out-line c = sym (length-take-le (c .before .before .before .args .k .inputs) (c .before .before .before .args .k .names) (omega (arith, names-sized (c .before .before .before .args .k) (c .before .before .before .good .0))))
+slice-aggregate-out-line c =
+    let args = c .before .before .before .args in
+    let good = c .before .before .before .good in
+    sym (length-take-le (args .k .inputs) (args .k .names) (omega (arith, names-sized (args .k) (good .0))))
 
 out-line-requires : tie.Need-out-line-requires
 out-line-requires c κs = search needs
@@ -34,10 +37,13 @@ refuse-requires c κs = search needs
 
 returns : tie.Need-returns
 returns c =
-    let k = c .before .before .before .before .before .before .before .before .args .k in
-    let w = c .before .before .before .before .out-line in
-    let missing = not-true (w .result .ok) (c .before .if1 .taken) in
-    λ d h. out-misspelled d k h (w .result) (c .refuse .result) (readOut (c .before .before .before .before .before .before .before .before .args .l .now)) (w .ensures) missing (c .refuse .ensures)
+    let if1 = c .before .if1 in
+    let out-line = c .before .before .before .before .out-line in
+    let args = c .before .before .before .before .before .before .before .before .args in
+    let k = args .k in
+    let w = out-line in
+    let missing = not-true (w .result .ok) (if1 .taken) in
+    λ d h. out-misspelled d k h (w .result) (c .refuse .result) (readOut (args .l .now)) (w .ensures) missing (c .refuse .ensures)
 
 -- past the test of the spelling: the sheet, the line's text, and what is read of it
 abbrev sheet-at : tie.Else1 → Sheet
@@ -106,15 +112,22 @@ onward-requires c κs = search needs
 
 returns-5 : tie.Need-returns-5
 returns-5 c =
-    let p = c .before .before .before .before .before .before .before .before .before .before in
+    let with-output = c .before .with-output in
+    let if5 = c .before .before .if5 in
+    let if4 = c .before .before .before .before .if4 in
+    let is-new = c .before .before .before .before .before .is-new in
+    let if3 = c .before .before .before .before .before .before .if3 in
+    let if2 = c .before .before .before .before .before .before .before .before .if2 in
+    let before = c .before .before .before .before .before .before .before .before .before .before in
+    let p = before in
     let q = c .onward in
-    let n = c .before .before .before .before .before .is-new in
-    let o = c .before .with-output in
-    let flat = ltb-false maxDepth (read-at p .depth) (c .before .before .before .before .before .before .if3 .left) in
-    let new = sym (not-false (n .result) (c .before .before .before .before .if4 .left)) in
-    let known = not-false (read-at p .known) (c .before .before .if5 .left) in
+    let n = is-new in
+    let o = with-output in
+    let flat = ltb-false maxDepth (read-at p .depth) (if3 .left) in
+    let new = sym (not-false (n .result) (if4 .left)) in
+    let known = not-false (read-at p .known) (if5 .left) in
     λ d h. spelled p d h (q .result) (λ x g.
-    out-passes d (sheet-at p) h (read-at p) (q .result) x g (c .before .before .before .before .before .before .before .before .if2 .left) flat (new ∙ n .ensures d h) (o .result) known (q .ensures) (o .ensures d x h))
+    out-passes d (sheet-at p) h (read-at p) (q .result) x g (if2 .left) flat (new ∙ n .ensures d h) (o .result) known (q .ensures) (o .ensures d x h))
 
 pub ask-out-spec : {M : Type 1} → statement M
 ask-out-spec =
