@@ -11,12 +11,11 @@ use native.Mathlib.Nat.{div-mul-le-self, suc-mul, one-mul, mod-eq-of-lt}
 use lib.Pow.{pow-lt, pow-pos, pow-mono}
 use lib.Bits.{bitAnd}
 use lib.Dec.{eqb}
-use lib.ListN.{length, getD, set, length-set}
+use lib.ListN.{length, set, length-set}
 use lib.Seq.{getD-set-same, getD-set-other}
 use borrow.Author.Tests.{eq-eqb}
 use Rattle.limits.specs.Limits.{maxVertices, labelCount, maxCells}
 use Rattle.bits.specs.Logic.{orb}
-use Rattle.bits.specs.LogicLaws.{true-false}
 use Rattle.bits.specs.Digit.{on}
 use Rattle.cells.specs.Lists.{All, Pairs, count, all-map, less-or-equal, never-both, or-on}
 use Rattle.cells.specs.Sets.{With}

@@ -7,7 +7,6 @@ use mathlib.Core.Bool.{Bool, true, false}
 use mathlib.Core.List.{List, [], _∷_}
 use mathlib.Core.Logic.{_⊎_, inl, inr, ⊎-elim}
 use Prim.Native.Nat.{ℕ, zero, suc, _+_, _-_, _*_, _/_, _%_, _^_, min, _≤_, _<_}
-use native.Mathlib.Decide.{decLt}
 use native.Mathlib.Omega.{arith}
 use native.Mathlib.Nat.{pow-suc}
 use native.Mathlib.Numerals.{one-add}
@@ -15,13 +14,12 @@ use lib.Bits.{bitAnd}
 use lib.Dec.{eqb}
 use lib.ListN.{length}
 use lib.Pow.{shr-shr}
-use Rattle.bits.specs.Logic.{andb}
 use Rattle.bits.specs.LogicLaws.{true-false}
 use Rattle.bits.specs.Digit.{digit, on}
 use Rattle.bits.specs.DigitLaws.{on-zero}
 use Rattle.cells.specs.Core.{Cell, Apart, bit, reading, Serves, ZeroFirst, cellsFrom, coreOf}
 use Rattle.cells.specs.Lists.{count, bit-le, less-or-equal, never-both, count-alike}
-use Rattle.cells.specs.Pigeon.{Agree, agree-and, and-agree}
+use Rattle.cells.specs.Pigeon.{agree-and, and-agree}
 use Rattle.cells.specs.Free.{retabled, retabled-length, retabled-reading, retabled-apart, zeroed, zeroed-first, zeroed-same, filled, filled-length, filled-apart}
 use Rattle.cells.specs.Free.{filled-reading, padded, padded-length, padded-serves}
 use Rattle.cells.specs.Sorted.{Sorted, sort, sort-apart, sort-reading, sort-length, sort-sorted, neighbours}

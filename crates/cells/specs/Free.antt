@@ -1,7 +1,7 @@
 -- What may be changed in a core that serves, for any conflict: complementing tables so that each is 0 at vertex 0, seeing
 -- the tables through a map of vertices (so that each is constant on joint classes), reading more cells up to the budget,
 -- and adding idle cells. Each change keeps every pair of vertices apart that was apart. Assumes nothing.
-use mathlib.Core.Path.{_≡_, refl, sym, ap, _∙_, subst}
+use mathlib.Core.Path.{_≡_, refl, sym, ap, subst}
 use mathlib.Core.Bool.{Bool, true, false, not}
 use mathlib.Core.List.{List, [], _∷_}
 use mathlib.Core.Logic.{_⊎_, inl, inr, ⊎-elim}

@@ -3,8 +3,8 @@
 -- Buckets: where each bucket holds at most n, a list has at most n times as many elements as buckets. Assumes nothing.
 use mathlib.Core.Path.{_≡_, refl, sym, ap, _∙_, subst}
 use mathlib.Core.Bool.{Bool, true, false, not}
-use mathlib.Core.List.{List, [], _∷_, _++_}
-use mathlib.Core.Logic.{_⊎_, inl, inr, ⊎-elim}
+use mathlib.Core.List.{List, [], _∷_}
+use mathlib.Core.Logic.{_⊎_, ⊎-elim}
 use Prim.Native.Nat.{ℕ, zero, suc, _+_, _*_, _^_, _≤_, _<_}
 use native.Mathlib.Omega.{arith}
 use native.Mathlib.Nat.{pow-suc, suc-mul}
@@ -12,13 +12,12 @@ use native.Mathlib.Decide.{decLt}
 use lib.Bits.{bitAnd}
 use lib.Dec.{eqb}
 use lib.ListN.{length}
-use borrow.Author.Tests.{eq-eqb, ne-eqb, eqb-true, eqb-false, not-true}
+use borrow.Author.Tests.{eq-eqb, eqb-true, eqb-false, not-true}
 use Rattle.bits.specs.Logic.{andb}
-use Rattle.bits.specs.LogicLaws.{true-false}
 use Rattle.bits.specs.Digit.{on}
 use Rattle.bits.specs.DigitLaws.{on-and, on-above, equal-digits}
 use Rattle.cells.specs.Core.{bit}
-use Rattle.cells.specs.Lists.{All, Pairs, keep, part, count, bit-le, less-or-equal, never-both, all-map, all-both, pairs-map, all-part, part-has, pairs-part, part-length, and-off, and-on}
+use Rattle.cells.specs.Lists.{All, Pairs, part, count, less-or-equal, never-both, all-map, all-both, pairs-map, all-part, part-has, pairs-part, part-length, and-off, and-on}
 
 -- a and b agree in the digits of mask below u
 abbrev pub Agree : ℕ → ℕ → ℕ → ℕ → Type 0

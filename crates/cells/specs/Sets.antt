@@ -1,18 +1,16 @@
 -- Sets of numbers below 64 as the digits of one number: one more element, one less, and the lowest. Assumes nothing.
-use mathlib.Core.Path.{_≡_, refl, sym, ap, ap₂, _∙_, subst}
+use mathlib.Core.Path.{_≡_, refl, sym, ap, _∙_}
 use mathlib.Core.Bool.{Bool, true, false, not}
-use mathlib.Core.Logic.{_⊎_, inl, inr, ⊎-elim}
-use Prim.Native.Nat.{ℕ, zero, suc, _+_, _-_, _*_, _/_, _%_, _^_, _≤_, _<_}
+use Prim.Native.Nat.{ℕ, zero, suc, _-_, _*_, _/_, _%_, _^_, _≤_, _<_}
 use native.Mathlib.Decide.{ℕ-discrete, decLt}
 use native.Mathlib.Omega.{arith}
 use native.Mathlib.Nat.{pow-suc}
 use lib.Bits.{bitAnd, bitOr, and-le-l}
 use lib.Count.{trailingZeros, under}
 use lib.Dec.{eqb}
-use lib.Pow.{pow-lt, pow-pos}
+use lib.Pow.{pow-lt}
 use borrow.Author.Tests.{eq-eqb, ne-eqb}
 use Rattle.bits.specs.Logic.{andb, orb}
-use Rattle.bits.specs.LogicLaws.{true-false}
 use Rattle.bits.specs.Digit.{digit, on}
 use Rattle.bits.specs.DigitLaws.{on-and, on-or, on-zero, on-single, on-complement}
 use Rattle.cells.specs.Lists.{never-both, and-off, and-on}

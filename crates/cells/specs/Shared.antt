@@ -3,11 +3,10 @@
 -- shared cells stand for a core when no block of an output holds more classes than 2 to the number of its private cells.
 -- Here is what every core that tells apart says of its codes over the shared cells; the way back numbers the classes
 -- (see Numbering). Conflict is "the classes differ" throughout: counting the classes of a block asks for that. Assumes nothing.
-use mathlib.Core.Path.{_≡_, refl, sym, ap, _∙_, subst}
+use mathlib.Core.Path.{_≡_, refl, sym, ap, _∙_}
 use mathlib.Core.Bool.{Bool, true, false}
-use mathlib.Core.List.{List, [], _∷_, _++_}
-use mathlib.Core.Logic.{_⊎_, inl, inr, ⊎-elim}
-use Prim.Native.Nat.{ℕ, zero, suc, _+_, _*_, _^_, _≤_, _<_}
+use mathlib.Core.List.{List, [], _++_}
+use Prim.Native.Nat.{ℕ, zero, suc, _+_, _^_, _≤_, _<_}
 use native.Mathlib.Decide.{ℕ-discrete}
 use native.Mathlib.Omega.{arith}
 use lib.Bits.{bitAnd}
@@ -17,7 +16,7 @@ use Rattle.bits.specs.LogicLaws.{true-false}
 use Rattle.bits.specs.Digit.{on}
 use Rattle.bits.specs.DigitLaws.{on-and}
 use Rattle.cells.specs.Core.{Differ}
-use Rattle.cells.specs.Lists.{All, Pairs, count, sum, all-map, all-both, all-append, pairs-append, pairs-map, less-or-equal, and-on}
+use Rattle.cells.specs.Lists.{All, Pairs, count, sum, all-map, all-append, pairs-append, pairs-map, and-on}
 use Rattle.cells.specs.Pigeon.{Agree, agree-and, and-agree, pigeon}
 use Rattle.cells.specs.Codes.{Coded}
 

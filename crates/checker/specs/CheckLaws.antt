@@ -7,7 +7,7 @@ use native.Mathlib.Omega.{arith}
 use lib.ListN.{length}
 use Rattle.bits.specs.LogicLaws.{true-false}
 use Rattle.sheet.specs.Examine as sheets
-use Rattle.sheet.specs.Examine.{Design, refused, valid}
+use Rattle.sheet.specs.Examine.{Design, valid}
 use Rattle.sheet.specs.Known.{Holds}
 use Rattle.sheet.specs.ExaminationLaws.{valid-well-formed}
 use Rattle.sheet.specs.declared.Sheet.{Sheet}
@@ -23,13 +23,13 @@ use Rattle.classes.specs.declared.Classes.{Classes}
 use Rattle.network.specs.Network.{Network}
 use Rattle.network.specs.Examine.{Answer, bad-line, network, readNetwork}
 use Rattle.network.specs.Check.{Checked, refused-by, Pair, refused-pair, pair, examinePair, comparePair, checkOf, check}
-use Rattle.network.specs.Answers.{compared}
+use Rattle.network.specs.Check.{compared}
 use Rattle.network.specs.CheckLaws.{check-sheet, pair-refused, pair-bad-line, pair-offending, drawn-pair}
 use Rattle.netsheet.specs.Answer.{NetworkIs, ReadAs}
 use Rattle.netsheet.specs.Named.{Ranged}
 use Rattle.netsheet.specs.NamedLaws.{holds-ranged}
 use Rattle.netsheet.specs.declared.NetworkSheet.{NetworkSheet}
-use Rattle.checker.specs.Answer.{RefusedPair, PairAs, BesideIs}
+use Rattle.checker.specs.Answer.{RefusedPair, BesideIs}
 use Rattle.checker.specs.Limits.{Small, LimitsAre, Judged}
 use Rattle.checker.specs.Drawing.{placesOf, Drawing, SomeDrawing}
 use Rattle.checker.specs.declared.Beside.{Beside}

@@ -19,7 +19,8 @@ use Rattle.classes.specs.declared.Shape.{Shape}
 use Rattle.network.specs.Network.{Network}
 use Rattle.network.specs.Value.{networkOn}
 use Rattle.network.specs.Check.{same, differs}
-use Rattle.network.specs.Answers.{compared, LowestDifference}
+use Rattle.network.specs.Answers.{LowestDifference}
+use Rattle.network.specs.Check.{compared}
 use Rattle.network.specs.CompareLaws.{xor-none, xor-some, same-compared, differs-compared}
 use Rattle.checker.specs.Code.{oneAt}
 use Rattle.checker.specs.Filling.{Ready, Filled}

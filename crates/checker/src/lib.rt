@@ -12,7 +12,7 @@ ghost use Rattle.sheet.specs.Examine.{Design};
 ghost use Rattle.design.specs.Answer.{ExaminedIs, Right, Examination};
 ghost use Rattle.network.specs.Network.{Network};
 ghost use Rattle.network.specs.Numbers.{numbersOf};
-ghost use Rattle.network.specs.Answers.{compared};
+ghost use Rattle.network.specs.Check.{compared};
 ghost use Rattle.network.specs.Check as spec;
 ghost use Rattle.checker.specs.Answer.{checkedOf, RefusedPair, BesideIs};
 ghost use Rattle.checker.specs.Limits.{Small, LimitsAre, Judged};

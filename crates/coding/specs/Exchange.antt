@@ -1,24 +1,24 @@
 -- Two values of a group of cells exchanged. Cells with the same readers form a group g; their values at a vertex together are
 -- one value of the group. Every output reads all of the group or none of it, so exchanging two values at every vertex leaves
 -- each output's blocks as they were, and a solution stays a solution. Assumes nothing.
-use mathlib.Core.Path.{_≡_, refl, sym, ap, ap₂, _∙_, subst}
+use mathlib.Core.Path.{_≡_, refl, sym, ap, ap₂, _∙_}
 use mathlib.Core.Bool.{Bool, true, false, not}
 use mathlib.Core.List.{List, [], _∷_}
-use mathlib.Core.Logic.{_⊎_, inl, inr, ⊎-elim}
-use Prim.Native.Nat.{ℕ, zero, suc, _+_, _-_, _*_, _^_, _≤_, _<_}
+use mathlib.Core.Logic.{_⊎_, inl, inr}
+use Prim.Native.Nat.{ℕ, _-_, _^_, _≤_, _<_}
 use native.Mathlib.Decide.{ℕ-discrete, decLt}
 use native.Mathlib.Omega.{arith}
-use lib.Bits.{bitAnd, bitOr, and-le-l, and-le-r}
+use lib.Bits.{bitAnd, bitOr, and-le-r}
 use lib.Dec.{eqb}
-use lib.ListN.{length, getD}
-use borrow.Author.Tests.{eq-eqb, ne-eqb, eqb-true}
+use lib.ListN.{length}
+use borrow.Author.Tests.{eq-eqb, ne-eqb}
 use Rattle.bits.specs.Logic.{andb, orb, pick}
-use Rattle.bits.specs.LogicLaws.{true-false, and-left, and-right}
+use Rattle.bits.specs.LogicLaws.{and-left}
 use Rattle.bits.specs.Digit.{on}
 use Rattle.bits.specs.DigitLaws.{on-and, on-or, on-zero, on-above, on-complement, on-ones, equal-digits}
 use Rattle.cells.specs.Lists.{All, Pairs, all-map, pairs-map, never-both, and-off, and-on, or-off}
-use Rattle.cells.specs.Pigeon.{Agree, agree-and, and-agree}
-use Rattle.cells.specs.Shared.{Fits, block}
+use Rattle.cells.specs.Pigeon.{agree-and, and-agree}
+use Rattle.cells.specs.Shared.{block}
 use Rattle.numbering.specs.Given.{labelAt, item, Solves}
 
 -- ======== definitions

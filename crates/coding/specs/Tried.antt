@@ -1,7 +1,7 @@
 -- The codes of a vertex tried one after another, where the sets of codes have room for every solution that goes on from the
 -- codes given: where none of the codes that a vertex may be asked to take leads to a solution, there is none. Assumes nothing.
-use mathlib.Core.Path.{_≡_, refl, sym, ap, _∙_, subst}
-use mathlib.Core.Bool.{Bool, true, false}
+use mathlib.Core.Path.{_≡_, ap, _∙_}
+use mathlib.Core.Bool.{true}
 use mathlib.Core.List.{List}
 use Prim.Native.Nat.{ℕ, _≤_, _<_}
 use native.Mathlib.Decide.{ℕ-discrete}

@@ -3,14 +3,14 @@
 -- for a group of one cell has no value to spare once vertex 0 has a code. Assumes nothing.
 use mathlib.Core.Path.{_≡_, refl, sym, ap, ap₂, _∙_, subst}
 use mathlib.Core.Bool.{Bool, true, false, not}
-use mathlib.Core.List.{List, [], _∷_}
+use mathlib.Core.List.{List}
 use mathlib.Core.Logic.{_⊎_, inl, inr, ⊎-elim}
-use Prim.Native.Nat.{ℕ, zero, suc, _+_, _-_, _*_, _/_, _^_, _≤_, _<_}
+use Prim.Native.Nat.{ℕ, _+_, _-_, _/_, _^_, _≤_, _<_}
 use native.Mathlib.Decide.{ℕ-discrete, decLt}
 use native.Mathlib.Omega.{arith}
 use lib.Bits.{bitAnd, bitOr, and-le-l}
 use lib.Dec.{eqb}
-use lib.ListN.{length, getD, set, length-set}
+use lib.ListN.{length, set, length-set}
 use lib.Seq.{getD-set-same, getD-set-other}
 use borrow.Author.Tests.{eq-eqb, ne-eqb, eqb-true}
 use Rattle.limits.specs.Limits.{maxCodes, maxCells}
@@ -20,10 +20,9 @@ use Rattle.bits.specs.Digit.{on}
 use Rattle.bits.specs.DigitLaws.{on-and, on-or, on-zero, on-above, on-complement, equal-digits}
 use Rattle.cells.specs.Lists.{less-or-equal, never-both, false-where, and-off, and-on}
 use Rattle.cells.specs.Pigeon.{agree-and}
-use Rattle.cells.specs.Sets.{Without}
-use Rattle.numbering.specs.Given.{noCode, labelAt, item, Block, Blocks, Solves, Extends, Kept, Hopeless}
+use Rattle.numbering.specs.Given.{noCode, item, Block, Blocks, Solves}
 use Rattle.holding.specs.Blocks.{on-both}
-use Rattle.coding.specs.Exchange.{Uniform, SameBlocks, swap, swap-blocks, swap-small, swap-stays, swap-first, swap-outside, solves-alike}
+use Rattle.coding.specs.Exchange.{Uniform, swap, swap-blocks, swap-small, swap-stays, swap-first, swap-outside, solves-alike}
 
 -- ======== definitions
 -- groups of cells: of two cells or more there are no more

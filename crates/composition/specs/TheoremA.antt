@@ -3,9 +3,8 @@
 -- other way round, two vertices with one code get one value in each row. Assumes nothing.
 use mathlib.Core.Path.{_≡_, refl, sym, ap, ap₂, _∙_, subst}
 use mathlib.Core.Bool.{Bool, true, false}
-use mathlib.Core.Logic.{_⊎_, inl, inr, ⊎-elim}
-use mathlib.Core.List.{List, [], _∷_}
-use Prim.Native.Nat.{ℕ, zero, suc, _+_, _^_, _≤_, _<_}
+use mathlib.Core.Logic.{_⊎_, ⊎-elim}
+use Prim.Native.Nat.{ℕ, zero, suc, _^_, _≤_, _<_}
 use native.Mathlib.Omega.{arith}
 use lib.Bits.{bitAnd}
 use lib.Dec.{eqb}
@@ -13,7 +12,7 @@ use borrow.Author.Tests.{eq-eqb, ne-eqb, eqb-true}
 use Rattle.bits.specs.Logic.{andb, pick}
 use Rattle.bits.specs.LogicLaws.{true-false, and-left, and-right}
 use Rattle.bits.specs.Digit.{on}
-use Rattle.cells.specs.Core.{Cell, Apart, Serves, cellsFrom, coreOf}
+use Rattle.cells.specs.Core.{Apart, Serves, cellsFrom, coreOf}
 use Rattle.cells.specs.Lists.{count, less-or-equal, never-both}
 use Rattle.cells.specs.Pigeon.{and-agree}
 use Rattle.cells.specs.Codes.{Coded, core-serves}

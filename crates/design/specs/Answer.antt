@@ -1,6 +1,6 @@
 -- What the code's answers say, by the definitions. Assumes nothing.
 use mathlib.Core.Path.{_≡_}
-use mathlib.Core.Bool.{Bool, true, false}
+use mathlib.Core.Bool.{true, false}
 use Prim.Native.Nat.{ℕ}
 use Rattle.sheet.specs.Examine as spec
 use Rattle.sheet.specs.Examine.{Design, refused, valid}

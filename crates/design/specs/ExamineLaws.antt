@@ -1,7 +1,7 @@
 -- The examination line after line. Assumes nothing.
 use mathlib.Core.Path.{_≡_, refl, sym, ap, _∙_, subst}
 use mathlib.Core.Bool.{Bool, true, false}
-use mathlib.Core.List.{List, [], _∷_}
+use mathlib.Core.List.{List, _∷_}
 use Prim.Native.Nat.{ℕ, suc, _+_, _-_, _≤_, _<_}
 use native.Mathlib.Omega.{arith}
 use native.Mathlib.Numerals.{add-one}
@@ -22,7 +22,7 @@ use Rattle.sheet.specs.declared.Place.{Place}
 use Rattle.sheet.specs.declared.Sheet.{Sheet}
 use Rattle.sheet.specs.declared.Asked.{Asked}
 use Rattle.design.specs.SizeLaws.{sized-last}
-use Rattle.design.specs.Answer.{ExaminedIs, RefusedAs, ValidAs, Examination}
+use Rattle.design.specs.Answer.{ExaminedIs, RefusedAs, Examination}
 use Rattle.design.specs.declared.Examined.{Examined}
 
 -- ---- after the last line

@@ -1,15 +1,13 @@
 -- Table's answers, one for each way out of the code. Assumes nothing.
-use mathlib.Core.Path.{_≡_, refl, sym, ap, ap₂, _∙_, subst}
-use mathlib.Core.Bool.{Bool, true, false}
-use mathlib.Core.List.{List, []}
+use mathlib.Core.Path.{_≡_, refl, sym, ap, ap₂, _∙_}
+use mathlib.Core.Bool.{true, false}
+use mathlib.Core.List.{List}
 use Prim.Native.Nat.{ℕ, _^_, _≤_, _<_}
 use native.Mathlib.Omega.{arith}
-use lib.Dec.{leb, ltb}
 use lib.ListN.{length}
 use lib.Pow.{pow-mono}
 use lib.Seq.{sets}
 use borrow.Author.Tests.{le-leb, lt-leb, lt-ltb, le-ltb}
-use Rattle.bits.specs.Logic.{pick}
 use Rattle.bits.specs.LogicLaws.{true-false}
 use Rattle.limits.specs.Limits.{maxInputs, maxRows}
 use Rattle.rows.specs.Words.{rowOn}
@@ -20,8 +18,8 @@ use Rattle.sheet.specs.Examine.{Design, refused, valid}
 use Rattle.sheet.specs.Known.{Holds, tableAt}
 use Rattle.sheet.specs.Value.{outputOn}
 use Rattle.sheet.specs.declared.Sheet.{Sheet}
-use Rattle.design.specs.Tabulate.{Tabulated, TableAnswer, refused-by, written, untouched, tableOf, tabulate, tableDigits, rowCount}
-use Rattle.design.specs.Answer.{ExaminedIs, RefusedAs, ValidAs}
+use Rattle.design.specs.Tabulate.{Tabulated, written, untouched, tableOf, tabulate, tableDigits, rowCount}
+use Rattle.design.specs.Answer.{ExaminedIs}
 use Rattle.design.specs.declared.Examined.{Examined}
 
 -- ---- what the answer of an examination holds, by its flag

@@ -1,6 +1,5 @@
 -- Table: questions 1 to 6, then 9; "writes its 2^n digits in row order from the buffer's start, leaves later bytes
 -- unchanged and returns 2^n". Assumes nothing.
-use mathlib.Core.Bool.{Bool, true, false}
 use mathlib.Core.List.{List}
 use Prim.Native.Nat.{ℕ, _^_}
 use lib.Dec.{leb, ltb}

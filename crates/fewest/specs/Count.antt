@@ -2,20 +2,20 @@
 -- Every table is complemented where it is 1 at vertex 0. Assumes nothing.
 use mathlib.Core.Path.{_≡_, refl, sym, ap, _∙_, subst}
 use mathlib.Core.Bool.{Bool, true, false}
-use mathlib.Core.List.{List, []}
+use mathlib.Core.List.{List}
 use mathlib.Core.Logic.{⊎-elim}
 use Prim.Native.Nat.{ℕ, zero, _+_, _^_, _≤_, _<_, min}
 use native.Mathlib.Decide.{decLt}
 use native.Mathlib.Omega.{arith}
 use lib.Bits.{bitXor}
-use lib.ListN.{length, getD, set, length-set}
+use lib.ListN.{length, set, length-set}
 use lib.Seq.{getD-set-same, getD-set-other}
 use Rattle.limits.specs.Limits.{maxVertices}
-use Rattle.bits.specs.Logic.{orb, xorb}
+use Rattle.bits.specs.Logic.{xorb}
 use Rattle.bits.specs.LogicLaws.{true-false}
 use Rattle.bits.specs.Digit.{on}
 use Rattle.bits.specs.DigitLaws.{on-xor, on-none}
-use Rattle.cells.specs.Core.{Cell, Differ, Serves, Least, Answer, coreOf, bit}
+use Rattle.cells.specs.Core.{Cell, Differ, Serves, Answer, coreOf}
 use Rattle.cells.specs.Lists.{count, less-or-equal}
 use Rattle.cells.specs.Pigeon.{agree-and, and-agree}
 use Rattle.cells.specs.Codes.{Coded, normal-of, core-serves, cells-length, cells-zero}

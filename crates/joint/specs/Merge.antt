@@ -4,8 +4,8 @@
 -- only not merged. Assumes nothing.
 use mathlib.Core.Path.{_≡_, refl, sym, ap, _∙_, subst}
 use mathlib.Core.Bool.{Bool, true, false}
-use mathlib.Core.List.{List, [], _∷_}
-use mathlib.Core.Logic.{_⊎_, inl, inr, ⊎-elim}
+use mathlib.Core.List.{List}
+use mathlib.Core.Logic.{_⊎_, ⊎-elim}
 use Prim.Native.Nat.{ℕ, zero, suc, _+_, _-_, _*_, _/_, _%_, _≤_, _<_}
 use native.Mathlib.Decide.{ℕ-discrete, decLt}
 use native.Mathlib.Omega.{arith}
@@ -15,10 +15,7 @@ use lib.Seq.{getD-set-same, getD-set-other}
 use Rattle.limits.specs.Limits.{maxVertices, labelCount}
 use Rattle.limits.specs.declared.Vertex.{Vertex}
 use Rattle.joint.specs.declared.JointClass.{JointClass}
-use Rattle.bits.specs.LogicLaws.{true-false}
-use Rattle.cells.specs.Core.{Differ}
 use Rattle.cells.specs.Lists.{less-or-equal}
-use Rattle.cells.specs.Codes.{Coded}
 use Rattle.numbering.specs.Given.{labelAt, item, Labels}
 use Rattle.readers.specs.Masks.{Decided}
 

@@ -1,5 +1,6 @@
-// Every limit of document 01, named once, and the lengths of arrays that follow from them. The definitions name the same
-// limits in specs/; the proofs of the crates above hold the two together. Rests on nothing.
+// Every limit of document 01, named once, the lengths of arrays that follow from them, and the number of a vertex, which the
+// classes and the search share. The definitions name the same limits in specs/; the proofs of the crates above hold the two
+// together. Rests on nothing.
 
 // The design sheet: names of the `in` line, names of the `bound` line, N, `out` lines, brackets.
 pub const MAX_INPUTS: usize = 10;

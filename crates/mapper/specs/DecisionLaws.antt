@@ -2,15 +2,14 @@
 -- or the same U and length. Assumes nothing.
 use mathlib.Core.Path.{_≡_, refl, sym, ap₂, _∙_}
 use mathlib.Core.List.{List}
-use Prim.Native.Nat.{ℕ, _≤_, _<_}
+use Prim.Native.Nat.{ℕ}
 use native.Mathlib.Omega.{arith}
 use lib.ListN.{length}
 use Rattle.sheet.specs.Examine.{Design, Examined, refused, valid, examine}
 use Rattle.sheet.specs.WellFormed.{WellFormed}
 use Rattle.sheet.specs.ExaminationLaws.{valid-well-formed}
 use Rattle.classes.specs.ProperLaws.{proper-of}
-use Rattle.network.specs.Network.{Network}
-use Rattle.mapper.specs.Map.{MapAnswer, refused-by, mapped, OutcomeFor, too-many-classes, no-network, buffer-short, written, OutcomeOf, Outcome}
+use Rattle.mapper.specs.Map.{MapAnswer, mapped, OutcomeFor, too-many-classes, no-network, buffer-short, written, OutcomeOf, Outcome}
 use Rattle.mapper.specs.LengthLaws.{permitted-count, permitted-length}
 use Rattle.mapper.specs.Demand1Laws.{says-classes, says-cells, says-buffer}
 

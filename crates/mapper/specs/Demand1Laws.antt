@@ -1,5 +1,5 @@
 -- Table, Map and Check refuse as demand 1 says. Assumes nothing.
-use mathlib.Core.Path.{_≡_, refl, sym, ap₂, _∙_, subst}
+use mathlib.Core.Path.{_≡_, refl, sym, _∙_, subst}
 use mathlib.Core.Bool.{Bool, true, false}
 use mathlib.Core.List.{List}
 use mathlib.Core.Logic.{inl, inr, ⊎-elim}
@@ -26,7 +26,7 @@ use Rattle.network.specs.Check as checks
 use Rattle.network.specs.Check.{check, checkOf, examinePair, comparePair, beside, judge, compareFrom}
 use Rattle.network.specs.Wellformed.{Wellformed}
 use Rattle.network.specs.Answers.{WithinLimits, Computes}
-use Rattle.mapper.specs.Map.{Permitted, MapAnswer, refused-by, mapped, OutcomeFor, too-many-classes, no-network, buffer-short, written, OutcomeOf, Outcome}
+use Rattle.mapper.specs.Map.{Permitted, MapAnswer, refused-by, OutcomeFor, too-many-classes, no-network, buffer-short, written, OutcomeOf, Outcome}
 use Rattle.mapper.specs.LengthLaws.{permitted-length}
 use Rattle.mapper.specs.OutcomeLaws.{outcome-for, outcome-refused}
 use Rattle.mapper.specs.Demand1.{TableRefuses, MapRefuses, CheckRefuses, TableNumber, MapNumber, CheckNumber, Demand1, SheetDemand1}

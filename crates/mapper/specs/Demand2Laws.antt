@@ -10,7 +10,6 @@ use lib.ListN.{length, getD, take, drop, List·getD-append}
 use lib.Seq.{sets, sets-eq, length-sets, getD-append-add, getD-drop}
 use borrow.Author.Tests.{ltb-true, leb-true}
 use Rattle.bits.specs.Logic.{pick}
-use Rattle.rows.specs.Digits.{digit}
 use Rattle.rows.specs.DigitLaws.{length-digits, digits-at}
 use Rattle.sheet.specs.Examine.{Design, Examined, valid, examine}
 use Rattle.sheet.specs.Value.{outputOn}
@@ -18,12 +17,10 @@ use Rattle.sheet.specs.WellFormed.{WellFormed}
 use Rattle.sheet.specs.ExaminationLaws.{valid-well-formed}
 use Rattle.design.specs.Tabulate as tables
 use Rattle.design.specs.Tabulate.{Tabulated, tableOf, tableDigits, rowCount, untouched}
-use Rattle.network.specs.Network.{Network}
 use Rattle.network.specs.Printer.{printNetwork}
-use Rattle.network.specs.Answers.{Drawn, Computes}
 use Rattle.network.specs.CheckLaws.{check-compares, same-check}
 use Rattle.network.specs.CompareLaws.{compared-same}
-use Rattle.mapper.specs.Map.{Permitted, MapAnswer, mapped, OutcomeFor, too-many-classes, no-network, buffer-short, written, OutcomeOf, Outcome}
+use Rattle.mapper.specs.Map.{MapAnswer, mapped, OutcomeFor, too-many-classes, no-network, buffer-short, written, OutcomeOf, Outcome}
 use Rattle.mapper.specs.OutcomeLaws.{outcome-for}
 use Rattle.mapper.specs.Demand2.{TableRight, RightNetwork, Demand2}
 use Rattle.mapper.specs.Demand3Laws.{written-bytes, mapped-not-refused, mapped-length, permitted-drawn}

@@ -1,17 +1,15 @@
 -- From the search to Map: what it found, written out, is a permitted network; where it found nothing, no network within
 -- the limit and the widths has the design's value on every row. Assumes nothing.
-use mathlib.Core.Path.{_≡_, refl, sym, ap, ap₂, _∙_, subst}
+use mathlib.Core.Path.{_≡_, refl, sym, ap, _∙_, subst}
 use mathlib.Core.Bool.{Bool, true, false}
-use mathlib.Core.List.{List, [], _∷_, map}
-use Prim.Native.Nat.{ℕ, zero, suc, _+_, _/_, _%_, _^_, _≤_, _<_, min}
+use mathlib.Core.List.{List, map}
+use Prim.Native.Nat.{ℕ, zero, suc, _+_, _/_, _%_, _^_, _≤_, _<_}
 use native.Mathlib.Omega.{arith}
-use native.Mathlib.Nat.{zero-add}
 use native.Mathlib.Decide.{decLt}
 use lib.Dec.{eqb}
 use lib.ListN.{length, getD, List·getD-eq-default}
 use lib.Pow.{pow-pos}
 use borrow.Author.Tests.{ne-eqb}
-use Rattle.bits.specs.Logic.{pick}
 use Rattle.bits.specs.LogicLaws.{true-false}
 use Rattle.bits.specs.Digit.{on}
 use Rattle.limits.specs.Limits.{maxCells}
@@ -25,20 +23,18 @@ use Rattle.classes.specs.Width.{budget}
 use Rattle.classes.specs.VertexLaws.{local-no-conflict, no-conflict-local}
 use Rattle.network.specs.Network.{Network, Node}
 use Rattle.network.specs.Wellformed.{Wellformed, nodeAt}
-use Rattle.network.specs.Answers.{WithinLimits, Computes, readCount}
-use Rattle.network.specs.Check.{firstOf}
+use Rattle.network.specs.Answers.{WithinLimits, Computes}
 use Rattle.network.specs.FirstOfLaws.{fails-none}
-use Rattle.cells.specs.Core.{Cell, Serves, Differ, Answer, ZeroFirst, coreOf, cellsFrom, reading, bit}
-use Rattle.cells.specs.Lists.{count, count-alike}
+use Rattle.cells.specs.Core.{Cell, Serves, Differ, ZeroFirst, coreOf, cellsFrom, reading}
 use Rattle.cells.specs.Codes.{cells-length}
 use Rattle.numbering.specs.Given.{labelAt, item}
 use Rattle.fewest.specs.Count.{Answered}
-use Rattle.serving.specs.NetworkCore.{networkCore, Conflicts, ServesDesign}
+use Rattle.serving.specs.NetworkCore.{networkCore, ServesDesign}
 use Rattle.network.specs.Value.{lutAt}
 use Rattle.serving.specs.Tells.{core-length}
 use Rattle.serving.specs.Build.{numbers, codeIn, entryAt, entry, nodeBuilt, built}
 use Rattle.serving.specs.Compose.{values-length, values-at, lut-built, tables-at}
-use Rattle.serving.specs.TheoremA.{drawn-serves, built-luts, built-node, built-wellformed, built-reads, built-within, built-computes, parts-of, columns-of}
+use Rattle.serving.specs.TheoremA.{drawn-serves, built-luts, built-node, built-wellformed, built-within, built-computes, parts-of, columns-of}
 use Rattle.mapper.specs.Map.{Permitted}
 use Rattle.network.specs.Value.{codeAt}
 

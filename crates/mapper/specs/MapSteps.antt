@@ -1,7 +1,7 @@
 -- Map's answers, one for each way out of the code. Assumes nothing.
 use mathlib.Core.Path.{_≡_, refl, sym, ap, ap₂, _∙_, subst}
 use mathlib.Core.Bool.{Bool, true, false}
-use mathlib.Core.List.{List, []}
+use mathlib.Core.List.{List}
 use Prim.Native.Nat.{ℕ, _+_, _*_, _/_, _%_, _^_, _≤_, _<_}
 use native.Mathlib.Omega.{arith}
 use native.Mathlib.Decide.{decLt}
@@ -9,29 +9,29 @@ use lib.ListN.{length, getD}
 use lib.Pow.{pow-mono}
 use lib.Seq.{sets}
 use Rattle.bits.specs.LogicLaws.{true-false}
-use Rattle.limits.specs.Limits.{maxBound, maxOutputs, maxRows, maxVertices, maxCells, maxClasses, searchOutputs}
+use Rattle.limits.specs.Limits.{maxInputs, maxBound, maxOutputs, maxRows, maxVertices, maxCells, maxClasses, searchOutputs}
 use Rattle.sheet.specs.Examine as spec
 use Rattle.sheet.specs.Known.{Holds}
 use Rattle.sheet.specs.WellFormed.{WellFormed}
 use Rattle.sheet.specs.declared.Sheet.{Sheet}
 use Rattle.design.specs.Answer.{ExaminedIs, Right}
-use Rattle.design.specs.TableLaws.{Valid, valid-here, refused-here}
+use Rattle.design.specs.TableLaws.{Valid, refused-here}
 use Rattle.design.specs.declared.Examined.{Examined}
 use Rattle.classes.specs.ProperLaws.{proper-of}
-use Rattle.classes.specs.Columns.{vertexCount, freeCount, joinRow}
-use Rattle.classes.specs.Classes.{globalCount, localClass, localCount}
-use Rattle.classes.specs.Width.{budget, width}
+use Rattle.classes.specs.Columns.{vertexCount}
+use Rattle.classes.specs.Classes.{globalCount, localClass}
+use Rattle.classes.specs.Width.{budget}
 use Rattle.classes.specs.Proper.{Proper}
-use Rattle.classes.specs.Answer.{ClassesAre, ShapeIs, Counts, localAt, localsAt}
+use Rattle.classes.specs.Answer.{ClassesAre, Counts, localAt, localsAt}
 use Rattle.classes.specs.ShapeLaws.{proper-counts}
 use Rattle.classes.specs.JoinLaws.{join-add, join-lt}
 use Rattle.classes.specs.VertexLaws.{local-below, local-most}
 use Rattle.classes.specs.declared.Classes.{Classes}
-use Rattle.classes.specs.declared.Shape.{Shape}
 use Rattle.network.specs.Network.{Network}
 use Rattle.network.specs.Printer.{printNetwork}
-use Rattle.numbering.specs.Given.{Labels, labelAt, item}
+use Rattle.numbering.specs.Given.{Labels, item}
 use Rattle.fewest.specs.Count.{Answered}
+use Rattle.writing.specs.Lines.{Fitting}
 use Rattle.serving.specs.Build.{built}
 use Rattle.serving.specs.TheoremA.{built-luts}
 use Rattle.mapper.specs.Map.{Permitted, MapAnswer, refused-by, mapped, OutcomeFor, too-many-classes, no-network, buffer-short, written, OutcomeOf}
@@ -127,7 +127,7 @@ module _ (x : spec.Examined) (k : Sheet) (v : Valid x k) (right : Right x) where
       (let a = v .holds .limit-small in omega arith),
     )
 
-    pub rows-inside : (y z : ℕ)
+    rows-inside : (y z : ℕ)
         → y < c .shape .vertices
         → z < c .shape .frees
         → getD (c .shape .vertex) y 0 + getD (c .shape .free) z 0 < maxRows
@@ -159,8 +159,17 @@ module _ (x : spec.Examined) (k : Sheet) (v : Valid x k) (right : Right x) where
           (no-network (few-classes few)
           (none-found (v .design) cl bs (c .shape .vertices) (k .outputs) (k .limit) (given cl bs lh bh) u rows codes formed a))
 
-      pub cells-few : (found : Bool) → Found found → u ≤ maxCells
+      cells-few : (found : Bool) → Found found → u ≤ maxCells
       cells-few found a = let e = a .few in let f = v .holds .limit-small in omega arith
+
+      -- what the writer asks for
+      pub writer-ready : (found : Bool)
+          → Found found
+          → (k .inputs ≤ maxInputs) × (k .bounds ≤ maxBound) × (k .outputs ≤ maxOutputs) × (u ≤ maxCells) × Fitting (c .shape)
+      writer-ready found a =
+          let shape = q .shaped in
+          let fits : Fitting (c .shape) = record { few-vertices = shape .few-vertices; few-free = shape .few-free; inside = rows-inside } in
+          (v .holds .inputs-few, v .holds .bound-few, v .holds .outputs-few, cells-few found a, fits)
 
       permitted : Found true → Permitted (v .design) network
       permitted a =

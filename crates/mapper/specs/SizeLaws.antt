@@ -1,17 +1,16 @@
 -- A network within its widths fits a network sheet: at most six lut lines of 92 bytes, four node lines of 1,200, and the
 -- three other lines. Assumes nothing.
-use mathlib.Core.Path.{_≡_, refl, sym, ap, ap₂, _∙_, subst}
-use mathlib.Core.Bool.{Bool, true, false, _&&_}
+use mathlib.Core.Path.{_≡_}
+use mathlib.Core.Bool.{Bool, true, false}
 use mathlib.Core.List.{List, [], _∷_, _++_, map}
-use Prim.Native.Nat.{ℕ, zero, suc, _+_, _*_, _/_, _%_, _^_, _≤_, _<_}
+use Prim.Native.Nat.{ℕ, suc, _+_, _*_, _/_, _%_, _^_, _≤_, _<_}
 use native.Mathlib.Omega.{arith}
 use lib.Dec.{ltb}
 use lib.ListN.{length, getD, length-append, length-map}
 use lib.Pow.{pow-mono}
 use Rattle.bits.specs.Logic.{pick}
-use Rattle.bits.specs.LogicLaws.{true-false}
-use Rattle.limits.specs.Limits.{maxNetwork, maxCells}
-use Rattle.text.specs.Bytes.{bytes, space, newline, closeBracket}
+use Rattle.limits.specs.Limits.{maxNetwork}
+use Rattle.text.specs.Bytes.{bytes, newline, closeBracket}
 use Rattle.text.specs.Line.{endedLines}
 use Rattle.text.specs.Number.{printNumber}
 use Rattle.names.specs.Name.{Name, isName}
@@ -28,7 +27,7 @@ use Rattle.classes.specs.VertexLaws.{width-most}
 use Rattle.classes.specs.FreeLaws.{bound-and-free}
 use Rattle.network.specs.Network.{Network, Node}
 use Rattle.network.specs.Printer.{led, ledAll, lutName, printDigits, networkLine, lutHead, printLut, nodeHead, printNode, printCount, lutLines, nodeLines, networkLines, printNetwork}
-use Rattle.network.specs.Wellformed.{Wellformed, Named, nodeAt}
+use Rattle.network.specs.Wellformed.{Wellformed, nodeAt}
 use Rattle.network.specs.PartLaws.{free-named}
 use Rattle.network.specs.Answers.{WithinLimits}
 use Rattle.mapper.specs.DesignLaws.{named-of, and-left, and-right}

@@ -20,7 +20,8 @@ use Rattle.network.specs.Network.{Network}
 use Rattle.network.specs.Examine.{network, readNetwork, offending}
 use Rattle.network.specs.Printer.{printNetwork}
 use Rattle.network.specs.Wellformed.{Wellformed, Named}
-use Rattle.network.specs.Answers.{WithinLimits, Computes, Drawn, compared, readCount}
+use Rattle.network.specs.Answers.{WithinLimits, Computes, Drawn, readCount}
+use Rattle.network.specs.Check.{compared}
 use Rattle.network.specs.Check.{same}
 use Rattle.network.specs.CompareLaws.{compared-same}
 use Rattle.network.specs.PrintedLaws.{drawn-wellformed, drawn-within, drawn-print}

@@ -1,6 +1,6 @@
 -- A name as one number: its bytes are the number's digits to the base 256, the first byte lowest. A name has at most 8
 -- bytes, none of them 0, so 64 bits hold it, and the number gives the name back. Assumes nothing.
-use mathlib.Core.List.{List, [], _∷_}
+use mathlib.Core.List.{[], _∷_}
 use Prim.Native.Nat.{ℕ, zero, suc, _+_, _*_, _/_, _%_}
 use lib.Dec.{eqb}
 use Rattle.bits.specs.Logic.{pick}

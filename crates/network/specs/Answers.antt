@@ -12,7 +12,6 @@ use Rattle.classes.specs.Width.{budget}
 use Rattle.network.specs.Network.{Network}
 use Rattle.network.specs.Examine.{network, readNetwork, offending}
 use Rattle.network.specs.Value.{networkOn}
-use Rattle.network.specs.Check.{Checked, compareFrom}
 use Rattle.network.specs.Wellformed.{nodeAt}
 
 -- how many shared tables output o reads
@@ -35,10 +34,6 @@ pub data Offends (d : Design) (w : Network) : ℕ → Type 0 where
 pub record FirstOffending (d : Design) (w : Network) (l : ℕ) : Type 0 where
   pub offends : Offends d w l
   pub first : (m : ℕ) → Offends d w m → l ≤ m
-
--- the comparison of all outputs
-abbrev pub compared : Design → Network → Checked
-compared d w = compareFrom d w (length (d .outputs)) 0
 
 -- the network has the design's value in every output on every row
 pub record Computes (d : Design) (w : Network) : Type 0 where

@@ -1,6 +1,6 @@
 -- Check: what the examination of a design answers, then questions 10 and 11; then "same", or "differs" with the lowest
 -- output that differs and its lowest row. Assumes nothing.
-use mathlib.Core.Bool.{Bool, true, false}
+use mathlib.Core.Bool.{Bool}
 use mathlib.Core.List.{List}
 use mathlib.Core.Option.{Option, some, none}
 use Prim.Native.Nat.{ℕ, zero, suc, _^_}
@@ -64,10 +64,13 @@ examinePair (refused q l) t = refused-pair q l
 examinePair (valid d) t = beside d (readNetwork d t)
 
 -- ---- Check
--- a refusal, or the comparison of all outputs
+-- the comparison of all outputs
+abbrev pub compared : Design → Network → Checked
+compared d w = compareFrom d w (length (d .outputs)) 0
+
 abbrev pub comparePair : Pair → Checked
 comparePair (refused-pair q l) = refused-by q l
-comparePair (pair d w) = compareFrom d w (length (d .outputs)) 0
+comparePair (pair d w) = compared d w
 
 -- on what the examination of a design answers, and a network sheet
 unfoldable pub checkOf : Examined → List ℕ → Checked

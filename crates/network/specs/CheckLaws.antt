@@ -10,7 +10,8 @@ use Rattle.sheet.specs.Examine.{Design, Examined, refused, valid, examine}
 use Rattle.network.specs.Network.{Network}
 use Rattle.network.specs.Examine.{Answer, bad-line, network, readNetwork, offending}
 use Rattle.network.specs.Check.{Checked, refused-by, same, differs, Pair, refused-pair, pair, judge, beside, examinePair, comparePair, checkOf, check}
-use Rattle.network.specs.Answers.{compared, Drawn, Computes, LowestDifference}
+use Rattle.network.specs.Answers.{Drawn, Computes, LowestDifference}
+use Rattle.network.specs.Check.{compared}
 use Rattle.network.specs.CompareLaws.{compared-same, same-compared, compared-differs, differs-compared}
 
 refused-same : {q l : ℕ} → refused-by q l ≡ same → ⊥

@@ -14,7 +14,8 @@ use Rattle.sheet.specs.Value.{outputOn}
 use Rattle.network.specs.Network.{Network}
 use Rattle.network.specs.Value.{networkOn}
 use Rattle.network.specs.Check.{Checked, same, differs, firstOf, differsOn, differingRow, atRow, compareFrom}
-use Rattle.network.specs.Answers.{compared, Computes, LowestDifference}
+use Rattle.network.specs.Answers.{Computes, LowestDifference}
+use Rattle.network.specs.Check.{compared}
 use Rattle.network.specs.FirstOfLaws.{none-fails, fails-none, FirstAt, some-first, first-some}
 
 -- ---- two values

@@ -1,16 +1,15 @@
 -- "The examination", questions 10 and 11: the lines of a network sheet in their order, beside a design, and then the
 -- limit and the widths. Assumes nothing.
-use mathlib.Core.Bool.{Bool, true, false, not, _&&_, _||_}
+use mathlib.Core.Bool.{Bool, true, false, not, _||_}
 use mathlib.Core.List.{List, [], _∷_, _++_}
 use mathlib.Core.Option.{Option, some, none}
-use Prim.Native.Nat.{ℕ, zero, suc, _+_}
+use Prim.Native.Nat.{ℕ, suc, _+_}
 use lib.Dec.{leb, ltb}
 use lib.ListN.{length, getD}
 use Rattle.bits.specs.Logic.{pick}
 use Rattle.text.specs.Bytes.{same}
 use Rattle.text.specs.Line.{lines, endsLine}
 use Rattle.limits.specs.Limits.{maxNetwork, maxCells, firstLut}
-use Rattle.names.specs.Name.{Name}
 use Rattle.sheet.specs.Lines.{endLine}
 use Rattle.sheet.specs.Examine.{Design, outputNames, within}
 use Rattle.classes.specs.Columns.{free}

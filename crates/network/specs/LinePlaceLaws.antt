@@ -61,36 +61,38 @@ module _ (d : Design) (w : Network) where
       ∙ List·getD-append luts rest [] i (omega arith)
       ∙ lut-at (d .bound) 0 i i (w .luts) (omega arith) h
 
-  pub node-line-at : (o : ℕ)
-      → length (w .nodes) ≡ length (d .outputs)
-      → o < length (w .nodes)
+  -- the lines below the lut lines
+  below-luts : (o : ℕ)
       → lineAt (networkLines d w) (length (w .luts) + 2 + o)
-      ≡ printNode (getD (namesOf d) o []) (freeOf d) (nodeAt (w .nodes) o)
+      ≡ getD (nodeLines (freeOf d) (namesOf d) (w .nodes) ++ lastLines (length (w .luts))) o []
   unfolding networkLines
-  node-line-at o e h =
+  below-luts o =
       let luts = lutLines (d .bound) 0 (w .luts) in
-      let nodes = nodeLines (freeOf d) (namesOf d) (w .nodes) in
-      let last = lastLines (length (w .luts)) in
+      let others = nodeLines (freeOf d) (namesOf d) (w .nodes) ++ lastLines (length (w .luts)) in
       let c = luts-count (d .bound) 0 (w .luts) in
-      let k : length (w .nodes) ≡ length (namesOf d) = e ∙ sym (names-count d) in
-      let m = nodes-count (freeOf d) (namesOf d) (w .nodes) k in
       let n : length (w .luts) + 2 + o - 1 ≡ suc (length luts + o) = omega arith in
-      ap (λ (a : ℕ). getD (networkLine ∷ (luts ++ (nodes ++ last))) a []) n
-      ∙ getD-append-add luts (nodes ++ last) o []
-      ∙ List·getD-append nodes last [] o (omega arith)
-      ∙ node-at (freeOf d) (namesOf d) (w .nodes) o k h
+      ap (λ (a : ℕ). getD (networkLine ∷ (luts ++ others)) a []) n ∙ getD-append-add luts others o []
 
-  pub count-line-at : length (w .nodes) ≡ length (d .outputs)
-      → lineAt (networkLines d w) (length (w .luts) + 2 + length (d .outputs)) ≡ printCount (length (w .luts))
-  unfolding networkLines
-  count-line-at e =
-      let luts = lutLines (d .bound) 0 (w .luts) in
-      let nodes = nodeLines (freeOf d) (namesOf d) (w .nodes) in
-      let last = lastLines (length (w .luts)) in
-      let c = luts-count (d .bound) 0 (w .luts) in
-      let k : length (w .nodes) ≡ length (namesOf d) = e ∙ sym (names-count d) in
-      let m = nodes-count (freeOf d) (namesOf d) (w .nodes) k in
-      let n : length (w .luts) + 2 + length (d .outputs) - 1 ≡ suc (length luts + (length nodes + 0)) = omega arith in
-      ap (λ (a : ℕ). getD (networkLine ∷ (luts ++ (nodes ++ last))) a []) n
-      ∙ getD-append-add luts (nodes ++ last) (length nodes + 0) []
-      ∙ getD-append-add nodes last 0 []
+  module _ (e : length (w .nodes) ≡ length (d .outputs)) where
+    named : length (w .nodes) ≡ length (namesOf d)
+    named = e ∙ sym (names-count d)
+
+    pub node-line-at : (o : ℕ)
+        → o < length (w .nodes)
+        → lineAt (networkLines d w) (length (w .luts) + 2 + o)
+        ≡ printNode (getD (namesOf d) o []) (freeOf d) (nodeAt (w .nodes) o)
+    node-line-at o h =
+        let nodes = nodeLines (freeOf d) (namesOf d) (w .nodes) in
+        let m = nodes-count (freeOf d) (namesOf d) (w .nodes) named in
+        below-luts o
+        ∙ List·getD-append nodes (lastLines (length (w .luts))) [] o (omega arith)
+        ∙ node-at (freeOf d) (namesOf d) (w .nodes) o named h
+
+    pub count-line-at : lineAt (networkLines d w) (length (w .luts) + 2 + length (d .outputs)) ≡ printCount (length (w .luts))
+    count-line-at =
+        let nodes = nodeLines (freeOf d) (namesOf d) (w .nodes) in
+        let m = nodes-count (freeOf d) (namesOf d) (w .nodes) named in
+        let n : length (d .outputs) ≡ length nodes + 0 = omega arith in
+        below-luts (length (d .outputs))
+        ∙ ap (λ (a : ℕ). getD (nodes ++ lastLines (length (w .luts))) a []) n
+        ∙ getD-append-add nodes (lastLines (length (w .luts))) 0 []

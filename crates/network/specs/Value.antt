@@ -1,15 +1,14 @@
 -- The value of a network on a row, from its own tables: the shared tables are read at the row's vertex, and each node at
 -- the row of what it reads and the free inputs. Assumes nothing.
-use mathlib.Core.Bool.{Bool, true, false}
-use mathlib.Core.List.{List, [], _∷_, _++_, map}
+use mathlib.Core.Bool.{Bool, false}
+use mathlib.Core.List.{List, [], _++_, map}
 use Prim.Native.Nat.{ℕ}
 use lib.ListN.{getD}
-use Rattle.names.specs.Name.{Name}
 use Rattle.rows.specs.Row.{rowOf}
 use Rattle.formula.specs.Value.{onRow}
 use Rattle.sheet.specs.Examine.{Design}
 use Rattle.classes.specs.Columns.{free, vertexOf}
-use Rattle.network.specs.Network.{Network, Node}
+use Rattle.network.specs.Network.{Network}
 
 -- shared table i at vertex x
 abbrev pub lutAt : Network → ℕ → ℕ → Bool

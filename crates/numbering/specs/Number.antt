@@ -5,15 +5,14 @@ use mathlib.Core.Path.{_≡_, refl, sym, ap, ap₂, _∙_, subst}
 use mathlib.Core.Bool.{Bool, true, false, not}
 use mathlib.Core.List.{List, [], _∷_}
 use mathlib.Core.Logic.{_⊎_, inl, inr, ⊎-elim}
-use Prim.Native.Nat.{ℕ, zero, suc, _+_, _-_, _*_, _/_, _%_, _^_, _≤_, _<_}
-use native.Mathlib.Decide.{ℕ-discrete, decLt}
+use Prim.Native.Nat.{ℕ, zero, suc, _+_, _-_, _^_, _≤_, _<_}
+use native.Mathlib.Decide.{decLt}
 use native.Mathlib.Omega.{arith}
-use native.Mathlib.Numerals.{add-one}
 use lib.Bits.{bitAnd, bitOr, and-le-r}
 use borrow.Author.Tests.{eq-eqb, ne-eqb}
 use Rattle.limits.specs.Limits.{maxVertices, maxCells}
 use Rattle.cells.specs.Sets.{With}
-use lib.ListN.{length, getD, set, length-set}
+use lib.ListN.{length, set, length-set}
 use lib.Seq.{getD-set-same, getD-set-other}
 use Rattle.bits.specs.Logic.{andb, orb}
 use Rattle.bits.specs.LogicLaws.{true-false}
@@ -21,9 +20,8 @@ use Rattle.bits.specs.Digit.{on}
 use Rattle.bits.specs.DigitLaws.{on-and, on-or, on-zero, on-ones, on-above, on-complement, equal-digits}
 use Rattle.cells.specs.Core.{bit}
 use Rattle.cells.specs.Lists.{All, Pairs, count, all-map, less-or-equal, never-both, count-more, count-same, and-off, and-on, or-off, or-on}
-use Rattle.cells.specs.Pigeon.{Agree, agree-and, and-agree}
-use Rattle.cells.specs.Shared.{Fits}
-use Rattle.numbering.specs.Given.{labelAt, item, Plan, Solves, Extends, Parted, Hopeless}
+use Rattle.cells.specs.Pigeon.{agree-and, and-agree}
+use Rattle.numbering.specs.Given.{labelAt, item, Plan, Parted, Hopeless}
 
 -- ======== numbering
 module _ (cl codes : List ℕ) (o mask : ℕ) where

@@ -19,7 +19,7 @@ use Rattle.bits.specs.Logic.{andb, orb}
 use Rattle.bits.specs.LogicLaws.{true-false}
 use Rattle.bits.specs.Digit.{on}
 use Rattle.bits.specs.DigitLaws.{on-and, on-zero, on-ones, equal-digits}
-use Rattle.cells.specs.Core.{Differ, bit}
+use Rattle.cells.specs.Core.{Differ}
 use Rattle.cells.specs.Lists.{less-or-equal, and-on, or-on, or-off}
 use Rattle.cells.specs.Pigeon.{agree-and, and-agree}
 use Rattle.cells.specs.Sets.{With, with-power}

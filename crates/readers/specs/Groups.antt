@@ -3,24 +3,24 @@
 use mathlib.Core.Path.{_≡_, refl, sym, ap, ap₂, _∙_, subst}
 use mathlib.Core.Bool.{Bool, true, false}
 use mathlib.Core.List.{List, [], _∷_}
-use mathlib.Core.Logic.{_⊎_, inl, inr, ⊎-elim}
-use Prim.Native.Nat.{ℕ, zero, suc, _+_, _-_, _*_, _^_, _≤_, _<_}
+use mathlib.Core.Logic.{_⊎_, inr, ⊎-elim}
+use Prim.Native.Nat.{ℕ, zero, suc, _+_, _-_, _≤_, _<_}
 use native.Mathlib.Decide.{ℕ-discrete}
 use native.Mathlib.Omega.{arith}
-use lib.Bits.{bitAnd, bitOr, and-le-l, and-le-r}
+use lib.Bits.{bitAnd, bitOr, and-le-r}
 use lib.Dec.{eqb}
-use lib.ListN.{length, getD, set, length-set}
+use lib.ListN.{length, set, length-set}
 use lib.Seq.{getD-set-same, getD-set-other}
 use borrow.Author.Tests.{eq-eqb}
 use Rattle.limits.specs.Limits.{searchOutputs}
 use Rattle.bits.specs.Logic.{andb, orb}
-use Rattle.bits.specs.LogicLaws.{true-false, and-left, and-right}
+use Rattle.bits.specs.LogicLaws.{and-right}
 use Rattle.bits.specs.Digit.{on}
 use Rattle.bits.specs.DigitLaws.{on-and, on-or, on-zero}
-use Rattle.cells.specs.Lists.{zeros, zeros-are, less-or-equal, never-both, false-where, and-off}
-use Rattle.numbering.specs.Given.{item, Block, Blocks}
+use Rattle.cells.specs.Lists.{zeros, zeros-are, less-or-equal, never-both, false-where}
+use Rattle.numbering.specs.Given.{item, Blocks}
 use Rattle.coding.specs.Exchange.{Uniform}
-use Rattle.coding.specs.Values.{Groups, Alike, Marks, Used, Over, Marked, Valued}
+use Rattle.coding.specs.Values.{Groups, Over, Marked, Valued}
 use Rattle.readers.specs.Masks.{Start}
 
 -- ======== definitions

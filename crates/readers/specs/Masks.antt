@@ -4,27 +4,24 @@ use Rattle.limits.specs.Limits.{searchOutputs, maxVertices, maxCodes, maxCells}
 use Rattle.cells.specs.Lists.{zeros, and-off}
 use mathlib.Core.Path.{_≡_, refl, sym, ap, ap₂, _∙_, subst}
 use mathlib.Core.Bool.{Bool, true, false, not}
-use mathlib.Core.List.{List, [], _∷_}
+use mathlib.Core.List.{List, _∷_}
 use mathlib.Core.Logic.{_⊎_, inl, inr, ⊎-elim}
 use Prim.Native.Nat.{ℕ, zero, suc, _+_, _-_, _*_, _/_, _%_, _^_, _≤_, _<_}
 use native.Mathlib.Decide.{ℕ-discrete, decLt}
 use native.Mathlib.Omega.{arith}
-use native.Mathlib.Numerals.{add-one}
 use lib.Bits.{bitAnd, bitOr, and-le-l, and-le-r}
-use lib.Dec.{eqb}
 use lib.ListN.{length, getD, set, length-set}
 use lib.Seq.{getD-set-same, getD-set-other}
-use borrow.Author.Tests.{eq-eqb, ne-eqb}
 use Rattle.bits.specs.Logic.{andb, orb}
 use Rattle.bits.specs.LogicLaws.{true-false, and-left, and-right}
 use Rattle.bits.specs.Digit.{on}
-use Rattle.bits.specs.DigitLaws.{on-and, on-or, on-zero, on-ones, on-above, on-complement, on-single, equal-digits}
+use Rattle.bits.specs.DigitLaws.{on-and, on-or, on-ones, on-above, on-complement}
 use Rattle.cells.specs.Core.{Differ}
 use Rattle.cells.specs.Lists.{All, Pairs, count, less-or-equal, never-both, false-where}
-use Rattle.cells.specs.Pigeon.{Agree, agree-and, and-agree}
+use Rattle.cells.specs.Pigeon.{agree-and, and-agree}
 use Rattle.cells.specs.Codes.{Coded}
-use Rattle.cells.specs.Shared.{Split, Fits, sharedCode, crowd-bound, places-bound}
-use Rattle.numbering.specs.Given.{noCode, labelAt, item, Block, Blocks, Plan, Solves, Extends, Kept, Parted, Hopeless, Told}
+use Rattle.cells.specs.Shared.{Split, sharedCode, crowd-bound, places-bound}
+use Rattle.numbering.specs.Given.{noCode, labelAt, item, Block, Blocks, Plan, Solves, Kept, Parted}
 use Rattle.coding.specs.Values.{Agrees}
 use Rattle.coding.specs.Tried.{Covers}
 use Rattle.holding.specs.Blocks.{Table, copies, copies-are, all-ones}

@@ -3,21 +3,21 @@
 -- at most 2 to the number of these. So the blocks are at least the classes of q divided by that. Assumes nothing.
 use mathlib.Core.Path.{_≡_, refl, sym, ap, ap₂, _∙_, subst}
 use mathlib.Core.Bool.{Bool, true, false, not}
-use mathlib.Core.List.{List, [], _∷_}
-use mathlib.Core.Logic.{_⊎_, inl, inr, ⊎-elim}
-use Prim.Native.Nat.{ℕ, zero, suc, _+_, _-_, _*_, _/_, _%_, _^_, _≤_, _<_}
+use mathlib.Core.List.{List, []}
+use mathlib.Core.Logic.{inl, inr}
+use Prim.Native.Nat.{ℕ, _+_, _-_, _*_, _/_, _%_, _^_, _≤_, _<_}
 use native.Mathlib.Decide.{ℕ-discrete, decLt}
 use native.Mathlib.Nat.{mul-le-mul-left, mul-le-mul-right, mul-one}
 use native.Mathlib.Omega.{arith}
 use lib.Bits.{bitAnd, and-le-l}
-use lib.ListN.{length, getD}
+use lib.ListN.{length}
 use lib.Pow.{pow-pos}
-use Rattle.bits.specs.Logic.{andb, orb}
-use Rattle.bits.specs.LogicLaws.{true-false, and-left, and-right}
+use Rattle.bits.specs.Logic.{andb}
+use Rattle.bits.specs.LogicLaws.{and-left, and-right}
 use Rattle.bits.specs.Digit.{on}
-use Rattle.bits.specs.DigitLaws.{on-and, on-above, on-complement}
+use Rattle.bits.specs.DigitLaws.{on-and, on-complement}
 use Rattle.cells.specs.Core.{Differ}
-use Rattle.cells.specs.Lists.{All, Pairs, count, pairs-map, never-both, and-on}
+use Rattle.cells.specs.Lists.{All, Pairs, count, pairs-map, and-on}
 use Rattle.cells.specs.Pigeon.{Agree, agree-and, and-agree, pigeon, buckets}
 use Rattle.cells.specs.Codes.{Coded}
 use Rattle.cells.specs.Shared.{sharedCode}

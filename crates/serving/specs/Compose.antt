@@ -3,8 +3,8 @@
 use mathlib.Core.Path.{_≡_, refl, sym, ap, ap₂, _∙_, subst}
 use mathlib.Core.Bool.{Bool, true, false}
 use mathlib.Core.List.{List, [], _∷_, _++_, map}
-use mathlib.Core.Logic.{_⊎_, inl, inr, ⊎-elim}
-use mathlib.Core.Option.{Option, some, none}
+use mathlib.Core.Logic.{_⊎_, ⊎-elim}
+use mathlib.Core.Option.{Option, some}
 use Prim.Native.Nat.{ℕ, zero, suc, _+_, _*_, _/_, _%_, _^_, _≤_, _<_}
 use native.Mathlib.Omega.{arith}
 use native.Mathlib.Decide.{ℕ-discrete}
@@ -12,9 +12,9 @@ use native.Mathlib.Nat.{add-zero, add-mul, add-assoc, mul-assoc, zero-mul, zero-
 use native.Mathlib.Numerals.{add-one}
 use lib.Dec.{eqb}
 use lib.ListN.{length, getD, length-map, length-append, List·getD-append}
-use lib.Seq.{getD-append-add, getD-at}
-use lib.Pow.{high, low, pow-add, pow-pos}
-use borrow.Author.Tests.{eq-eqb, ne-eqb, eqb-true}
+use lib.Seq.{getD-at}
+use lib.Pow.{high, low, pow-add}
+use borrow.Author.Tests.{eq-eqb, eqb-true}
 use Rattle.bits.specs.Logic.{pick}
 use Rattle.bits.specs.LogicLaws.{true-false}
 use Rattle.bits.specs.Digit.{on}
@@ -24,11 +24,11 @@ use Rattle.formula.specs.Value.{onRow}
 use Rattle.sheet.specs.Examine.{Design}
 use Rattle.sheet.specs.Value.{outputOn}
 use Rattle.classes.specs.Columns.{free, joinRow, vertexOf, freeRowOf, vertexCount, freeCount, valueAt, valuesUpto, conflict}
-use Rattle.network.specs.Network.{Network, Node}
+use Rattle.network.specs.Network.{Node}
 use Rattle.network.specs.Check.{firstOf}
 use Rattle.network.specs.Value.{networkOn}
-use Rattle.cells.specs.Core.{Apart, Serves, coreOf, cellsFrom}
-use Rattle.serving.specs.NetworkCore.{nodeOf, has, Conflicts, ServesDesign}
+use Rattle.cells.specs.Core.{Apart, coreOf, cellsFrom}
+use Rattle.serving.specs.NetworkCore.{nodeOf, has, ServesDesign}
 use Rattle.network.specs.Value.{lutAt}
 use Rattle.serving.specs.Parts.{Parts, Columns}
 use Rattle.serving.specs.Tells.{node-at}

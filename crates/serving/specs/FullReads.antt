@@ -4,8 +4,7 @@ use mathlib.Core.Path.{_≡_, sym, _∙_, subst}
 use mathlib.Core.Bool.{true, false}
 use mathlib.Core.List.{List}
 use mathlib.Core.Logic.{⊎-elim}
-use Prim.Native.Nat.{ℕ, _^_, _≤_, _<_, min}
-use native.Mathlib.Omega.{arith}
+use Prim.Native.Nat.{ℕ, _^_, _≤_, _<_}
 use native.Mathlib.Nat.{le-antisymm}
 use lib.ListN.{length}
 use Rattle.names.specs.Name.{Name}
@@ -18,7 +17,6 @@ use Rattle.classes.specs.Cases.{either, not-both}
 use Rattle.classes.specs.ColumnLaws.{conflict-differ, no-conflict-agree, agree-same, alike-columns}
 use Rattle.classes.specs.WidthLaws.{width-least}
 use Rattle.network.specs.Network.{Network}
-use Rattle.network.specs.RisingLaws.{rising-few}
 use Rattle.network.specs.Value.{lutAt}
 use Rattle.network.specs.Wellformed.{Wellformed}
 use Rattle.network.specs.Answers.{WithinLimits, Computes, readCount}
@@ -63,14 +61,3 @@ module _ (d : Design) (w : Network) (proper : Proper d) (c : Computes d w) where
 module _ (d : Design) (w : Network) (proper : Proper d) (f : Wellformed d w) (l : WithinLimits d w) (c : Computes d w) where
   pub reads-width : (o : ℕ) → o < length (d .outputs) → readCount w o ≡ budget d (d .bound) o
   reads-width o h = le-antisymm (l .reads-within o (subst (λ (n : ℕ). o < n) (sym (f .node-each)) h)) (width-read d w proper c o h)
-
-  -- and as many as its width and the number of tables allow
-  pub reads-full : (o : ℕ) → o < length (d .outputs) → readCount w o ≡ min (budget d (d .bound) o) (length (w .luts))
-  reads-full o h =
-      let r = rising-few (zero-least (length (w .luts))) (f .node-fits o (subst (λ (n : ℕ). o < n) (sym (f .node-each)) h) .rises) in
-      let few : readCount w o ≤ length (w .luts) = omega (arith, r) in
-      let e = reads-width o h in
-      omega arith
-    where
-      zero-least : (n : ℕ) → 0 ≤ n
-      zero-least n = omega arith

@@ -1,12 +1,12 @@
 -- Theorem A: tables and reading sets can be completed to a network with a design's value on every row exactly when they
 -- serve. From networks to cores, and from cores to networks. Assumes nothing.
-use mathlib.Core.Path.{_≡_, refl, sym, ap, ap₂, _∙_, subst}
+use mathlib.Core.Path.{_≡_, refl, sym, ap, _∙_, subst}
 use mathlib.Core.Bool.{Bool, true, false, _||_}
-use mathlib.Core.List.{List, [], _∷_, _++_, map}
+use mathlib.Core.List.{List, [], _∷_}
 use mathlib.Core.Logic.{_⊎_, inl, inr, ⊎-elim}
 use Prim.Native.Nat.{ℕ, zero, suc, _+_, _^_, _≤_, _<_}
 use native.Mathlib.Omega.{arith}
-use native.Mathlib.Nat.{zero-add, add-zero}
+use native.Mathlib.Nat.{zero-add}
 use lib.Dec.{eqb}
 use lib.ListN.{length, getD}
 use borrow.Author.Tests.{eqb-true}
@@ -16,8 +16,8 @@ use Rattle.bits.specs.Digit.{on}
 use Rattle.limits.specs.Limits.{maxCells}
 use Rattle.names.specs.Name.{Name}
 use Rattle.sheet.specs.Examine.{Design}
-use Rattle.cells.specs.Core.{Cell, Serves, reading, bit, coreOf, cellsFrom}
-use Rattle.classes.specs.Columns.{free, vertexCount, conflict, valueAt, valuesUpto, freeCount}
+use Rattle.cells.specs.Core.{reading, bit, coreOf, cellsFrom}
+use Rattle.classes.specs.Columns.{free, vertexCount, conflict}
 use Rattle.classes.specs.Width.{budget}
 use Rattle.classes.specs.Proper.{Proper, Parted}
 use Rattle.classes.specs.JoinLaws.{join-lt, join-parts, vertex-of-join, free-row-of-join}
@@ -26,9 +26,9 @@ use Rattle.network.specs.Network.{Network, Node}
 use Rattle.network.specs.Reads.{Rising, rising-none, rising-more}
 use Rattle.network.specs.Wellformed.{Wellformed, NodeFits, nodeAt}
 use Rattle.network.specs.Answers.{WithinLimits, Computes, readCount}
-use Rattle.serving.specs.NetworkCore.{nodeOf, has, networkCore, ServesDesign}
+use Rattle.serving.specs.NetworkCore.{has, networkCore, ServesDesign}
 use Rattle.serving.specs.Parts.{Parts, Columns}
-use Rattle.serving.specs.Tells.{network-serves, core-length}
+use Rattle.serving.specs.Tells.{network-serves}
 use Rattle.serving.specs.Build.{numbers, nodeBuilt, lutsBuilt, nodesBuilt, built, entry}
 use Rattle.serving.specs.Compose.{built-right, values-length, luts-length, node-built}
 

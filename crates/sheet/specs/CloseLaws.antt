@@ -4,11 +4,10 @@ use mathlib.Core.Path.{_≡_, refl, sym, ap, _∙_}
 use mathlib.Core.Bool.{Bool, true, false}
 use mathlib.Core.List.{List, [], _∷_}
 use mathlib.Core.Option.{some, none}
-use Prim.Native.Nat.{ℕ, _+_, _-_}
+use Prim.Native.Nat.{ℕ, _-_}
 use native.Mathlib.Omega.{arith}
 use lib.Dec.{eqb, leb}
-use lib.ListN.{length, getD, drop, length-drop}
-use lib.Seq.{getD-drop}
+use lib.ListN.{length, drop, length-drop}
 use borrow.Author.Tests.{eq-eqb, ne-eqb, eqb-true, eqb-false, le-leb, lt-leb}
 use Rattle.bits.specs.Logic.{pick}
 use Rattle.text.specs.Bytes.{found, bad, after, eat, whole, closeBracket}
@@ -18,29 +17,6 @@ use Rattle.cursor.specs.Item.{At, from}
 use Rattle.cursor.specs.declared.Cursor.{Cursor}
 use Rattle.sheet.specs.Lines.{closed}
 use Rattle.sheet.specs.Known.{closesAt}
-
--- ---- by the number of bytes
-not-one-byte : (s : List ℕ) → (length s ≡ 1 → ⊥) → closesAt s ≡ false
-not-one-byte [] h = refl
-not-one-byte (b ∷ []) h = absurd (h refl)
-not-one-byte (b ∷ c ∷ s) h = refl
-
-one-byte : (s : List ℕ) → length s ≡ 1 → closesAt s ≡ eqb (getD s 0 0) closeBracket
-one-byte [] e = absurd (omega arith)
-one-byte (b ∷ []) e = refl
-one-byte (b ∷ c ∷ s) e = absurd (omega arith)
-
-module _ (l : List ℕ) (at : ℕ) where
-  left : length (drop at l) ≡ length l - at
-  left = length-drop at l
-
-  pub not-one-left : (length l - at ≡ 1 → ⊥) → false ≡ closesAt (drop at l)
-  not-one-left h = sym (not-one-byte (drop at l) (λ e. h (sym left ∙ e)))
-
-  pub one-left : length l - at ≡ 1 → eqb (getD l at 0) closeBracket ≡ closesAt (drop at l)
-  one-left e =
-      let here : at + 0 ≡ at = omega arith in
-      sym (one-byte (drop at l) (left ∙ e) ∙ ap (λ (b : ℕ). eqb b closeBracket) (getD-drop at l 0 0 ∙ ap (λ (i : ℕ). getD l i 0) here))
 
 -- ---- by the bracket, where it is read
 pub closes-there : (l : List ℕ) (at : ℕ) (c : Cursor) → At l tt c (eat (closeBracket ∷ []) (drop at l))

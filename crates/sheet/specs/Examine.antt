@@ -1,6 +1,6 @@
 -- "The examination, question by question", questions 1 to 5: the lines in their order, on each line questions 2 to 5 in
 -- turn, with what is known so far. The answer is the refusal, a number and a line, or the design. Assumes nothing.
-use mathlib.Core.Bool.{Bool, true, false, not, _&&_, _||_}
+use mathlib.Core.Bool.{Bool, false, not, _&&_, _||_}
 use mathlib.Core.List.{List, [], _∷_, _++_, map}
 use mathlib.Core.Option.{Option, some, none}
 use Prim.Native.Nat.{ℕ, suc}
@@ -11,7 +11,7 @@ use Rattle.limits.specs.Limits.{maxInputs, maxBound, maxLimit, maxOutputs, maxD
 use Rattle.text.specs.Bytes.{same, newline}
 use Rattle.text.specs.Line.{lines}
 use Rattle.names.specs.Name.{Name, among, distinct, allAmong}
-use Rattle.formula.specs.Tree.{Formula, depth, knows}
+use Rattle.formula.specs.Tree.{depth, knows}
 use Rattle.sheet.specs.Lines.{Output, designLine, endLine, readIn, readBound, readLimit, readOut}
 
 -- what a valid sheet says

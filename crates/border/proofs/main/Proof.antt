@@ -1,8 +1,7 @@
 use Rattle.border.specs.Line.{lineLength}
-use lib.ListN.{length, getD, set}
-use native.Mathlib.Omega.{arith}
-use Prim.Native.Nat.{ℕ, _<_, _≤_, _+_, _-_, _*_, _^_}
-use mathlib.Core.Path.{_≡_, refl, sym, ap, _∙_, subst}
+use lib.ListN.{length}
+use Prim.Native.Nat.{_≤_, _-_}
+use mathlib.Core.Path.{_≡_}
 use borrow.Author.Needs.{needs}
 use Rattle.border.proofs.main.Statement.{statement}
 use Rattle.border.proofs.main.Tie as tie

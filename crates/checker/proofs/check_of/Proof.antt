@@ -2,7 +2,6 @@
 use borrow.Author.Tests.{not-true, not-false}
 use Rattle.checker.specs.Answer.{checkedOf}
 use Rattle.checker.specs.CheckLaws.{answer-refused, some-drawing, answer-compared}
-use borrow.Author.Needs.{needs}
 use Rattle.checker.proofs.check_of.Statement.{statement}
 use Rattle.checker.proofs.check_of.Tie as tie
 

@@ -1,11 +1,5 @@
 use Rattle.bits.specs.LogicLaws.{true-false}
-use lib.ListN.{length, getD, set}
-use native.Mathlib.Omega.{arith}
-use Prim.Native.Nat.{ℕ, _<_, _≤_, _+_, _-_, _*_}
-use mathlib.Core.Logic.{⊎-elim}
-use mathlib.Core.Bool.{Bool, true, false}
-use mathlib.Core.Path.{_≡_, refl, sym, ap, _∙_, subst}
-use borrow.Author.Needs.{needs}
+use Prim.Native.Nat.{_-_}
 use Rattle.coding.proofs.better.Statement.{statement}
 use Rattle.coding.proofs.better.Tie as tie
 use Rattle.coding.proofs.better.Reads as reads

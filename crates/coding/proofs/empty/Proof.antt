@@ -1,10 +1,6 @@
 use Rattle.bits.specs.LogicLaws.{true-false}
-use lib.ListN.{length, getD, set}
-use native.Mathlib.Omega.{arith}
-use Prim.Native.Nat.{ℕ, _<_, _≤_, _+_, _-_, _*_}
-use mathlib.Core.Logic.{⊎-elim}
-use mathlib.Core.Bool.{Bool, true, false}
-use mathlib.Core.Path.{_≡_, refl, sym, ap, _∙_, subst}
+use Prim.Native.Nat.{_≤_, _-_}
+use mathlib.Core.Path.{sym}
 use borrow.Author.Needs.{needs}
 use Rattle.coding.proofs.empty.Statement.{statement}
 use Rattle.coding.proofs.empty.Tie as tie

@@ -1,12 +1,8 @@
 use Rattle.holding.specs.Search.{Seeking, seeking-start, seeking-coded, seeking-better, seeking-worse}
-use borrow.Author.Tests.{not-true, not-false}
-use Rattle.bits.specs.LogicLaws.{true-false}
-use lib.ListN.{length, getD, set}
 use native.Mathlib.Omega.{arith}
-use Prim.Native.Nat.{ℕ, _<_, _≤_, _+_, _-_, _*_}
+use Prim.Native.Nat.{ℕ, _≤_, _-_}
 use mathlib.Core.Logic.{⊎-elim}
-use mathlib.Core.Bool.{Bool, true, false}
-use mathlib.Core.Path.{_≡_, refl, sym, ap, _∙_, subst}
+use mathlib.Core.Path.{subst}
 use borrow.Author.Needs.{needs}
 use Rattle.coding.proofs.pick.Statement.{statement}
 use Rattle.coding.proofs.pick.Tie as tie

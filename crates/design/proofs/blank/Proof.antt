@@ -1,6 +1,5 @@
 use mathlib.Core.Path.{refl}
 use native.Mathlib.Omega.{arith}
-use borrow.Author.Needs.{needs}
 use Rattle.design.proofs.blank.Statement.{statement}
 use Rattle.design.proofs.blank.Tie as tie
 use Rattle.design.proofs.blank.Reads as reads

@@ -1,9 +1,9 @@
 -- `examine`: the lines so far are asked as the whole sheet is, line after line. Assumes nothing.
 use Rattle.design.specs.ExamineLaws.{examined, Along, along-start, along-end, line-refused, line-passed, not-sized}
 use borrow.Author.Tests.{not-true, not-false}
-use lib.ListN.{length, drop}
-use Prim.Native.Nat.{_≤_, _-_, _+_}
-use mathlib.Core.Path.{_≡_, sym, refl, ap, _∙_}
+use lib.ListN.{length}
+use Prim.Native.Nat.{_-_}
+use mathlib.Core.Path.{sym, refl, _∙_}
 use native.Mathlib.Omega.{arith}
 use borrow.Author.Needs.{needs}
 use Rattle.design.proofs.examine.Statement.{statement}

@@ -1,5 +1,4 @@
 use Rattle.design.specs.SizeLaws.{plain-newline, plain-inside, plain-below, plain-above}
-use borrow.Author.Needs.{needs}
 use Rattle.design.proofs.plain.Statement.{statement}
 use Rattle.design.proofs.plain.Tie as tie
 use Rattle.design.proofs.plain.Reads as reads

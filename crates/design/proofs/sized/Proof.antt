@@ -1,9 +1,9 @@
 use Rattle.design.specs.SizeLaws.{sized-empty, sized-long, sized-rest, walk-on, walk-stopped, walk-last}
 use Rattle.sheet.specs.Examine.{plainLines}
 use borrow.Author.Tests.{not-true, not-false}
-use lib.ListN.{length, drop}
+use lib.ListN.{drop}
 use Prim.Native.Nat.{_≤_, _-_}
-use mathlib.Core.Path.{_≡_, sym, refl, ap, _∙_}
+use mathlib.Core.Path.{_≡_, sym, refl, _∙_}
 use native.Mathlib.Omega.{arith}
 use borrow.Author.Needs.{needs}
 use Rattle.design.proofs.sized.Statement.{statement}

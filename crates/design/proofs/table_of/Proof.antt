@@ -1,11 +1,10 @@
 -- `table_of`: one law for each way out. Assumes nothing.
-use mathlib.Core.Path.{_≡_, ap, _∙_}
+use mathlib.Core.Path.{ap, _∙_}
 use mathlib.Core.List.{List}
 use Prim.Native.Nat.{ℕ}
 use native.Mathlib.Omega.{arith}
 use borrow.Author.Tests.{not-true, not-false}
 use Rattle.sheet.specs.Examine as spec
-use Rattle.sheet.specs.Known.{Holds}
 use Rattle.design.specs.Tabulate.{written}
 use Rattle.design.specs.Answer.{ExaminedIs}
 use Rattle.design.specs.TableLaws.{Valid, valid-here, rows-few, table-refused, table-no-output, table-short, table-written}

@@ -1,11 +1,7 @@
 use Rattle.holding.specs.Blocks.{Blocked, blocked-start, blocked-in, blocked-out}
-use Rattle.bits.specs.LogicLaws.{true-false}
-use lib.ListN.{length, getD, set}
 use native.Mathlib.Omega.{arith}
-use Prim.Native.Nat.{ℕ, _<_, _≤_, _+_, _-_, _*_}
+use Prim.Native.Nat.{_≤_, _-_}
 use mathlib.Core.Logic.{⊎-elim}
-use mathlib.Core.Bool.{Bool, true, false}
-use mathlib.Core.Path.{_≡_, refl, sym, ap, _∙_, subst}
 use borrow.Author.Needs.{needs}
 use Rattle.holding.proofs.block.Statement.{statement}
 use Rattle.holding.proofs.block.Tie as tie

@@ -3,13 +3,11 @@ use Rattle.holding.specs.Held.{at-skip, at-old, at-new}
 use Rattle.holding.specs.Held.{Held, held-start}
 use Rattle.numbering.specs.Given.{item, Block}
 use borrow.Author.Tests.{not-true, not-false}
-use Rattle.bits.specs.LogicLaws.{true-false}
-use lib.ListN.{length, getD, set}
+use lib.ListN.{getD}
 use native.Mathlib.Omega.{arith}
 use Prim.Native.Nat.{ℕ, _<_, _≤_, _+_, _-_, _*_}
 use mathlib.Core.Logic.{⊎-elim}
-use mathlib.Core.Bool.{Bool, true, false}
-use mathlib.Core.Path.{_≡_, refl, sym, ap, _∙_, subst}
+use mathlib.Core.Path.{_≡_, refl, sym, _∙_, subst}
 use borrow.Author.Needs.{needs}
 use Rattle.holding.proofs.held.Statement.{statement}
 use Rattle.holding.proofs.held.Tie as tie

@@ -1,6 +1,5 @@
-use mathlib.Core.Path.{_≡_, refl, sym, ap, _∙_, subst}
+use mathlib.Core.Path.{sym, _∙_}
 use Rattle.bits.specs.LogicLaws.{true-false}
-use borrow.Author.Needs.{needs}
 use Rattle.holding.proofs.inside.Statement.{statement}
 use Rattle.holding.proofs.inside.Tie as tie
 use Rattle.holding.proofs.inside.Reads as reads

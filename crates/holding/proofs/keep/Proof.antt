@@ -1,9 +1,5 @@
-use mathlib.Core.Path.{_≡_, refl, sym, ap, _∙_, subst}
-use native.Mathlib.Omega.{arith}
-use Rattle.bits.specs.Digit.{on}
 use Rattle.bits.specs.DigitLaws.{on-ones}
 use Rattle.holding.specs.Blocks.{on-either}
-use Rattle.holding.specs.Narrow.{Keeps}
 use borrow.Author.Needs.{needs}
 use Rattle.holding.proofs.keep.Statement.{statement}
 use Rattle.holding.proofs.keep.Tie as tie

@@ -1,14 +1,10 @@
 use Rattle.holding.specs.Narrow.{sum-next}
 use Rattle.holding.specs.Wants.{need}
 use Rattle.cells.specs.Lists.{sum}
-use borrow.Author.Tests.{not-true, not-false}
-use Rattle.bits.specs.LogicLaws.{true-false}
-use lib.ListN.{length, getD, set}
+use lib.ListN.{getD}
 use native.Mathlib.Omega.{arith}
-use Prim.Native.Nat.{ℕ, _<_, _≤_, _+_, _-_, _*_, max}
-use mathlib.Core.Logic.{⊎-elim}
-use mathlib.Core.Bool.{Bool, true, false}
-use mathlib.Core.Path.{_≡_, refl, sym, ap, _∙_, subst}
+use Prim.Native.Nat.{_≤_, _-_, _*_, max}
+use mathlib.Core.Path.{_≡_, refl, ap, _∙_}
 use borrow.Author.Needs.{needs}
 use Rattle.holding.proofs.total.Statement.{statement}
 use Rattle.holding.proofs.total.Tie as tie

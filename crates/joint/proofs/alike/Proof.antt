@@ -1,12 +1,8 @@
 use Rattle.joint.specs.Merge.{Alike, alike-more}
-use borrow.Author.Count.{below-more}
 use Rattle.bits.specs.LogicLaws.{true-false}
-use lib.ListN.{length, getD, set}
 use native.Mathlib.Omega.{arith}
-use Prim.Native.Nat.{ℕ, _<_, _≤_, _+_, _-_, _*_, _/_, _%_}
-use mathlib.Core.Logic.{⊎-elim}
-use mathlib.Core.Bool.{Bool, true, false}
-use mathlib.Core.Path.{_≡_, refl, sym, ap, _∙_, subst}
+use Prim.Native.Nat.{_≤_, _-_}
+use mathlib.Core.Path.{sym, _∙_}
 use borrow.Author.Needs.{needs}
 use Rattle.joint.proofs.alike.Statement.{statement}
 use Rattle.joint.proofs.alike.Tie as tie

@@ -1,9 +1,7 @@
 use Rattle.joint.specs.Merge.{picked-labels, decided-merged}
-use lib.ListN.{length, getD, set}
 use native.Mathlib.Omega.{arith}
-use Prim.Native.Nat.{ℕ, _<_, _≤_, _+_, _-_, _*_, _/_, _%_}
-use mathlib.Core.Path.{_≡_, refl, sym, ap, _∙_, subst}
-use borrow.Author.Needs.{needs}
+use Prim.Native.Nat.{_-_}
+use mathlib.Core.Path.{sym}
 use Rattle.joint.proofs.codes_for.Statement.{statement}
 use Rattle.joint.proofs.codes_for.Tie as tie
 use Rattle.joint.proofs.codes_for.Reads as reads

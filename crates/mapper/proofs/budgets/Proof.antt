@@ -1,6 +1,6 @@
 use native.Mathlib.Omega.{arith}
 use mathlib.Core.Path.{refl}
-use Prim.Native.Nat.{ℕ, _≤_, _-_}
+use Prim.Native.Nat.{_≤_, _-_}
 use lib.ListN.{getD}
 use Rattle.limits.specs.Limits.{searchOutputs}
 use Rattle.mapper.specs.FillLaws.{Filled, filled-more, filled-none}

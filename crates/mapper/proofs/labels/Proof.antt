@@ -1,5 +1,5 @@
 use native.Mathlib.Omega.{arith}
-use Prim.Native.Nat.{ℕ, _≤_, _-_}
+use Prim.Native.Nat.{_≤_, _-_}
 use Rattle.limits.specs.Limits.{labelCount}
 use Rattle.mapper.specs.SearchInput.{labelOf, labelsGiven}
 use Rattle.mapper.specs.FillLaws.{Filled, filled-more, filled-none}

@@ -1,9 +1,8 @@
 use native.Mathlib.Omega.{arith}
-use mathlib.Core.Path.{_≡_, sym, refl, ap, _∙_}
 use borrow.Author.Tests.{not-true, not-false}
 use Rattle.sheet.specs.Examine as spec
 use Rattle.design.specs.TableLaws.{valid-here}
-use Rattle.mapper.specs.MapSteps.{map-refused, counts, holding, is-proper, map-classes, budgets-ready, search-ready, rows-inside, map-none, cells-few, map-short, map-written}
+use Rattle.mapper.specs.MapSteps.{map-refused, counts, holding, is-proper, map-classes, budgets-ready, search-ready, writer-ready, map-none, map-short, map-written}
 use borrow.Author.Needs.{needs}
 use Rattle.mapper.proofs.map_of.Statement.{statement}
 use Rattle.mapper.proofs.map_of.Tie as tie
@@ -129,15 +128,8 @@ put-network-requires c κs =
     let r = pre .right in
     let v = valid-here x (args .e) (pre .is) (not-false _ (if1 .left)) in
     let q = classes-of .ensures (v .design) (holding x k v r) (is-proper x k v r) in
-    let few = cells-few x k v r (classes-of .result) q (labels .result) (budgets .result) (labels .ensures) (budgets .ensures)
-    (if2 .left) (found .count) (found .rows) (found .codes) (found .found) (fewest .ensures) in
-    let inside = rows-inside x k v r (classes-of .result) q in (
-      v .holds .inputs-few,
-      v .holds .bound-few,
-      v .holds .outputs-few,
-      few,
-      record { few-vertices = q .shaped .few-vertices; few-free = q .shaped .few-free; inside = inside },
-    )
+    writer-ready x k v r (classes-of .result) q (labels .result) (budgets .result) (labels .ensures) (budgets .ensures) (if2 .left)
+    (found .count) (found .rows) (found .codes) (found .found) (fewest .ensures)
 
 returns-4 : tie.Need-returns-4
 returns-4 c =
@@ -179,15 +171,8 @@ put-network-requires-2 c κs =
     let r = pre .right in
     let v = valid-here x (args .e) (pre .is) (not-false _ (if1 .left)) in
     let q = classes-of .ensures (v .design) (holding x k v r) (is-proper x k v r) in
-    let few = cells-few x k v r (classes-of .result) q (labels .result) (budgets .result) (labels .ensures) (budgets .ensures)
-    (if2 .left) (found .count) (found .rows) (found .codes) (found .found) (fewest .ensures) in
-    let inside = rows-inside x k v r (classes-of .result) q in (
-      v .holds .inputs-few,
-      v .holds .bound-few,
-      v .holds .outputs-few,
-      few,
-      record { few-vertices = q .shaped .few-vertices; few-free = q .shaped .few-free; inside = inside },
-    )
+    writer-ready x k v r (classes-of .result) q (labels .result) (budgets .result) (labels .ensures) (budgets .ensures) (if2 .left)
+    (found .count) (found .rows) (found .codes) (found .found) (fewest .ensures)
 
 same-length : tie.Need-same-length
 same-length c = search needs

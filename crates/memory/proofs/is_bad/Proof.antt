@@ -2,8 +2,6 @@ use borrow.Author.Tests.{eqb-true}
 use Rattle.memory.specs.Memory.{honest-found}
 use Rattle.bits.specs.LogicLaws.{true-false}
 use mathlib.Core.Path.{refl, sym}
-use mathlib.Core.Bool.{true, false}
-use native.Mathlib.Omega.{arith}
 use borrow.Author.Needs.{needs}
 use Rattle.memory.proofs.is_bad.Statement.{statement}
 use Rattle.memory.proofs.is_bad.Tie as tie

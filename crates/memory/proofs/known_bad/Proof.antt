@@ -1,6 +1,5 @@
 use Rattle.bits.specs.LogicLaws.{true-false}
 use mathlib.Core.Path.{sym}
-use mathlib.Core.Bool.{true, false}
 use Prim.Native.Nat.{_≤_, _-_}
 use native.Mathlib.Omega.{arith}
 use borrow.Author.Needs.{needs}

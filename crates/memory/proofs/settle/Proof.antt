@@ -2,10 +2,8 @@ use native.Mathlib.Nat.{mod-lt, div-le-self}
 use borrow.Author.Tests.{not-true}
 use Rattle.memory.specs.Memory.{Honest, sizes-few}
 use Rattle.bits.specs.LogicLaws.{true-false}
-use mathlib.Core.Bool.{true, false}
 use Prim.Native.Nat.{_<_, _≤_, _-_}
 use native.Mathlib.Omega.{arith}
-use lib.ListN.{set}
 use borrow.Author.Needs.{needs}
 use Rattle.memory.proofs.settle.Statement.{statement}
 use Rattle.memory.proofs.settle.Tie as tie

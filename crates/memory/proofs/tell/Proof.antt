@@ -1,6 +1,4 @@
 use Rattle.bits.specs.LogicLaws.{true-false}
-use mathlib.Core.Bool.{true, false}
-use native.Mathlib.Omega.{arith}
 use borrow.Author.Needs.{needs}
 use Rattle.memory.proofs.tell.Statement.{statement}
 use Rattle.memory.proofs.tell.Tie as tie

@@ -1,7 +1,5 @@
 use Rattle.bits.specs.LogicLaws.{true-false}
-use mathlib.Core.Bool.{true, false}
 use native.Mathlib.Omega.{arith}
-use borrow.Author.Needs.{needs}
 use Rattle.memory.proofs.visit.Statement.{statement}
 use Rattle.memory.proofs.visit.Tie as tie
 use Rattle.memory.proofs.visit.Reads as reads

@@ -1,7 +1,6 @@
 -- `read_lut`: the head, and the digits up to the line's end. Assumes nothing.
 use mathlib.Core.List.{map}
 use mathlib.Core.Path.{sym}
-use native.Mathlib.Omega.{arith}
 use lib.ListN.{length, length-map}
 use borrow.Author.Needs.{needs}
 use Rattle.names.specs.Pack.{nameOf}

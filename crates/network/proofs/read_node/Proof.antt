@@ -1,7 +1,6 @@
 -- `read_node`: the head, the shared tables, the inputs, and the digits up to the line's end. Assumes nothing.
 use mathlib.Core.List.{map}
 use mathlib.Core.Path.{sym}
-use Prim.Native.Nat.{_+_}
 use native.Mathlib.Omega.{arith}
 use lib.ListN.{length, length-map}
 use borrow.Author.Needs.{needs}

@@ -1,8 +1,8 @@
-use Rattle.numbering.specs.Number.{Spread, Spreading, spreading-start, spreading-skip, spreading-one, spreading-zero, spreading-end, spread-low}
+use Rattle.numbering.specs.Number.{Spreading, spreading-start, spreading-skip, spreading-one, spreading-zero, spreading-end, spread-low}
 use native.Mathlib.Omega.{arith}
-use Prim.Native.Nat.{ℕ, _<_, _≤_, _+_, _-_}
+use Prim.Native.Nat.{_≤_, _-_}
 use mathlib.Core.Logic.{⊎-elim}
-use mathlib.Core.Path.{_≡_, refl, sym, ap, _∙_, subst}
+use mathlib.Core.Path.{sym, _∙_}
 use borrow.Author.Needs.{needs}
 use Rattle.numbering.proofs.spread.Statement.{statement}
 use Rattle.numbering.proofs.spread.Tie as tie

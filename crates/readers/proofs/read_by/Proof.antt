@@ -1,12 +1,5 @@
-use Rattle.bits.specs.LogicLaws.{true-false}
-use lib.Bits.{bitAnd, bitOr}
-use lib.ListN.{length, getD, set}
-use mathlib.Core.List.{List}
 use native.Mathlib.Omega.{arith}
-use Prim.Native.Nat.{ℕ, _<_, _≤_, _+_, _-_, _*_}
-use mathlib.Core.Logic.{_⊎_, inl, inr, ⊎-elim}
-use mathlib.Core.Bool.{Bool, true, false}
-use mathlib.Core.Path.{_≡_, refl, sym, ap, _∙_, subst}
+use Prim.Native.Nat.{_≤_, _-_}
 use borrow.Author.Needs.{needs}
 use Rattle.readers.proofs.read_by.Statement.{statement}
 use Rattle.readers.proofs.read_by.Tie as tie

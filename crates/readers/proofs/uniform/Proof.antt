@@ -2,14 +2,10 @@ use Rattle.readers.specs.Groups.{uniform-more}
 use Rattle.coding.specs.Exchange.{Uniform}
 use Rattle.numbering.specs.Given.{item}
 use Rattle.bits.specs.LogicLaws.{true-false}
-use lib.Bits.{bitAnd, bitOr}
-use lib.ListN.{length, getD, set}
-use mathlib.Core.List.{List}
 use native.Mathlib.Omega.{arith}
-use Prim.Native.Nat.{ℕ, _<_, _≤_, _+_, _-_, _*_}
+use Prim.Native.Nat.{ℕ, _<_, _≤_, _-_}
 use mathlib.Core.Logic.{_⊎_, inl, inr, ⊎-elim}
-use mathlib.Core.Bool.{Bool, true, false}
-use mathlib.Core.Path.{_≡_, refl, sym, ap, _∙_, subst}
+use mathlib.Core.Path.{sym}
 use borrow.Author.Needs.{needs}
 use Rattle.readers.proofs.uniform.Statement.{statement}
 use Rattle.readers.proofs.uniform.Tie as tie

@@ -1,4 +1,4 @@
-use mathlib.Core.Path.{_≡_, refl, sym, ap, _∙_, subst}
+use mathlib.Core.Path.{sym}
 use Rattle.bits.specs.LogicLaws.{true-false}
 use borrow.Author.Needs.{needs}
 use Rattle.readers.proofs.useful.Statement.{statement}
