@@ -29,7 +29,7 @@ use Rattle.netsheet.specs.Answer.{NetworkIs, ReadAs}
 use Rattle.netsheet.specs.Named.{Ranged}
 use Rattle.netsheet.specs.NamedLaws.{holds-ranged}
 use Rattle.netsheet.specs.declared.NetworkSheet.{NetworkSheet}
-use Rattle.checker.specs.Answer.{RefusedPair, BesideIs}
+use Rattle.checker.specs.Beside.{RefusedPair, BesideIs}
 use Rattle.checker.specs.Limits.{Small, LimitsAre, Judged}
 use Rattle.checker.specs.Drawing.{placesOf, Drawing, SomeDrawing}
 use Rattle.checker.specs.declared.Beside.{Beside}

@@ -1,5 +1,6 @@
 -- Check's answer, and laws that its code is proved by.
 pub mod Answer
+pub mod Beside
 pub mod Limits
 pub mod Code
 pub mod Filling
