@@ -92,7 +92,7 @@ module _ (d : Design) (f : WellFormed d) where
     permitted-cells =
         let u = length (w .luts) in
         let m = length (d .outputs) in
-        let n : firstLut + u + m ≡ u + 2 + m = omega arith in
+        let n : firstLut + u + m ≡ u + firstLut + m = omega arith in
         record {
           said = w;
           drawn = permitted-drawn;

@@ -1,5 +1,5 @@
--- Which line of the print a shared table or a node stands on: lines count from 1, lut i stands on line i + 2, and the node
--- of output o as far below the lut lines; the count line follows the last node. Assumes nothing.
+-- Which line of the print a shared table or a node stands on: lines count from 1, lut i stands i lines below the first lut,
+-- and the node of output o as far below the lut lines; the count line follows the last node. Assumes nothing.
 use mathlib.Core.Path.{_≡_, refl, sym, ap, _∙_}
 use mathlib.Core.Bool.{Bool}
 use mathlib.Core.List.{List, [], _∷_, _++_}
@@ -7,6 +7,7 @@ use Prim.Native.Nat.{ℕ, zero, suc, _+_, _-_, _<_}
 use native.Mathlib.Omega.{arith}
 use lib.ListN.{length, getD, List·getD-append}
 use lib.Seq.{getD-append-add}
+use Rattle.limits.specs.Limits.{firstLut}
 use Rattle.names.specs.Name.{Name}
 use Rattle.sheet.specs.Examine.{Design}
 use Rattle.network.specs.Network.{Network, Node}
@@ -50,27 +51,27 @@ node-at fs (n ∷ ns) (x ∷ xs) (suc o) e h = node-at fs ns xs o (omega arith) 
 module _ (d : Design) (w : Network) where
   pub lut-line : (i : ℕ)
       → i < length (w .luts)
-      → lineAt (networkLines d w) (i + 2) ≡ printLut (d .bound) i (getD (w .luts) i [])
+      → lineAt (networkLines d w) (i + firstLut) ≡ printLut (d .bound) i (getD (w .luts) i [])
   unfolding networkLines
   lut-line i h =
       let luts = lutLines (d .bound) 0 (w .luts) in
       let rest = linesFromNode d (length (w .luts)) 0 (w .nodes) in
       let c = luts-count (d .bound) 0 (w .luts) in
-      let n : i + 2 - 1 ≡ suc i = omega arith in
+      let n : i + firstLut - 1 ≡ suc i = omega arith in
       ap (λ (a : ℕ). getD (networkLine ∷ (luts ++ rest)) a []) n
       ∙ List·getD-append luts rest [] i (omega arith)
       ∙ lut-at (d .bound) 0 i i (w .luts) (omega arith) h
 
   -- the lines below the lut lines
   below-luts : (o : ℕ)
-      → lineAt (networkLines d w) (length (w .luts) + 2 + o)
+      → lineAt (networkLines d w) (length (w .luts) + firstLut + o)
       ≡ getD (nodeLines (freeOf d) (namesOf d) (w .nodes) ++ lastLines (length (w .luts))) o []
   unfolding networkLines
   below-luts o =
       let luts = lutLines (d .bound) 0 (w .luts) in
       let others = nodeLines (freeOf d) (namesOf d) (w .nodes) ++ lastLines (length (w .luts)) in
       let c = luts-count (d .bound) 0 (w .luts) in
-      let n : length (w .luts) + 2 + o - 1 ≡ suc (length luts + o) = omega arith in
+      let n : length (w .luts) + firstLut + o - 1 ≡ suc (length luts + o) = omega arith in
       ap (λ (a : ℕ). getD (networkLine ∷ (luts ++ others)) a []) n ∙ getD-append-add luts others o []
 
   module _ (e : length (w .nodes) ≡ length (d .outputs)) where
@@ -79,7 +80,7 @@ module _ (d : Design) (w : Network) where
 
     pub node-line-at : (o : ℕ)
         → o < length (w .nodes)
-        → lineAt (networkLines d w) (length (w .luts) + 2 + o)
+        → lineAt (networkLines d w) (length (w .luts) + firstLut + o)
         ≡ printNode (getD (namesOf d) o []) (freeOf d) (nodeAt (w .nodes) o)
     node-line-at o h =
         let nodes = nodeLines (freeOf d) (namesOf d) (w .nodes) in
@@ -88,7 +89,7 @@ module _ (d : Design) (w : Network) where
         ∙ List·getD-append nodes (lastLines (length (w .luts))) [] o (omega arith)
         ∙ node-at (freeOf d) (namesOf d) (w .nodes) o named h
 
-    pub count-line-at : lineAt (networkLines d w) (length (w .luts) + 2 + length (d .outputs)) ≡ printCount (length (w .luts))
+    pub count-line-at : lineAt (networkLines d w) (length (w .luts) + firstLut + length (d .outputs)) ≡ printCount (length (w .luts))
     count-line-at =
         let nodes = nodeLines (freeOf d) (namesOf d) (w .nodes) in
         let m = nodes-count (freeOf d) (namesOf d) (w .nodes) named in

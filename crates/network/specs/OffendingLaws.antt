@@ -8,6 +8,7 @@ use native.Mathlib.Omega.{arith}
 use native.Mathlib.Decide.{decLe}
 use lib.ListN.{length}
 use borrow.Author.Tests.{le-leb, lt-leb}
+use Rattle.limits.specs.Limits.{firstLut}
 use Rattle.sheet.specs.Examine.{Design}
 use Rattle.classes.specs.Width.{budget}
 use Rattle.network.specs.Network.{Network, Node}
@@ -110,11 +111,11 @@ module _ (d : Design) where
 
   -- ---- the network
   module _ (w : Network) where
-    luts-over : d .limit < length (w .luts) → offending d w ≡ some (d .limit + 2)
+    luts-over : d .limit < length (w .luts) → offending d w ≡ some (d .limit + firstLut)
     unfolding offending
     luts-over h = rw (lt-leb (length (w .luts)) (d .limit) h) refl
 
-    luts-kept : length (w .luts) ≤ d .limit → offending d w ≡ wideNode d 0 (length (w .luts) + 2) (w .nodes)
+    luts-kept : length (w .luts) ≤ d .limit → offending d w ≡ wideNode d 0 (length (w .luts) + firstLut) (w .nodes)
     unfolding offending
     luts-kept h = rw (le-leb (length (w .luts)) (d .limit) h) refl
 
@@ -125,7 +126,7 @@ module _ (d : Design) where
               record {
                 luts-within = h;
                 reads-within = λ o i.
-                    none-narrow 0 (length (w .luts) + 2) (w .nodes) (sym (luts-kept h) ∙ e) o o (omega arith) i;
+                    none-narrow 0 (length (w .luts) + firstLut) (w .nodes) (sym (luts-kept h) ∙ e) o o (omega arith) i;
               }
           | no h ↦ absurd (some-none (sym (luts-over (omega arith)) ∙ e))
         ]
@@ -133,15 +134,15 @@ module _ (d : Design) where
     pub none-offending : WithinLimits d w → offending d w ≡ none
     none-offending f =
         luts-kept (f .luts-within)
-        ∙ narrow-none 0 (length (w .luts) + 2) (w .nodes)
+        ∙ narrow-none 0 (length (w .luts) + firstLut) (w .nodes)
         (λ k p q i.
         let e : p ≡ k = omega arith in
         rw e (f .reads-within k i))
 
     -- ---- the first offending line
-    lut-first : (l : ℕ) → d .limit < length (w .luts) → d .limit + 2 ≡ l → FirstOffending d w l
+    lut-first : (l : ℕ) → d .limit < length (w .luts) → d .limit + firstLut ≡ l → FirstOffending d w l
     lut-first l h e =
-        let o : Offends d w (d .limit + 2) = lut-over (d .limit) (omega arith) h in
+        let o : Offends d w (d .limit + firstLut) = lut-over (d .limit) (omega arith) h in
         record { offends = rw e at o; first = go }
       where
         go : (m : ℕ) → Offends d w m → l ≤ m
@@ -150,10 +151,10 @@ module _ (d : Design) where
 
     node-first : (l : ℕ)
         → length (w .luts) ≤ d .limit
-        → WideAt 0 (length (w .luts) + 2) (w .nodes) l
+        → WideAt 0 (length (w .luts) + firstLut) (w .nodes) l
         → FirstOffending d w l
     node-first l h s =
-        let o : Offends d w (length (w .luts) + 2 + s .k) = node-over (s .k) (s .is-node) (s .wide (s .k) (omega arith)) in
+        let o : Offends d w (length (w .luts) + firstLut + s .k) = node-over (s .k) (s .is-node) (s .wide (s .k) (omega arith)) in
         record { offends = rw (s .is-line) at o; first = go }
       where
         go : (m : ℕ) → Offends d w m → l ≤ m
@@ -167,7 +168,7 @@ module _ (d : Design) where
     pub offending-some : (l : ℕ) → offending d w ≡ some l → FirstOffending d w l
     offending-some l e =
         elim (decLe (length (w .luts)) (d .limit)) as (λ _. FirstOffending d w l) [
-          | yes h ↦ node-first l h (some-wide 0 (length (w .luts) + 2) l (w .nodes) (sym (luts-kept h) ∙ e))
+          | yes h ↦ node-first l h (some-wide 0 (length (w .luts) + firstLut) l (w .nodes) (sym (luts-kept h) ∙ e))
           | no h ↦ lut-first l (omega arith) (some-is (sym (luts-over (omega arith)) ∙ e))
         ]
 

@@ -9,7 +9,7 @@ use lib.ListN.{length, getD, length-append}
 use borrow.Author.Tests.{le-leb}
 use Rattle.bits.specs.Logic.{pick}
 use Rattle.bits.specs.LogicLaws.{and-left, and-right, and-both}
-use Rattle.limits.specs.Limits.{maxCells, maxNetwork}
+use Rattle.limits.specs.Limits.{maxCells, maxNetwork, firstLut}
 use Rattle.text.specs.BytesLaws.{same-self}
 use Rattle.text.specs.Line.{lines, endsLine}
 use Rattle.text.specs.Unbroken.{unbroken, allUnbroken}
@@ -102,7 +102,7 @@ module _ (d : Design) (h : Named d) where
   lines-read w f =
       line-next d at-network at-luts nothing nothing 1 networkLine (linesFromLut d 0 (length (w .luts)) (w .luts) (w .nodes))
       (ap (λ (x : Bool). pick x (next at-luts nothing) misspelled) (same-self networkLine))
-      ∙ luts-read (w .luts) (w .nodes) nothing 0 (length (w .luts)) 2 refl (omega arith)
+      ∙ luts-read (w .luts) (w .nodes) nothing 0 (length (w .luts)) firstLut refl (omega arith)
       (f .few-luts) (f .lut-digits) (f .node-each) (f .node-fits)
 
   -- ---- no line has a 0x0A in it
