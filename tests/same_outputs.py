@@ -1,0 +1,73 @@
+#!/usr/bin/env python3
+"""same_outputs.py OTHER [COUNT [SEED]]: whether cellmap and cellcheck answer byte for byte as those of another checkout do, whose
+target/bin/ has them built. The sheets are those of bench/ and examples/, COUNT random valid ones and as many damaged (3,000
+unless given); beside each sheet that maps Check is asked of the network, of it with a table's digit turned, with any one byte
+changed, with a line lost, and cut off. The last line counts the answers by kind, and those that differ."""
+import collections
+import pathlib
+import random
+import subprocess
+import sys
+
+ROOT = pathlib.Path(__file__).resolve().parent.parent
+sys.path.insert(0, str(ROOT / "tests/reference"))
+import random_sheets  # noqa: E402
+
+
+def run(checkout, program, text):
+    return subprocess.run([checkout / "target/bin" / program], input=text, capture_output=True).stdout
+
+
+def turned(dice, network):
+    """the network with one digit of a lut or node line turned, which leaves it spelled right"""
+    lines = network.split(b"\n")
+    number = dice.choice([i for i, line in enumerate(lines) if line.startswith((b"(lut", b"(node"))])
+    line = bytearray(lines[number])
+    place = dice.randrange(line.rindex(b" ") + 1, len(line) - 1)
+    line[place] ^= 1
+    return b"\n".join(lines[:number] + [bytes(line)] + lines[number + 1:])
+
+
+def changed(dice, network):
+    place = dice.randrange(len(network))
+    return network[:place] + bytes([dice.choice(random_sheets.BYTES)]) + network[place + 1:]
+
+
+def shortened(dice, network):
+    lines = network.split(b"\n")
+    number = dice.randrange(len(lines) - 1)
+    return b"\n".join(lines[:number] + lines[number + 1:])
+
+
+def kind(answer):
+    words = answer.split()
+    return " ".join(w.decode() for w in words[:2]) if words[:1] == [b"refused"] else (words[:1] or [b"nothing"])[0].decode()
+
+
+def main():
+    other = pathlib.Path(sys.argv[1]).resolve()
+    count = int(sys.argv[2]) if len(sys.argv) > 2 else 3000
+    dice = random.Random(int(sys.argv[3]) if len(sys.argv) > 3 else 1)
+    sheets = [p.read_bytes() for d in ("bench/border", "bench/large", "examples") for p in sorted((ROOT / d).glob("*.sheet"))]
+    for _ in range(count):
+        sheets += [random_sheets.text_of(random_sheets.valid(dice)), random_sheets.damaged(dice)]
+    kinds, differ = collections.Counter(), 0
+    for sheet in sheets:
+        asked = [("cellmap", sheet)]
+        network = run(ROOT, "cellmap", sheet)
+        if network.startswith(b"(network"):
+            cases = [network, turned(dice, network), changed(dice, network), shortened(dice, network), network[:-3]]
+            asked += [("cellcheck", sheet + b"\0" + case) for case in cases]
+        for program, text in asked:
+            mine, others = run(ROOT, program, text), run(other, program, text)
+            kinds[f"{program} {'mapped' if mine.startswith(b'(network') else kind(mine)}"] += 1
+            if mine != others:
+                differ += 1
+                print("differs:", program, text[:60])
+    print("; ".join(f"{k} {n}" for k, n in sorted(kinds.items())))
+    print(f"{len(sheets)} sheets, {sum(kinds.values())} answers, {differ} differ")
+    return 1 if differ else 0
+
+
+if __name__ == "__main__":
+    sys.exit(main())
