@@ -38,6 +38,10 @@ maxClasses = 16
 abbrev pub maxNetwork : ℕ
 maxNetwork = 8192
 
+-- the bytes of a network's text in BLIF
+abbrev pub maxBlif : ℕ
+maxBlif = 55735
+
 -- the line of the first lut
 abbrev pub firstLut : ℕ
 firstLut = 2

@@ -28,6 +28,9 @@ pub const MAX_CLASSES: usize = 16;
 
 pub const MAX_NETWORK: usize = 8192;
 
+// The bytes of a network's text in BLIF.
+pub const MAX_BLIF: usize = 55_735;
+
 // The line of the first lut.
 pub const FIRST_LUT: usize = 2;
 

@@ -1,0 +1,23 @@
+-- All that the printing and the reading of BLIF compute with, named once: under `unfolding computing` the answer for given
+-- texts is computed. What stands here says nothing by itself. Assumes nothing.
+use Rattle.rows.specs.Row.{valuesOf}
+use Rattle.text.specs.Line.{endedLines}
+use Rattle.names.specs.Names.{printNames}
+use Rattle.network.specs.Computing as network
+use Rattle.blif.specs.Printer.{cellName, rowLines, block, lutBlocks, nodeBlocks, blifLines, printBlif}
+use Rattle.blif.specs.Words.{blank, words}
+use Rattle.blif.specs.Reader.{marksOf, said, readRest, wordLines, stands, once, readBlif}
+use Rattle.blif.specs.Value.{covers, given, driver, allValues, valueWithin, valueIn}
+use Rattle.blif.specs.Export.{putText, exportOf, export}
+
+printing : Unit {0}
+unfolding valuesOf endedLines printNames cellName rowLines block lutBlocks nodeBlocks blifLines printBlif putText exportOf export
+printing = tt
+
+reading : Unit {0}
+unfolding blank words marksOf said readRest wordLines stands once readBlif covers given driver allValues valueWithin valueIn
+reading = tt
+
+unfoldable pub computing : Unit {0}
+unfolding network.computing printing reading
+computing = tt

@@ -1,0 +1,23 @@
+-- BLIF: what a text says. A model has inputs, outputs and blocks; a block has a cover, whose lines mark for each of the
+-- block's inputs whether it must be 0, must be 1, or does not matter. Assumes nothing.
+use mathlib.Core.Bool.{Bool}
+use mathlib.Core.List.{List}
+use Prim.Native.Nat.{ℕ}
+
+abbrev pub Signal : Type 0
+Signal = List ℕ
+
+-- 0 or 1, or `-`
+pub data Mark : Type 0 where
+  must-be : Bool → Mark
+  any : Mark
+
+pub record Block : Type 0 where
+  pub reads : List Signal
+  pub drives : Signal
+  pub cover : List (List Mark)
+
+pub record Model : Type 0 where
+  pub inputs : List Signal
+  pub outputs : List Signal
+  pub blocks : List Block
