@@ -6,5 +6,6 @@ pub mod Reader
 pub mod Value
 pub mod Export
 pub mod Simulated
+pub mod Modelled
 pub mod Computing
 pub mod Worked
