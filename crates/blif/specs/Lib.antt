@@ -9,3 +9,6 @@ pub mod Simulated
 pub mod Modelled
 pub mod Computing
 pub mod Worked
+pub mod Solid
+pub mod SolidLaws
+pub mod WordsLaws
