@@ -12,3 +12,4 @@ pub mod Worked
 pub mod Solid
 pub mod SolidLaws
 pub mod WordsLaws
+pub mod SaidLaws
