@@ -12,4 +12,7 @@ pub mod Worked
 pub mod Solid
 pub mod SolidLaws
 pub mod WordsLaws
+pub mod NamedLaws
 pub mod SaidLaws
+pub mod UnbrokenLaws
+pub mod ReadLaws

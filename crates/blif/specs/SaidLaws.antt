@@ -4,7 +4,6 @@ use mathlib.Core.Bool.{Bool, true, false}
 use mathlib.Core.List.{List, [], _∷_, _++_, map}
 use mathlib.Core.Option.{some}
 use Prim.Native.Nat.{ℕ}
-use Rattle.rows.specs.Digits.{digit}
 use Rattle.text.specs.Bytes.{bytes, same}
 use Rattle.names.specs.Name.{Name}
 use Rattle.names.specs.Names.{printNames}
@@ -12,10 +11,10 @@ use Rattle.network.specs.Printer.{printDigits}
 use Rattle.blif.specs.Printer.{rowLine}
 use Rattle.blif.specs.Words.{blank, words}
 use Rattle.blif.specs.Model.{Signal, must-be}
-use Rattle.blif.specs.Reader.{Said, inputs, outputs, names, cover, end, front, final, namesLine, coverLine, covered, marksOf, said, kept, wordLines}
-use Rattle.blif.specs.Solid.{solid, isWord, allWords}
+use Rattle.blif.specs.Reader.{Said, inputs, outputs, names, cover, end, front, final, namesLine, covered, marksOf, said, kept, wordLines}
+use Rattle.blif.specs.Solid.{solid, allWords}
 use Rattle.blif.specs.SolidLaws.{digits-word}
-use Rattle.blif.specs.WordsLaws.{words-of-word, words-spaced, words-of-names}
+use Rattle.blif.specs.WordsLaws.{words-spaced, words-of-names}
 
 -- a line has a word, and its words say x
 pub record Says (l : List ℕ) (x : Said) : Type 0 where

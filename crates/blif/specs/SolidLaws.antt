@@ -4,7 +4,7 @@ use mathlib.Core.Bool.{Bool, true, false, _||_}
 use mathlib.Core.List.{List, [], _∷_, _++_, map}
 use Prim.Native.Nat.{ℕ, _+_, _%_, _/_, _<_}
 use native.Mathlib.Omega.{arith}
-use lib.Dec.{ltb, leb, eqb}
+use lib.Dec.{ltb, leb}
 use borrow.Author.Tests.{ltb-true, lt-ltb, leb-true, ne-eqb}
 use Rattle.bits.specs.Logic.{pick}
 use Rattle.bits.specs.LogicLaws.{true-false, and-left, and-right, and-both}
@@ -80,6 +80,10 @@ words-append (v ∷ vs) ws h k =
     and-both (isWord v) (allWords (vs ++ ws))
     (and-left (isWord v) (allWords vs) h)
     (words-append vs ws (and-right (isWord v) (allWords vs) h) k)
+
+pub word-after : (ws : List (List ℕ)) (w : List ℕ) → allWords ws ≡ true → isWord w ≡ true → allWords (ws ++ (w ∷ [])) ≡ true
+unfolding allWords
+word-after ws w h k = words-append ws (w ∷ []) h (and-both (isWord w) true k refl)
 
 -- ---- cell names
 abbrev figure : ℕ → ℕ

@@ -1,6 +1,6 @@
 -- The words of a line: a word, blank, and the words of what follows. Assumes nothing.
 use mathlib.Core.Path.{_≡_, refl, sym, ap, _∙_}
-use mathlib.Core.Bool.{Bool, true, false}
+use mathlib.Core.Bool.{true, false}
 use mathlib.Core.List.{List, [], _∷_, _++_, append-nil}
 use Prim.Native.Nat.{ℕ, _<_}
 use native.Mathlib.Omega.{arith}
@@ -11,7 +11,7 @@ use Rattle.text.specs.Bytes.{space}
 use Rattle.text.specs.Line.{onto}
 use Rattle.names.specs.Names.{printNames}
 use Rattle.blif.specs.Words.{tab, blank, goesOn, words}
-use Rattle.blif.specs.Solid.{solid, isWord, allWords}
+use Rattle.blif.specs.Solid.{isWord, allWords}
 use Rattle.blif.specs.SolidLaws.{solid-first, solid-others}
 
 above-no-blank : (b : ℕ) → space < b → blank b ≡ false
