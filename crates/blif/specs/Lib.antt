@@ -6,6 +6,10 @@ pub mod Reader
 pub mod Value
 pub mod Export
 pub mod Simulated
+pub mod Answer
+pub mod Room
+pub mod Texts
+pub mod Ready
 pub mod Modelled
 pub mod Computing
 pub mod Worked
