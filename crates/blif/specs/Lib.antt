@@ -20,3 +20,5 @@ pub mod NamedLaws
 pub mod SaidLaws
 pub mod UnbrokenLaws
 pub mod ReadLaws
+pub mod Longest
+pub mod LengthLaws
