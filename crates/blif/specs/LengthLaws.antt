@@ -2,13 +2,11 @@
 use mathlib.Core.Path.{_≡_, refl, ap, _∙_}
 use mathlib.Core.Bool.{Bool, true, false}
 use mathlib.Core.List.{List, [], _∷_, _++_, map}
-use Prim.Native.Nat.{ℕ, suc, _+_, _*_, _/_, _%_, _^_, _≤_, _<_}
+use Prim.Native.Nat.{ℕ, suc, _+_, _*_, _^_, _≤_, _<_}
 use native.Mathlib.Omega.{arith}
 use native.Mathlib.Nat.{mul-suc, mul-le-mul}
-use lib.Dec.{ltb}
 use lib.ListN.{length, getD, length-append, length-map}
 use lib.Pow.{pow-mono}
-use Rattle.bits.specs.Logic.{pick}
 use Rattle.bits.specs.LogicLaws.{and-left, and-right}
 use Rattle.limits.specs.Limits.{maxName, maxInputs, maxBound, maxBlif}
 use Rattle.rows.specs.Digits.{digit}
@@ -16,7 +14,6 @@ use Rattle.rows.specs.Row.{valuesOf}
 use Rattle.rows.specs.RowLaws.{length-values}
 use Rattle.text.specs.Bytes.{bytes, newline}
 use Rattle.text.specs.Line.{endedLines}
-use Rattle.text.specs.Number.{printNumber}
 use Rattle.names.specs.Name.{Name, isName}
 use Rattle.names.specs.Names.{allNames, printNames}
 use Rattle.names.specs.IsNameLaws.{name-short}
@@ -34,6 +31,7 @@ use Rattle.network.specs.Wellformed.{Wellformed, nodeAt}
 use Rattle.network.specs.Answers.{WithinLimits, readCount}
 use Rattle.putting.specs.Written.{itemRoom}
 use Rattle.blif.specs.Printer.{cellName, rowLine, rowLines, block, lutBlocks, nodeBlocks, blifLines, printBlif}
+use Rattle.blif.specs.FigureLaws.{number-length}
 use Rattle.blif.specs.Longest.{longestRow, longestBlock, longestText}
 use Rattle.blif.specs.NamedLaws.{inputs-named, bound-named, frees-named, outputs-named}
 
@@ -55,19 +53,6 @@ names-short [] h = short-none
 names-short (n ∷ ns) h =
     short-more (name-short n (and-left (isName n) (allNames ns) h)) (names-short ns (and-right (isName n) (allNames ns) h))
 
-number-length : (i : ℕ) → length (printNumber i) ≤ 3
-unfolding printNumber
-number-length i = go (ltb i 10) (ltb i 100)
-  where
-    go : (one two : Bool)
-        → length
-        (pick one ((0x30 + i % 10) ∷ [])
-        (pick two ((0x30 + i / 10 % 10) ∷ (0x30 + i % 10) ∷ []) ((0x30 + i / 100 % 10) ∷ (0x30 + i / 10 % 10) ∷ (0x30 + i % 10) ∷ [])))
-        ≤ 3
-    go true two = omega arith
-    go false true = omega arith
-    go false false = omega arith
-
 cell-short : (i : ℕ) → length (cellName i) ≤ maxName
 unfolding cellName
 cell-short i = omega (arith, number-length i)
@@ -85,7 +70,7 @@ names-length (short-more {n = n} {ns = ns} h s) =
     omega arith
 
 -- ---- lines
-pub ended-append : (ls ms : List (List ℕ)) → length (endedLines (ls ++ ms)) ≡ length (endedLines ls) + length (endedLines ms)
+ended-append : (ls ms : List (List ℕ)) → length (endedLines (ls ++ ms)) ≡ length (endedLines ls) + length (endedLines ms)
 unfolding endedLines
 ended-append [] ms = omega arith
 ended-append (l ∷ ls) ms =
@@ -94,7 +79,7 @@ ended-append (l ∷ ls) ms =
     let c = length-append l (newline ∷ endedLines ls) in
     omega arith
 
-pub ended-more : (l : List ℕ) (ls : List (List ℕ)) → length (endedLines (l ∷ ls)) ≡ length l + 1 + length (endedLines ls)
+ended-more : (l : List ℕ) (ls : List (List ℕ)) → length (endedLines (l ∷ ls)) ≡ length l + 1 + length (endedLines ls)
 unfolding endedLines
 ended-more l ls = omega (arith, length-append l (newline ∷ endedLines ls))
 
@@ -102,8 +87,9 @@ row-length : (vs : List Bool) → length (rowLine vs) + 1 ≤ longestRow (length
 unfolding printDigits
 row-length [] = omega arith
 row-length (v ∷ vs) =
-    let a : length (printDigits (v ∷ vs) ++ bytes " 1") ≡ length (printDigits (v ∷ vs)) + 2 = length-append (printDigits (v ∷ vs)) (bytes " 1") in
-    let b : length (printDigits (v ∷ vs)) ≡ length (v ∷ vs) = length-map (v ∷ vs) digit in
+    let w = printDigits (v ∷ vs) in
+    let a : length (w ++ bytes " 1") ≡ length w + 2 = length-append w (bytes " 1") in
+    let b : length w ≡ length (v ∷ vs) = length-map (v ∷ vs) digit in
     omega arith
 
 rows-length : (n r : ℕ) (ds : List Bool) → length (endedLines (rowLines n r ds)) ≤ longestRow n * length ds
@@ -206,16 +192,12 @@ module _ (d : Design) (w : Network) (v : WellFormed d) (f : Wellformed d w) (l :
       let ls = lutBlocks (d .bound) 0 (w .luts) in
       let ns = nodeBlocks (freeOf d) (namesOf d) (w .nodes) in
       let last = bytes ".end" ∷ [] in
-      let a = names-length (names-short (d .inputs) (inputs-named d v)) in
-      let b = names-length (names-short (namesOf d) (outputs-named d v)) in
-      let c = luts-length (d .bound) 0 (w .luts) (bound-named d v) (v .bound-right .few) lut-rows in
-      let e = nodes-length (freeOf d) (namesOf d) (w .nodes) (frees-named d v) (outputs-named d v) node-narrow node-rows in
-      let g = ended-append ls (ns ++ last) in
-      let h = ended-append ns last in
-      let i = ended-more ins (outs ∷ (ls ++ (ns ++ last))) in
-      let j = ended-more outs (ls ++ (ns ++ last)) in
-      let k = names-count d in
-      let m = v .inputs-right .few in
-      let n = v .outputs-right .few in
-      let q = f .few-luts in
-      omega arith
+      let ins-few = names-length (names-short (d .inputs) (inputs-named d v)) in
+      let outs-few = names-length (names-short (namesOf d) (outputs-named d v)) in
+      let ls-few = luts-length (d .bound) 0 (w .luts) (bound-named d v) (v .bound-right .few) lut-rows in
+      let ns-few = nodes-length (freeOf d) (namesOf d) (w .nodes) (frees-named d v) (outputs-named d v) node-narrow node-rows in
+      let a = ended-more ins (outs ∷ (ls ++ (ns ++ last))) in
+      let b = ended-more outs (ls ++ (ns ++ last)) in
+      let c = ended-append ls (ns ++ last) in
+      let e = ended-append ns last in
+      omega (arith, names-count d, v .inputs-right .few, v .outputs-right .few, f .few-luts)

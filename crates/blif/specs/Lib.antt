@@ -13,6 +13,7 @@ pub mod Ready
 pub mod Modelled
 pub mod Computing
 pub mod Worked
+pub mod FigureLaws
 pub mod Solid
 pub mod SolidLaws
 pub mod WordsLaws
