@@ -11,6 +11,10 @@ pub mod Room
 pub mod Texts
 pub mod Ready
 pub mod Modelled
+pub mod PutLaws
+pub mod ItemLaws
+pub mod RowLaws
+pub mod BlockLaws
 pub mod Computing
 pub mod Worked
 pub mod FigureLaws

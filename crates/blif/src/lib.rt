@@ -2,11 +2,11 @@
 // read where they stand in the network sheet. Rests on checker for the examination of the two sheets, on listing for lists of
 // names and on putting for texts.
 ghost use mathlib.Core.Path.{_≡_};
-ghost use mathlib.Core.Bool.{Bool};
-ghost use mathlib.Core.List.{List, [], _∷_, _++_, map};
+ghost use mathlib.Core.List.{[], _∷_, _++_, map};
 ghost use Prim.Native.Nat.{ℕ, _+_, _*_, _^_, _≤_, _<_};
 ghost use lib.ListN.{length, take};
 ghost use Rattle.limits.specs.Limits.{maxInputs, maxOutputs, maxBound, maxCells};
+ghost use Rattle.bits.specs.Logic.{pick};
 ghost use Rattle.rows.specs.Row.{valuesOf};
 ghost use Rattle.text.specs.Bytes.{space, newline};
 ghost use Rattle.names.specs.Names.{printNames};
@@ -16,13 +16,15 @@ ghost use Rattle.sheet.specs.Examine.{Design};
 ghost use Rattle.design.specs.Answer.{ExaminedIs, Right, Examination};
 ghost use Rattle.network.specs.Network.{Network};
 ghost use Rattle.network.specs.Numbers.{numbersOf};
+ghost use Rattle.network.specs.Printer.{printDigits};
+ghost use Rattle.checker.specs.Code.{isOne};
 ghost use Rattle.putting.specs.Written.{reach, itemRoom, Written};
 ghost use Rattle.listing.specs.Listed.{oneDigit, shown};
 ghost use Rattle.blif.specs.Printer.{cellName, rowLine, printBlif};
 ghost use Rattle.blif.specs.Export as spec;
 ghost use Rattle.blif.specs.Answer.{exportAnswer};
 ghost use Rattle.blif.specs.Room.{headRoom, cellsRoom, rowRoom, rowsRoom, blockRoom, lutsRoom, nodesRoom, textRoom};
-ghost use Rattle.blif.specs.Texts.{textsUpto, digitsAt, rowsText, blockText, lutText, nodeText, headText};
+ghost use Rattle.blif.specs.Texts.{textsUpto, cellText, digitsAt, rowsText, blockText, lutText, nodeText, headText};
 ghost use Rattle.blif.specs.Ready.{LutsReady, NodesReady, SomePassed, Passed};
 use design::Examined;
 use listing::Names;
@@ -81,7 +83,18 @@ fn put_listed(buf: &mut [u8], at: usize, ns: Names) -> usize
     put_items(buf, at, &list[..n])
 }
 
-// The names of the cells below u whose digits are 1 in the mask, each after a space.
+// Cell i after a space, where it is in the mask.
+fn put_cell(buf: &mut [u8], at: usize, mask: u8, i: usize) -> usize
+    requires { ⌜ (at + itemRoom ≤ reach) × (i < oneDigit) ⌝ }
+    ensures { λ r. ⌜ Written itemRoom (now (buf .entry)) (now (buf .exit)) at r (cellText mask i) ⌝ }
+{
+    if !bits::has(listing::wide(mask), i as u32) {
+        return at;
+    }
+    put_item(buf, at, cell_name(i))
+}
+
+// The names of the cells below u that are in the mask, each after a space.
 fn put_cells(buf: &mut [u8], at: usize, u: usize, mask: u8) -> usize
     requires { ⌜ (at + cellsRoom ≤ reach) × (u ≤ maxCells) ⌝ }
     ensures { λ r. ⌜ Written cellsRoom (now (buf .entry)) (now (buf .exit)) at r (printNames (map cellName (numbersOf u mask))) ⌝ }
@@ -89,18 +102,16 @@ fn put_cells(buf: &mut [u8], at: usize, u: usize, mask: u8) -> usize
     let mut p = at;
     let mut i = 0;
     while i < u {
-        if bits::has(listing::wide(mask), i as u32) {
-            p = put_item(buf, p, cell_name(i));
-        }
+        p = put_cell(buf, p, mask, i);
         i += 1;
     }
     p
 }
 
-// The line of row r of n inputs, whose value is 1.
-fn put_row(buf: &mut [u8], at: usize, n: usize, r: usize) -> usize
-    requires { ⌜ (at + rowRoom ≤ reach) × (n ≤ maxInputs) ⌝ }
-    ensures { λ q. ⌜ Written rowRoom (now (buf .entry)) (now (buf .exit)) at q (rowLine (valuesOf n r) ++ (newline ∷ [])) ⌝ }
+// The values of n inputs on row r, as digits.
+fn put_inputs(buf: &mut [u8], at: usize, n: usize, r: usize) -> usize
+    requires { ⌜ (at + maxInputs ≤ reach) × (n ≤ maxInputs) ⌝ }
+    ensures { λ q. ⌜ Written maxInputs (now (buf .entry)) (now (buf .exit)) at q (printDigits (valuesOf n r)) ⌝ }
 {
     let mut p = at;
     let mut i = n;
@@ -108,6 +119,18 @@ fn put_row(buf: &mut [u8], at: usize, n: usize, r: usize) -> usize
         i -= 1;
         p = putting::put_digit(buf, p, bits::has(r as u64, i as u32));
     }
+    p
+}
+
+// The line of row r of n inputs, where the row's digit is 1.
+fn put_row(buf: &mut [u8], at: usize, n: usize, r: usize, digit: u8) -> usize
+    requires { ⌜ (at + rowRoom ≤ reach) × (n ≤ maxInputs) ⌝ }
+    ensures { λ q. ⌜ Written rowRoom (now (buf .entry)) (now (buf .exit)) at q (pick (isOne digit) (rowLine (valuesOf n r) ++ (newline ∷ [])) []) ⌝ }
+{
+    if digit != b'1' {
+        return at;
+    }
+    let p = put_inputs(buf, at, n, r);
     if n == 0 {
         return putting::put_text(buf, p, b"1\n");
     }
@@ -123,9 +146,7 @@ fn put_rows(buf: &mut [u8], at: usize, t: &[u8], place: usize, n: usize) -> usiz
     let mut p = at;
     let mut r = 0;
     while r < rows {
-        if t[place + r] == b'1' {
-            p = put_row(buf, p, n, r);
-        }
+        p = put_row(buf, p, n, r, t[place + r]);
         r += 1;
     }
     p
