@@ -9,3 +9,9 @@ pub mod Simulated
 pub mod Modelled
 pub mod Computing
 pub mod Worked
+pub mod Drives
+pub mod SheetNameLaws
+pub mod OnceLaws
+pub mod CellNameLaws
+pub mod NamesOnceLaws
+pub mod MatchLaws
