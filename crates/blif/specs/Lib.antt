@@ -15,3 +15,5 @@ pub mod OnceLaws
 pub mod CellNameLaws
 pub mod NamesOnceLaws
 pub mod MatchLaws
+pub mod DriverLaws
+pub mod ValueLaws
