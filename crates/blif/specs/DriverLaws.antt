@@ -11,11 +11,11 @@ use Rattle.text.specs.Bytes.{same}
 use Rattle.text.specs.BytesLaws.{same-self}
 use Rattle.names.specs.Name.{Name, sameName, among, distinct}
 use Rattle.sheet.specs.Lines.{Output}
-use Rattle.sheet.specs.Examine.{Design, outputNames}
+use Rattle.sheet.specs.Examine.{Design}
 use Rattle.sheet.specs.WellFormed.{WellFormed}
-use Rattle.classes.specs.Columns.{free}
 use Rattle.classes.specs.FreeLaws.{among-first, among-later, distinct-later, first-another}
 use Rattle.network.specs.Network.{Network, Node}
+use Rattle.network.specs.Parts.{freeOf, namesOf}
 use Rattle.network.specs.Wellformed.{Wellformed, nodeAt}
 use Rattle.blif.specs.Printer.{cellName}
 use Rattle.blif.specs.Model.{Block}
@@ -81,29 +81,23 @@ node-count fs (n ∷ ns) (x ∷ xs) e = ap suc (node-count fs ns xs (omega (arit
 
 -- ---- a network's model
 module _ (d : Design) (w : Network) (g : Wellformed d w) where
-  abbrev frees : List Name
-  frees = free (d .inputs) (d .bound)
-
-  abbrev outs : List Name
-  outs = outputNames (d .outputs)
-
   abbrev luts : List Block
   luts = lutBlocksOf (d .bound) 0 (w .luts)
 
   abbrev nodes : List Block
-  nodes = nodeBlocksOf frees outs (w .nodes)
+  nodes = nodeBlocksOf (freeOf d) (namesOf d) (w .nodes)
 
-  output-count : length outs ≡ length (d .outputs)
+  output-count : length (namesOf d) ≡ length (d .outputs)
   output-count = length-map (d .outputs) (λ (o : Output). o .name)
 
-  node-each : length (w .nodes) ≡ length outs
+  node-each : length (w .nodes) ≡ length (namesOf d)
   node-each = g .node-each ∙ sym output-count
 
   pub block-count : length (modelOf d w .blocks) ≡ length (w .luts) + length (d .outputs)
   unfolding modelOf
   block-count =
       length-append luts nodes
-      ∙ ap₂ (λ (a b : ℕ). a + b) (lut-count (d .bound) 0 (w .luts)) (node-count frees outs (w .nodes) node-each ∙ output-count)
+      ∙ ap₂ (λ (a b : ℕ). a + b) (lut-count (d .bound) 0 (w .luts)) (node-count (freeOf d) (namesOf d) (w .nodes) node-each ∙ output-count)
 
   cell-block : (i : ℕ) → i < length (w .luts) → blockAt (modelOf d w .blocks) i ≡ blockOf (d .bound) (cellName i) (getD (w .luts) i [])
   unfolding modelOf
@@ -115,12 +109,12 @@ module _ (d : Design) (w : Network) (g : Wellformed d w) where
   output-block : (o : ℕ)
       → o < length (d .outputs)
       → blockAt (modelOf d w .blocks) (length (w .luts) + o)
-      ≡ blockOf (map cellName (nodeAt (w .nodes) o .reads) ++ frees) (getD outs o []) (nodeAt (w .nodes) o .digits)
+      ≡ blockOf (map cellName (nodeAt (w .nodes) o .reads) ++ freeOf d) (getD (namesOf d) o []) (nodeAt (w .nodes) o .digits)
   unfolding modelOf
   output-block o l =
       ap (λ (k : ℕ). blockAt (luts ++ nodes) (k + o)) (sym (lut-count (d .bound) 0 (w .luts)))
       ∙ getD-append-add luts nodes o noBlock
-      ∙ node-block frees outs (w .nodes) o node-each (omega (arith, output-count))
+      ∙ node-block (freeOf d) (namesOf d) (w .nodes) o node-each (omega (arith, output-count))
 
   module _ (f : WellFormed d) where
     -- a block that stands among the model's is the one that drives its signal
@@ -140,11 +134,11 @@ module _ (d : Design) (w : Network) (g : Wellformed d w) where
 
     pub output-driver : (o : ℕ)
         → o < length (d .outputs)
-        → driver (modelOf d w .blocks) (getD outs o [])
-        ≡ some (blockOf (map cellName (nodeAt (w .nodes) o .reads) ++ frees) (getD outs o []) (nodeAt (w .nodes) o .digits))
+        → driver (modelOf d w .blocks) (getD (namesOf d) o [])
+        ≡ some (blockOf (map cellName (nodeAt (w .nodes) o .reads) ++ freeOf d) (getD (namesOf d) o []) (nodeAt (w .nodes) o .digits))
     unfolding blockOf
     output-driver o l =
         driver-is (length (w .luts) + o)
-        (blockOf (map cellName (nodeAt (w .nodes) o .reads) ++ frees) (getD outs o []) (nodeAt (w .nodes) o .digits))
+        (blockOf (map cellName (nodeAt (w .nodes) o .reads) ++ freeOf d) (getD (namesOf d) o []) (nodeAt (w .nodes) o .digits))
         (omega arith)
         (output-block o l)

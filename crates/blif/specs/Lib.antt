@@ -9,6 +9,13 @@ pub mod Simulated
 pub mod Modelled
 pub mod Computing
 pub mod Worked
+pub mod Solid
+pub mod SolidLaws
+pub mod WordsLaws
+pub mod NamedLaws
+pub mod SaidLaws
+pub mod UnbrokenLaws
+pub mod ReadLaws
 pub mod Drives
 pub mod SheetNameLaws
 pub mod OnceLaws

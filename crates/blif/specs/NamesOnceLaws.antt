@@ -10,13 +10,13 @@ use Rattle.bits.specs.LogicLaws.{true-false, and-both}
 use Rattle.names.specs.Name.{Name, isName, among, distinct}
 use Rattle.names.specs.AllNamesLaws.{named-among}
 use Rattle.sheet.specs.Lines.{Output}
-use Rattle.sheet.specs.Examine.{Design, outputNames}
+use Rattle.sheet.specs.Examine.{Design}
 use Rattle.sheet.specs.WellFormed.{WellFormed}
 use Rattle.cells.specs.Lists.{false-where}
 use Rattle.classes.specs.Cases.{not-both}
-use Rattle.classes.specs.Columns.{free}
 use Rattle.classes.specs.FreeLaws.{among-cases}
 use Rattle.network.specs.Network.{Network, Node}
+use Rattle.network.specs.Parts.{freeOf, namesOf}
 use Rattle.network.specs.Wellformed.{Wellformed}
 use Rattle.blif.specs.Printer.{cellName}
 use Rattle.blif.specs.Model.{Block}
@@ -40,11 +40,11 @@ node-drives fs (n ∷ ns) [] e = absurd (omega (arith, e))
 node-drives fs (n ∷ ns) (x ∷ xs) e = ap (λ (l : List Name). n ∷ l) (node-drives fs ns xs (omega (arith, e)))
 
 pub model-drives : (d : Design) (w : Network) → Wellformed d w
-    → drivesOf (modelOf d w .blocks) ≡ cellNames 0 (length (w .luts)) ++ outputNames (d .outputs)
+    → drivesOf (modelOf d w .blocks) ≡ cellNames 0 (length (w .luts)) ++ namesOf d
 unfolding modelOf
 model-drives d w g =
-    let fs = free (d .inputs) (d .bound) in
-    let ns = outputNames (d .outputs) in
+    let fs = freeOf d in
+    let ns = namesOf d in
     let count : length (w .nodes) ≡ length ns = g .node-each ∙ sym (length-map (d .outputs) (λ (o : Output). o .name)) in
     map-append (λ (b : Block). b .drives) (lutBlocksOf (d .bound) 0 (w .luts)) (nodeBlocksOf fs ns (w .nodes))
     ∙ ap₂ (λ (a b : List Name). a ++ b) (lut-drives (d .bound) 0 (w .luts)) (node-drives fs ns (w .nodes) count)
@@ -78,26 +78,23 @@ name-no-cell n i (suc k) a e =
     (among-cases (cellName i) n (cellNames (suc i) k) e)
 
 module _ (d : Design) (w : Network) (f : WellFormed d) (g : Wellformed d w) where
-  abbrev outs : List Name
-  outs = outputNames (d .outputs)
-
   abbrev cells : List Name
   cells = cellNames 0 (length (w .luts))
 
-  cell-no-output : (n : Name) → among n cells ≡ true → among n outs ≡ false
+  cell-no-output : (n : Name) → among n cells ≡ true → among n (namesOf d) ≡ false
   cell-no-output n e =
-      false-where (among n outs)
-      (λ o. name-no-cell n 0 (length (w .luts)) (named-among n outs (design-named d f .outputs-named) o) e)
+      false-where (among n (namesOf d))
+      (λ o. name-no-cell n 0 (length (w .luts)) (named-among n (namesOf d) (design-named d f .outputs-named) o) e)
 
-  input-new : (n : Name) → among n (d .inputs) ≡ true → among n (cells ++ outs) ≡ false
+  input-new : (n : Name) → among n (d .inputs) ≡ true → among n (cells ++ namesOf d) ≡ false
   input-new n e =
-      among-none n cells outs
+      among-none n cells (namesOf d)
       (false-where (among n cells) (name-no-cell n 0 (length (w .luts)) (named-among n (d .inputs) (f .inputs-right .named) e)))
       (input-no-output d f n e)
 
-  drives-distinct : distinct (cells ++ outs) ≡ true
+  drives-distinct : distinct (cells ++ namesOf d) ≡ true
   drives-distinct =
-      distinct-both cells outs
+      distinct-both cells (namesOf d)
       (cells-distinct 0 (length (w .luts)) (omega (arith, g .few-luts)))
       (f .outputs-right .once)
       cell-no-output
@@ -110,4 +107,4 @@ module _ (d : Design) (w : Network) (f : WellFormed d) (g : Wellformed d w) wher
   signals-once =
       once-distinct (drivenSignals (modelOf d w))
       ∙ ap (λ (l : List Name). distinct (d .inputs ++ l)) (model-drives d w g)
-      ∙ distinct-both (d .inputs) (cells ++ outs) (f .inputs-right .once) drives-distinct input-new
+      ∙ distinct-both (d .inputs) (cells ++ namesOf d) (f .inputs-right .once) drives-distinct input-new

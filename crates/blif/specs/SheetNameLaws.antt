@@ -1,15 +1,13 @@
 -- The names of a valid design are names, and no input is an output. Assumes nothing.
-use mathlib.Core.Path.{_≡_, refl, sym, subst}
+use mathlib.Core.Path.{_≡_, sym, subst}
 use mathlib.Core.Logic.{⊎-elim}
 use mathlib.Core.Bool.{true, false}
 use mathlib.Core.List.{List, [], _∷_}
 use Prim.Native.Nat.{ℕ, suc, _<_}
 use native.Mathlib.Omega.{arith}
 use lib.ListN.{length}
-use Rattle.bits.specs.LogicLaws.{true-false, and-both}
-use Rattle.names.specs.Name.{Name, isName, among}
-use Rattle.names.specs.Names.{allNames}
-use Rattle.names.specs.AllNamesLaws.{all-named}
+use Rattle.bits.specs.LogicLaws.{true-false}
+use Rattle.names.specs.Name.{Name, among}
 use Rattle.sheet.specs.Lines.{Output}
 use Rattle.sheet.specs.Examine.{Design, outputNames}
 use Rattle.sheet.specs.WellFormed.{WellFormed, outputAt}
@@ -17,19 +15,14 @@ use Rattle.cells.specs.Lists.{false-where}
 use Rattle.classes.specs.Cases.{not-both}
 use Rattle.classes.specs.FreeLaws.{among-cases}
 use Rattle.network.specs.Wellformed.{Named}
-
-outputs-named : (os : List Output) → ((o : ℕ) → o < length os → isName (outputAt os o .name) ≡ true) → allNames (outputNames os) ≡ true
-unfolding allNames
-outputs-named [] h = refl
-outputs-named (o ∷ os) h =
-    and-both (isName (o .name)) (allNames (outputNames os)) (h 0 (omega arith)) (outputs-named os (λ i l. h (suc i) (omega arith)))
+use Rattle.blif.specs.NamedLaws.{inputs-named, bound-named, outputs-named}
 
 pub design-named : (d : Design) → WellFormed d → Named d
 design-named d f =
     record {
-      inputs-named = f .inputs-right .named;
-      bound-named = all-named (d .bound) (d .inputs) (f .inputs-right .named) (f .bound-right .known);
-      outputs-named = outputs-named (d .outputs) (λ o l. f .outputs-right .each o l .named);
+      inputs-named = inputs-named d f;
+      bound-named = bound-named d f;
+      outputs-named = outputs-named d f;
       some-output = f .some-output;
     }
 

@@ -18,11 +18,12 @@ use Rattle.sheet.specs.Lines.{Output}
 use Rattle.sheet.specs.Examine.{Design}
 use Rattle.sheet.specs.WellFormed.{WellFormed, outputAt}
 use Rattle.classes.specs.Cases.{either}
-use Rattle.classes.specs.Columns.{free, vertexOf}
+use Rattle.classes.specs.Columns.{vertexOf}
 use Rattle.classes.specs.FreeLaws.{map-agree, all-among, free-input}
 use Rattle.network.specs.Network.{Network, Node}
 use Rattle.network.specs.Reads.{Rising, rising-none, rising-more}
 use Rattle.network.specs.Value.{lutOn, nodeRow, networkOn}
+use Rattle.network.specs.Parts.{freeOf}
 use Rattle.network.specs.Wellformed.{Wellformed, nodeAt}
 use Rattle.blif.specs.Printer.{cellName}
 use Rattle.blif.specs.Model.{Signal, Block}
@@ -91,9 +92,6 @@ module _ (f : Signal → Option Bool) where
 
 -- ---- a network's model on the values of row r
 module _ (d : Design) (w : Network) (f : WellFormed d) (g : Wellformed d w) (r : ℕ) where
-  abbrev frees : List Name
-  frees = free (d .inputs) (d .bound)
-
   abbrev within : ℕ → Signal → Option Bool
   within k = valueWithin k (modelOf d w) (valuesOf (length (d .inputs)) r)
 
@@ -146,19 +144,19 @@ module _ (d : Design) (w : Network) (f : WellFormed d) (g : Wellformed d w) (r :
   node-reads : (k o : ℕ)
       → length (w .luts) + 1 ≤ k
       → o < length (w .nodes)
-      → map (within k) (map cellName (node o .reads) ++ frees)
-      ≡ map some (map (lutOn d w r) (node o .reads) ++ map (onRow (d .inputs) r) frees)
+      → map (within k) (map cellName (node o .reads) ++ freeOf d)
+      ≡ map some (map (lutOn d w r) (node o .reads) ++ map (onRow (d .inputs) r) (freeOf d))
   node-reads k o h l =
-      reads-valued (within k) (node o .reads) frees (map (lutOn d w r) (node o .reads)) (map (onRow (d .inputs) r) frees)
+      reads-valued (within k) (node o .reads) (freeOf d) (map (lutOn d w r) (node o .reads)) (map (onRow (d .inputs) r) (freeOf d))
       (cells-valued (within k) (lutOn d w r) (g .node-fits o l .rises) (λ j m. cell-enough k j (omega arith) m))
-      (inputs-valued (within k) (onRow (d .inputs) r) frees
+      (inputs-valued (within k) (onRow (d .inputs) r) (freeOf d)
       (λ n e. input-enough k n (omega arith) (free-input (d .inputs) (d .bound) n e)))
 
-  node-counted : (o : ℕ) → o < length (w .nodes) → length (node o .digits) ≡ 2 ^ length (map cellName (node o .reads) ++ frees)
+  node-counted : (o : ℕ) → o < length (w .nodes) → length (node o .digits) ≡ 2 ^ length (map cellName (node o .reads) ++ freeOf d)
   node-counted o l =
       g .node-fits o l .counted
       ∙ ap (λ (n : ℕ). 2 ^ n)
-      (sym (length-append (map cellName (node o .reads)) frees ∙ ap (λ (n : ℕ). n + length frees) (length-map (node o .reads) cellName)))
+      (sym (length-append (map cellName (node o .reads)) (freeOf d) ∙ ap (λ (n : ℕ). n + length (freeOf d)) (length-map (node o .reads) cellName)))
 
   pub output-valued : (o : ℕ)
       → o < length (d .outputs)
@@ -168,8 +166,8 @@ module _ (d : Design) (w : Network) (f : WellFormed d) (g : Wellformed d w) (r :
       let k = length (modelOf d w .blocks) in
       let m : o < length (w .nodes) = omega (arith, g .node-each) in
       let enough : length (w .luts) + 1 ≤ k = omega (arith, block-count d w g, f .some-output) in
-      let ss = map cellName (node o .reads) ++ frees in
-      let us = map (lutOn d w r) (node o .reads) ++ map (onRow (d .inputs) r) frees in
+      let ss = map cellName (node o .reads) ++ freeOf d in
+      let us = map (lutOn d w r) (node o .reads) ++ map (onRow (d .inputs) r) (freeOf d) in
       driven-valued k (outputSignal d o) (blockOf ss (outputSignal d o) (node o .digits))
       (output-no-input o l)
       (output-driver d w g f o l)
