@@ -24,3 +24,5 @@ pub mod NamesOnceLaws
 pub mod MatchLaws
 pub mod DriverLaws
 pub mod ValueLaws
+pub mod OutcomeLaws
+pub mod SimulatedLaws

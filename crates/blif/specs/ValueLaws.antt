@@ -154,9 +154,10 @@ module _ (d : Design) (w : Network) (f : WellFormed d) (g : Wellformed d w) (r :
 
   node-counted : (o : ℕ) → o < length (w .nodes) → length (node o .digits) ≡ 2 ^ length (map cellName (node o .reads) ++ freeOf d)
   node-counted o l =
-      g .node-fits o l .counted
-      ∙ ap (λ (n : ℕ). 2 ^ n)
-      (sym (length-append (map cellName (node o .reads)) (freeOf d) ∙ ap (λ (n : ℕ). n + length (freeOf d)) (length-map (node o .reads) cellName)))
+      let cells = map cellName (node o .reads) in
+      let count : length (cells ++ freeOf d) ≡ length (node o .reads) + length (freeOf d) =
+      length-append cells (freeOf d) ∙ ap (λ (n : ℕ). n + length (freeOf d)) (length-map (node o .reads) cellName) in
+      g .node-fits o l .counted ∙ ap (λ (n : ℕ). 2 ^ n) (sym count)
 
   pub output-valued : (o : ℕ)
       → o < length (d .outputs)
