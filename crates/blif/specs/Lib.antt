@@ -6,9 +6,14 @@ pub mod Reader
 pub mod Value
 pub mod Export
 pub mod Simulated
+pub mod Answer
+pub mod Room
+pub mod Texts
+pub mod Ready
 pub mod Modelled
 pub mod Computing
 pub mod Worked
+pub mod FigureLaws
 pub mod Solid
 pub mod SolidLaws
 pub mod WordsLaws
@@ -16,6 +21,8 @@ pub mod NamedLaws
 pub mod SaidLaws
 pub mod UnbrokenLaws
 pub mod ReadLaws
+pub mod Longest
+pub mod LengthLaws
 pub mod Drives
 pub mod SheetNameLaws
 pub mod OnceLaws

@@ -25,8 +25,9 @@ use Rattle.network.specs.UnbrokenLaws.{all-append}
 use Rattle.blif.specs.Printer.{cellName, rowLine, rowLines, block, lutBlocks, nodeBlocks, blifLines, printBlif}
 use Rattle.blif.specs.Words.{blank, words}
 use Rattle.blif.specs.Model.{Signal, Mark, must-be, Block, Model}
-use Rattle.blif.specs.Reader.{Said, inputs, outputs, names, cover, end, Rest, onward, allLong, withInputs, withOutputs, withBlock, withCover}
-use Rattle.blif.specs.Reader.{said, readRest, wordLines, readModel, once, drivenSignals, complete, readBlif}
+use Rattle.blif.specs.Reader.{Said, inputs, outputs, names, cover, end, said, wordLines}
+use Rattle.blif.specs.Reader.{Rest, onward, withInputs, withOutputs, allLong, withBlock, withCover, readRest}
+use Rattle.blif.specs.Reader.{readModel, once, drivenSignals, complete, readBlif}
 use Rattle.blif.specs.Modelled.{coverOf, blockOf, lutBlocksOf, nodeBlocksOf, modelOf}
 use Rattle.blif.specs.Solid.{isWord, allWords}
 use Rattle.blif.specs.SolidLaws.{cell-word, cells-words, words-append, word-after}
@@ -38,7 +39,9 @@ use Rattle.blif.specs.UnbrokenLaws.{names-unbroken, luts-unbroken, nodes
 abbrev readLines : List (List ℕ) → Option Rest
 readLines ls = readRest (map said (wordLines ls))
 
-line-read : (l : List ℕ) (x : Said) (ls : List (List ℕ)) → Says l x → readLines (l ∷ ls) ≡ readRest (x ∷ map said (wordLines ls))
+line-read : (l : List ℕ) (x : Said) (ls : List (List ℕ))
+    → Says l x
+    → readLines (l ∷ ls) ≡ readRest (x ∷ map said (wordLines ls))
 line-read l x ls h = ap readRest (line-said l x ls h)
 
 -- ---- rows

@@ -11,7 +11,8 @@ use Rattle.network.specs.Printer.{printDigits}
 use Rattle.blif.specs.Printer.{rowLine}
 use Rattle.blif.specs.Words.{blank, words}
 use Rattle.blif.specs.Model.{Signal, must-be}
-use Rattle.blif.specs.Reader.{Said, inputs, outputs, names, cover, end, front, final, namesLine, covered, marksOf, said, kept, wordLines}
+use Rattle.blif.specs.Reader.{Said, inputs, outputs, names, cover, end, front, final, namesLine}
+use Rattle.blif.specs.Reader.{covered, marksOf, said, kept, wordLines}
 use Rattle.blif.specs.Solid.{solid, allWords}
 use Rattle.blif.specs.SolidLaws.{digits-word}
 use Rattle.blif.specs.WordsLaws.{words-spaced, words-of-names}

@@ -2,11 +2,10 @@
 use mathlib.Core.Path.{_≡_, refl, sym}
 use mathlib.Core.Bool.{Bool, true, false, _||_}
 use mathlib.Core.List.{List, [], _∷_, _++_, map}
-use Prim.Native.Nat.{ℕ, _+_, _%_, _/_, _<_}
+use Prim.Native.Nat.{ℕ, _<_}
 use native.Mathlib.Omega.{arith}
 use lib.Dec.{ltb, leb}
 use borrow.Author.Tests.{ltb-true, lt-ltb, leb-true, ne-eqb}
-use Rattle.bits.specs.Logic.{pick}
 use Rattle.bits.specs.LogicLaws.{true-false, and-left, and-right, and-both}
 use Rattle.text.specs.Bytes.{space, newline}
 use Rattle.text.specs.Unbroken.{unbroken}
@@ -18,6 +17,7 @@ use Rattle.names.specs.Names.{allNames}
 use Rattle.names.specs.IsNameLaws.{name-starts, name-bytes}
 use Rattle.network.specs.Printer.{printDigits}
 use Rattle.blif.specs.Printer.{cellName}
+use Rattle.blif.specs.FigureLaws.{figure, by-figures}
 use Rattle.blif.specs.Solid.{solid, isWord, allWords}
 
 pub solid-first : (b : ℕ) (s : List ℕ) → solid (b ∷ s) ≡ true → space < b
@@ -81,29 +81,27 @@ words-append (v ∷ vs) ws h k =
     (and-left (isWord v) (allWords vs) h)
     (words-append vs ws (and-right (isWord v) (allWords vs) h) k)
 
-pub word-after : (ws : List (List ℕ)) (w : List ℕ) → allWords ws ≡ true → isWord w ≡ true → allWords (ws ++ (w ∷ [])) ≡ true
+pub word-after : (ws : List (List ℕ)) (w : List ℕ)
+    → allWords ws ≡ true
+    → isWord w ≡ true
+    → allWords (ws ++ (w ∷ [])) ≡ true
 unfolding allWords
 word-after ws w h k = words-append ws (w ∷ []) h (and-both (isWord w) true k refl)
 
 -- ---- cell names
-abbrev figure : ℕ → ℕ
-figure n = 0x30 + n % 10
+figure-more : (n : ℕ) (s : List ℕ) → solid s ≡ true → solid (figure n ∷ s) ≡ true
+figure-more n s h = solid-more (figure n) s (omega arith) h
 
-figure-above : (n : ℕ) → ltb space (figure n) ≡ true
-figure-above n = lt-ltb space (figure n) (omega arith)
+no-byte : solid [] ≡ true
+unfolding solid
+no-byte = refl
 
 number-solid : (i : ℕ) → solid (printNumber i) ≡ true
-unfolding printNumber solid
-number-solid i = go (ltb i 10) (ltb i 100)
-  where
-    go : (one two : Bool)
-        → solid
-        (pick one (figure i ∷ [])
-        (pick two (figure (i / 10) ∷ figure i ∷ []) (figure (i / 100) ∷ figure (i / 10) ∷ figure i ∷ [])))
-        ≡ true
-    go true two = rw (figure-above i) refl
-    go false true = rw (figure-above (i / 10), figure-above i) refl
-    go false false = rw (figure-above (i / 100), figure-above (i / 10), figure-above i) refl
+number-solid =
+    by-figures (λ (s : List ℕ). solid s ≡ true)
+    (λ a. figure-more a [] no-byte)
+    (λ a b. figure-more a (figure b ∷ []) (figure-more b [] no-byte))
+    (λ a b c. figure-more a (figure b ∷ figure c ∷ []) (figure-more b (figure c ∷ []) (figure-more c [] no-byte)))
 
 pub cell-word : (i : ℕ) → isWord (cellName i) ≡ true
 unfolding cellName solid

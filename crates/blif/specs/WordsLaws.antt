@@ -1,4 +1,4 @@
--- The words of a line: a word, blank, and the words of what follows. Assumes nothing.
+-- The words of a line that a word begins: that word, and the words of what follows it. Assumes nothing.
 use mathlib.Core.Path.{_≡_, refl, sym, ap, _∙_}
 use mathlib.Core.Bool.{true, false}
 use mathlib.Core.List.{List, [], _∷_, _++_, append-nil}
@@ -44,7 +44,7 @@ words-front (b ∷ c ∷ w) s h g =
     (above-no-blank c (solid-first c w others))
     (words-front (c ∷ w) s others g)
 
-pub words-of-word : (w : List ℕ) → isWord w ≡ true → words w ≡ w ∷ []
+words-of-word : (w : List ℕ) → isWord w ≡ true → words w ≡ w ∷ []
 unfolding words
 words-of-word w h = ap words (sym (append-nil w)) ∙ words-front w [] h refl
 
@@ -52,7 +52,10 @@ pub words-spaced : (w s : List ℕ) → isWord w ≡ true → words (w ++ (space
 unfolding words blank
 words-spaced w s h = words-front w (space ∷ s) h refl
 
-pub words-of-names : (w : List ℕ) (ns : List (List ℕ)) → isWord w ≡ true → allWords ns ≡ true → words (w ++ printNames ns) ≡ w ∷ ns
+pub words-of-names : (w : List ℕ) (ns : List (List ℕ))
+    → isWord w ≡ true
+    → allWords ns ≡ true
+    → words (w ++ printNames ns) ≡ w ∷ ns
 unfolding printNames allWords
 words-of-names w [] h k = ap words (append-nil w) ∙ words-of-word w h
 words-of-names w (n ∷ ns) h k =
