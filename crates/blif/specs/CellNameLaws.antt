@@ -27,16 +27,16 @@ pub cell-no-name : (i : ℕ) → isName (cellName i) ≡ false
 unfolding cellName letter
 cell-no-name i = no-letter-no-name (cellName i) refl
 
--- what is printed is read
-print-one : (i : ℕ) → i < 1000 → readNumber (printNumber i) ≡ found i []
+-- a print is read back
+print-read : (i : ℕ) → i < 1000 → readNumber (printNumber i) ≡ found i []
 unfolding stops
-print-one i h = ap readNumber (sym (append-nil (printNumber i))) ∙ read-printed i [] h refl
+print-read i h = ap readNumber (sym (append-nil (printNumber i))) ∙ read-printed i [] h refl
 
 pub cells-apart : (i j : ℕ) → i < 1000 → j < 1000 → cellName i ≡ cellName j → i ≡ j
 unfolding cellName
 cells-apart i j h k e =
     let printed : printNumber i ≡ printNumber j = ap (drop 1) e in
-    found-item (sym (print-one i h) ∙ ap readNumber printed ∙ print-one j k)
+    found-item (sym (print-read i h) ∙ ap readNumber printed ∙ print-read j k)
 
 pub cell-not-among : (i : ℕ) (ns : List Name) → allNames ns ≡ true → among (cellName i) ns ≡ false
 cell-not-among i ns a =

@@ -28,18 +28,18 @@ use Rattle.blif.specs.CellNameLaws.{cell-no-name, cells-apart}
 use Rattle.blif.specs.OnceLaws.{once-distinct, distinct-both, among-none}
 
 -- ---- what the blocks drive
-pub lut-drives : (bs : List Name) (i : ℕ) (ts : List (List Bool)) → drivesOf (lutBlocksOf bs i ts) ≡ cellNames i (length ts)
+lut-drives : (bs : List Name) (i : ℕ) (ts : List (List Bool)) → drivesOf (lutBlocksOf bs i ts) ≡ cellNames i (length ts)
 unfolding lutBlocksOf blockOf cellNames
 lut-drives bs i [] = refl
 lut-drives bs i (t ∷ ts) = ap (λ (l : List Name). cellName i ∷ l) (lut-drives bs (suc i) ts)
 
-pub node-drives : (fs ns : List Name) (xs : List Node) → length xs ≡ length ns → drivesOf (nodeBlocksOf fs ns xs) ≡ ns
+node-drives : (fs ns : List Name) (xs : List Node) → length xs ≡ length ns → drivesOf (nodeBlocksOf fs ns xs) ≡ ns
 unfolding nodeBlocksOf blockOf
 node-drives fs [] xs e = refl
 node-drives fs (n ∷ ns) [] e = absurd (omega (arith, e))
 node-drives fs (n ∷ ns) (x ∷ xs) e = ap (λ (l : List Name). n ∷ l) (node-drives fs ns xs (omega (arith, e)))
 
-pub model-drives : (d : Design) (w : Network) → Wellformed d w
+model-drives : (d : Design) (w : Network) → Wellformed d w
     → drivesOf (modelOf d w .blocks) ≡ cellNames 0 (length (w .luts)) ++ namesOf d
 unfolding modelOf
 model-drives d w g =
@@ -59,7 +59,7 @@ cell-among-later i j (suc k) h l e =
     (λ m. cell-among-later i (suc j) k (omega arith) (omega arith) m)
     (among-cases (cellName j) (cellName i) (cellNames (suc j) k) e)
 
-pub cells-distinct : (i k : ℕ) → i + k ≤ 1000 → distinct (cellNames i k) ≡ true
+cells-distinct : (i k : ℕ) → i + k ≤ 1000 → distinct (cellNames i k) ≡ true
 unfolding cellNames distinct
 cells-distinct i zero h = refl
 cells-distinct i (suc k) h =

@@ -29,10 +29,10 @@ module _ (b t : List ℕ) (h : length t ≤ length b) where
       sets-eq t b 0 (subst (λ (n : ℕ). n ≤ length b) (sym (zero-add (length t))) h)
       ∙ ap (λ (n : ℕ). t ++ drop n b) (zero-add (length t))
 
-  pub stored-text : take (length t) (sets b 0 t) ≡ t
+  stored-text : take (length t) (sets b 0 t) ≡ t
   stored-text = ap (take (length t)) stored ∙ take-at t (drop (length t) b) (length t) refl
 
-  pub stored-after : (i : ℕ) → length t ≤ i → getD (sets b 0 t) i 0 ≡ getD b i 0
+  stored-after : (i : ℕ) → length t ≤ i → getD (sets b 0 t) i 0 ≡ getD b i 0
   stored-after i k =
       let e : i ≡ length t + (i - length t) = omega arith in
       ap (λ (l : List ℕ). getD l i 0) stored
