@@ -27,3 +27,13 @@ pub mod UnbrokenLaws
 pub mod ReadLaws
 pub mod Longest
 pub mod LengthLaws
+pub mod Drives
+pub mod SheetNameLaws
+pub mod OnceLaws
+pub mod CellNameLaws
+pub mod NamesOnceLaws
+pub mod MatchLaws
+pub mod DriverLaws
+pub mod ValueLaws
+pub mod OutcomeLaws
+pub mod SimulatedLaws
