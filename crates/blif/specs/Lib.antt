@@ -15,6 +15,7 @@ pub mod PutLaws
 pub mod ItemLaws
 pub mod RowLaws
 pub mod BlockLaws
+pub mod PassedLaws
 pub mod Computing
 pub mod Worked
 pub mod FigureLaws

@@ -18,14 +18,14 @@ pub record LutsReady (t : List ℕ) (b luts : ℕ) (lutat : List ℕ) : Type 0 w
   pub few : luts ≤ maxCells
   pub stand : (i : ℕ) → i < luts → getD lutat i 0 + 2 ^ b ≤ length t
 
--- how many inputs output o has, with f free inputs
-abbrev pub nodeInputs : ℕ → ℕ → List ℕ → ℕ → ℕ
-nodeInputs f luts reads o = length (numbersOf luts (getD reads o 0)) + f
+-- the table of an output that reads those of the shared tables that a mask has, then f free inputs
+pub record NodeReady (t : List ℕ) (f luts mask place : ℕ) : Type 0 where
+  pub narrow : length (numbersOf luts mask) + f ≤ maxInputs
+  pub stands : place + 2 ^ (length (numbersOf luts mask) + f) ≤ length t
 
 pub record NodesReady (t : List ℕ) (f luts : ℕ) (reads nodeat : List ℕ) (outputs : ℕ) : Type 0 where
   pub few : luts ≤ maxCells
-  pub narrow : (o : ℕ) → o < outputs → nodeInputs f luts reads o ≤ maxInputs
-  pub stand : (o : ℕ) → o < outputs → getD nodeat o 0 + 2 ^ nodeInputs f luts reads o ≤ length t
+  pub each : (o : ℕ) → o < outputs → NodeReady t f luts (getD reads o 0) (getD nodeat o 0)
 
 -- d and w are drawn as the code holds them, and pass question 11
 pub record Passed (t : List ℕ) (k : Sheet) (n : NetworkSheet) (d : Design) (w : Network) : Type 0 where

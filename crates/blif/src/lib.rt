@@ -25,7 +25,7 @@ ghost use Rattle.blif.specs.Export as spec;
 ghost use Rattle.blif.specs.Answer.{exportAnswer};
 ghost use Rattle.blif.specs.Room.{headRoom, cellsRoom, rowRoom, rowsRoom, blockRoom, lutsRoom, nodesRoom, textRoom};
 ghost use Rattle.blif.specs.Texts.{textsUpto, cellText, digitsAt, rowsText, blockText, lutText, nodeText, headText};
-ghost use Rattle.blif.specs.Ready.{LutsReady, NodesReady, SomePassed, Passed};
+ghost use Rattle.blif.specs.Ready.{LutsReady, NodeReady, NodesReady, SomePassed, Passed};
 use design::Examined;
 use listing::Names;
 use netsheet::NetworkSheet;
@@ -191,7 +191,7 @@ fn put_node(
     name: u64,
     place: usize,
 ) -> usize
-    requires { ⌜ (at + blockRoom ≤ reach) × (luts ≤ maxCells) × (length (numbersOf luts mask) + fs .count ≤ maxInputs) × (place + 2 ^ (length (numbersOf luts mask) + fs .count) ≤ length (now t)) ⌝ }
+    requires { ⌜ (at + blockRoom ≤ reach) × (luts ≤ maxCells) × (fs .count ≤ maxInputs) × NodeReady (now t) (length (shown fs)) luts mask place ⌝ }
     ensures { λ r. ⌜ Written blockRoom (now (buf .entry)) (now (buf .exit)) at r (blockText (map cellName (numbersOf luts mask) ++ shown fs) (nameOf name) (digitsAt (now (t .entry)) place)) ⌝ }
 {
     let n = checker::count(mask, luts) + fs.count;
@@ -205,7 +205,7 @@ fn put_node(
 
 // The blocks of all outputs.
 fn put_nodes(buf: &mut [u8], at: usize, t: &[u8], fs: Names, k: Sheet, n: NetworkSheet) -> usize
-    requires { ⌜ (at + nodesRoom ≤ reach) × (k .outputs ≤ maxOutputs) × NodesReady (now t) (fs .count) (n .luts) (n .reads) (n .nodeat) (k .outputs) ⌝ }
+    requires { ⌜ (at + nodesRoom ≤ reach) × (k .outputs ≤ maxOutputs) × (fs .count ≤ maxInputs) × NodesReady (now t) (length (shown fs)) (n .luts) (n .reads) (n .nodeat) (k .outputs) ⌝ }
     ensures { λ r. ⌜ Written nodesRoom (now (buf .entry)) (now (buf .exit)) at r (textsUpto (nodeText (now (t .entry)) (shown fs) (k .outs) (n .luts) (n .reads) (n .nodeat)) (k .outputs)) ⌝ }
 {
     let outputs = k.outputs;

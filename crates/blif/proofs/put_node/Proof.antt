@@ -1,3 +1,4 @@
+use mathlib.Core.Path.{ap₂}
 use Rattle.blif.specs.Texts.{digitsAt}
 use Rattle.blif.specs.Printer.{cellName}
 use Rattle.names.specs.Pack.{nameOf}
@@ -50,10 +51,15 @@ put-rows-requires c κs =
     let put-text = earlier .before .before .before .before .before .before .before .put-text in
     let count = earlier .before .before .before .before .before .before .before .before .before .before .before .count in
     let earlier = earlier .before .before .before .before .before .before .before .before .before .before .before .before in
-    let pre = earlier .before .before .pre in
     let args = earlier .before .before .args in
-    let line = put-byte .ensures in
-    (omega (arith, pre .0, put-text .ensures .place, put-text .ensures .short, put-cells .ensures .place, put-cells .ensures .short, put-listed .ensures .place, put-listed .ensures .short, put-item .ensures .place, put-item .ensures .short, line .place, line .short), omega (arith, pre .2, count .ensures), subst (λ (k : ℕ). args .place + 2 ^ (k + args .fs .count) ≤ length (args .t .now)) (sym (count .ensures)) (pre .3))
+    let good = earlier .before .before .good in
+    let pre = earlier .before .before .pre in
+    let fs = args .fs in
+    let free = shown-counted fs (good .1 .1 .1 .0) (omega (arith, pre .2)) in
+    let inputs = ap₂ (λ (a b : ℕ). a + b) (count .ensures) (sym free) in
+    let few = pre .3 .narrow in
+    let room = omega (arith, pre .0, put-text .ensures .place, put-text .ensures .short, put-cells .ensures .place, put-cells .ensures .short, put-listed .ensures .place, put-listed .ensures .short, put-item .ensures .place, put-item .ensures .short, put-byte .ensures .place) in
+    (room, omega (arith, few, inputs), subst (λ (k : ℕ). args .place + 2 ^ k ≤ length (args .t .now)) (sym inputs) (pre .3 .stands))
 
 same-length : tie.Need-same-length
 same-length c = search needs

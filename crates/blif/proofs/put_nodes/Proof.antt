@@ -40,9 +40,9 @@ put-node-requires c κs =
     let loop-test = c .before .loop-test in
     let loop = c .before .before .loop in
     let pre = c .before .before .before .before .before .before .before .before .pre in
-    let ready = pre .2 in
+    let ready = pre .3 in
     let here = loop-test .taken in
-    (omega (arith, pre, here, loop .inv .so-far .place, loop .inv .so-far .short), ready .few, ready .narrow _ here, ready .stand _ here)
+    (omega (arith, pre .0, pre .1, here, loop .inv .so-far .place, loop .inv .so-far .short), ready .few, pre .2, ready .each _ here)
 
 add-o : tie.Need-add-o Inv-loop μ-loop
 add-o c = search needs
