@@ -15,6 +15,7 @@ pub mod PutLaws
 pub mod ItemLaws
 pub mod RowLaws
 pub mod BlockLaws
+pub mod NarrowLaws
 pub mod PassedLaws
 pub mod Computing
 pub mod Worked
@@ -38,3 +39,4 @@ pub mod DriverLaws
 pub mod ValueLaws
 pub mod OutcomeLaws
 pub mod SimulatedLaws
+pub mod AnswerLaws

@@ -52,7 +52,7 @@ written-refused : {n q l : ℕ} → written n ≡ refused-by q l → ⊥
 written-refused e = let z : _≡_ {A = ℕ} 0 1 = cc in omega arith
 
 module _ (t b : List ℕ) where
-  put-short : length b < length t → putText t b ≡ untouched 9 0 b
+  pub put-short : length b < length t → putText t b ≡ untouched 9 0 b
   unfolding putText
   put-short h = rw (lt-leb (length t) (length b) h) refl
 

@@ -57,9 +57,23 @@ put-rows-requires c κs =
     let fs = args .fs in
     let free = shown-counted fs (good .1 .1 .1 .0) (omega (arith, pre .2)) in
     let inputs = ap₂ (λ (a b : ℕ). a + b) (count .ensures) (sym free) in
-    let few = pre .3 .narrow in
-    let room = omega (arith, pre .0, put-text .ensures .place, put-text .ensures .short, put-cells .ensures .place, put-cells .ensures .short, put-listed .ensures .place, put-listed .ensures .short, put-item .ensures .place, put-item .ensures .short, put-byte .ensures .place) in
-    (room, omega (arith, few, inputs), subst (λ (k : ℕ). args .place + 2 ^ k ≤ length (args .t .now)) (sym inputs) (pre .3 .stands))
+    let few = pre .3 .narrow in (
+      omega (
+        arith,
+        pre .0,
+        put-text .ensures .place,
+        put-text .ensures .short,
+        put-cells .ensures .place,
+        put-cells .ensures .short,
+        put-listed .ensures .place,
+        put-listed .ensures .short,
+        put-item .ensures .place,
+        put-item .ensures .short,
+        put-byte .ensures .place,
+      ),
+      omega (arith, few, inputs),
+      subst (λ (k : ℕ). args .place + 2 ^ k ≤ length (args .t .now)) (sym inputs) (pre .3 .stands),
+    )
 
 same-length : tie.Need-same-length
 same-length c = search needs
