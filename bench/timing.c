@@ -1,7 +1,7 @@
 /* timing map SHEET..: for each sheet a line: name, cells or `refused N`, nanoseconds of a call of Map, nanoseconds of reading
  * the sheet alone.
  * timing large SHEET..: for each sheet a line: name, nanoseconds of Table of the last output, of the same in plain C, of
- * Check on Map's network, and of the same in plain C. The answers of the two are compared.
+ * Check on Map's network, of the same in plain C, and of Export of that network. The answers of the two are compared.
  * Last comes a line `peak` with the most memory that the process had, in KiB. Times are processor time, the best of several
  * batches. */
 #define _POSIX_C_SOURCE 200809L
@@ -14,6 +14,7 @@
 #include <time.h>
 
 static uint8_t sheet[CELLMAPPER_MAX_SHEET + 1], network[CELLMAPPER_MAX_NETWORK], table[CELLMAPPER_MAX_TABLE];
+static uint8_t text[CELLMAPPER_MAX_BLIF];
 static char plain[CELLMAPPER_MAX_TABLE];
 static size_t sheet_len, network_len, outputs;
 static volatile int kept;
@@ -68,6 +69,12 @@ static void check_plain(void)
 {
     int output, row;
     kept += plain_check((const char *)sheet, sheet_len, (const char *)network, network_len, &output, &row);
+}
+
+static void export_here(void)
+{
+    size_t line, length;
+    kept += (int)cellmapper_export(sheet, sheet_len, network, network_len, text, sizeof text, &line, &length);
 }
 
 static double now(void)
@@ -125,7 +132,8 @@ static void time_large(const char *path)
     cellmapper_check(sheet, sheet_len, network, network_len, &line, &differs, &output, &row);
     if (differs || plain_check((const char *)sheet, sheet_len, (const char *)network, network_len, &a, &b) != 1)
         fail("the two checks differ", path);
-    printf("%s %.0f %.0f %.0f %.0f\n", path, time_of(table_here), time_of(table_plain), time_of(check_here), time_of(check_plain));
+    printf("%s %.0f %.0f %.0f %.0f %.0f\n", path, time_of(table_here), time_of(table_plain), time_of(check_here), time_of(check_plain),
+           time_of(export_here));
     fflush(stdout);
 }
 
