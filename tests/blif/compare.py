@@ -101,8 +101,8 @@ def ask(questions, wanted):
                 fail(f"{name} says that {question.path} {'has' if has else 'does not have'} the digits", *question.digits)
         if len(answers) != len(questions):
             fail(f"{name} answered {len(answers)} of {len(questions)} questions")
-        has = sum(answers)
-        print(f"{name}: {has} texts have the digits, {len(answers) - has} do not, as it must be; {time.monotonic() - start:.1f} s", flush=True)
+        has, took = sum(answers), time.monotonic() - start
+        print(f"{name}: {has} texts have the digits, {len(answers) - has} do not, as it must be; {took:.1f} s", flush=True)
 
 
 # ---- that the comparison can fail, and what the tools say of a table of zeros
@@ -228,10 +228,11 @@ def other_cases(dice, mapped, count):
 
 def show_shapes(cases):
     """Counts what the networks have; nothing may be missing."""
-    kinds = "cells of zeros, cells of ones, other cells, cells unread, nodes of zeros, nodes of ones, other nodes, constants 0, constants 1"
+    kinds = ["cells of zeros", "cells of ones", "other cells", "cells unread"]
+    kinds += ["nodes of zeros", "nodes of ones", "other nodes", "constants 0", "constants 1"]
     shapes = collections.Counter(shape for case in cases for shape in case.shapes())
-    print("in all:", "; ".join(f"{kind} {shapes[kind]}" for kind in kinds.split(", ")), flush=True)
-    if not all(shapes[kind] for kind in kinds.split(", ")):
+    print("in all:", "; ".join(f"{kind} {shapes[kind]}" for kind in kinds), flush=True)
+    if not all(shapes[kind] for kind in kinds):
         fail("one kind of table is missing")
 
 

@@ -7,12 +7,21 @@
 #include <algorithm>
 #include <set>
 
-Tally tables, maps, checks, exports;
-std::map<std::string, unsigned long> shapes = {{"without cells", 0}, {"a cell unread", 0}, {"a cell of zeros", 0}, {"a node of zeros", 0}, {"a node of ones", 0}, {"constant 0", 0}, {"constant 1", 0}};
-
 namespace {
 
 const size_t AMPLE = 8192;
+
+const std::string CONSTANT = "constant ", NODE_OF = "a node of digits ";
+const std::string CELL_OF_ZEROS = "a cell of digits 0", CELL_UNREAD = "a cell unread", NO_CELLS = "no cells";
+
+}
+
+Tally tables, maps, checks, exports;
+std::map<std::string, unsigned long> shapes = {
+    {NO_CELLS, 0}, {CELL_UNREAD, 0}, {CELL_OF_ZEROS, 0}, {NODE_OF + '0', 0}, {NODE_OF + '1', 0}, {CONSTANT + '0', 0}, {CONSTANT + '1', 0},
+};
+
+namespace {
 
 // A length below `enough`.
 size_t too_short(size_t enough, size_t more)
@@ -47,6 +56,41 @@ void compare_fewest(const Sheet &sheet, const Mapped &m)
 {
     size_t u = fewest(sheet.design);
     expect(m.number == 0 ? m.cells == u : u == NONE_SERVE, "Map's cells are the fewest, " + std::to_string(u), sheet.text, m.network);
+}
+
+void expect_refusal(const char *who, const Pair &pair, unsigned number, size_t line)
+{
+    const oracle::Refusal &wanted = pair.wanted.refusal;
+    std::string by_the_oracle = std::to_string(wanted.number) + " line " + std::to_string(wanted.line);
+    bool good = number == wanted.number && line == wanted.line;
+    expect(good, std::string(who) + "'s number and line; " + by_the_oracle + " by the oracle", pair.sheet.text, pair.text);
+}
+
+bool all(char digit, const std::string &digits)
+{
+    return digits.find_first_not_of(digit) == std::string::npos;
+}
+
+void count_shapes(const oracle::Network &network)
+{
+    std::vector<bool> read(network.luts.size());
+    std::set<std::string> found;
+    for (const oracle::Node &node : network.nodes) {
+        for (unsigned i : node.reads)
+            read[i] = true;
+        for (char digit : {'0', '1'})
+            if (all(digit, node.digits))
+                found.insert((node.digits.size() == 1 ? CONSTANT : NODE_OF) + digit);
+    }
+    for (const oracle::Lut &lut : network.luts)
+        if (all('0', lut.digits))
+            found.insert(CELL_OF_ZEROS);
+    if (network.luts.empty())
+        found.insert(NO_CELLS);
+    if (std::find(read.begin(), read.end(), false) != read.end())
+        found.insert(CELL_UNREAD);
+    for (const std::string &shape : found)
+        shapes[shape]++;
 }
 
 }
@@ -99,51 +143,14 @@ std::string compare_map(const Sheet &sheet, size_t more, bool try_all)
     return m.network;
 }
 
-namespace {
-
-void expect_refusal(const char *who, const Pair &pair, unsigned number, size_t line)
-{
-    const oracle::Refusal &wanted = pair.wanted.refusal;
-    std::string by_the_oracle = std::to_string(wanted.number) + " line " + std::to_string(wanted.line);
-    expect(number == wanted.number && line == wanted.line, std::string(who) + "'s number and line; " + by_the_oracle + " by the oracle", pair.sheet.text, pair.text);
-}
-
-bool all(char digit, const std::string &digits)
-{
-    return digits.find_first_not_of(digit) == std::string::npos;
-}
-
-void count_shapes(const oracle::Network &network)
-{
-    std::vector<bool> read(network.luts.size());
-    std::set<std::string> found;
-    for (const oracle::Node &node : network.nodes) {
-        for (unsigned i : node.reads)
-            read[i] = true;
-        for (char digit : {'0', '1'})
-            if (all(digit, node.digits))
-                found.insert(node.digits.size() == 1 ? std::string("constant ") + digit : digit == '0' ? "a node of zeros" : "a node of ones");
-    }
-    for (const oracle::Lut &lut : network.luts)
-        if (all('0', lut.digits))
-            found.insert("a cell of zeros");
-    if (network.luts.empty())
-        found.insert("without cells");
-    if (std::find(read.begin(), read.end(), false) != read.end())
-        found.insert("a cell unread");
-    for (const std::string &shape : found)
-        shapes[shape]++;
-}
-
-}
-
 void compare_check(const Pair &pair)
 {
     Checked c = call_check(pair.sheet.text, pair.text);
     checks[c.differs ? DIFFERS : c.number]++;
     expect_refusal("Check", pair, c.number, c.line);
     const oracle::Comparison &wanted = pair.wanted;
-    expect(c.differs == wanted.differs && c.output == wanted.output && c.row == wanted.row, "Check's difference", pair.sheet.text, pair.text);
+    bool good = c.differs == wanted.differs && c.output == wanted.output && c.row == wanted.row;
+    expect(good, "Check's difference", pair.sheet.text, pair.text);
 }
 
 void compare_export(const Pair &pair, size_t more)

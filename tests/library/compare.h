@@ -32,7 +32,7 @@ const unsigned DIFFERS = 100;
 typedef std::map<unsigned, unsigned long> Tally;
 extern Tally tables, maps, checks, exports;
 
-// How often Export wrote a network with each of these.
+// How many networks with each of these were exported.
 extern std::map<std::string, unsigned long> shapes;
 
 // Buffers are ample, just long enough, and too short: by one byte, and by `more` further ones as far as there are so many.

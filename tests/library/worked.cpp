@@ -117,10 +117,11 @@ void differs_at(const std::string &s, const std::string &n, size_t output, size_
     expect(call_export(s, n, CELLMAPPER_MAX_BLIF).number == 0, "Export of what differs", s, n);
 }
 
-// The lines between `.outputs` and `.end` stand in `blocks`.
-void exports_to(const std::string &s, const std::string &n, const std::string &inputs, const std::string &outputs, const Lines &blocks)
+void exports_to(const std::string &s, const std::string &n, const std::vector<Lines> &parts)
 {
-    const std::string wanted = text({".model panel", ".inputs " + inputs, ".outputs " + outputs}) + text(blocks) + ".end\n";
+    std::string wanted;
+    for (const Lines &part : parts)
+        wanted += text(part);
     Exported e = call_export(s, n, CELLMAPPER_MAX_BLIF), exact = call_export(s, n, wanted.size());
     expect(e.number == 0 && e.length == wanted.size() && e.text == wanted, "Export's text\n" + e.text, s, n);
     expect(exact.number == 0 && exact.text == wanted, "Export in a buffer just long enough", s, n);
@@ -253,26 +254,31 @@ void refusals_by_the_network()
 
 void texts_in_blif()
 {
+    Lines head = {".model panel", ".inputs a b c d", ".outputs f g"};
     const Lines c0 = {".names a b c C0", "001 1", "010 1", "100 1", "111 1"}, f = {".names C0 d f", "01 1", "10 1"};
-    Lines blocks = c0;
-    blocks.insert(blocks.end(), f.begin(), f.end());
-    blocks.insert(blocks.end(), {".names C0 d g", "11 1"});
-    exports_to(A, NETWORK, "a b c d", "f g", blocks);
-    blocks.insert(blocks.end() - 1, "10 1");
-    exports_to(A, with(4, "(node g (_0 d) 0011)"), "a b c d", "f g", blocks);
+    exports_to(A, NETWORK, {head, c0, f, {".names C0 d g", "11 1", ".end"}});
+    exports_to(A, with(4, "(node g (_0 d) 0011)"), {head, c0, f, {".names C0 d g", "10 1", "11 1", ".end"}});
     const std::string constants = sheet("a b", "b a", "0", {"1", "0"});
-    exports_to(constants, text({"(network 1)", "(node f () 1)", "(node g () 0)", "(count 0)", "(end)"}), "a b", "f g", {".names f", "1", ".names g"});
-    exports_to(constants, text({"(network 1)", "(node f () 0)", "(node g () 1)", "(count 0)", "(end)"}), "a b", "f g", {".names f", ".names g", "1"});
+    head = {".model panel", ".inputs a b", ".outputs f g"};
+    const Lines one_zero = {"(network 1)", "(node f () 1)", "(node g () 0)", "(count 0)", "(end)"};
+    const Lines zero_one = {"(network 1)", "(node f () 0)", "(node g () 1)", "(count 0)", "(end)"};
+    exports_to(constants, text(one_zero), {head, {".names f", "1", ".names g", ".end"}});
+    exports_to(constants, text(zero_one), {head, {".names f", ".names g", "1", ".end"}});
     const std::string plain = sheet("x b y", "b", "2", {"0", "1", "(xor b x)"});
-    const Lines network = {"(network 1)", "(lut _0 (b) 00)", "(lut _1 (b) 11)", "(node f (x y) 0000)", "(node g (x y) 1111)", "(node h (_1 x y) 10000001)", "(count 2)", "(end)"};
-    exports_to(plain, text(network), "x b y", "f g h", {".names b C0", ".names b C1", "0 1", "1 1", ".names x y f", ".names x y g", "00 1", "01 1", "10 1", "11 1", ".names C1 x y h", "000 1", "111 1"});
+    const Lines luts = {"(network 1)", "(lut _0 (b) 00)", "(lut _1 (b) 11)"};
+    const Lines nodes = {"(node f (x y) 0000)", "(node g (x y) 1111)", "(node h (_1 x y) 10000001)", "(count 2)", "(end)"};
+    head = {".model panel", ".inputs x b y", ".outputs f g h"};
+    const Lines cells = {".names b C0", ".names b C1", "0 1", "1 1"};
+    const Lines outputs = {".names x y f", ".names x y g", "00 1", "01 1", "10 1", "11 1", ".names C1 x y h", "000 1", "111 1", ".end"};
+    exports_to(plain, text(luts) + text(nodes), {head, cells, outputs});
 }
 
 // Ten inputs and four outputs with names of eight characters, six cells, every node over five of them: no text is longer.
 void longest_text_in_blif()
 {
     const std::string bound = "aaaaaaaa bbbbbbbb cccccccc dddddddd eeeeeeee", free = "vvvvvvvv wwwwwwww xxxxxxxx yyyyyyyy zzzzzzzz";
-    const std::string f = "(or (and aaaaaaaa vvvvvvvv) (and bbbbbbbb wwwwwwww) (and cccccccc xxxxxxxx) (and dddddddd yyyyyyyy) (and eeeeeeee zzzzzzzz))";
+    const std::string f = "(or (and aaaaaaaa vvvvvvvv) (and bbbbbbbb wwwwwwww) (and cccccccc xxxxxxxx) (and dddddddd yyyyyyyy)"
+                          " (and eeeeeeee zzzzzzzz))";
     Lines design = {"(design 1)", "(in " + bound + " " + free + ")", "(bound " + bound + ")", "(limit 6)"}, network = {"(network 1)"};
     for (char lut = '0'; lut < '6'; lut++)
         network.push_back(std::string("(lut _") + lut + " (" + bound + ") " + std::string(32, '1') + ")");
@@ -284,7 +290,7 @@ void longest_text_in_blif()
     design.push_back("(end)");
     network.insert(network.end(), {"(count 6)", "(end)"});
     Exported e = call_export(text(design), text(network), CELLMAPPER_MAX_BLIF);
-    expect(e.number == 0 && e.length == 55579, "the longest text has 55,579 bytes, not " + std::to_string(e.length), text(design), text(network));
+    expect(e.number == 0 && e.length == 55579, "the longest text has 55,579 bytes", text(design), text(network));
 }
 
 // ---- the stack
