@@ -1,5 +1,5 @@
-// Map and Export on the repository's own sheets, from the folder that the repository is in. The sheets of bench/border/ are hard ones;
-// the fewest cells of each, or `inf` where none serve, stand in its file ANSWERS, which two other searches gave.
+// Map and Export on the repository's own sheets, from the folder that the repository is in. The sheets of bench/border/ are
+// hard ones; the fewest cells of each, or `inf` where none serve, stand in its file ANSWERS, which two other searches gave.
 #include "files.h"
 
 #include "calls.h"
