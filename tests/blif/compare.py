@@ -96,11 +96,11 @@ def ask(questions, wanted):
             answers = tool(questions, folder)
         except tools.ToolError as error:
             fail(f"{name}: {error}")
+        if not len(answers) == len(questions) == len(wanted):
+            fail(f"{name} answered {len(answers)} of {len(questions)} questions")
         for question, has, should in zip(questions, answers, wanted):
             if has != should:
                 fail(f"{name} says that {question.path} {'has' if has else 'does not have'} the digits", *question.digits)
-        if len(answers) != len(questions):
-            fail(f"{name} answered {len(answers)} of {len(questions)} questions")
         has, took = sum(answers), time.monotonic() - start
         print(f"{name}: {has} texts have the digits, {len(answers) - has} do not, as it must be; {took:.1f} s", flush=True)
 

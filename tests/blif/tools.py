@@ -19,6 +19,8 @@ class Question:
     """Whether a text in BLIF, which stands in a file, has these digits, one string for each output."""
 
     def __init__(self, path, inputs, outputs, digits):
+        if [len(column) for column in digits] != [2 ** len(inputs)] * len(outputs) or set("".join(digits)) - set("01"):
+            raise ValueError(f"no digits for every row of every output of {path}")
         self.path = path
         self.inputs = inputs
         self.outputs = outputs
