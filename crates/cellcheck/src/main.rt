@@ -1,24 +1,7 @@
 // Reads a design sheet, a byte 0x00 and a network sheet from standard input, and prints `same`, `differs output O row R`, or
-// `refused N line L`. Everything that matters is in checker. No valid sheet of either kind has a byte 0x00, and a network
-// sheet is refused at its first one, so the first 0x00 parts the two.
-ghost use Prim.Native.Nat.{_≤_};
-ghost use lib.ListN.{length};
+// `refused N line L`. Everything that matters is in checker.
 use checker::Checked;
 use libc::STDOUT_FILENO;
-
-// The place of the first 0x00, or the text's length.
-fn split(s: &[u8]) -> usize
-    ensures { λ r. ⌜ r ≤ length (now (s .entry)) ⌝ }
-{
-    let mut i = 0;
-    while i < s.len() {
-        if s[i] == 0 {
-            return i;
-        }
-        i += 1;
-    }
-    i
-}
 
 fn answer(sheet: &[u8], network: &[u8]) {
     let r = checker::check(sheet, network);
@@ -33,20 +16,14 @@ fn answer(sheet: &[u8], network: &[u8]) {
 
 // The two sheets of a text.
 fn both(s: &[u8]) {
-    let i = split(s);
-    if i < s.len() {
-        answer(&s[..i], &s[i + 1..]);
-    } else {
-        answer(s, &s[i..]);
-    }
+    let p = console::two_sheets(s);
+    let end = p.end;
+    let start = p.start;
+    answer(&s[..end], &s[start..]);
 }
 
-// The bytes of a design sheet, the one between the sheets, those of a network sheet, and one by which a longer text is seen to
-// be too long.
-const ROOM: usize = limits::MAX_SHEET + 1 + limits::MAX_NETWORK + 1;
-
 fn main() {
-    let mut text = [0u8; ROOM];
+    let mut text = [0u8; console::BOTH_SHEETS];
     let n = console::read_text(&mut text);
     both(&text[..n]);
 }

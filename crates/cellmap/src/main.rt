@@ -1,22 +1,14 @@
 // Reads one design sheet from standard input and prints its network, or `refused N line L`. Everything that matters is in
 // mapper. One byte more than a sheet may have is kept, so that a longer sheet is seen to be too long; the rest is read and
 // dropped. The buffer holds every network sheet, so question 9 is always answered yes.
-use libc::STDOUT_FILENO;
 use mapper::Mapped;
-
-// Prints the first bytes of the network, where it has so many.
-fn show(network: &[u8], length: usize) {
-    if length <= network.len() {
-        io::write_all(STDOUT_FILENO, &network[..length]);
-    }
-}
 
 // Maps a sheet, with a buffer for its network.
 fn answer(sheet: &[u8], buffer: &mut [u8]) {
     let r = mapper::map(sheet, buffer);
     match r {
         Mapped::Refused { number, line } => console::two(b"refused ", number, b" line ", line),
-        Mapped::Written { cells: _, length } => show(buffer, length),
+        Mapped::Written { cells: _, length } => console::show(buffer, length),
     }
 }
 

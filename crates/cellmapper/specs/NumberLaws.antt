@@ -18,8 +18,11 @@ use Rattle.mapper.specs.Map.{MapAnswer, OutcomeFor, OutcomeOf, Outcome}
 use Rattle.network.specs.Network.{Network}
 use Rattle.network.specs.Examine.{Answer, bad-line, network, readNetwork, offending}
 use Rattle.network.specs.Check as check
-use Rattle.network.specs.Check.{Checked, compareFrom, judge, beside, comparePair, checkOf, examinePair, atRow, differingRow}
-use Rattle.cellmapper.specs.Numbers.{IsNumber, TableNumber, MapNumber, CheckNumber}
+use Rattle.network.specs.Check.{Checked, Pair, compareFrom, judge, beside, comparePair, checkOf, examinePair, atRow, differingRow}
+use Rattle.blif.specs.Printer.{printBlif}
+use Rattle.blif.specs.Export as blif
+use Rattle.blif.specs.Export.{Exported, putText, exportPair, exportOf, export}
+use Rattle.cellmapper.specs.Numbers.{IsNumber, TableNumber, MapNumber, CheckNumber, ExportNumber}
 
 -- a design sheet is refused by 1 to 5
 sheet-number : (s : List ℕ) (q l : ℕ) → examine s ≡ refused q l → IsNumber q
@@ -87,3 +90,24 @@ design-number (valid d) t h = network-number d (readNetwork d t)
 pub check-number : (s t : List ℕ) → CheckNumber (check.check s t)
 unfolding check.check
 check-number s t = design-number (examine s) t (sheet-number s)
+
+-- ---- Export: as Check refuses, or by 9
+either-number : (v : Bool) (x y : Exported) → ExportNumber (x .answer) → ExportNumber (y .answer) → ExportNumber (pick v x y .answer)
+either-number true x y h k = h
+either-number false x y h k = k
+
+put-number : (t b : List ℕ) → ExportNumber (putText t b .answer)
+unfolding putText
+put-number t b = either-number (leb (length t) (length b)) _ (blif.untouched 9 0 b) tt (record { low = omega arith; high = omega arith })
+
+pair-number : (p : Pair) (b : List ℕ) → CheckNumber (comparePair p) → ExportNumber (exportPair p b .answer)
+pair-number (check.refused-pair q l) b h = h
+pair-number (check.pair d w) b h = put-number (printBlif d w) b
+
+export-of-number : (x : Examined) (t b : List ℕ) → CheckNumber (checkOf x t) → ExportNumber (exportOf x t b .answer)
+unfolding checkOf exportOf
+export-of-number x t b h = pair-number (examinePair x t) b h
+
+pub export-number : (s t b : List ℕ) → ExportNumber (export s t b .answer)
+unfolding export check.check
+export-number s t b = export-of-number (examine s) t b (check-number s t)

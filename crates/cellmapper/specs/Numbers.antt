@@ -6,6 +6,8 @@ use Rattle.mapper.specs.Map as map
 use Rattle.mapper.specs.Map.{MapAnswer}
 use Rattle.network.specs.Check as check
 use Rattle.network.specs.Check.{Checked}
+use Rattle.blif.specs.Export as blif
+use Rattle.blif.specs.Export.{ExportAnswer}
 
 pub record IsNumber (q : ℕ) : Type 0 where
   pub low : 1 ≤ q
@@ -24,3 +26,7 @@ abbrev pub CheckNumber : Checked → Type 0
 CheckNumber (check.refused-by q l) = IsNumber q
 CheckNumber check.same = Unit {0}
 CheckNumber (check.differs o r) = Unit {0}
+
+abbrev pub ExportNumber : ExportAnswer → Type 0
+ExportNumber (blif.refused-by q l) = IsNumber q
+ExportNumber (blif.written n) = Unit {0}

@@ -9,9 +9,12 @@ use Rattle.mapper.specs.Map as map
 use Rattle.mapper.specs.Map.{MapAnswer, Outcome}
 use Rattle.network.specs.Check as check
 use Rattle.network.specs.Check.{Checked}
+use Rattle.blif.specs.Export as blif
+use Rattle.blif.specs.Export.{ExportAnswer}
 use Rattle.cellmapper.specs.declared.TableReport.{TableReport}
 use Rattle.cellmapper.specs.declared.MapReport.{MapReport}
 use Rattle.cellmapper.specs.declared.CheckReport.{CheckReport}
+use Rattle.cellmapper.specs.declared.ExportReport.{ExportReport}
 
 abbrev pub tableReport : TableAnswer → TableReport
 tableReport (table.refused-by q l) = record { number = q; line = l; written = 0 }
@@ -25,6 +28,10 @@ abbrev pub checkReport : Checked → CheckReport
 checkReport (check.refused-by q l) = record { number = q; line = l; differs = 0; output = 0; row = 0 }
 checkReport check.same = record { number = 0; line = 0; differs = 0; output = 0; row = 0 }
 checkReport (check.differs o r) = record { number = 0; line = 0; differs = 1; output = o; row = r }
+
+abbrev pub exportReport : ExportAnswer → ExportReport
+exportReport (blif.refused-by q l) = record { number = q; line = l; length = 0 }
+exportReport (blif.written n) = record { number = 0; line = 0; length = n }
 
 -- one of Map's outcomes on the sheet s and the buffer b, which is b′ afterwards, and the report of its answer
 pub record ReportedMap (s b : List ℕ) (r : MapReport) (b′ : List ℕ) : Type 0 where

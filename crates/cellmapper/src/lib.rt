@@ -1,6 +1,6 @@
-// Table, Map and Check for a caller in C, as include/cellmapper.h declares them: a slice is a pointer and a length, and what
-// a function has to say beside its result goes through references that the caller lends. Rests on design, mapper and checker,
-// and adds nothing to what they answer.
+// Table, Map, Check and Export for a caller in C, as include/cellmapper.h declares them: a slice is a pointer and a length, and what
+// a function has to say beside its result goes through references that the caller lends. Rests on design, mapper, checker and
+// blif, and adds nothing to what they answer.
 ghost use mathlib.Core.Path.{_≡_};
 ghost use Prim.Native.Nat.{ℕ};
 ghost use Rattle.design.specs.Tabulate.{tabulate};
@@ -8,8 +8,11 @@ ghost use Rattle.design.specs.Answer.{tableAnswer};
 ghost use Rattle.mapper.specs.Answer.{mapAnswer};
 ghost use Rattle.network.specs.Check.{check};
 ghost use Rattle.checker.specs.Answer.{checkedOf};
-ghost use Rattle.cellmapper.specs.Report.{tableReport, mapReport, checkReport, ReportedMap};
-ghost use Rattle.cellmapper.specs.Numbers.{TableNumber, MapNumber, CheckNumber};
+ghost use Rattle.blif.specs.Export as spec;
+ghost use Rattle.blif.specs.Answer.{exportAnswer};
+ghost use Rattle.cellmapper.specs.Report.{tableReport, mapReport, checkReport, exportReport, ReportedMap};
+ghost use Rattle.cellmapper.specs.Numbers.{TableNumber, MapNumber, CheckNumber, ExportNumber};
+use blif::Exported;
 use checker::Checked;
 use design::Tabled;
 use mapper::Mapped;
@@ -36,6 +39,13 @@ pub struct CheckReport {
     pub differs: usize,
     pub output: usize,
     pub row: usize,
+}
+
+// What a caller of Export is told.
+pub struct ExportReport {
+    pub number: u32,
+    pub line: usize,
+    pub length: usize,
 }
 
 fn report_table(t: Tabled) -> TableReport
@@ -105,6 +115,24 @@ fn report_check(c: Checked) -> CheckReport
     }
 }
 
+fn report_export(e: Exported) -> ExportReport
+    requires { ⌜ ExportNumber (exportAnswer e) ⌝ }
+    ensures { λ r. ⌜ r ≡ exportReport (exportAnswer e) ⌝ }
+{
+    match e {
+        Exported::Refused { number, line } => ExportReport {
+            number: number as u32,
+            line,
+            length: 0,
+        },
+        Exported::Written(n) => ExportReport {
+            number: 0,
+            line: 0,
+            length: n,
+        },
+    }
+}
+
 #[no_mangle]
 pub extern "C" fn cellmapper_table(
     sheet: &[u8],
@@ -158,5 +186,23 @@ pub extern "C" fn cellmapper_check(
     *differs = r.differs;
     *output = r.output;
     *row = r.row;
+    r.number
+}
+
+#[no_mangle]
+pub extern "C" fn cellmapper_export(
+    sheet: &[u8],
+    network: &[u8],
+    buffer: &mut [u8],
+    line: &mut usize,
+    length: &mut usize,
+) -> u32
+    ensures { λ r. ⌜ record { number = r; line = now (line .exit); length = now (length .exit) } ≡ exportReport (spec.export (now (sheet .entry)) (now (network .entry)) (now (buffer .entry)) .answer) ⌝ }
+    ensures { λ _. ⌜ now (buffer .exit) ≡ spec.export (now (sheet .entry)) (now (network .entry)) (now (buffer .entry)) .buffer ⌝ }
+{
+    let e = blif::export(sheet, network, buffer);
+    let r = report_export(e);
+    *line = r.line;
+    *length = r.length;
     r.number
 }

@@ -45,7 +45,7 @@ pub struct Beside {
 }
 
 // How many numbers below u are in a mask.
-fn count(mask: u8, u: usize) -> usize
+pub fn count(mask: u8, u: usize) -> usize
     requires { ⌜ u ≤ maxCells ⌝ }
     ensures { λ r. ⌜ r ≡ length (numbersOf u mask) ⌝ }
 {

@@ -1,5 +1,7 @@
-// What the programs do with standard input and output: a text is read to its end, and answers with two numbers are printed.
-// Rests on the kit's io.
+// What the programs do with standard input and output: a text is read to its end, two sheets in one text are told apart, and
+// texts and answers with two numbers are printed. Rests on the kit's io, and on limits for how long sheets are.
+ghost use Prim.Native.Nat.{_≤_};
+ghost use lib.ListN.{length};
 ghost use Rattle.io.specs.Counts.{Counts};
 use libc::STDIN_FILENO;
 use libc::STDOUT_FILENO;
@@ -32,6 +34,41 @@ pub fn read_text(buffer: &mut [u8]) -> usize
         drain();
     }
     n
+}
+
+// The bytes of a design sheet, the one between the sheets, those of a network sheet, and one by which a longer text is seen to
+// be too long.
+pub const BOTH_SHEETS: usize = limits::MAX_SHEET + 1 + limits::MAX_NETWORK + 1;
+
+// Where the first of two sheets ends and where the second starts.
+pub struct Sheets {
+    pub end: usize,
+    pub start: usize,
+}
+
+// Two sheets in one text, parted by the first 0x00: no valid sheet of either kind has such a byte, and a network sheet is
+// refused at its first one. Without it the whole text is the first sheet.
+pub fn two_sheets(s: &[u8]) -> Sheets
+    ensures { λ r. ⌜ (r .end ≤ r .start) × (r .start ≤ length (now (s .entry))) ⌝ }
+{
+    let mut i = 0;
+    while i < s.len() {
+        if s[i] == 0 {
+            return Sheets {
+                end: i,
+                start: i + 1,
+            };
+        }
+        i += 1;
+    }
+    Sheets { end: i, start: i }
+}
+
+// Prints the first bytes of a text, where it has so many.
+pub fn show(text: &[u8], length: usize) {
+    if length <= text.len() {
+        io::write_all(STDOUT_FILENO, &text[..length]);
+    }
 }
 
 // A line of two numbers, each after a text.

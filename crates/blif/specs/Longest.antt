@@ -1,0 +1,26 @@
+-- The most bytes of a text in BLIF within the limits: shared tables over bound inputs alone, nodes over no more inputs than a
+-- design may have. Assumes nothing.
+use Prim.Native.Nat.{ℕ, _+_, _*_, _^_}
+use Prim.Native.String.{String}
+use lib.ListN.{length}
+use Rattle.limits.specs.Limits.{maxInputs, maxBound, maxOutputs, maxCells}
+use Rattle.text.specs.Bytes.{bytes}
+use Rattle.putting.specs.Written.{itemRoom}
+use Rattle.blif.specs.Room.{headRoom, endRoom}
+
+-- the bytes of a quoted text
+abbrev size : String → ℕ
+size s = length (bytes s)
+
+-- a block over n inputs: its first line, with what it drives; the line of a row; the block
+abbrev pub longestNames : ℕ → ℕ
+longestNames n = size ".names" + itemRoom * (n + 1) + 1
+
+abbrev pub longestRow : ℕ → ℕ
+longestRow n = n + size " 1\n"
+
+abbrev pub longestBlock : ℕ → ℕ
+longestBlock n = longestNames n + longestRow n * 2 ^ n
+
+abbrev pub longestText : ℕ
+longestText = headRoom + longestBlock maxBound * maxCells + longestBlock maxInputs * maxOutputs + endRoom

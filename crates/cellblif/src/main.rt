@@ -1,0 +1,27 @@
+// Reads a design sheet, a byte 0x00 and a network sheet from standard input, and prints the network as a text in BLIF, or
+// `refused N line L`. Everything that matters is in blif. The buffer holds every text, so question 9 is always answered yes.
+use blif::Exported;
+
+// Exports a network, with a buffer for its text.
+fn answer(sheet: &[u8], network: &[u8], buffer: &mut [u8]) {
+    let r = blif::export(sheet, network, buffer);
+    match r {
+        Exported::Refused { number, line } => console::two(b"refused ", number, b" line ", line),
+        Exported::Written(length) => console::show(buffer, length),
+    }
+}
+
+// The two sheets of a text.
+fn both(s: &[u8], buffer: &mut [u8]) {
+    let p = console::two_sheets(s);
+    let end = p.end;
+    let start = p.start;
+    answer(&s[..end], &s[start..], buffer);
+}
+
+fn main() {
+    let mut text = [0u8; console::BOTH_SHEETS];
+    let n = console::read_text(&mut text);
+    let mut buffer = [0u8; limits::MAX_BLIF];
+    both(&text[..n], &mut buffer);
+}
