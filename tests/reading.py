@@ -12,7 +12,8 @@ OPERATIONS = {
     "design": ["table"],
     "checker": ["check"],
     "mapper": ["map"],
-    "cellmapper": ["cellmapper_table", "cellmapper_map", "cellmapper_check"],
+    "blif": ["export"],
+    "cellmapper": ["cellmapper_table", "cellmapper_map", "cellmapper_check", "cellmapper_export"],
 }
 THEOREMS = [
     ("mapper", "Demand1Laws", "sheet-demand-1"),
@@ -23,6 +24,12 @@ THEOREMS = [
     ("mapper", "Demand3Laws", "demand-3"),
     ("mapper", "DecisionLaws", "sheet-decides"),
     ("mapper", "DecisionLaws", "outcome-decides"),
+    ("blif", "SimulatedLaws", "simulated"),
+    ("blif", "SimulatedLaws", "sheet-export-demand"),
+    ("blif", "SimulatedLaws", "export-demand"),
+    ("blif", "CellNameLaws", "cells-apart"),
+    ("blif", "CellNameLaws", "cell-new"),
+    ("blif", "LengthLaws", "text-fits"),
 ]
 WORD = re.compile(r"[^\s(){}\[\];,λ⌜⌝×⊎→∷≡⊥∙]+")
 HEAD = re.compile(r"^(?:pub |abbrev |unfoldable |record |data )*(?P<name>\S+)")
