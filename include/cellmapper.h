@@ -1,9 +1,9 @@
-/* The Cell Mapper for a program in C: Table, Map and Check on design sheets and network sheets.
+/* The Cell Mapper for a program in C: Table, Map, Check and Export on design sheets and network sheets.
  *
  * Link target/staticlib/libcellmapper.a, which `rt staticlib cellmapper` proves and builds for x86-64 Linux. The archive
  * needs nothing but memcpy and memset, keeps no state, allocates nothing, and may be called from several threads at once.
  *
- * What holds of all three functions, proved for all bytes, lengths and output numbers (crates/cellmapper/src/lib.rt):
+ * What holds of all four functions, proved for all bytes, lengths and output numbers (crates/cellmapper/src/lib.rt):
  * - They end, and read and write nothing outside of what they are lent.
  * - The result is 0, or the number of the question that was answered "no", 1 to 11 (README.md, "Refusals"). On a refusal
  *   *line is the line at fault, counted from 1, or 0 where the question concerns no line, and the buffer is untouched.
@@ -28,11 +28,12 @@
 extern "C" {
 #endif
 
-/* The most bytes of a design sheet and of a network sheet, and the most digits of a table: buffers of these lengths are long
- * enough for every sheet. */
+/* The most bytes of a design sheet and of a network sheet, the most digits of a table, and a number of bytes that no text of
+ * Export exceeds: buffers of these lengths are long enough for every sheet and every network. */
 #define CELLMAPPER_MAX_SHEET 4096
 #define CELLMAPPER_MAX_NETWORK 8192
 #define CELLMAPPER_MAX_TABLE 1024
+#define CELLMAPPER_MAX_BLIF 55735
 
 /* Table: the truth table of one output of a design sheet, outputs counted from 0.
  *
@@ -59,6 +60,17 @@ uint32_t cellmapper_map(const uint8_t *sheet, size_t sheet_len, uint8_t *buffer,
  * limit or a width, *line being then a line of the network sheet. */
 uint32_t cellmapper_check(const uint8_t *sheet, size_t sheet_len, const uint8_t *network, size_t network_len, size_t *line,
                           size_t *differs, size_t *output, size_t *row);
+
+/* Export: a network sheet as a text in BLIF, for tools that simulate. It is examined as Check examines it; whether it has the
+ * design's values is not asked.
+ *
+ * Result 0: the buffer's first *length bytes are the model `panel` with the sheet's inputs and outputs in its order and a
+ * `.names` block for each lut line and each node; the lut line of _0 is the block of C0, and so on. Read by BLIF's rules it has
+ * the network's value in every output on every row, and so the design's wherever Check says "same". A table of zeros is a
+ * block without rows.
+ * Refusals: those of Check, 1 to 5, 10 and 11, with the same lines; then 9 where buffer_len is less than the text's length. */
+uint32_t cellmapper_export(const uint8_t *sheet, size_t sheet_len, const uint8_t *network, size_t network_len, uint8_t *buffer,
+                           size_t buffer_len, size_t *line, size_t *length);
 
 #ifdef __cplusplus
 }

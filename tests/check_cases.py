@@ -1,8 +1,8 @@
 #!/usr/bin/env python3
-"""check_cases.py [COUNT]: Check and Map on the programs target/bin/cellcheck and target/bin/cellmap. First cases by hand at
-each boundary of questions 10 and 11, with what each must answer beside it, which the reference must answer too; then COUNT
+"""check_cases.py [COUNT]: Check, Export and Map on the programs target/bin/cellcheck, cellblif and cellmap. First cases by hand
+at each boundary of questions 10 and 11, with what Check must answer beside it, which the reference must answer too; then COUNT
 random sheets (300 unless given): Map's network must be "same", and damaged networks must be answered as the reference says.
-Shows progress; the last line counts."""
+Of every case Export must print the reference's text, or the refusal that Check prints. Shows progress; the last line counts."""
 import pathlib
 import random
 import subprocess
@@ -112,13 +112,18 @@ def damage(dice, network):
 ran = wrong = 0
 
 
-def compare(name, design, network, wanted):
+def expect(name, got, wanted):
     global ran, wrong
-    got = program("cellcheck", design + b"\0" + network).decode().strip()
     ran += 1
     if got != wanted:
         wrong += 1
         print(f"WRONG {name}: got {got}, wanted {wanted}")
+
+
+def compare(name, design, network, wanted):
+    expect(name, program("cellcheck", design + b"\0" + network).decode(), wanted + "\n")
+    text = wanted + "\n" if wanted.startswith("refused") else cellref.export(design, network)
+    expect(name + ", exported", program("cellblif", design + b"\0" + network).decode(), text)
 
 
 for name, design, network, wanted in CASES:
@@ -126,7 +131,7 @@ for name, design, network, wanted in CASES:
         print(f"the reference says {reference(design, network)} of {name}, the list {wanted}")
         wrong += 1
     compare(name, design, network, wanted)
-print(f"{ran} cases by hand", flush=True)
+print(f"{ran} answers to cases by hand", flush=True)
 dice = random.Random(20261115)
 count = int(sys.argv[1]) if len(sys.argv) > 1 else 300
 mapped = 0

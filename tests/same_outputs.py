@@ -1,8 +1,9 @@
 #!/usr/bin/env python3
-"""same_outputs.py OTHER [COUNT [SEED]]: whether cellmap and cellcheck answer byte for byte as those of another checkout do, whose
-target/bin/ has them built. The sheets are those of bench/ and examples/, COUNT random valid ones and as many damaged (3,000
-unless given); beside each sheet that maps Check is asked of the network, of it with a table's digit turned, with any one byte
-changed, with a line lost, and cut off. The last line counts the answers by kind, and those that differ."""
+"""same_outputs.py OTHER [COUNT [SEED]]: whether cellmap, cellcheck and cellblif answer byte for byte as those of another checkout
+do, whose target/bin/ has them built (cellblif is left out where it has none). The sheets are those of bench/ and examples/, COUNT
+random valid ones and as many damaged (3,000 unless given); beside each sheet that maps Check and Export are asked of the network,
+of it with a table's digit turned, with any one byte changed, with a line lost, and cut off. The last line counts the answers by
+kind, and those that differ."""
 import collections
 import pathlib
 import random
@@ -40,8 +41,10 @@ def shortened(dice, network):
 
 
 def kind(answer):
-    words = answer.split()
-    return " ".join(w.decode() for w in words[:2]) if words[:1] == [b"refused"] else (words[:1] or [b"nothing"])[0].decode()
+    words = [word.decode() for word in answer.split()[:2]] or ["nothing"]
+    if words[0] == "refused":
+        return " ".join(words)
+    return {"(network": "mapped", ".model": "written"}.get(words[0], words[0])
 
 
 def main():
@@ -51,16 +54,17 @@ def main():
     sheets = [p.read_bytes() for d in ("bench/border", "bench/large", "examples") for p in sorted((ROOT / d).glob("*.sheet"))]
     for _ in range(count):
         sheets += [random_sheets.text_of(random_sheets.valid(dice)), random_sheets.damaged(dice)]
+    of_pairs = [name for name in ("cellcheck", "cellblif") if (other / "target/bin" / name).exists()]
     kinds, differ = collections.Counter(), 0
     for sheet in sheets:
         asked = [("cellmap", sheet)]
         network = run(ROOT, "cellmap", sheet)
         if network.startswith(b"(network"):
             cases = [network, turned(dice, network), changed(dice, network), shortened(dice, network), network[:-3]]
-            asked += [("cellcheck", sheet + b"\0" + case) for case in cases]
+            asked += [(name, sheet + b"\0" + case) for name in of_pairs for case in cases]
         for program, text in asked:
             mine, others = run(ROOT, program, text), run(other, program, text)
-            kinds[f"{program} {'mapped' if mine.startswith(b'(network') else kind(mine)}"] += 1
+            kinds[f"{program} {kind(mine)}"] += 1
             if mine != others:
                 differ += 1
                 print("differs:", program, text[:60])

@@ -1,5 +1,5 @@
-/* Reads one design sheet, prints the table of each output, its network, and what Check says to the network before and after
- * one of its digits is turned. */
+/* Reads one design sheet, prints the table of each output, its network, the network in BLIF, and what Check says to the network
+ * before and after one of its digits is turned. */
 #include "cellmapper.h"
 
 #include <stdio.h>
@@ -8,6 +8,7 @@
 static uint8_t sheet[CELLMAPPER_MAX_SHEET + 1]; /* a byte more, to see that a sheet is too long */
 static uint8_t network[CELLMAPPER_MAX_NETWORK];
 static uint8_t table[CELLMAPPER_MAX_TABLE];
+static uint8_t blif[CELLMAPPER_MAX_BLIF];
 
 static void print_tables(size_t sheet_len)
 {
@@ -15,6 +16,15 @@ static void print_tables(size_t sheet_len)
 
     for (output = 0; cellmapper_table(sheet, sheet_len, output, table, sizeof table, &line, &written) == 0; output++)
         printf("output %zu: %.*s\n", output, (int)written, (const char *)table);
+}
+
+static int print_blif(size_t sheet_len, size_t network_len)
+{
+    size_t line, length;
+    uint32_t number = cellmapper_export(sheet, sheet_len, network, network_len, blif, sizeof blif, &line, &length);
+
+    printf("%zu bytes in BLIF:\n%.*s", length, (int)length, (const char *)blif);
+    return number == 0;
 }
 
 static int print_check(const char *what, size_t sheet_len, size_t network_len)
@@ -52,7 +62,7 @@ int main(int argc, char **argv)
         return 0;
     }
     printf("%zu cells, %zu bytes:\n%.*s", cells, length, (int)length, (const char *)network);
-    if (!print_check("Map's network", sheet_len, length))
+    if (!print_blif(sheet_len, length) || !print_check("Map's network", sheet_len, length))
         return 1;
 
     /* the last digit of the last node stands before ")\n(count U)\n(end)\n"; where no vertex leads to it, turning it does

@@ -5,6 +5,13 @@
 
 #include <cstdint>
 
+static void compare_pair(const Sheet &sheet, const std::string &network, size_t more)
+{
+    Pair pair(sheet, network);
+    compare_check(pair);
+    compare_export(pair, more);
+}
+
 extern "C" int LLVMFuzzerTestOneInput(const uint8_t *data, size_t size)
 {
     std::string all(reinterpret_cast<const char *>(data), size);
@@ -14,7 +21,7 @@ extern "C" int LLVMFuzzerTestOneInput(const uint8_t *data, size_t size)
         compare_table(sheet, output, size);
     std::string network = compare_map(sheet, size, false);
     if (!network.empty())
-        compare_check(sheet, network);
-    compare_check(sheet, cut == std::string::npos ? "" : all.substr(cut + 1));
+        compare_pair(sheet, network, size);
+    compare_pair(sheet, cut == std::string::npos ? "" : all.substr(cut + 1), size);
     return 0;
 }

@@ -10,17 +10,17 @@
 
 namespace {
 
-const size_t PAGE = 4096, PAGES = 4, ROOM = PAGE * PAGES;
+const size_t PAGE = 4096, SHEET_PAGES = 4, BLIF_PAGES = 16;
 const unsigned char FILL = 0xA5;
 const size_t GARBAGE = 0xDEADBEEF;
 
 // Memory between two pages that may not be touched.
 class Place {
 public:
-    Place()
+    explicit Place(size_t pages) : room(PAGE * pages), fill(room, char(FILL))
     {
-        void *all = mmap(nullptr, ROOM + 2 * PAGE, PROT_NONE, MAP_PRIVATE | MAP_ANONYMOUS, -1, 0);
-        if (all == MAP_FAILED || mprotect(static_cast<char *>(all) + PAGE, ROOM, PROT_READ | PROT_WRITE) != 0) {
+        void *all = mmap(nullptr, room + 2 * PAGE, PROT_NONE, MAP_PRIVATE | MAP_ANONYMOUS, -1, 0);
+        if (all == MAP_FAILED || mprotect(static_cast<char *>(all) + PAGE, room, PROT_READ | PROT_WRITE) != 0) {
             perror("no memory for a test");
             exit(2);
         }
@@ -30,12 +30,12 @@ public:
     // A part of the given size at either end, with the bytes of `text` at its start and FILL everywhere else.
     unsigned char *lend(size_t size, const std::string &text, bool at_end)
     {
-        if (size > ROOM) {
+        if (size > room) {
             fprintf(stderr, "a test asks for %zu bytes\n", size);
             exit(2);
         }
-        memset(base, FILL, ROOM);
-        start = at_end ? base + ROOM - size : base;
+        memset(base, FILL, room);
+        start = at_end ? base + room - size : base;
         memcpy(start, text.data(), text.size());
         return start;
     }
@@ -46,20 +46,21 @@ public:
         if (written <= text.size() && memcmp(start + written, text.data() + written, text.size() - written) != 0)
             return false;
         const unsigned char *from = start + std::max(written, text.size());
-        return all_fill(base, start) && all_fill(from, base + ROOM);
+        return all_fill(base, start) && all_fill(from, base + room);
     }
 
 private:
-    static bool all_fill(const unsigned char *from, const unsigned char *to)
+    bool all_fill(const unsigned char *from, const unsigned char *to) const
     {
-        static const std::string fill(ROOM, char(FILL));
         return memcmp(from, fill.data(), size_t(to - from)) == 0;
     }
 
+    size_t room;
+    std::string fill;
     unsigned char *base, *start = nullptr;
 };
 
-Place sheets, networks, buffers;
+Place sheets(SHEET_PAGES), networks(SHEET_PAGES), buffers(SHEET_PAGES), texts(BLIF_PAGES);
 unsigned long calls;
 
 // Ends alternate, so that a step outside either end is met. An empty text has a null pointer on every other pair of calls.
@@ -127,4 +128,18 @@ Checked call_check(const std::string &sheet, const std::string &network)
     expect(c.number == 0 ? c.line == 0 : c.differs == 0, "Check left an out-parameter that does not apply", sheet, network);
     expect(c.differs <= 1 && (c.differs == 1 || (c.output == 0 && c.row == 0)), "Check left output or row set", sheet, network);
     return c;
+}
+
+Exported call_export(const std::string &sheet, const std::string &network, size_t room)
+{
+    Exported e = {0, GARBAGE, GARBAGE, ""};
+    unsigned char *s = lend(sheets, sheet.size(), sheet), *n = lend(networks, network.size(), network), *b = lend(texts, room, "");
+    e.number = cellmapper_export(s, sheet.size(), n, network.size(), b, room, &e.line, &e.length);
+    calls++;
+    expect(e.length <= room, "Export says it wrote more than there was room for", sheet, network);
+    expect(sheets.untouched(sheet, 0) && networks.untouched(network, 0), "Export wrote into a sheet", sheet, network);
+    expect(texts.untouched("", e.length), "Export wrote past its text, or on a refusal", sheet, network);
+    expect(e.number == 0 ? e.line == 0 : e.length == 0, "Export left an out-parameter that does not apply", sheet, network);
+    e.text = first_bytes(b, e.length);
+    return e;
 }

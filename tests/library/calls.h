@@ -24,9 +24,16 @@ struct Checked {
     size_t line, differs, output, row;
 };
 
+struct Exported {
+    unsigned number;
+    size_t line, length;
+    std::string text;
+};
+
 Tabled call_table(const std::string &sheet, size_t output, size_t room);
 Mapped call_map(const std::string &sheet, size_t room);
 Checked call_check(const std::string &sheet, const std::string &network);
+Exported call_export(const std::string &sheet, const std::string &network, size_t room);
 
 // Which end the next text stands at, and whether an empty one has a null pointer: four ways, taken in turn from this one on.
 void start_at_way(unsigned way);

@@ -1,15 +1,27 @@
 #include "compare.h"
 
 #include "calls.h"
+#include "cellmapper.h"
 #include "fewest.h"
 
 #include <algorithm>
-
-Tally tables, maps, checks;
+#include <set>
 
 namespace {
 
 const size_t AMPLE = 8192;
+
+const std::string CONSTANT = "constant ", NODE_OF = "a node of digits ";
+const std::string CELL_OF_ZEROS = "a cell of digits 0", CELL_UNREAD = "a cell unread", NO_CELLS = "no cells";
+
+}
+
+Tally tables, maps, checks, exports;
+std::map<std::string, unsigned long> shapes = {
+    {NO_CELLS, 0}, {CELL_UNREAD, 0}, {CELL_OF_ZEROS, 0}, {NODE_OF + '0', 0}, {NODE_OF + '1', 0}, {CONSTANT + '0', 0}, {CONSTANT + '1', 0},
+};
+
+namespace {
 
 // A length below `enough`.
 size_t too_short(size_t enough, size_t more)
@@ -36,7 +48,7 @@ void examine_network(const Sheet &sheet, const Mapped &m)
             expect(produced[i / rows] || node.digits[i] == '0', "an entry that no vertex produces is 0", sheet.text, m.network);
         expect(node.reads.size() == std::min<size_t>(oracle::width(design, o), m.cells), "a node reads as many tables as its width allows", sheet.text, m.network);
     }
-    oracle::Comparison c = oracle::check(design, m.network);
+    oracle::Comparison c = oracle::check(design, m.network, network);
     expect(c.refusal.number == 0 && !c.differs, "Map's network is the design's", sheet.text, m.network);
 }
 
@@ -46,6 +58,48 @@ void compare_fewest(const Sheet &sheet, const Mapped &m)
     expect(m.number == 0 ? m.cells == u : u == NONE_SERVE, "Map's cells are the fewest, " + std::to_string(u), sheet.text, m.network);
 }
 
+void expect_refusal(const char *who, const Pair &pair, unsigned number, size_t line)
+{
+    const oracle::Refusal &wanted = pair.wanted.refusal;
+    std::string by_the_oracle = std::to_string(wanted.number) + " line " + std::to_string(wanted.line);
+    bool good = number == wanted.number && line == wanted.line;
+    expect(good, std::string(who) + "'s number and line; " + by_the_oracle + " by the oracle", pair.sheet.text, pair.text);
+}
+
+bool all(char digit, const std::string &digits)
+{
+    return digits.find_first_not_of(digit) == std::string::npos;
+}
+
+void count_shapes(const oracle::Network &network)
+{
+    std::vector<bool> read(network.luts.size());
+    std::set<std::string> found;
+    for (const oracle::Node &node : network.nodes) {
+        for (unsigned i : node.reads)
+            read[i] = true;
+        for (char digit : {'0', '1'})
+            if (all(digit, node.digits))
+                found.insert((node.digits.size() == 1 ? CONSTANT : NODE_OF) + digit);
+    }
+    for (const oracle::Lut &lut : network.luts)
+        if (all('0', lut.digits))
+            found.insert(CELL_OF_ZEROS);
+    if (network.luts.empty())
+        found.insert(NO_CELLS);
+    if (std::find(read.begin(), read.end(), false) != read.end())
+        found.insert(CELL_UNREAD);
+    for (const std::string &shape : found)
+        shapes[shape]++;
+}
+
+}
+
+Pair::Pair(const Sheet &sheet, const std::string &text) : sheet(sheet), text(text)
+{
+    wanted.refusal = sheet.refusal;
+    if (!sheet.refusal.number)
+        wanted = oracle::check(sheet.design, text, network);
 }
 
 void compare_table(const Sheet &sheet, size_t output, size_t more)
@@ -89,14 +143,33 @@ std::string compare_map(const Sheet &sheet, size_t more, bool try_all)
     return m.network;
 }
 
-void compare_check(const Sheet &sheet, const std::string &network)
+void compare_check(const Pair &pair)
 {
-    Checked c = call_check(sheet.text, network);
-    oracle::Comparison wanted;
-    wanted.refusal = sheet.refusal;
-    if (!sheet.refusal.number)
-        wanted = oracle::check(sheet.design, network);
+    Checked c = call_check(pair.sheet.text, pair.text);
     checks[c.differs ? DIFFERS : c.number]++;
-    expect(c.number == wanted.refusal.number && c.line == wanted.refusal.line, "Check's number and line; " + std::to_string(wanted.refusal.number) + " line " + std::to_string(wanted.refusal.line) + " by the oracle", sheet.text, network);
-    expect(c.differs == wanted.differs && c.output == wanted.output && c.row == wanted.row, "Check's difference", sheet.text, network);
+    expect_refusal("Check", pair, c.number, c.line);
+    const oracle::Comparison &wanted = pair.wanted;
+    bool good = c.differs == wanted.differs && c.output == wanted.output && c.row == wanted.row;
+    expect(good, "Check's difference", pair.sheet.text, pair.text);
+}
+
+void compare_export(const Pair &pair, size_t more)
+{
+    const std::string &sheet = pair.sheet.text;
+    Exported e = call_export(sheet, pair.text, CELLMAPPER_MAX_BLIF);
+    exports[e.number == 0 && pair.wanted.differs ? DIFFERS : e.number]++;
+    expect_refusal("Export", pair, e.number, e.line);
+    Exported none = call_export(sheet, pair.text, 0);
+    if (e.number != 0) {
+        expect_refusal("Export in an empty buffer", pair, none.number, none.line);
+        return;
+    }
+    expect(none.number == 9 && none.line == 0, "Export in an empty buffer", sheet, pair.text);
+    count_shapes(pair.network);
+    std::string text = oracle::blif(pair.sheet.design, pair.network);
+    expect(e.text == text, "Export's text:\n" + e.text + "---- by the oracle\n" + text, sheet, pair.text);
+    expect(call_export(sheet, pair.text, text.size()).text == text, "Export in a buffer just long enough", sheet, pair.text);
+    Exported shorter = call_export(sheet, pair.text, too_short(text.size(), more));
+    exports[shorter.number]++;
+    expect(shorter.number == 9 && shorter.line == 0, "Export in a buffer too short", sheet, pair.text);
 }

@@ -1,8 +1,9 @@
-// Map on the repository's own sheets, from the folder that the repository is in. The sheets of bench/border/ are hard ones;
-// the fewest cells of each, or `inf` where none serve, stand in its file ANSWERS, which two other searches gave.
+// Map and Export on the repository's own sheets, from the folder that the repository is in. The sheets of bench/border/ are
+// hard ones; the fewest cells of each, or `inf` where none serve, stand in its file ANSWERS, which two other searches gave.
 #include "files.h"
 
 #include "calls.h"
+#include "compare.h"
 
 #include <filesystem>
 #include <fstream>
@@ -28,6 +29,8 @@ std::string cells(const std::string &sheet)
         return "inf";
     Checked c = call_check(sheet, m.network);
     expect(c.number == 0 && c.differs == 0, "Check on Map's network", sheet, m.network);
+    Sheet examined(sheet);
+    compare_export(Pair(examined, m.network), 0);
     return std::to_string(m.cells);
 }
 

@@ -19,18 +19,34 @@ void one_case(Generator &random)
     compare_table(sheet, random.once_in(50) ? ~size_t(0) : random.below(5), more);
     std::string mapped = compare_map(sheet, more, random.once_in(10));
     const oracle::Design &design = sheet.refusal.number ? PLAIN.design : sheet.design;
-    compare_check(sheet, random.network_sheet(design, mapped));
+    Pair pair(sheet, random.network_sheet(design, mapped));
+    compare_check(pair);
+    compare_export(pair, more);
 }
 
-// Prints how often each answer came; each must have come.
+// Prints how often each answer came, and of networks that Check compares how many were the same; each must have come.
 void require(const char *name, Tally &tally, const std::vector<unsigned> &answers)
 {
     printf("%s:", name);
     for (unsigned a : answers) {
-        std::string what = a == DIFFERS ? "differs" : a == 0 ? "done" : "by " + std::to_string(a);
+        std::string done = tally.count(DIFFERS) ? "same" : "done";
+        std::string what = a == DIFFERS ? "differs" : a == 0 ? done : "by " + std::to_string(a);
         printf(" %s %lu;", what.c_str(), tally[a]);
         if (tally[a] == 0) {
             printf("\nFAILED: this answer of %s never came\n", name);
+            exit(1);
+        }
+    }
+    printf("\n");
+}
+
+void require_shapes()
+{
+    printf("Export of networks:");
+    for (const auto &shape : shapes) {
+        printf(" %s %lu;", shape.first.c_str(), shape.second);
+        if (shape.second == 0) {
+            printf("\nFAILED: no such network was exported\n");
             exit(1);
         }
     }
@@ -56,6 +72,8 @@ int main(int argc, char **argv)
         require("Table", tables, {0, 1, 2, 3, 4, 5, 6, 9});
         require("Map", maps, {0, 1, 2, 3, 4, 5, 7, 8, 9});
         require("Check", checks, {0, DIFFERS, 1, 2, 3, 4, 5, 10, 11});
+        require("Export", exports, {0, DIFFERS, 1, 2, 3, 4, 5, 9, 10, 11});
+        require_shapes();
     }
     printf("library: %lu design sheets and as many network sheets from seed %lu, all answers as they must be\n", cases, seed);
     return 0;

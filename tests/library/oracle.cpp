@@ -465,10 +465,9 @@ Refusal within(const Design &design, const Network &network)
 
 }
 
-Comparison check(const Design &design, const std::string &text)
+Comparison check(const Design &design, const std::string &text, Network &network)
 {
     Comparison answer;
-    Network network;
     answer.refusal = read_network(design, text, network);
     if (!answer.refusal.number)
         answer.refusal = within(design, network);
@@ -488,6 +487,58 @@ Comparison check(const Design &design, const std::string &text)
         }
     }
     return answer;
+}
+
+// ---- BLIF
+
+namespace {
+
+// The rows of value 1 in rising order: all rows are counted through by their digits, as one adds 1 in binary.
+void print_block(const Names &inputs, const std::string &name, const std::string &digits, std::string &to)
+{
+    to += ".names";
+    for (const std::string &n : inputs)
+        to += " " + n;
+    to += " " + name + "\n";
+    std::string row(inputs.size(), '0');
+    for (char digit : digits) {
+        if (digit == '1')
+            to += row + (row.empty() ? "1\n" : " 1\n");
+        size_t ones = row.size();
+        while (ones > 0 && row[ones - 1] == '1')
+            row[--ones] = '0';
+        if (ones > 0)
+            row[ones - 1] = '1';
+    }
+}
+
+std::string cell_name(size_t number)
+{
+    return "C" + std::to_string(number);
+}
+
+}
+
+std::string blif(const Design &design, const Network &network)
+{
+    std::string text = ".model panel\n.inputs";
+    for (const std::string &n : design.inputs)
+        text += " " + n;
+    text += "\n.outputs";
+    for (const Output &o : design.outputs)
+        text += " " + o.name;
+    text += "\n";
+    for (size_t i = 0; i < network.luts.size(); i++)
+        print_block(design.bound, cell_name(i), network.luts[i].digits, text);
+    for (size_t o = 0; o < network.nodes.size(); o++) {
+        Names inputs;
+        for (unsigned i : network.nodes[o].reads)
+            inputs.push_back(cell_name(i));
+        for (const std::string &n : free_inputs(design))
+            inputs.push_back(n);
+        print_block(inputs, design.outputs[o].name, network.nodes[o].digits, text);
+    }
+    return text + ".end\n";
 }
 
 }

@@ -1,4 +1,4 @@
-// Table and Check worked out from the specification by brute force, to compare the library with. A line is read as a tree
+// Table, Check and Export worked out from the specification by brute force, to compare the library with. A line is read as a tree
 // and printed again: it is spelled right if the print is the line and the tree has the shape its place demands. Values are
 // found by walking the tree for each row, classes by comparing columns as strings. No part is shared with the library.
 #ifndef ORACLE_H
@@ -58,8 +58,11 @@ struct Comparison {
 Refusal examine(const std::string &text, Design &design);
 Refusal read_network(const Design &design, const std::string &text, Network &network);
 
-// Check on a valid design.
-Comparison check(const Design &design, const std::string &network);
+// Check on a valid design; `network` is what the text says, unless it is refused.
+Comparison check(const Design &design, const std::string &text, Network &network);
+
+// What Export writes of a network that passes questions 10 and 11.
+std::string blif(const Design &design, const Network &network);
 
 // The inputs that are not bound, in the order of the `in` line.
 std::vector<std::string> free_inputs(const Design &design);

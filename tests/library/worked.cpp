@@ -1,6 +1,6 @@
-// The specification's sheets A to K and every refusal, by hand: what each call must answer stands beside it. Buffers are
-// exactly long enough and one byte short; slices of length 0 have null pointers too (calls.cpp). Then the stack that the header
-// promises to be enough.
+// The specification's sheets A to K, texts in BLIF and every refusal, by hand: what each call must answer stands beside it.
+// Buffers are exactly long enough and one byte short; slices of length 0 have null pointers too (calls.cpp). Then the stack
+// that the header promises to be enough.
 #include "worked.h"
 
 #include "calls.h"
@@ -90,28 +90,55 @@ void map_refuses(const std::string &s, unsigned number, size_t line)
     }
 }
 
-// ---- Check
+// ---- Check and Export, which examine alike
 
-void checks_to(const std::string &s, const std::string &n, unsigned number, size_t line)
+void same(const std::string &s, const std::string &n)
 {
     Checked c = call_check(s, n);
-    expect(c.number == number && c.line == line && c.differs == 0, "Check must answer " + std::to_string(number) + " line " + std::to_string(line), s, n);
+    expect(c.number == 0 && c.differs == 0, "Check must say that it is the same", s, n);
+    expect(call_export(s, n, CELLMAPPER_MAX_BLIF).number == 0, "Export of what is the same", s, n);
+}
+
+void both_refuse(const std::string &s, const std::string &n, unsigned number, size_t line)
+{
+    const std::string answer = std::to_string(number) + " line " + std::to_string(line);
+    Checked c = call_check(s, n);
+    expect(c.number == number && c.line == line, "Check must refuse by " + answer, s, n);
+    for (size_t room : {size_t(0), size_t(CELLMAPPER_MAX_BLIF)}) {
+        Exported e = call_export(s, n, room);
+        expect(e.number == number && e.line == line, "Export must refuse by " + answer, s, n);
+    }
 }
 
 void differs_at(const std::string &s, const std::string &n, size_t output, size_t row)
 {
     Checked c = call_check(s, n);
     expect(c.number == 0 && c.differs == 1 && c.output == output && c.row == row, "Check must say where it differs", s, n);
+    expect(call_export(s, n, CELLMAPPER_MAX_BLIF).number == 0, "Export of what differs", s, n);
 }
 
-// A refusal of the design sheet itself, by all three.
+void exports_to(const std::string &s, const std::string &n, const std::vector<Lines> &parts)
+{
+    std::string wanted;
+    for (const Lines &part : parts)
+        wanted += text(part);
+    Exported e = call_export(s, n, CELLMAPPER_MAX_BLIF), exact = call_export(s, n, wanted.size());
+    expect(e.number == 0 && e.length == wanted.size() && e.text == wanted, "Export's text\n" + e.text, s, n);
+    expect(exact.number == 0 && exact.text == wanted, "Export in a buffer just long enough", s, n);
+    for (size_t room : {wanted.size() - 1, size_t(1), size_t(0)}) {
+        Exported shorter = call_export(s, n, room);
+        expect(shorter.number == 9 && shorter.line == 0, "Export in a buffer too short", s, n);
+    }
+}
+
+// A refusal of the design sheet itself, by all four.
 void all_refuse(const std::string &s, unsigned number, size_t line)
 {
     table_refuses(s, 0, number, line);
     table_refuses(s, SIZE_MAX, number, line);
     map_refuses(s, number, line);
-    checks_to(s, NETWORK, number, line);
-    checks_to(s, "", number, line);
+    both_refuse(s, NETWORK, number, line);
+    both_refuse(s, "", number, line);
 }
 
 void sheets_to_try()
@@ -136,7 +163,7 @@ void sheets_to_try()
     map_refuses(sheet("a b c d e x y", "a b c d e", "3", i), 8, 0);
     map_refuses(sheet("a b c d e x y", "a b c d e", "0", {i[0], i[1], i[2], "(xor d x)"}), 7, 0);
     differs_at(A, with(4, "(node g (_0 d) 0011)"), 1, 2);
-    checks_to(A, text({"(network 1)", "(lut _0 (a b c) 10010110)", "(node f (_0 d) 1001)", "(node g (_0 d) 0100)", "(count 1)", "(end)"}), 0, 0);
+    same(A, text({"(network 1)", "(lut _0 (a b c) 10010110)", "(node f (_0 d) 1001)", "(node g (_0 d) 0100)", "(count 1)", "(end)"}));
 }
 
 std::string nested(size_t depth, const std::string &inside)
@@ -188,41 +215,82 @@ void refusals_by_the_sheet()
 
 void refusals_by_the_network()
 {
-    checks_to(A, NETWORK, 0, 0);
-    checks_to(A, "", 10, 0);
-    checks_to(A, std::string(8193, '0'), 10, 0);
-    checks_to(A, std::string(8192, '0'), 10, 1);
-    checks_to(A, "\n", 10, 1);
-    checks_to(A, NETWORK.substr(0, NETWORK.size() - 1), 10, 6);
-    checks_to(A, NETWORK + "(end)\n", 10, 7);
-    checks_to(A, NETWORK + "\n", 10, 7);
-    checks_to(A, with(6, ""), 10, 6);
-    checks_to(A, with(1, "(network 2)"), 10, 1);
-    checks_to(A, with(2, ""), 10, 2);
-    checks_to(A, with(2, "(lut _1 (a b c) 01101001)"), 10, 2);
-    checks_to(A, with(2, "(lut _0 (a c b) 01101001)"), 10, 2);
-    checks_to(A, with(2, "(lut _0 (a b c) 0110100)"), 10, 2);
-    checks_to(A, with(3, "(node f (d _0) 0110)"), 10, 3);
-    checks_to(A, with(3, "(node f (_1 d) 0110)"), 10, 3);
-    checks_to(A, with(3, "(node f (_0 d) 0120)"), 10, 3);
-    checks_to(A, with(3, "(node g (_0 d) 0110)"), 10, 3);
-    checks_to(A, with(5, "(count 2)"), 10, 5);
-    checks_to(A, with(5, "(count 01)"), 10, 5);
+    same(A, NETWORK);
+    both_refuse(A, "", 10, 0);
+    both_refuse(A, std::string(8193, '0'), 10, 0);
+    both_refuse(A, std::string(8192, '0'), 10, 1);
+    both_refuse(A, "\n", 10, 1);
+    both_refuse(A, NETWORK.substr(0, NETWORK.size() - 1), 10, 6);
+    both_refuse(A, NETWORK + "(end)\n", 10, 7);
+    both_refuse(A, NETWORK + "\n", 10, 7);
+    both_refuse(A, with(6, ""), 10, 6);
+    both_refuse(A, with(1, "(network 2)"), 10, 1);
+    both_refuse(A, with(2, ""), 10, 2);
+    both_refuse(A, with(2, "(lut _1 (a b c) 01101001)"), 10, 2);
+    both_refuse(A, with(2, "(lut _0 (a c b) 01101001)"), 10, 2);
+    both_refuse(A, with(2, "(lut _0 (a b c) 0110100)"), 10, 2);
+    both_refuse(A, with(3, "(node f (d _0) 0110)"), 10, 3);
+    both_refuse(A, with(3, "(node f (_1 d) 0110)"), 10, 3);
+    both_refuse(A, with(3, "(node f (_0 d) 0120)"), 10, 3);
+    both_refuse(A, with(3, "(node g (_0 d) 0110)"), 10, 3);
+    both_refuse(A, with(5, "(count 2)"), 10, 5);
+    both_refuse(A, with(5, "(count 01)"), 10, 5);
     const Lines luts = {"(lut _1 (a b c) 00000000)", "(lut _2 (a b c) 11111111)"};
     const Lines three = {NETWORK_LINES[0], NETWORK_LINES[1], luts[0], luts[1], NETWORK_LINES[2], NETWORK_LINES[3], "(count 3)", "(end)"};
-    checks_to(A, text(three), 11, 4);
+    both_refuse(A, text(three), 11, 4);
     const Lines wide = {NETWORK_LINES[0], NETWORK_LINES[1], luts[0], NETWORK_LINES[2], "(node g (_0 _1 d) 00000001)", "(count 2)", "(end)"};
-    checks_to(A, text(wide), 11, 5);
+    both_refuse(A, text(wide), 11, 5);
     const Lines spare = {NETWORK_LINES[0], NETWORK_LINES[1], luts[0], NETWORK_LINES[2], NETWORK_LINES[3], "(count 2)", "(end)"};
-    checks_to(A, text(spare), 0, 0);
-    checks_to(sheet("c d", "c", "1", {"d"}), text({"(network 1)", "(node f (d) 01)", "(count 0)", "(end)"}), 0, 0);
-    checks_to(sheet("a", "a", "0", {"1"}), text({"(network 1)", "(node f () 1)", "(count 0)", "(end)"}), 0, 0);
+    same(A, text(spare));
+    same(sheet("c d", "c", "1", {"d"}), text({"(network 1)", "(node f (d) 01)", "(count 0)", "(end)"}));
+    same(sheet("a", "a", "0", {"1"}), text({"(network 1)", "(node f () 1)", "(count 0)", "(end)"}));
     differs_at(sheet("a", "a", "0", {"1"}), text({"(network 1)", "(node f () 0)", "(count 0)", "(end)"}), 0, 0);
     const std::string ten = sheet("a b c d e v w x y z", "e a", "2", {"(and a b c d e v w x y z)"});
     std::string digits(1024, '0');
     digits.back() = '1';
     tables_to(ten, 0, digits);
     differs_at(ten, text({"(network 1)", "(node f (b c d v w x y z) " + std::string(256, '0') + ")", "(count 0)", "(end)"}), 0, 1023);
+}
+
+void texts_in_blif()
+{
+    Lines head = {".model panel", ".inputs a b c d", ".outputs f g"};
+    const Lines c0 = {".names a b c C0", "001 1", "010 1", "100 1", "111 1"}, f = {".names C0 d f", "01 1", "10 1"};
+    exports_to(A, NETWORK, {head, c0, f, {".names C0 d g", "11 1", ".end"}});
+    exports_to(A, with(4, "(node g (_0 d) 0011)"), {head, c0, f, {".names C0 d g", "10 1", "11 1", ".end"}});
+    const std::string constants = sheet("a b", "b a", "0", {"1", "0"});
+    head = {".model panel", ".inputs a b", ".outputs f g"};
+    const Lines one_zero = {"(network 1)", "(node f () 1)", "(node g () 0)", "(count 0)", "(end)"};
+    const Lines zero_one = {"(network 1)", "(node f () 0)", "(node g () 1)", "(count 0)", "(end)"};
+    exports_to(constants, text(one_zero), {head, {".names f", "1", ".names g", ".end"}});
+    exports_to(constants, text(zero_one), {head, {".names f", ".names g", "1", ".end"}});
+    const std::string plain = sheet("x b y", "b", "2", {"0", "1", "(xor b x)"});
+    const Lines luts = {"(network 1)", "(lut _0 (b) 00)", "(lut _1 (b) 11)"};
+    const Lines nodes = {"(node f (x y) 0000)", "(node g (x y) 1111)", "(node h (_1 x y) 10000001)", "(count 2)", "(end)"};
+    head = {".model panel", ".inputs x b y", ".outputs f g h"};
+    const Lines cells = {".names b C0", ".names b C1", "0 1", "1 1"};
+    const Lines outputs = {".names x y f", ".names x y g", "00 1", "01 1", "10 1", "11 1", ".names C1 x y h", "000 1", "111 1", ".end"};
+    exports_to(plain, text(luts) + text(nodes), {head, cells, outputs});
+}
+
+// Ten inputs and four outputs with names of eight characters, six cells, every node over five of them: no text is longer.
+void longest_text_in_blif()
+{
+    const std::string bound = "aaaaaaaa bbbbbbbb cccccccc dddddddd eeeeeeee", free = "vvvvvvvv wwwwwwww xxxxxxxx yyyyyyyy zzzzzzzz";
+    const std::string f = "(or (and aaaaaaaa vvvvvvvv) (and bbbbbbbb wwwwwwww) (and cccccccc xxxxxxxx) (and dddddddd yyyyyyyy)"
+                          " (and eeeeeeee zzzzzzzz))";
+    Lines design = {"(design 1)", "(in " + bound + " " + free + ")", "(bound " + bound + ")", "(limit 6)"}, network = {"(network 1)"};
+    for (char lut = '0'; lut < '6'; lut++)
+        network.push_back(std::string("(lut _") + lut + " (" + bound + ") " + std::string(32, '1') + ")");
+    for (char output = '0'; output < '4'; output++) {
+        const std::string name = std::string("output0") + output;
+        design.push_back("(out " + name + " " + f + ")");
+        network.push_back("(node " + name + " (_0 _1 _2 _3 _4 " + free + ") " + std::string(1024, '1') + ")");
+    }
+    design.push_back("(end)");
+    network.insert(network.end(), {"(count 6)", "(end)"});
+    Exported e = call_export(text(design), text(network), CELLMAPPER_MAX_BLIF);
+    expect(e.number == 0 && e.length == 55579, "the longest text has 55,579 bytes", text(design), text(network));
 }
 
 // ---- the stack
@@ -243,7 +311,8 @@ void *call_all(void *)
     size_t n = DEEPEST.size();
     bool refused = cellmapper_table(s, n, 0, buffer, sizeof buffer, &line, &a) == 2
         && cellmapper_map(s, n, buffer, sizeof buffer, &line, &a, &b) == 2
-        && cellmapper_check(s, n, buffer, 0, &line, &a, &b, &c) == 2;
+        && cellmapper_check(s, n, buffer, 0, &line, &a, &b, &c) == 2
+        && cellmapper_export(s, n, s, n, buffer, sizeof buffer, &line, &a) == 2;
     expect(refused && line == 5, "a sheet of opening brackets", DEEPEST);
     return nullptr;
 }
@@ -266,6 +335,8 @@ void worked_sheets()
         sheets_to_try();
         refusals_by_the_sheet();
         refusals_by_the_network();
+        texts_in_blif();
+        longest_text_in_blif();
     }
     in_one_mebibyte_of_stack();
 }

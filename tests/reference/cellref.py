@@ -7,11 +7,13 @@ are lists of values, and the fewest cells are found by trying. The tests compare
     cellref.py table OUTPUT [BUFFER] < sheet      written K DIGITS, or refused N line L
     cellref.py classes < sheet                    vertices, local classes and widths, global classes
     cellref.py check SHEET NETWORK                same, differs output O row R, or refused N line L
+    cellref.py export SHEET NETWORK [BUFFER]      the network in BLIF, or refused N line L
     cellref.py map [BUFFER] < sheet               a network with the fewest cells, or refused N line L
     cellref.py fewest [brute] < sheet             the fewest cells whatever the limit, at most six, or none
 """
 
 import itertools
+import pathlib
 import re
 import sys
 
@@ -419,17 +421,54 @@ def node_value(design, network, output, given):
     return int(node.digits[int("0" + "".join(listed), 2)])
 
 
-def check(design_text, network_text):
-    """Check: None where the network computes the design, else the lowest output that differs and its lowest row."""
+def examine_both(design_text, network_text):
+    """Questions 1 to 5, 10 and 11: the design and the network, or the refusal raised."""
     design = examine(design_text)
     network = read_network(design, network_text)
     ask_cells(design, network)
+    return design, network
+
+
+def check(design_text, network_text):
+    """Check: None where the network computes the design, else the lowest output that differs and its lowest row."""
+    design, network = examine_both(design_text, network_text)
     for output, wanted in enumerate(design.outputs):
         for row in range(2 ** len(design.inputs)):
             given = assignment(design.inputs, row)
             if node_value(design, network, output, given) != value(wanted.formula, given):
                 return output, row
     return None
+
+
+# ---- Export
+
+
+def blif_block(inputs, name, digits):
+    """A `.names` line, and a line for each row of value 1. Without inputs the row has no digits of its own."""
+    lines = [" ".join([".names", *inputs, name])]
+    for row, digit in enumerate(digits):
+        if digit == "1":
+            lines.append(f"{row:0{len(inputs)}b} 1" if inputs else "1")
+    return lines
+
+
+def blif_text(design, network):
+    """A network in BLIF, whatever it computes."""
+    lines = [".model panel", " ".join([".inputs", *design.inputs])]
+    lines.append(" ".join([".outputs", *(output.name for output in design.outputs)]))
+    for k, digits in enumerate(network.luts):
+        lines += blif_block(design.bound, f"C{k}", digits)
+    for output, node in zip(design.outputs, network.nodes):
+        lines += blif_block([f"C{k}" for k in node.reads] + design.free, output.name, node.digits)
+    return "".join(line + "\n" for line in lines + [".end"])
+
+
+def export(design_text, network_text, buffer=ENDLESS):
+    """Export: the text, or the refusal raised."""
+    text = blif_text(*examine_both(design_text, network_text))
+    if len(text) > buffer:
+        raise Refusal(9, 0)
+    return text
 
 
 # ---- the fewest cells
@@ -592,15 +631,20 @@ def show_fewest(text, brute):
     print("none" if found is None else found if brute else found[0])
 
 
+def read_files(*paths):
+    return [pathlib.Path(path).read_bytes() for path in paths]
+
+
 def show_check(design_file, network_file):
-    with open(design_file, "rb") as design, open(network_file, "rb") as network:
-        found = check(design.read(), network.read())
+    found = check(*read_files(design_file, network_file))
     print("same" if found is None else f"differs output {found[0]} row {found[1]}")
 
 
 def run(command, words):
     if command == "check" and len(words) == 2:
         return show_check(*words)
+    if command == "export" and len(words) in (2, 3):
+        return print(export(*read_files(*words[:2]), *map(int, words[2:])), end="")
     if command == "fewest" and words in ([], ["brute"]):
         return show_fewest(sys.stdin.buffer.read(), words == ["brute"])
     if command == "classes" and not words:

@@ -148,6 +148,85 @@ class Networks(unittest.TestCase):
         self.assertEqual(refusal(cellref.check, A, network.encode("ascii")), (11, 5))
 
 
+A_BLIF = """.model panel
+.inputs a b c d
+.outputs f g
+.names a b c C0
+001 1
+010 1
+100 1
+111 1
+.names C0 d f
+01 1
+10 1
+.names C0 d g
+11 1
+.end
+"""
+
+
+class Exports(unittest.TestCase):
+    """Texts spelled by hand."""
+
+    def exported(self, text, *lines):
+        network = "".join(line + "\n" for line in ("(network 1)", *lines, "(end)"))
+        return cellref.export(text, network.encode("ascii")).splitlines()
+
+    def test_a(self):
+        network = A_NETWORK.encode("ascii")
+        self.assertEqual(cellref.export(A, network), A_BLIF)
+        self.assertEqual(cellref.export(A, network, len(A_BLIF)), A_BLIF)
+        self.assertEqual(refusal(cellref.export, A, network, len(A_BLIF) - 1), (9, 0))
+        self.assertEqual(refusal(cellref.export, A, network, 0), (9, 0))
+
+    def test_network_that_differs(self):
+        other = A_NETWORK.replace("0001)", "0011)").encode("ascii")
+        self.assertIsNotNone(cellref.check(A, other))
+        self.assertEqual(cellref.export(A, other), A_BLIF.replace("11 1\n.end", "10 1\n11 1\n.end"))
+
+    def test_constants_without_inputs(self):
+        text = sheet("a b", "b a", 0, "1", "0")
+        head = [".model panel", ".inputs a b", ".outputs f g"]
+        said = self.exported(text, "(node f () 1)", "(node g () 0)", "(count 0)")
+        self.assertEqual(said, head + [".names f", "1", ".names g", ".end"])
+        said = self.exported(text, "(node f () 0)", "(node g () 1)", "(count 0)")
+        self.assertEqual(said, head + [".names f", ".names g", "1", ".end"])
+
+    def test_tables_of_zeros_and_of_ones(self):
+        text = sheet("x b y", "b", 2, "0", "1", "(xor b x)")
+        said = self.exported(
+            text,
+            "(lut _0 (b) 00)",
+            "(lut _1 (b) 11)",
+            "(node f (x y) 0000)",
+            "(node g (x y) 1111)",
+            "(node h (_1 x y) 10000001)",
+            "(count 2)",
+        )
+        blocks = [".names b C0", ".names b C1", "0 1", "1 1", ".names x y f", ".names x y g", "00 1", "01 1", "10 1", "11 1"]
+        blocks += [".names C1 x y h", "000 1", "111 1", ".end"]
+        self.assertEqual(said, [".model panel", ".inputs x b y", ".outputs f g h"] + blocks)
+
+    def test_cells_that_no_node_reads(self):
+        text = sheet("a b c", "c a", 3, "(xor a c)")
+        luts = ["(lut _0 (c a) 0001)", "(lut _1 (c a) 0110)", "(lut _2 (c a) 1000)"]
+        said = self.exported(text, *luts, "(node f (_1 b) 0011)", "(count 3)")
+        blocks = [".names c a C0", "11 1", ".names c a C1", "01 1", "10 1", ".names c a C2", "00 1", ".names C1 b f"]
+        self.assertEqual(said, [".model panel", ".inputs a b c", ".outputs f"] + blocks + ["10 1", "11 1", ".end"])
+
+    def test_examined_as_check_examines(self):
+        over_limit = sheet("a b", "a", 0, "(xor a b)")
+        over_width = sheet("a b", "a", 1, "b")
+        network = b"(network 1)\n(lut _0 (a) 01)\n(node f (_0 b) 0110)\n(count 1)\n(end)\n"
+        for buffer in (0, 10**6):
+            self.assertEqual(refusal(cellref.export, b"", network, buffer), (1, 0))
+            self.assertEqual(refusal(cellref.export, over_limit[1:], network, buffer), (2, 1))
+            self.assertEqual(refusal(cellref.export, over_limit, b"", buffer), (10, 0))
+            self.assertEqual(refusal(cellref.export, over_limit, network[:-1], buffer), (10, 5))
+            self.assertEqual(refusal(cellref.export, over_limit, network, buffer), (11, 2))
+            self.assertEqual(refusal(cellref.export, over_width, network, buffer), (11, 3))
+
+
 class Searches(unittest.TestCase):
     def test_both_searches_agree(self):
         dice = random.Random(7)

@@ -1,4 +1,4 @@
-/* stack SHEET..: the most stack that a call of Table, Map and Check takes, on texts made here and on the sheets named; a line
+/* stack SHEET..: the most stack that a call of Table, Map, Check and Export takes, on texts made here and on the sheets named; a line
  * for each operation, with the text that takes the most. Fails where a call takes more than LIMIT.
  *
  * Each call runs in a thread of its own on a stack that was filled with a pattern; what it takes is from where the thread
@@ -17,7 +17,7 @@ enum { LIMIT = 256 * 1024, ROOM = 4 * 1024 * 1024, PATTERN = 0xA5 };
 static unsigned char *stack;
 static char sheet[CELLMAPPER_MAX_SHEET + 1], network[CELLMAPPER_MAX_NETWORK];
 static size_t sheet_len, network_len, taken;
-static uint8_t digits[CELLMAPPER_MAX_TABLE], written[CELLMAPPER_MAX_NETWORK];
+static uint8_t digits[CELLMAPPER_MAX_TABLE], written[CELLMAPPER_MAX_NETWORK], blif[CELLMAPPER_MAX_BLIF];
 
 static void fail(const char *what)
 {
@@ -57,8 +57,19 @@ static void check(void)
     cellmapper_check((const uint8_t *)sheet, sheet_len, (const uint8_t *)network, network_len, &line, &differs, &output, &row);
 }
 
-/* in this order: Check reads the network that Map wrote last */
-static struct operation operations[] = {{"table", table, 0, ""}, {"map", map, 0, ""}, {"check", check, 0, ""}};
+static void export(void)
+{
+    size_t line, length;
+    cellmapper_export((const uint8_t *)sheet, sheet_len, (const uint8_t *)network, network_len, blif, sizeof blif, &line, &length);
+}
+
+/* in this order: Check and Export read the network that Map wrote last */
+static struct operation operations[] = {
+    {"table", table, 0, ""},
+    {"map", map, 0, ""},
+    {"check", check, 0, ""},
+    {"export", export, 0, ""},
+};
 
 static void *run(void *operation)
 {
