@@ -26,14 +26,14 @@ use Rattle.classes.specs.FreeLaws.{bound-and-free}
 use Rattle.network.specs.Network.{Network, Node}
 use Rattle.network.specs.Printer.{printDigits}
 use Rattle.network.specs.Parts.{freeOf, namesOf}
-use Rattle.network.specs.PartLaws.{names-count}
+use Rattle.network.specs.PartLaws.{free-named, names-count}
+use Rattle.network.specs.NamedLaws.{design-named}
 use Rattle.network.specs.Wellformed.{Wellformed, nodeAt}
 use Rattle.network.specs.Answers.{WithinLimits, readCount}
 use Rattle.putting.specs.Written.{itemRoom}
 use Rattle.blif.specs.Printer.{cellName, rowLine, rowLines, block, lutBlocks, nodeBlocks, blifLines, printBlif}
 use Rattle.blif.specs.FigureLaws.{number-length}
 use Rattle.blif.specs.Longest.{longestRow, longestBlock, longestText}
-use Rattle.blif.specs.NamedLaws.{inputs-named, bound-named, frees-named, outputs-named}
 
 pub longest-is-limit : longestText ≡ maxBlif
 longest-is-limit = refl
@@ -187,15 +187,17 @@ module _ (d : Design) (w : Network) (v : WellFormed d) (f : Wellformed d w) (l :
   pub text-fits : length (printBlif d w) ≤ maxBlif
   unfolding printBlif blifLines endedLines
   text-fits =
+      let named = design-named d v in
       let ins = bytes ".inputs" ++ printNames (d .inputs) in
       let outs = bytes ".outputs" ++ printNames (namesOf d) in
       let ls = lutBlocks (d .bound) 0 (w .luts) in
       let ns = nodeBlocks (freeOf d) (namesOf d) (w .nodes) in
       let last = bytes ".end" ∷ [] in
-      let ins-few = names-length (names-short (d .inputs) (inputs-named d v)) in
-      let outs-few = names-length (names-short (namesOf d) (outputs-named d v)) in
-      let ls-few = luts-length (d .bound) 0 (w .luts) (bound-named d v) (v .bound-right .few) lut-rows in
-      let ns-few = nodes-length (freeOf d) (namesOf d) (w .nodes) (frees-named d v) (outputs-named d v) node-narrow node-rows in
+      let ins-few = names-length (names-short (d .inputs) (named .inputs-named)) in
+      let outs-few = names-length (names-short (namesOf d) (named .outputs-named)) in
+      let ls-few = luts-length (d .bound) 0 (w .luts) (named .bound-named) (v .bound-right .few) lut-rows in
+      let frees-named = free-named (d .inputs) (d .bound) (named .inputs-named) in
+      let ns-few = nodes-length (freeOf d) (namesOf d) (w .nodes) frees-named (named .outputs-named) node-narrow node-rows in
       let a = ended-more ins (outs ∷ (ls ++ (ns ++ last))) in
       let b = ended-more outs (ls ++ (ns ++ last)) in
       let c = ended-append ls (ns ++ last) in

@@ -22,14 +22,13 @@ pub mod FigureLaws
 pub mod Solid
 pub mod SolidLaws
 pub mod WordsLaws
-pub mod NamedLaws
+pub mod DesignWordLaws
 pub mod SaidLaws
 pub mod UnbrokenLaws
 pub mod ReadLaws
 pub mod Longest
 pub mod LengthLaws
 pub mod Drives
-pub mod SheetNameLaws
 pub mod OnceLaws
 pub mod CellNameLaws
 pub mod NamesOnceLaws

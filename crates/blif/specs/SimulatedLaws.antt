@@ -18,13 +18,13 @@ use Rattle.network.specs.Check.{checkOf}
 use Rattle.network.specs.Value.{networkOn}
 use Rattle.network.specs.Wellformed.{Wellformed}
 use Rattle.network.specs.Answers.{Drawn}
+use Rattle.network.specs.NamedLaws.{design-named}
 use Rattle.network.specs.CheckLaws.{check-same}
 use Rattle.network.specs.PrintedLaws.{drawn-wellformed, drawn-within}
 use Rattle.blif.specs.Printer.{printBlif}
 use Rattle.blif.specs.Modelled.{modelOf}
 use Rattle.blif.specs.Export.{Exported, written, exportOf, putText}
 use Rattle.blif.specs.Simulated.{Simulates, ExportDemand}
-use Rattle.blif.specs.SheetNameLaws.{design-named}
 use Rattle.blif.specs.NamesOnceLaws.{signals-once}
 use Rattle.blif.specs.ReadLaws.{text-read}
 use Rattle.blif.specs.LengthLaws.{text-fits}

@@ -20,6 +20,7 @@ use Rattle.network.specs.Wellformed.{Wellformed}
 use Rattle.network.specs.Answers.{WithinLimits, Computes, Drawn}
 use Rattle.network.specs.Check as c
 use Rattle.network.specs.Check.{Checked, same, differs, checkOf}
+use Rattle.network.specs.NamedLaws.{design-named}
 use Rattle.network.specs.LinePlaceLaws.{count-line-at}
 use Rattle.network.specs.SheetReadLaws.{print-lines}
 use Rattle.network.specs.CompareLaws.{compared-same}
@@ -27,7 +28,6 @@ use Rattle.network.specs.CheckLaws.{check-compares}
 use Rattle.network.specs.PrintedLaws.{printed-drawn, printed-same, drawn-wellformed, drawn-within}
 use Rattle.mapper.specs.Map.{Permitted, MapAnswer, refused-by, mapped, OutcomeFor, too-many-classes, no-network, buffer-short, written, OutcomeOf, Outcome}
 use Rattle.mapper.specs.OutcomeLaws.{outcome-for}
-use Rattle.mapper.specs.DesignLaws.{named-of}
 use Rattle.mapper.specs.SizeLaws.{print-fits}
 use Rattle.mapper.specs.Demand3.{Differs, Cells, Demand3}
 
@@ -82,11 +82,11 @@ module _ (d : Design) (f : WellFormed d) where
   module _ (w : Network) (p : Permitted d w) where
     pub permitted-drawn : Drawn d (printNetwork d w) w
     permitted-drawn =
-        printed-drawn d w (named-of d f) (p .wellformed) (p .within) (print-fits d w f (p .wellformed) (p .within))
+        printed-drawn d w (design-named d f) (p .wellformed) (p .within) (print-fits d w f (p .wellformed) (p .within))
 
     pub permitted-same : checkOf (valid d) (printNetwork d w) ≡ same
     permitted-same =
-        printed-same d w (named-of d f) (p .wellformed) (p .within) (print-fits d w f (p .wellformed) (p .within)) (p .computes)
+        printed-same d w (design-named d f) (p .wellformed) (p .within) (print-fits d w f (p .wellformed) (p .within)) (p .computes)
 
     permitted-cells : Cells d (printNetwork d w) (length (w .luts))
     permitted-cells =
@@ -98,13 +98,13 @@ module _ (d : Design) (f : WellFormed d) where
           drawn = permitted-drawn;
           lut-lines = refl;
           count-line =
-              ap (λ (ls : List (List ℕ)). lineAt ls (firstLut + u + m)) (print-lines d w (named-of d f) (p .wellformed))
+              ap (λ (ls : List (List ℕ)). lineAt ls (firstLut + u + m)) (print-lines d w (design-named d f) (p .wellformed))
               ∙ ap (lineAt (networkLines d w)) n ∙ count-line-at d w (p .wellformed .node-each);
         }
 
     rival : (t : List ℕ) (v : Network) → Drawn d t v → checkOf (valid d) t ≡ same → length (w .luts) ≤ length (v .luts)
     rival t v r g =
-        let m = named-of d f in
+        let m = design-named d f in
         p .fewest v (drawn-wellformed d v m t r) (drawn-within d v m t r) (compared-same d v (sym (check-compares d t v r) ∙ g))
 
   -- ---- each outcome
@@ -136,7 +136,7 @@ module _ (d : Design) (f : WellFormed d) where
       → ((w : Network) → Wellformed d w → WithinLimits d w → Computes d w → ⊥)
       → Demand3 (valid d) d b (refused-by 8 0) b
   demand-none b h =
-      let m = named-of d f in
+      let m = design-named d f in
       record {
         refusal-is-true = λ _ t w r. differs-or-computes d t w r (h w (drawn-wellformed d w m t r) (drawn-within d w m t r));
         true-refusal = λ _. refl;

@@ -9,6 +9,7 @@ use lib.Dec.{ltb}
 use lib.ListN.{length, getD, length-append, length-map}
 use lib.Pow.{pow-mono}
 use Rattle.bits.specs.Logic.{pick}
+use Rattle.bits.specs.LogicLaws.{and-left, and-right}
 use Rattle.limits.specs.Limits.{maxNetwork}
 use Rattle.text.specs.Bytes.{bytes, newline, closeBracket}
 use Rattle.text.specs.Line.{endedLines}
@@ -29,8 +30,8 @@ use Rattle.network.specs.Network.{Network, Node}
 use Rattle.network.specs.Printer.{led, ledAll, lutName, printDigits, networkLine, lutHead, printLut, nodeHead, printNode, printCount, lutLines, nodeLines, networkLines, printNetwork}
 use Rattle.network.specs.Wellformed.{Wellformed, nodeAt}
 use Rattle.network.specs.PartLaws.{free-named}
+use Rattle.network.specs.NamedLaws.{design-named}
 use Rattle.network.specs.Answers.{WithinLimits}
-use Rattle.mapper.specs.DesignLaws.{named-of, and-left, and-right}
 
 -- ---- items of at most eight bytes
 data Short : List (List ℕ) → Type 0 where
@@ -194,7 +195,7 @@ module _ (d : Design) (w : Network) (v : WellFormed d) (f : Wellformed d w) (l :
   pub print-fits : length (printNetwork d w) ≤ maxNetwork
   unfolding printNetwork networkLines endedLines
   print-fits =
-      let m = named-of d v in
+      let m = design-named d v in
       let fs = free (d .inputs) (d .bound) in
       let ls = lutLines (d .bound) 0 (w .luts) in
       let ns = nodeLines fs (outputNames (d .outputs)) (w .nodes) in
