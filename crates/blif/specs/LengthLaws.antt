@@ -12,8 +12,9 @@ use Rattle.limits.specs.Limits.{maxName, maxInputs, maxBound, maxBlif}
 use Rattle.rows.specs.Digits.{digit}
 use Rattle.rows.specs.Row.{valuesOf}
 use Rattle.rows.specs.RowLaws.{length-values}
-use Rattle.text.specs.Bytes.{bytes, newline}
+use Rattle.text.specs.Bytes.{bytes}
 use Rattle.text.specs.Line.{endedLines}
+use Rattle.text.specs.EndedLaws.{ended-more-length, ended-append-length}
 use Rattle.names.specs.Name.{Name, isName}
 use Rattle.names.specs.Names.{allNames, printNames}
 use Rattle.names.specs.IsNameLaws.{name-short}
@@ -70,19 +71,6 @@ names-length (short-more {n = n} {ns = ns} h s) =
     omega arith
 
 -- ---- lines
-ended-append : (ls ms : List (List ℕ)) → length (endedLines (ls ++ ms)) ≡ length (endedLines ls) + length (endedLines ms)
-unfolding endedLines
-ended-append [] ms = omega arith
-ended-append (l ∷ ls) ms =
-    let a = ended-append ls ms in
-    let b = length-append l (newline ∷ endedLines (ls ++ ms)) in
-    let c = length-append l (newline ∷ endedLines ls) in
-    omega arith
-
-ended-more : (l : List ℕ) (ls : List (List ℕ)) → length (endedLines (l ∷ ls)) ≡ length l + 1 + length (endedLines ls)
-unfolding endedLines
-ended-more l ls = omega (arith, length-append l (newline ∷ endedLines ls))
-
 row-length : (vs : List Bool) → length (rowLine vs) + 1 ≤ longestRow (length vs)
 unfolding printDigits
 row-length [] = omega arith
@@ -97,7 +85,7 @@ unfolding rowLines endedLines
 rows-length n r [] = omega arith
 rows-length n r (true ∷ ds) =
     let l = rowLine (valuesOf n r) in
-    let more = ended-more l (rowLines n (suc r) ds) in
+    let more = ended-more-length l (rowLines n (suc r) ds) in
     let one : length l + 1 ≤ longestRow n = omega (arith, row-length (valuesOf n r), length-values n r) in
     let others = rows-length n (suc r) ds in
     let product : longestRow n * suc (length ds) ≡ longestRow n * length ds + longestRow n = mul-suc (longestRow n) (length ds) in
@@ -119,7 +107,7 @@ block-length m is n ds s k h g =
     let ns = is ++ (n ∷ []) in
     let names : length (printNames ns) ≤ itemRoom * length ns = names-length (short-append s (short-more k short-none)) in
     let many : length ns ≡ length is + 1 = length-append is (n ∷ []) in
-    let more = ended-more (bytes ".names" ++ printNames ns) (rowLines (length is) 0 ds) in
+    let more = ended-more-length (bytes ".names" ++ printNames ns) (rowLines (length is) 0 ds) in
     let rows = rows-length (length is) 0 ds in
     let most : longestRow (length is) * length ds ≤ longestRow m * 2 ^ m = mul-le-mul (omega arith) g in
     omega arith
@@ -134,7 +122,7 @@ luts-length bs i [] e l h = omega arith
 luts-length bs i (t ∷ ts) e l h =
     let one = block-length maxBound bs (cellName i) t (names-short bs e) (cell-short i) l (h 0 (omega arith)) in
     let others = luts-length bs (suc i) ts e l (λ j k. h (suc j) (omega arith)) in
-    let both = ended-append (block bs (cellName i) t) (lutBlocks bs (suc i) ts) in
+    let both = ended-append-length (block bs (cellName i) t) (lutBlocks bs (suc i) ts) in
     omega arith
 
 nodes-length : (fs ns : List Name) (xs : List Node)
@@ -157,7 +145,7 @@ nodes-length fs (n ∷ ns) (x ∷ xs) f e l h =
     (name-short n (and-left (isName n) (allNames ns) e)) (omega arith) (h 0 (omega arith)) in
     let others =
     nodes-length fs ns xs f (and-right (isName n) (allNames ns) e) (λ o k. l (suc o) (omega arith)) (λ o k. h (suc o) (omega arith)) in
-    let both = ended-append (block is n (x .digits)) (nodeBlocks fs ns xs) in
+    let both = ended-append-length (block is n (x .digits)) (nodeBlocks fs ns xs) in
     omega arith
 
 -- ---- the whole text
@@ -198,8 +186,8 @@ module _ (d : Design) (w : Network) (v : WellFormed d) (f : Wellformed d w) (l :
       let ls-few = luts-length (d .bound) 0 (w .luts) (named .bound-named) (v .bound-right .few) lut-rows in
       let frees-named = free-named (d .inputs) (d .bound) (named .inputs-named) in
       let ns-few = nodes-length (freeOf d) (namesOf d) (w .nodes) frees-named (named .outputs-named) node-narrow node-rows in
-      let a = ended-more ins (outs ∷ (ls ++ (ns ++ last))) in
-      let b = ended-more outs (ls ++ (ns ++ last)) in
-      let c = ended-append ls (ns ++ last) in
-      let e = ended-append ns last in
+      let a = ended-more-length ins (outs ∷ (ls ++ (ns ++ last))) in
+      let b = ended-more-length outs (ls ++ (ns ++ last)) in
+      let c = ended-append-length ls (ns ++ last) in
+      let e = ended-append-length ns last in
       omega (arith, names-count d, v .inputs-right .few, v .outputs-right .few, f .few-luts)

@@ -13,6 +13,7 @@ use Rattle.bits.specs.LogicLaws.{and-left, and-right}
 use Rattle.limits.specs.Limits.{maxNetwork}
 use Rattle.text.specs.Bytes.{bytes, newline, closeBracket}
 use Rattle.text.specs.Line.{endedLines}
+use Rattle.text.specs.EndedLaws.{ended-append-length}
 use Rattle.text.specs.Number.{printNumber}
 use Rattle.names.specs.Name.{Name, isName}
 use Rattle.names.specs.Names.{allNames}
@@ -125,15 +126,6 @@ count-line u =
     omega arith
 
 -- ---- lines together
-ended-append : (ls ms : List (List ℕ)) → length (endedLines (ls ++ ms)) ≡ length (endedLines ls) + length (endedLines ms)
-unfolding endedLines
-ended-append [] ms = omega arith
-ended-append (l ∷ ls) ms =
-    let a = ended-append ls ms in
-    let b = length-append l (newline ∷ endedLines (ls ++ ms)) in
-    let c = length-append l (newline ∷ endedLines ls) in
-    omega arith
-
 lut-lines : (bs : List Name) (i : ℕ) (ts : List (List Bool))
     → allNames bs ≡ true
     → length bs ≤ 5
@@ -203,8 +195,8 @@ module _ (d : Design) (w : Network) (v : WellFormed d) (f : Wellformed d w) (l :
       let a = lut-lines (d .bound) 0 (w .luts) (m .bound-named) (v .bound-right .few) luts-few in
       let b = node-lines fs (outputNames (d .outputs)) (w .nodes) (free-named (d .inputs) (d .bound) (m .inputs-named)) (m .outputs-named) reads-few digits-few in
       let c = last-lines (length (w .luts)) in
-      let e = ended-append ls (ns ++ rest) in
-      let g = ended-append ns rest in
+      let e = ended-append-length ls (ns ++ rest) in
+      let g = ended-append-length ns rest in
       let h : length (outputNames (d .outputs)) ≡ length (d .outputs) = length-map (d .outputs) (λ (o : Output). o .name) in
       let k : length (d .outputs) ≤ 4 = v .outputs-right .few in
       let q : length (w .luts) ≤ 6 = f .few-luts in

@@ -9,6 +9,7 @@ use lib.ListN.{length, getD, length-map}
 use Rattle.bits.specs.Digit.{on}
 use Rattle.text.specs.Bytes.{bytes, newline}
 use Rattle.text.specs.Line.{endedLines}
+use Rattle.text.specs.EndedLaws.{ended-append}
 use Rattle.names.specs.Name.{Name}
 use Rattle.sheet.specs.Lines.{Output, endLine}
 use Rattle.sheet.specs.Examine.{Design, outputNames}
@@ -43,12 +44,6 @@ upto-same f g (suc n) h =
     ap₂ (λ (a b : List ℕ). a ++ (b ++ (newline ∷ []))) (upto-same f g n (λ i l. h i (omega arith))) (h n (omega arith))
 
 -- ---- the lines of a list
-ended-append : (a b : List (List ℕ)) → endedLines (a ++ b) ≡ endedLines a ++ endedLines b
-unfolding endedLines
-ended-append [] b = refl
-ended-append (l ∷ a) b =
-    ap (λ (t : List ℕ). l ++ (newline ∷ t)) (ended-append a b) ∙ sym (append-assoc l (newline ∷ endedLines a) (endedLines b))
-
 module _ (d : Design) (u : ℕ) (rows codes : ℕ → ℕ) where
   -- the line of table i, and that of output o
   abbrev pub lutLine : ℕ → List ℕ
