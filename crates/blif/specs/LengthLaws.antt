@@ -14,10 +14,12 @@ use Rattle.rows.specs.Row.{valuesOf}
 use Rattle.rows.specs.RowLaws.{length-values}
 use Rattle.text.specs.Bytes.{bytes}
 use Rattle.text.specs.Line.{endedLines}
+use Rattle.text.specs.FigureLaws.{print-short}
 use Rattle.text.specs.EndedLaws.{ended-more-length, ended-append-length}
 use Rattle.names.specs.Name.{Name, isName}
 use Rattle.names.specs.Names.{allNames, printNames}
 use Rattle.names.specs.IsNameLaws.{name-short}
+use Rattle.names.specs.ShortLaws.{Short, short-none, short-more, short-append, names-short, map-short}
 use Rattle.sheet.specs.Examine.{Design}
 use Rattle.sheet.specs.WellFormed.{WellFormed}
 use Rattle.classes.specs.ProperLaws.{proper-of}
@@ -33,34 +35,15 @@ use Rattle.network.specs.Wellformed.{Wellformed, nodeAt}
 use Rattle.network.specs.Answers.{WithinLimits, readCount}
 use Rattle.putting.specs.Written.{itemRoom}
 use Rattle.blif.specs.Printer.{cellName, rowLine, rowLines, block, lutBlocks, nodeBlocks, blifLines, printBlif}
-use Rattle.blif.specs.FigureLaws.{number-length}
 use Rattle.blif.specs.Longest.{longestRow, longestBlock, longestText}
 
 pub longest-is-limit : longestText ≡ maxBlif
 longest-is-limit = refl
 
 -- ---- names
-data Short : List Name → Type 0 where
-  short-none : Short []
-  short-more : {n : Name} {ns : List Name} → length n ≤ maxName → Short ns → Short (n ∷ ns)
-
-short-append : {ms ns : List Name} → Short ms → Short ns → Short (ms ++ ns)
-short-append short-none t = t
-short-append (short-more h s) t = short-more h (short-append s t)
-
-names-short : (ns : List Name) → allNames ns ≡ true → Short ns
-unfolding allNames
-names-short [] h = short-none
-names-short (n ∷ ns) h =
-    short-more (name-short n (and-left (isName n) (allNames ns) h)) (names-short ns (and-right (isName n) (allNames ns) h))
-
 cell-short : (i : ℕ) → length (cellName i) ≤ maxName
 unfolding cellName
-cell-short i = omega (arith, number-length i)
-
-cells-short : (is : List ℕ) → Short (map cellName is)
-cells-short [] = short-none
-cells-short (i ∷ is) = short-more (cell-short i) (cells-short is)
+cell-short i = omega (arith, print-short i)
 
 names-length : {ns : List Name} → Short ns → length (printNames ns) ≤ itemRoom * length ns
 unfolding printNames
@@ -141,7 +124,7 @@ nodes-length fs (n ∷ ns) (x ∷ xs) f e l h =
     length-append cells fs ∙ ap (λ (k : ℕ). k + length fs) (length-map (x .reads) cellName) in
     let few = l 0 (omega arith) in
     let one =
-    block-length maxInputs is n (x .digits) (short-append (cells-short (x .reads)) (names-short fs f))
+    block-length maxInputs is n (x .digits) (short-append (map-short cellName cell-short (x .reads)) (names-short fs f))
     (name-short n (and-left (isName n) (allNames ns) e)) (omega arith) (h 0 (omega arith)) in
     let others =
     nodes-length fs ns xs f (and-right (isName n) (allNames ns) e) (λ o k. l (suc o) (omega arith)) (λ o k. h (suc o) (omega arith)) in

@@ -18,7 +18,6 @@ pub mod BlockLaws
 pub mod PassedLaws
 pub mod Computing
 pub mod Worked
-pub mod FigureLaws
 pub mod Solid
 pub mod SolidLaws
 pub mod WordsLaws

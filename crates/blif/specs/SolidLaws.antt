@@ -12,12 +12,12 @@ use Rattle.text.specs.Unbroken.{unbroken}
 use Rattle.text.specs.LineLaws.{unbroken-cons}
 use Rattle.text.specs.Number.{numeral, printNumber}
 use Rattle.text.specs.NumeralLaws.{numeral-low}
+use Rattle.text.specs.FigureLaws.{figure, by-figures}
 use Rattle.names.specs.Name.{Name, letter, nameByte, allNameBytes, isName}
 use Rattle.names.specs.Names.{allNames}
 use Rattle.names.specs.IsNameLaws.{name-starts, name-bytes}
 use Rattle.network.specs.Printer.{printDigits}
 use Rattle.blif.specs.Printer.{cellName}
-use Rattle.blif.specs.FigureLaws.{figure, by-figures}
 use Rattle.blif.specs.Solid.{solid, isWord, allWords}
 
 pub solid-first : (b : ℕ) (s : List ℕ) → solid (b ∷ s) ≡ true → space < b

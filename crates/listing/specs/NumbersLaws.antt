@@ -3,18 +3,18 @@
 use mathlib.Core.Path.{_≡_, refl, sym, ap, ap₂, subst, _∙_}
 use mathlib.Core.Bool.{Bool, true, false}
 use mathlib.Core.List.{List, [], _∷_, _++_, map, map-append, append-nil}
-use Prim.Native.Nat.{ℕ, zero, suc, _+_, _*_, _%_, _^_, _≤_, _<_}
+use Prim.Native.Nat.{ℕ, zero, suc, _+_, _*_, _^_, _≤_, _<_}
 use native.Mathlib.Omega.{arith}
 use native.Mathlib.Nat.{add-zero, zero-add, pow-suc, add-suc, suc-add}
 use native.Mathlib.Numerals.{add-one}
 use lib.Pow.{pow-mono}
 use lib.ListN.{length, length-append}
-use borrow.Author.Tests.{lt-ltb}
 use Rattle.limits.specs.Limits.{maxCells, maxCodes}
 use Rattle.bits.specs.Logic.{pick}
 use Rattle.bits.specs.Digit.{on}
 use Rattle.rows.specs.Row.{bit, rowOf}
 use Rattle.text.specs.Number.{printNumber}
+use Rattle.text.specs.FigureLaws.{print-digit}
 use Rattle.names.specs.Name.{Name}
 use Rattle.names.specs.Pack.{pack, nameOf}
 use Rattle.names.specs.PackLaws.{name-of-pack}
@@ -106,10 +106,7 @@ reading-all {mask} {u} {i} {count} {now} g l =
 
 -- ---- the number that holds the name of table i
 pub one-digit : (i : ℕ) → i < oneDigit → printNumber i ≡ (zeroByte + i) ∷ []
-unfolding printNumber
-one-digit i l =
-    let e : zeroByte + i % oneDigit ≡ zeroByte + i = omega arith in
-    rw (lt-ltb i oneDigit l, e)
+one-digit = print-digit
 
 table-bytes : (i : ℕ) → i < oneDigit → lutName i ≡ underscore ∷ (zeroByte + i) ∷ []
 unfolding lutName

@@ -3,21 +3,21 @@
 use mathlib.Core.Path.{_≡_}
 use mathlib.Core.Bool.{Bool, true, false}
 use mathlib.Core.List.{List, [], _∷_, _++_, map}
-use Prim.Native.Nat.{ℕ, suc, _+_, _*_, _/_, _%_, _^_, _≤_, _<_}
+use Prim.Native.Nat.{ℕ, suc, _+_, _*_, _^_, _≤_, _<_}
 use native.Mathlib.Omega.{arith}
-use lib.Dec.{ltb}
 use lib.ListN.{length, getD, length-append, length-map}
 use lib.Pow.{pow-mono}
-use Rattle.bits.specs.Logic.{pick}
 use Rattle.bits.specs.LogicLaws.{and-left, and-right}
 use Rattle.limits.specs.Limits.{maxNetwork}
 use Rattle.text.specs.Bytes.{bytes, newline, closeBracket}
 use Rattle.text.specs.Line.{endedLines}
 use Rattle.text.specs.EndedLaws.{ended-append-length}
 use Rattle.text.specs.Number.{printNumber}
+use Rattle.text.specs.FigureLaws.{print-short}
 use Rattle.names.specs.Name.{Name, isName}
 use Rattle.names.specs.Names.{allNames}
 use Rattle.names.specs.IsNameLaws.{name-short}
+use Rattle.names.specs.ShortLaws.{Short, short-none, short-more, short-append, names-short, map-short}
 use Rattle.rows.specs.Digits.{digit}
 use Rattle.sheet.specs.Lines.{endLine, Output}
 use Rattle.sheet.specs.Examine.{Design, outputNames}
@@ -35,14 +35,6 @@ use Rattle.network.specs.NamedLaws.{design-named}
 use Rattle.network.specs.Answers.{WithinLimits}
 
 -- ---- items of at most eight bytes
-data Short : List (List ℕ) → Type 0 where
-  short-none : Short []
-  short-more : {item : List ℕ} {items : List (List ℕ)} → length item ≤ 8 → Short items → Short (item ∷ items)
-
-short-append : {a b : List (List ℕ)} → Short a → Short b → Short (a ++ b)
-short-append short-none t = t
-short-append (short-more h s) t = short-more h (short-append s t)
-
 led-length : (first : Bool) (item : List ℕ) → length (led first item) ≤ 1 + length item
 led-length true item = omega arith
 led-length false item = omega arith
@@ -50,36 +42,18 @@ led-length false item = omega arith
 led-fits : (first : Bool) {items : List (List ℕ)} → Short items → length (ledAll first items) ≤ 9 * length items
 unfolding ledAll
 led-fits first short-none = omega arith
-led-fits first (short-more {item = item} {items = items} h s) =
+led-fits first (short-more {n = item} {ns = items} h s) =
     let a = length-append (led first item) (ledAll false items) in
     let b = led-length first item in
     let c = led-fits false s in
     omega arith
 
-names-short : (ns : List Name) → allNames ns ≡ true → Short ns
-unfolding allNames
-names-short [] e = short-none
-names-short (n ∷ ns) e = short-more (name-short n (and-left (isName n) (allNames ns) e)) (names-short ns (and-right (isName n) (allNames ns) e))
-
-number-length : (n : ℕ) → length (printNumber n) ≤ 3
-unfolding printNumber
-number-length n = go (ltb n 10) (ltb n 100)
-  where
-    go : (a b : Bool) → length (pick a ((0x30 + n % 10) ∷ []) (pick b ((0x30 + n / 10 % 10) ∷ (0x30 + n % 10) ∷ []) ((0x30 + n / 100 % 10) ∷ (0x30 + n / 10 % 10) ∷ (0x30 + n % 10) ∷ []))) ≤ 3
-    go true b = omega arith
-    go false true = omega arith
-    go false false = omega arith
-
 lut-name-length : (i : ℕ) → length (lutName i) ≤ 4
 unfolding lutName
 lut-name-length i =
-    let a = number-length i in
+    let a = print-short i in
     let b = length-append (bytes "_") (printNumber i) in
     omega arith
-
-lut-names-short : (is : List ℕ) → Short (map lutName is)
-lut-names-short [] = short-none
-lut-names-short (i ∷ is) = let h = lut-name-length i in short-more {item = lutName i} (omega arith) (lut-names-short is)
 
 -- ---- one line
 digits-length : (ds : List Bool) → length (printDigits ds) ≡ length ds
@@ -105,7 +79,7 @@ unfolding printNode nodeHead
 node-line n fs x e f l h =
     let items = map lutName (x .reads) ++ fs in
     let a = name-short n e in
-    let b = led-fits true (short-append (lut-names-short (x .reads)) (names-short fs f)) in
+    let b = led-fits true (short-append (map-short lutName (λ i. omega (arith, lut-name-length i)) (x .reads)) (names-short fs f)) in
     let b1 : length items ≡ length (map lutName (x .reads)) + length fs = length-append (map lutName (x .reads)) fs in
     let b2 : length (map lutName (x .reads)) ≡ length (x .reads) = length-map (x .reads) lutName in
     let c = digits-length (x .digits) in
@@ -120,7 +94,7 @@ node-line n fs x e f l h =
 count-line : (u : ℕ) → length (printCount u) ≤ 11
 unfolding printCount
 count-line u =
-    let a = number-length u in
+    let a = print-short u in
     let b = length-append (printNumber u) (closeBracket ∷ []) in
     let c = length-append (bytes "(count ") (printNumber u ++ (closeBracket ∷ [])) in
     omega arith

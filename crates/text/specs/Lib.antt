@@ -14,4 +14,5 @@ pub mod EndedLaws
 pub mod LineEndLaws
 pub mod LineCountLaws
 pub mod NumeralLaws
+pub mod FigureLaws
 pub mod NumberLaws
