@@ -2,14 +2,13 @@
 -- buffer's start. Assumes nothing.
 use mathlib.Core.Path.{_≡_, refl, sym, ap, ap₂, subst, _∙_}
 use mathlib.Core.Bool.{Bool, true, false}
-use mathlib.Core.List.{List, _++_}
+use mathlib.Core.List.{List}
 use mathlib.Core.Option.{Option, some, none}
 use Prim.Native.Nat.{ℕ, zero, suc, _+_, _-_, _≤_, _<_}
 use native.Mathlib.Omega.{arith}
-use native.Mathlib.Nat.{zero-add}
 use lib.Dec.{leb}
-use lib.ListN.{length, getD, take, drop}
-use lib.Seq.{sets, sets-eq, length-sets, take-at, getD-append-add, getD-drop}
+use lib.ListN.{length, getD, take}
+use lib.Seq.{sets, length-sets}
 use borrow.Author.Tests.{leb-true, leb-false, le-leb, lt-leb}
 use Rattle.bits.specs.Logic.{pick}
 use Rattle.sheet.specs.Examine.{Design, Examined, valid}
@@ -18,28 +17,10 @@ use Rattle.network.specs.Check as checks
 use Rattle.network.specs.Check.{Checked, Pair, refused-pair, pair, examinePair, differingRow, atRow, compareFrom, comparePair, checkOf}
 use Rattle.network.specs.Answers.{Drawn}
 use Rattle.network.specs.CheckLaws.{pair-drawn, drawn-pair}
+use Rattle.putting.specs.StoredLaws.{stored-text, stored-after}
 use Rattle.blif.specs.Printer.{printBlif}
 use Rattle.blif.specs.Export.{Exported, refused-by, written, untouched, putText, exportPair, exportOf}
 use Rattle.blif.specs.Simulated.{ExportRefuses, as-check, by-buffer}
-
--- ---- bytes stored from the start
-module _ (b t : List ℕ) (h : length t ≤ length b) where
-  stored : sets b 0 t ≡ t ++ drop (length t) b
-  stored =
-      sets-eq t b 0 (subst (λ (n : ℕ). n ≤ length b) (sym (zero-add (length t))) h)
-      ∙ ap (λ (n : ℕ). t ++ drop n b) (zero-add (length t))
-
-  stored-text : take (length t) (sets b 0 t) ≡ t
-  stored-text = ap (take (length t)) stored ∙ take-at t (drop (length t) b) (length t) refl
-
-  stored-after : (i : ℕ) → length t ≤ i → getD (sets b 0 t) i 0 ≡ getD b i 0
-  stored-after i k =
-      let e : i ≡ length t + (i - length t) = omega arith in
-      ap (λ (l : List ℕ). getD l i 0) stored
-      ∙ ap (λ (j : ℕ). getD (t ++ drop (length t) b) j 0) e
-      ∙ getD-append-add t (drop (length t) b) (i - length t) 0
-      ∙ getD-drop (length t) b (i - length t) 0
-      ∙ ap (λ (j : ℕ). getD b j 0) (sym e)
 
 -- ---- question 9
 abbrev pub wrote : List ℕ → List ℕ → Exported

@@ -5,9 +5,8 @@ use mathlib.Core.Logic.{_⊎_, inl, inr, ⊎-elim}
 use mathlib.Core.Option.{Option, some, none}
 use Prim.Native.Nat.{ℕ, zero, suc, _+_, _≤_}
 use native.Mathlib.Omega.{arith}
-use native.Mathlib.Nat.{zero-add}
-use lib.ListN.{length, take, drop}
-use lib.Seq.{sets, sets-eq, take-at}
+use lib.ListN.{length, take}
+use lib.Seq.{sets}
 use Rattle.limits.specs.Limits.{maxClasses, firstLut}
 use Rattle.sheet.specs.Examine.{Design, Examined, valid, examine}
 use Rattle.sheet.specs.WellFormed.{WellFormed}
@@ -26,16 +25,11 @@ use Rattle.network.specs.SheetReadLaws.{print-lines}
 use Rattle.network.specs.CompareLaws.{compared-same}
 use Rattle.network.specs.CheckLaws.{check-compares}
 use Rattle.network.specs.PrintedLaws.{printed-drawn, printed-same, drawn-wellformed, drawn-within}
+use Rattle.putting.specs.StoredLaws.{stored-text}
 use Rattle.mapper.specs.Map.{Permitted, MapAnswer, refused-by, mapped, OutcomeFor, too-many-classes, no-network, buffer-short, written, OutcomeOf, Outcome}
 use Rattle.mapper.specs.OutcomeLaws.{outcome-for}
 use Rattle.mapper.specs.SizeLaws.{print-fits}
 use Rattle.mapper.specs.Demand3.{Differs, Cells, Demand3}
-
--- ---- the bytes that Map wrote
-pub written-bytes : (b t : List ℕ) → length t ≤ length b → take (length t) (sets b 0 t) ≡ t
-written-bytes b t h =
-    ap (take (length t)) (sets-eq t b 0 (subst (λ (n : ℕ). n ≤ length b) (sym (zero-add (length t))) h))
-    ∙ take-at t (drop (0 + length t) b) (length t) refl
 
 -- ---- Check on a network that passes 10 and 11 says "same" or "differs"
 at-row : (o : ℕ) (x : Option ℕ) (later : Checked)
@@ -116,7 +110,7 @@ module _ (d : Design) (f : WellFormed d) where
       let un = length (w .luts) in
       let nn = length (printNetwork d w) in
       let t = sets b 0 (printNetwork d w) in
-      let read : take nn t ≡ printNetwork d w = written-bytes b (printNetwork d w) h in
+      let read : take nn t ≡ printNetwork d w = stored-text b (printNetwork d w) h in
       record {
         refusal-is-true = λ e. absurd (mapped-not-refused e);
         true-refusal = λ g.

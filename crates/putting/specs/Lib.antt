@@ -1,5 +1,6 @@
 -- Texts put into a lent buffer, and laws about these.
 pub mod Written
 pub mod PutLaws
+pub mod StoredLaws
 pub mod NameLaws
 pub mod ListLaws
