@@ -1,9 +1,8 @@
 -- Demand 3 holds of every outcome on a well-formed design, and so on every sheet that says one. Assumes nothing.
 use mathlib.Core.Path.{_≡_, refl, sym, ap, _∙_, subst}
 use mathlib.Core.List.{List}
-use mathlib.Core.Logic.{_⊎_, inl, inr, ⊎-elim}
-use mathlib.Core.Option.{Option, some, none}
-use Prim.Native.Nat.{ℕ, zero, suc, _+_, _≤_}
+use mathlib.Core.Logic.{⊎-elim}
+use Prim.Native.Nat.{ℕ, _+_, _≤_}
 use native.Mathlib.Omega.{arith}
 use lib.ListN.{length, take}
 use lib.Seq.{sets}
@@ -17,12 +16,11 @@ use Rattle.network.specs.Printer.{printNetwork, networkLines}
 use Rattle.text.specs.Line.{lineAt}
 use Rattle.network.specs.Wellformed.{Wellformed}
 use Rattle.network.specs.Answers.{WithinLimits, Computes, Drawn}
-use Rattle.network.specs.Check as c
 use Rattle.network.specs.Check.{Checked, same, differs, checkOf}
 use Rattle.network.specs.NamedLaws.{design-named}
 use Rattle.network.specs.LinePlaceLaws.{count-line-at}
 use Rattle.network.specs.SheetReadLaws.{print-lines}
-use Rattle.network.specs.CompareLaws.{compared-same}
+use Rattle.network.specs.CompareLaws.{same-or-differs, compared-same}
 use Rattle.network.specs.CheckLaws.{check-compares}
 use Rattle.network.specs.PrintedLaws.{printed-drawn, printed-same, drawn-wellformed, drawn-within}
 use Rattle.putting.specs.StoredLaws.{stored-text}
@@ -32,17 +30,6 @@ use Rattle.mapper.specs.SizeLaws.{print-fits}
 use Rattle.mapper.specs.Demand3.{Differs, Cells, Demand3}
 
 -- ---- Check on a network that passes 10 and 11 says "same" or "differs"
-at-row : (o : ℕ) (x : Option ℕ) (later : Checked)
-    → (later ≡ same) ⊎ Differs later
-    → (c.atRow o x later ≡ same) ⊎ Differs (c.atRow o x later)
-at-row o (some r) later h = inr (record { output = o; row = r; is = refl })
-at-row o none later h = h
-
-pub never-refused : (d : Design) (w : Network) (k o : ℕ) → (c.compareFrom d w k o ≡ same) ⊎ Differs (c.compareFrom d w k o)
-unfolding c.compareFrom
-never-refused d w zero o = inl refl
-never-refused d w (suc k) o = at-row o (c.differingRow d w o) (c.compareFrom d w k (suc o)) (never-refused d w k (suc o))
-
 same-differs : (a : Checked) → a ≡ same → Differs a → ⊥
 same-differs a e f =
     let g : same ≡ differs (f .output) (f .row) = sym e ∙ f .is in
@@ -53,8 +40,8 @@ differs-or-computes : (d : Design) (t : List ℕ) (w : Network) → Drawn d t w 
 differs-or-computes d t w n h =
     ⊎-elim
     (λ f. absurd (h (compared-same d w f)))
-    (λ f. record { output = f .output; row = f .row; is = check-compares d t w n ∙ f .is })
-    (never-refused d w (length (d .outputs)) 0)
+    (λ (o, r, f). record { output = o; row = r; is = check-compares d t w n ∙ f })
+    (same-or-differs d w)
 
 -- ---- which answer was given
 pub mapped-not-refused : {q l u n : ℕ} → mapped u n ≡ refused-by q l → ⊥
