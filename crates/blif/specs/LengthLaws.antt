@@ -6,7 +6,6 @@ use Prim.Native.Nat.{ℕ, suc, _+_, _*_, _^_, _≤_, _<_}
 use native.Mathlib.Omega.{arith}
 use native.Mathlib.Nat.{mul-suc, mul-le-mul}
 use lib.ListN.{length, getD, length-append, length-map}
-use lib.Pow.{pow-mono}
 use Rattle.bits.specs.LogicLaws.{and-left, and-right}
 use Rattle.limits.specs.Limits.{maxName, maxInputs, maxBound, maxBlif}
 use Rattle.rows.specs.Digits.{digit}
@@ -22,22 +21,20 @@ use Rattle.names.specs.IsNameLaws.{name-short}
 use Rattle.names.specs.ShortLaws.{Short, short-none, short-more, short-append, names-short, map-short}
 use Rattle.sheet.specs.Examine.{Design}
 use Rattle.sheet.specs.WellFormed.{WellFormed}
-use Rattle.classes.specs.ProperLaws.{proper-of}
-use Rattle.classes.specs.Width.{budget, width}
-use Rattle.classes.specs.VertexLaws.{width-most}
-use Rattle.classes.specs.FreeLaws.{bound-and-free}
 use Rattle.network.specs.Network.{Network, Node}
 use Rattle.network.specs.Printer.{printDigits}
 use Rattle.network.specs.Parts.{freeOf, namesOf}
 use Rattle.network.specs.PartLaws.{free-named, names-count}
 use Rattle.network.specs.NamedLaws.{design-named}
 use Rattle.network.specs.Wellformed.{Wellformed, nodeAt}
-use Rattle.network.specs.Answers.{WithinLimits, readCount}
+use Rattle.network.specs.TableBoundLaws.{node-narrow, node-digits-few, lut-digits-few}
+use Rattle.network.specs.Answers.{WithinLimits}
 use Rattle.putting.specs.Written.{itemRoom}
 use Rattle.blif.specs.Printer.{cellName, rowLine, rowLines, block, lutBlocks, nodeBlocks, blifLines, printBlif}
 use Rattle.blif.specs.Longest.{longestRow, longestBlock, longestText}
 
-pub longest-is-limit : longestText ≡ maxBlif
+-- the limit is the length of the longest text, and no more
+longest-is-limit : longestText ≡ maxBlif
 longest-is-limit = refl
 
 -- ---- names
@@ -133,28 +130,6 @@ nodes-length fs (n ∷ ns) (x ∷ xs) f e l h =
 
 -- ---- the whole text
 module _ (d : Design) (w : Network) (v : WellFormed d) (f : Wellformed d w) (l : WithinLimits d w) where
-  -- a node has no more inputs than a design may have
-  pub node-narrow : (o : ℕ) → o < length (w .nodes) → readCount w o + length (freeOf d) ≤ maxInputs
-  unfolding budget
-  node-narrow o h =
-      let a : readCount w o ≤ width d (d .bound) o = l .reads-within o h in
-      let b = width-most d (d .bound) o in
-      let c = bound-and-free (d .inputs) (d .bound) (proper-of d v .parted) in
-      let e = v .inputs-right .few in
-      omega arith
-
-  node-rows : (o : ℕ) → o < length (w .nodes) → length (nodeAt (w .nodes) o .digits) ≤ 2 ^ maxInputs
-  node-rows o h =
-      let a : 2 ^ (readCount w o + length (freeOf d)) ≤ 2 ^ maxInputs = pow-mono (node-narrow o h) in
-      let b = f .node-fits o h .counted in
-      omega arith
-
-  lut-rows : (i : ℕ) → i < length (w .luts) → length (getD (w .luts) i []) ≤ 2 ^ maxBound
-  lut-rows i h =
-      let a : 2 ^ length (d .bound) ≤ 2 ^ maxBound = pow-mono (v .bound-right .few) in
-      let b = f .lut-digits i h in
-      omega arith
-
   pub text-fits : length (printBlif d w) ≤ maxBlif
   unfolding printBlif blifLines endedLines
   text-fits =
@@ -166,9 +141,10 @@ module _ (d : Design) (w : Network) (v : WellFormed d) (f : Wellformed d w) (l :
       let last = bytes ".end" ∷ [] in
       let ins-few = names-length (names-short (d .inputs) (named .inputs-named)) in
       let outs-few = names-length (names-short (namesOf d) (named .outputs-named)) in
-      let ls-few = luts-length (d .bound) 0 (w .luts) (named .bound-named) (v .bound-right .few) lut-rows in
+      let ls-few = luts-length (d .bound) 0 (w .luts) (named .bound-named) (v .bound-right .few) (lut-digits-few d w v f) in
       let frees-named = free-named (d .inputs) (d .bound) (named .inputs-named) in
-      let ns-few = nodes-length (freeOf d) (namesOf d) (w .nodes) frees-named (named .outputs-named) node-narrow node-rows in
+      let ns-few =
+      nodes-length (freeOf d) (namesOf d) (w .nodes) frees-named (named .outputs-named) (node-narrow d w v l) (node-digits-few d w v f l) in
       let a = ended-more-length ins (outs ∷ (ls ++ (ns ++ last))) in
       let b = ended-more-length outs (ls ++ (ns ++ last)) in
       let c = ended-append-length ls (ns ++ last) in

@@ -2,7 +2,7 @@
 use mathlib.Core.Path.{_≡_, refl, sym, _∙_, subst}
 use mathlib.Core.Bool.{Bool, true, false}
 use mathlib.Core.List.{List}
-use mathlib.Core.Logic.{inl, inr, ⊎-elim}
+use mathlib.Core.Logic.{inl, inr}
 use mathlib.Core.Option.{Option, some, none}
 use Prim.Native.Nat.{ℕ, _≤_, _<_}
 use native.Mathlib.Omega.{arith}
@@ -23,7 +23,7 @@ use Rattle.network.specs.Network.{Network}
 use Rattle.network.specs.Printer.{printNetwork}
 use Rattle.network.specs.Examine.{Answer, bad-line, network, readNetwork, offending}
 use Rattle.network.specs.Check as checks
-use Rattle.network.specs.Check.{check, checkOf, examinePair, comparePair, beside, judge, compareFrom}
+use Rattle.network.specs.Check.{check, checkOf, examinePair, comparePair, beside, judge}
 use Rattle.network.specs.CheckLaws.{compared-not-refused}
 use Rattle.network.specs.Wellformed.{Wellformed}
 use Rattle.network.specs.Answers.{WithinLimits, Computes}

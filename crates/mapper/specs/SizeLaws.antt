@@ -3,10 +3,9 @@
 use mathlib.Core.Path.{_≡_}
 use mathlib.Core.Bool.{Bool, true, false}
 use mathlib.Core.List.{List, [], _∷_, _++_, map}
-use Prim.Native.Nat.{ℕ, suc, _+_, _*_, _^_, _≤_, _<_}
+use Prim.Native.Nat.{ℕ, suc, _+_, _*_, _≤_, _<_}
 use native.Mathlib.Omega.{arith}
 use lib.ListN.{length, getD, length-append, length-map}
-use lib.Pow.{pow-mono}
 use Rattle.bits.specs.LogicLaws.{and-left, and-right}
 use Rattle.limits.specs.Limits.{maxNetwork}
 use Rattle.text.specs.Bytes.{bytes, newline, closeBracket}
@@ -19,20 +18,17 @@ use Rattle.names.specs.Names.{allNames}
 use Rattle.names.specs.IsNameLaws.{name-short}
 use Rattle.names.specs.ShortLaws.{Short, short-none, short-more, short-append, names-short, map-short}
 use Rattle.rows.specs.Digits.{digit}
-use Rattle.sheet.specs.Lines.{endLine, Output}
+use Rattle.sheet.specs.Lines.{endLine}
 use Rattle.sheet.specs.Examine.{Design, outputNames}
 use Rattle.sheet.specs.WellFormed.{WellFormed}
-use Rattle.classes.specs.ProperLaws.{proper-of}
 use Rattle.classes.specs.Columns.{free}
-use Rattle.classes.specs.Width.{budget, width}
-use Rattle.classes.specs.VertexLaws.{width-most}
-use Rattle.classes.specs.FreeLaws.{bound-and-free}
 use Rattle.network.specs.Network.{Network, Node}
 use Rattle.network.specs.Printer.{led, ledAll, lutName, printDigits, networkLine, lutHead, printLut, nodeHead, printNode, printCount, lutLines, nodeLines, networkLines, printNetwork}
 use Rattle.network.specs.Wellformed.{Wellformed, nodeAt}
-use Rattle.network.specs.PartLaws.{free-named}
+use Rattle.network.specs.PartLaws.{free-named, names-count}
 use Rattle.network.specs.NamedLaws.{design-named}
 use Rattle.network.specs.Answers.{WithinLimits}
+use Rattle.network.specs.TableBoundLaws.{node-narrow, node-digits-few, lut-digits-few}
 
 -- ---- items of at most eight bytes
 led-length : (first : Bool) (item : List ℕ) → length (led first item) ≤ 1 + length item
@@ -137,27 +133,6 @@ last-lines u =
 
 -- ---- the whole sheet
 module _ (d : Design) (w : Network) (v : WellFormed d) (f : Wellformed d w) (l : WithinLimits d w) where
-  reads-few : (o : ℕ) → o < length (w .nodes) → length (nodeAt (w .nodes) o .reads) + length (free (d .inputs) (d .bound)) ≤ 10
-  unfolding budget
-  reads-few o h =
-      let a : length (nodeAt (w .nodes) o .reads) ≤ width d (d .bound) o = l .reads-within o h in
-      let b = width-most d (d .bound) o in
-      let c = bound-and-free (d .inputs) (d .bound) (proper-of d v .parted) in
-      let e : length (d .inputs) ≤ 10 = v .inputs-right .few in
-      omega arith
-
-  digits-few : (o : ℕ) → o < length (w .nodes) → length (nodeAt (w .nodes) o .digits) ≤ 1024
-  digits-few o h =
-      let a : 2 ^ (length (nodeAt (w .nodes) o .reads) + length (free (d .inputs) (d .bound))) ≤ 1024 = pow-mono (reads-few o h) in
-      let b = f .node-fits o h .counted in
-      omega arith
-
-  luts-few : (i : ℕ) → i < length (w .luts) → length (getD (w .luts) i []) ≤ 32
-  luts-few i h =
-      let a : 2 ^ length (d .bound) ≤ 32 = pow-mono (v .bound-right .few) in
-      let b = f .lut-digits i h in
-      omega arith
-
   pub print-fits : length (printNetwork d w) ≤ maxNetwork
   unfolding printNetwork networkLines endedLines
   print-fits =
@@ -166,12 +141,14 @@ module _ (d : Design) (w : Network) (v : WellFormed d) (f : Wellformed d w) (l :
       let ls = lutLines (d .bound) 0 (w .luts) in
       let ns = nodeLines fs (outputNames (d .outputs)) (w .nodes) in
       let rest = printCount (length (w .luts)) ∷ endLine ∷ [] in
-      let a = lut-lines (d .bound) 0 (w .luts) (m .bound-named) (v .bound-right .few) luts-few in
-      let b = node-lines fs (outputNames (d .outputs)) (w .nodes) (free-named (d .inputs) (d .bound) (m .inputs-named)) (m .outputs-named) reads-few digits-few in
+      let a = lut-lines (d .bound) 0 (w .luts) (m .bound-named) (v .bound-right .few) (lut-digits-few d w v f) in
+      let frees-named = free-named (d .inputs) (d .bound) (m .inputs-named) in
+      let b =
+      node-lines fs (outputNames (d .outputs)) (w .nodes) frees-named (m .outputs-named) (node-narrow d w v l) (node-digits-few d w v f l) in
       let c = last-lines (length (w .luts)) in
       let e = ended-append-length ls (ns ++ rest) in
       let g = ended-append-length ns rest in
-      let h : length (outputNames (d .outputs)) ≡ length (d .outputs) = length-map (d .outputs) (λ (o : Output). o .name) in
+      let h = names-count d in
       let k : length (d .outputs) ≤ 4 = v .outputs-right .few in
       let q : length (w .luts) ≤ 6 = f .few-luts in
       let r = length-append networkLine (newline ∷ endedLines (ls ++ (ns ++ rest))) in

@@ -1,6 +1,6 @@
 -- The name of a shared table and the count line as the code spells them, and a lut line and a node line part by part up to
 -- their digits and their list. Assumes nothing.
-use mathlib.Core.Path.{_≡_, refl, sym, ap}
+use mathlib.Core.Path.{_≡_, sym, ap}
 use mathlib.Core.Bool.{Bool, true, false}
 use mathlib.Core.List.{List, [], _∷_, _++_}
 use Prim.Native.Nat.{ℕ, _+_, _<_}
