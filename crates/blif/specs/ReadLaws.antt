@@ -197,7 +197,7 @@ module _ (d : Design) (w : Network) (f : WellFormed d) where
   unfolding printBlif
   print-lines = lines-of-ended (blifLines d w) lines-unbroken
 
-  pub rest-read : readModel (wordLines (lines (printBlif d w))) ≡ some (record { cover = []; model = modelOf d w })
+  rest-read : readModel (wordLines (lines (printBlif d w))) ≡ some (record { cover = []; model = modelOf d w })
   rest-read = ap (λ (ls : List (List ℕ)). readModel (wordLines ls)) print-lines ∙ lines-read
 
   pub text-read : once (drivenSignals (modelOf d w)) ≡ true → readBlif (printBlif d w) ≡ some (modelOf d w)

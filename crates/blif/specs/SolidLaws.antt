@@ -61,7 +61,7 @@ name-bytes-solid (b ∷ n) h =
     (name-byte-above b (and-left (nameByte b) (allNameBytes n) h))
     (name-bytes-solid n (and-right (nameByte b) (allNameBytes n) h))
 
-pub name-word : (n : Name) → isName n ≡ true → isWord n ≡ true
+name-word : (n : Name) → isName n ≡ true → isWord n ≡ true
 name-word [] h = absurd (true-false (sym (name-starts [] h)))
 name-word (b ∷ n) h = name-bytes-solid (b ∷ n) (name-bytes (b ∷ n) h)
 
