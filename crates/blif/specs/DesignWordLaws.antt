@@ -6,8 +6,8 @@ use Rattle.sheet.specs.WellFormed.{WellFormed}
 use Rattle.network.specs.Parts.{freeOf, namesOf}
 use Rattle.network.specs.PartLaws.{free-named}
 use Rattle.network.specs.NamedLaws.{design-named}
-use Rattle.blif.specs.Solid.{allWords}
-use Rattle.blif.specs.SolidLaws.{names-words}
+use Rattle.blif.specs.IsWord.{allWords}
+use Rattle.blif.specs.IsWordLaws.{names-words}
 
 module _ (d : Design) (f : WellFormed d) where
   pub inputs-words : allWords (d .inputs) ≡ true

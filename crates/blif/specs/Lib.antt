@@ -13,8 +13,8 @@ pub mod Ready
 pub mod Computing
 pub mod Worked
 -- the text and its reading
-pub mod Solid
-pub mod SolidLaws
+pub mod IsWord
+pub mod IsWordLaws
 pub mod DesignWordLaws
 pub mod WordsLaws
 pub mod UnbrokenLaws

@@ -29,8 +29,8 @@ use Rattle.blif.specs.Reader.{Said, inputs, outputs, names, cover, end, 
 use Rattle.blif.specs.Reader.{Rest, onward, withInputs, withOutputs, allLong, withBlock, withCover, readRest}
 use Rattle.blif.specs.Reader.{readModel, once, drivenSignals, complete, readBlif}
 use Rattle.blif.specs.Modelled.{coverOf, blockOf, lutBlocksOf, nodeBlocksOf, modelOf}
-use Rattle.blif.specs.Solid.{isWord, allWords}
-use Rattle.blif.specs.SolidLaws.{cell-word, cells-words, words-append, word-after}
+use Rattle.blif.specs.IsWord.{isWord, allWords}
+use Rattle.blif.specs.IsWordLaws.{cell-word, cells-words, words-append, word-after}
 use Rattle.blif.specs.DesignWordLaws.{inputs-words, bound-words, frees-words, outputs-words}
 use Rattle.blif.specs.SaidLaws.{Says, line-said, inputs-said, outputs-said, names-said, row-said, end-said}
 use Rattle.blif.specs.UnbrokenLaws.{names-unbroken, luts-unbroken, nodes-unbroken}
