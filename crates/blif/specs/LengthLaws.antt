@@ -68,11 +68,11 @@ rows-length n r (true ∷ ds) =
     let more = ended-more-length l (rowLines n (suc r) ds) in
     let one : length l + 1 ≤ longestRow n = omega (arith, row-length (valuesOf n r), length-values n r) in
     let others = rows-length n (suc r) ds in
-    let product : longestRow n * suc (length ds) ≡ longestRow n * length ds + longestRow n = mul-suc (longestRow n) (length ds) in
+    let product = mul-suc (longestRow n) (length ds) in
     omega arith
 rows-length n r (false ∷ ds) =
     let others = rows-length n (suc r) ds in
-    let product : longestRow n * suc (length ds) ≡ longestRow n * length ds + longestRow n = mul-suc (longestRow n) (length ds) in
+    let product = mul-suc (longestRow n) (length ds) in
     omega arith
 
 -- ---- blocks

@@ -108,16 +108,18 @@ reading-all {mask} {u} {i} {count} {now} g l =
 pub one-digit : (i : ℕ) → i < oneDigit → printNumber i ≡ (zeroByte + i) ∷ []
 one-digit = print-digit
 
-table-bytes : (i : ℕ) → i < oneDigit → lutName i ≡ underscore ∷ (zeroByte + i) ∷ []
-unfolding lutName
-table-bytes i l = ap (λ (t : List ℕ). underscore ∷ t) (one-digit i l)
+-- a byte b and the digit i
+pub byte-digit-held : (b i : ℕ) → 0 < b → b < 256 → i < oneDigit → nameOf ((i + zeroByte) * 256 + b) ≡ b ∷ printNumber i
+unfolding pack
+byte-digit-held b i p h l =
+    let name : Name = b ∷ (zeroByte + i) ∷ [] in
+    let e : (i + zeroByte) * 256 + b ≡ pack name = omega arith in
+    ap nameOf e ∙ name-of-pack name (omega arith) (p, h, (omega arith, omega arith, tt))
+    ∙ ap (λ (t : List ℕ). b ∷ t) (sym (one-digit i l))
 
 pub table-name : (i : ℕ) → i < oneDigit → nameOf ((i + zeroByte) * 256 + underscore) ≡ lutName i
-unfolding pack
-table-name i l =
-    let name : Name = underscore ∷ (zeroByte + i) ∷ [] in
-    let e : (i + zeroByte) * 256 + underscore ≡ pack name = omega arith in
-    ap nameOf e ∙ name-of-pack name (omega arith) (omega arith, omega arith, (omega arith, omega arith, tt)) ∙ sym (table-bytes i l)
+unfolding lutName
+table-name i l = byte-digit-held underscore i (omega arith) (omega arith) l
 
 -- ---- the code in the tables
 row-step : (a : Bool) (p q r s d : ℕ) → p ≡ q * 2 → r ≡ s * 2 + d → bit a * p + r ≡ (bit a * q + s) * 2 + d
