@@ -17,9 +17,9 @@ use Rattle.sheet.specs.Examine.{Design, outputNames}
 use Rattle.sheet.specs.WellFormed.{WellFormed}
 use Rattle.cells.specs.Lists.{false-where}
 use Rattle.classes.specs.Cases.{not-both}
+use Rattle.network.specs.NamedLaws.{design-named}
 use Rattle.blif.specs.Printer.{cellName}
 use Rattle.blif.specs.Reader.{stands}
-use Rattle.blif.specs.SheetNameLaws.{design-named}
 use Rattle.blif.specs.OnceLaws.{stands-among, among-none}
 
 -- `C` is no small letter

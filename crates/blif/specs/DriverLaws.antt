@@ -5,17 +5,17 @@ use mathlib.Core.List.{List, [], _∷_, _++_, map}
 use mathlib.Core.Option.{some}
 use Prim.Native.Nat.{ℕ, zero, suc, _+_, _<_}
 use native.Mathlib.Omega.{arith}
-use lib.ListN.{length, getD, length-append, length-map, List·getD-append}
+use lib.ListN.{length, getD, length-append, List·getD-append}
 use lib.Seq.{getD-append-add}
 use Rattle.text.specs.Bytes.{same}
 use Rattle.text.specs.BytesLaws.{same-self}
 use Rattle.names.specs.Name.{Name, sameName, among, distinct}
-use Rattle.sheet.specs.Lines.{Output}
 use Rattle.sheet.specs.Examine.{Design}
 use Rattle.sheet.specs.WellFormed.{WellFormed}
 use Rattle.classes.specs.FreeLaws.{among-first, among-later, distinct-later, first-another}
 use Rattle.network.specs.Network.{Network, Node}
 use Rattle.network.specs.Parts.{freeOf, namesOf}
+use Rattle.network.specs.PartLaws.{names-count}
 use Rattle.network.specs.Wellformed.{Wellformed, nodeAt}
 use Rattle.blif.specs.Printer.{cellName}
 use Rattle.blif.specs.Model.{Block}
@@ -87,17 +87,14 @@ module _ (d : Design) (w : Network) (g : Wellformed d w) where
   abbrev nodes : List Block
   nodes = nodeBlocksOf (freeOf d) (namesOf d) (w .nodes)
 
-  output-count : length (namesOf d) ≡ length (d .outputs)
-  output-count = length-map (d .outputs) (λ (o : Output). o .name)
-
   node-each : length (w .nodes) ≡ length (namesOf d)
-  node-each = g .node-each ∙ sym output-count
+  node-each = g .node-each ∙ sym (names-count d)
 
   pub block-count : length (modelOf d w .blocks) ≡ length (w .luts) + length (d .outputs)
   unfolding modelOf
   block-count =
       length-append luts nodes
-      ∙ ap₂ (λ (a b : ℕ). a + b) (lut-count (d .bound) 0 (w .luts)) (node-count (freeOf d) (namesOf d) (w .nodes) node-each ∙ output-count)
+      ∙ ap₂ (λ (a b : ℕ). a + b) (lut-count (d .bound) 0 (w .luts)) (node-count (freeOf d) (namesOf d) (w .nodes) node-each ∙ names-count d)
 
   cell-block : (i : ℕ) → i < length (w .luts) → blockAt (modelOf d w .blocks) i ≡ blockOf (d .bound) (cellName i) (getD (w .luts) i [])
   unfolding modelOf
@@ -114,7 +111,7 @@ module _ (d : Design) (w : Network) (g : Wellformed d w) where
   output-block o l =
       ap (λ (k : ℕ). blockAt (luts ++ nodes) (k + o)) (sym (lut-count (d .bound) 0 (w .luts)))
       ∙ getD-append-add luts nodes o noBlock
-      ∙ node-block (freeOf d) (namesOf d) (w .nodes) o node-each (omega (arith, output-count))
+      ∙ node-block (freeOf d) (namesOf d) (w .nodes) o node-each (omega (arith, names-count d))
 
   module _ (f : WellFormed d) where
     -- a block that stands among the model's is the one that drives its signal

@@ -15,29 +15,25 @@ use Rattle.rows.specs.Digits.{digit}
 use Rattle.text.specs.Bytes.{space}
 use Rattle.names.specs.Name.{Name}
 use Rattle.names.specs.Names.{printNames}
-use Rattle.names.specs.Pack.{pack, nameOf}
-use Rattle.names.specs.PackLaws.{name-of-pack}
+use Rattle.names.specs.Pack.{nameOf}
 use Rattle.network.specs.Numbers.{numbersOf}
 use Rattle.network.specs.Printer.{printDigits}
 use Rattle.putting.specs.Written.{itemRoom, Written}
 use Rattle.putting.specs.PutLaws.{put-none, put-next, put-same}
 use Rattle.listing.specs.Listed.{zeroByte, oneDigit}
 use Rattle.listing.specs.ShownLaws.{front-more}
-use Rattle.listing.specs.NumbersLaws.{one-digit}
+use Rattle.listing.specs.NumbersLaws.{byte-digit-held}
 use Rattle.blif.specs.Printer.{cellName}
-use Rattle.blif.specs.Texts.{textsUpto, itemText, cellText}
+use Rattle.putting.specs.Upto.{textsUpto}
+use Rattle.blif.specs.Texts.{itemText, cellText}
 
 -- ---- the number that holds a cell's name
 abbrev capitalC : ℕ
 capitalC = 0x43
 
 pub cell-held : (i : ℕ) → i < oneDigit → nameOf ((i + zeroByte) * 256 + capitalC) ≡ cellName i
-unfolding pack cellName
-cell-held i l =
-    let name : Name = capitalC ∷ (zeroByte + i) ∷ [] in
-    let e : (i + zeroByte) * 256 + capitalC ≡ pack name = omega arith in
-    ap nameOf e ∙ name-of-pack name (omega arith) (omega arith, omega arith, (omega arith, omega arith, tt))
-    ∙ ap (λ (t : List ℕ). capitalC ∷ t) (sym (one-digit i l))
+unfolding cellName
+cell-held i l = byte-digit-held capitalC i (omega arith) (omega arith) l
 
 -- ---- names
 pub names-append : (ms ns : List Name) → printNames (ms ++ ns) ≡ printNames ms ++ printNames ns

@@ -6,60 +6,42 @@ use Prim.Native.Nat.{ℕ, suc, _+_, _*_, _^_, _≤_, _<_}
 use native.Mathlib.Omega.{arith}
 use native.Mathlib.Nat.{mul-suc, mul-le-mul}
 use lib.ListN.{length, getD, length-append, length-map}
-use lib.Pow.{pow-mono}
 use Rattle.bits.specs.LogicLaws.{and-left, and-right}
 use Rattle.limits.specs.Limits.{maxName, maxInputs, maxBound, maxBlif}
 use Rattle.rows.specs.Digits.{digit}
 use Rattle.rows.specs.Row.{valuesOf}
 use Rattle.rows.specs.RowLaws.{length-values}
-use Rattle.text.specs.Bytes.{bytes, newline}
+use Rattle.text.specs.Bytes.{bytes}
 use Rattle.text.specs.Line.{endedLines}
+use Rattle.text.specs.FigureLaws.{print-short}
+use Rattle.text.specs.EndedLaws.{ended-more-length, ended-append-length}
 use Rattle.names.specs.Name.{Name, isName}
 use Rattle.names.specs.Names.{allNames, printNames}
 use Rattle.names.specs.IsNameLaws.{name-short}
+use Rattle.names.specs.ShortLaws.{Short, short-none, short-more, short-append, names-short, map-short}
 use Rattle.sheet.specs.Examine.{Design}
 use Rattle.sheet.specs.WellFormed.{WellFormed}
-use Rattle.classes.specs.ProperLaws.{proper-of}
-use Rattle.classes.specs.Width.{budget, width}
-use Rattle.classes.specs.VertexLaws.{width-most}
-use Rattle.classes.specs.FreeLaws.{bound-and-free}
 use Rattle.network.specs.Network.{Network, Node}
 use Rattle.network.specs.Printer.{printDigits}
 use Rattle.network.specs.Parts.{freeOf, namesOf}
-use Rattle.network.specs.PartLaws.{names-count}
+use Rattle.network.specs.PartLaws.{free-named, names-count}
+use Rattle.network.specs.NamedLaws.{design-named}
 use Rattle.network.specs.Wellformed.{Wellformed, nodeAt}
-use Rattle.network.specs.Answers.{WithinLimits, readCount}
+use Rattle.classes.specs.ProperLaws.{proper-of}
+use Rattle.network.specs.TableBoundLaws.{node-narrow, node-digits-few, lut-digits-few}
+use Rattle.network.specs.Answers.{WithinLimits}
 use Rattle.putting.specs.Written.{itemRoom}
 use Rattle.blif.specs.Printer.{cellName, rowLine, rowLines, block, lutBlocks, nodeBlocks, blifLines, printBlif}
-use Rattle.blif.specs.FigureLaws.{number-length}
 use Rattle.blif.specs.Longest.{longestRow, longestBlock, longestText}
-use Rattle.blif.specs.NamedLaws.{inputs-named, bound-named, frees-named, outputs-named}
 
-pub longest-is-limit : longestText ≡ maxBlif
+-- the limit is the length of the longest text, and no more
+longest-is-limit : longestText ≡ maxBlif
 longest-is-limit = refl
 
 -- ---- names
-data Short : List Name → Type 0 where
-  short-none : Short []
-  short-more : {n : Name} {ns : List Name} → length n ≤ maxName → Short ns → Short (n ∷ ns)
-
-short-append : {ms ns : List Name} → Short ms → Short ns → Short (ms ++ ns)
-short-append short-none t = t
-short-append (short-more h s) t = short-more h (short-append s t)
-
-names-short : (ns : List Name) → allNames ns ≡ true → Short ns
-unfolding allNames
-names-short [] h = short-none
-names-short (n ∷ ns) h =
-    short-more (name-short n (and-left (isName n) (allNames ns) h)) (names-short ns (and-right (isName n) (allNames ns) h))
-
 cell-short : (i : ℕ) → length (cellName i) ≤ maxName
 unfolding cellName
-cell-short i = omega (arith, number-length i)
-
-cells-short : (is : List ℕ) → Short (map cellName is)
-cells-short [] = short-none
-cells-short (i ∷ is) = short-more (cell-short i) (cells-short is)
+cell-short i = omega (arith, print-short i)
 
 names-length : {ns : List Name} → Short ns → length (printNames ns) ≤ itemRoom * length ns
 unfolding printNames
@@ -70,19 +52,6 @@ names-length (short-more {n = n} {ns = ns} h s) =
     omega arith
 
 -- ---- lines
-ended-append : (ls ms : List (List ℕ)) → length (endedLines (ls ++ ms)) ≡ length (endedLines ls) + length (endedLines ms)
-unfolding endedLines
-ended-append [] ms = omega arith
-ended-append (l ∷ ls) ms =
-    let a = ended-append ls ms in
-    let b = length-append l (newline ∷ endedLines (ls ++ ms)) in
-    let c = length-append l (newline ∷ endedLines ls) in
-    omega arith
-
-ended-more : (l : List ℕ) (ls : List (List ℕ)) → length (endedLines (l ∷ ls)) ≡ length l + 1 + length (endedLines ls)
-unfolding endedLines
-ended-more l ls = omega (arith, length-append l (newline ∷ endedLines ls))
-
 row-length : (vs : List Bool) → length (rowLine vs) + 1 ≤ longestRow (length vs)
 unfolding printDigits
 row-length [] = omega arith
@@ -97,14 +66,14 @@ unfolding rowLines endedLines
 rows-length n r [] = omega arith
 rows-length n r (true ∷ ds) =
     let l = rowLine (valuesOf n r) in
-    let more = ended-more l (rowLines n (suc r) ds) in
+    let more = ended-more-length l (rowLines n (suc r) ds) in
     let one : length l + 1 ≤ longestRow n = omega (arith, row-length (valuesOf n r), length-values n r) in
     let others = rows-length n (suc r) ds in
-    let product : longestRow n * suc (length ds) ≡ longestRow n * length ds + longestRow n = mul-suc (longestRow n) (length ds) in
+    let product = mul-suc (longestRow n) (length ds) in
     omega arith
 rows-length n r (false ∷ ds) =
     let others = rows-length n (suc r) ds in
-    let product : longestRow n * suc (length ds) ≡ longestRow n * length ds + longestRow n = mul-suc (longestRow n) (length ds) in
+    let product = mul-suc (longestRow n) (length ds) in
     omega arith
 
 -- ---- blocks
@@ -119,7 +88,7 @@ block-length m is n ds s k h g =
     let ns = is ++ (n ∷ []) in
     let names : length (printNames ns) ≤ itemRoom * length ns = names-length (short-append s (short-more k short-none)) in
     let many : length ns ≡ length is + 1 = length-append is (n ∷ []) in
-    let more = ended-more (bytes ".names" ++ printNames ns) (rowLines (length is) 0 ds) in
+    let more = ended-more-length (bytes ".names" ++ printNames ns) (rowLines (length is) 0 ds) in
     let rows = rows-length (length is) 0 ds in
     let most : longestRow (length is) * length ds ≤ longestRow m * 2 ^ m = mul-le-mul (omega arith) g in
     omega arith
@@ -134,7 +103,7 @@ luts-length bs i [] e l h = omega arith
 luts-length bs i (t ∷ ts) e l h =
     let one = block-length maxBound bs (cellName i) t (names-short bs e) (cell-short i) l (h 0 (omega arith)) in
     let others = luts-length bs (suc i) ts e l (λ j k. h (suc j) (omega arith)) in
-    let both = ended-append (block bs (cellName i) t) (lutBlocks bs (suc i) ts) in
+    let both = ended-append-length (block bs (cellName i) t) (lutBlocks bs (suc i) ts) in
     omega arith
 
 nodes-length : (fs ns : List Name) (xs : List Node)
@@ -153,51 +122,31 @@ nodes-length fs (n ∷ ns) (x ∷ xs) f e l h =
     length-append cells fs ∙ ap (λ (k : ℕ). k + length fs) (length-map (x .reads) cellName) in
     let few = l 0 (omega arith) in
     let one =
-    block-length maxInputs is n (x .digits) (short-append (cells-short (x .reads)) (names-short fs f))
+    block-length maxInputs is n (x .digits) (short-append (map-short cellName cell-short (x .reads)) (names-short fs f))
     (name-short n (and-left (isName n) (allNames ns) e)) (omega arith) (h 0 (omega arith)) in
     let others =
     nodes-length fs ns xs f (and-right (isName n) (allNames ns) e) (λ o k. l (suc o) (omega arith)) (λ o k. h (suc o) (omega arith)) in
-    let both = ended-append (block is n (x .digits)) (nodeBlocks fs ns xs) in
+    let both = ended-append-length (block is n (x .digits)) (nodeBlocks fs ns xs) in
     omega arith
 
 -- ---- the whole text
-module _ (d : Design) (w : Network) (v : WellFormed d) (f : Wellformed d w) (l : WithinLimits d w) where
-  -- a node has no more inputs than a design may have
-  pub node-narrow : (o : ℕ) → o < length (w .nodes) → readCount w o + length (freeOf d) ≤ maxInputs
-  unfolding budget
-  node-narrow o h =
-      let a : readCount w o ≤ width d (d .bound) o = l .reads-within o h in
-      let b = width-most d (d .bound) o in
-      let c = bound-and-free (d .inputs) (d .bound) (proper-of d v .parted) in
-      let e = v .inputs-right .few in
-      omega arith
-
-  node-rows : (o : ℕ) → o < length (w .nodes) → length (nodeAt (w .nodes) o .digits) ≤ 2 ^ maxInputs
-  node-rows o h =
-      let a : 2 ^ (readCount w o + length (freeOf d)) ≤ 2 ^ maxInputs = pow-mono (node-narrow o h) in
-      let b = f .node-fits o h .counted in
-      omega arith
-
-  lut-rows : (i : ℕ) → i < length (w .luts) → length (getD (w .luts) i []) ≤ 2 ^ maxBound
-  lut-rows i h =
-      let a : 2 ^ length (d .bound) ≤ 2 ^ maxBound = pow-mono (v .bound-right .few) in
-      let b = f .lut-digits i h in
-      omega arith
-
-  pub text-fits : length (printBlif d w) ≤ maxBlif
-  unfolding printBlif blifLines endedLines
-  text-fits =
-      let ins = bytes ".inputs" ++ printNames (d .inputs) in
-      let outs = bytes ".outputs" ++ printNames (namesOf d) in
-      let ls = lutBlocks (d .bound) 0 (w .luts) in
-      let ns = nodeBlocks (freeOf d) (namesOf d) (w .nodes) in
-      let last = bytes ".end" ∷ [] in
-      let ins-few = names-length (names-short (d .inputs) (inputs-named d v)) in
-      let outs-few = names-length (names-short (namesOf d) (outputs-named d v)) in
-      let ls-few = luts-length (d .bound) 0 (w .luts) (bound-named d v) (v .bound-right .few) lut-rows in
-      let ns-few = nodes-length (freeOf d) (namesOf d) (w .nodes) (frees-named d v) (outputs-named d v) node-narrow node-rows in
-      let a = ended-more ins (outs ∷ (ls ++ (ns ++ last))) in
-      let b = ended-more outs (ls ++ (ns ++ last)) in
-      let c = ended-append ls (ns ++ last) in
-      let e = ended-append ns last in
-      omega (arith, names-count d, v .inputs-right .few, v .outputs-right .few, f .few-luts)
+pub text-fits : (d : Design) (w : Network) → WellFormed d → Wellformed d w → WithinLimits d w → length (printBlif d w) ≤ maxBlif
+unfolding printBlif blifLines endedLines
+text-fits d w v f l =
+    let named = design-named d v in
+    let ins = bytes ".inputs" ++ printNames (d .inputs) in
+    let outs = bytes ".outputs" ++ printNames (namesOf d) in
+    let ls = lutBlocks (d .bound) 0 (w .luts) in
+    let ns = nodeBlocks (freeOf d) (namesOf d) (w .nodes) in
+    let last = bytes ".end" ∷ [] in
+    let ins-few = names-length (names-short (d .inputs) (named .inputs-named)) in
+    let outs-few = names-length (names-short (namesOf d) (named .outputs-named)) in
+    let ls-few = luts-length (d .bound) 0 (w .luts) (named .bound-named) (v .bound-right .few) (lut-digits-few d w v f) in
+    let frees-named = free-named (d .inputs) (d .bound) (named .inputs-named) in
+    let ns-few =
+    nodes-length (freeOf d) (namesOf d) (w .nodes) frees-named (named .outputs-named) (node-narrow d w (proper-of d v) l) (node-digits-few d w v f l) in
+    let a = ended-more-length ins (outs ∷ (ls ++ (ns ++ last))) in
+    let b = ended-more-length outs (ls ++ (ns ++ last)) in
+    let c = ended-append-length ls (ns ++ last) in
+    let e = ended-append-length ns last in
+    omega (arith, names-count d, v .inputs-right .few, v .outputs-right .few, f .few-luts)

@@ -10,33 +10,33 @@ pub mod Answer
 pub mod Room
 pub mod Texts
 pub mod Ready
-pub mod Modelled
-pub mod PutLaws
-pub mod ItemLaws
-pub mod RowLaws
-pub mod BlockLaws
-pub mod NarrowLaws
-pub mod PassedLaws
 pub mod Computing
 pub mod Worked
-pub mod FigureLaws
-pub mod Solid
-pub mod SolidLaws
+-- the text and its reading
+pub mod IsWord
+pub mod IsWordLaws
+pub mod DesignWordLaws
 pub mod WordsLaws
-pub mod NamedLaws
-pub mod SaidLaws
 pub mod UnbrokenLaws
+pub mod Modelled
+pub mod SaidLaws
 pub mod ReadLaws
 pub mod Longest
 pub mod LengthLaws
-pub mod Drives
-pub mod SheetNameLaws
+-- values
 pub mod OnceLaws
 pub mod CellNameLaws
+pub mod Drives
 pub mod NamesOnceLaws
 pub mod MatchLaws
 pub mod DriverLaws
 pub mod ValueLaws
+-- Export
 pub mod OutcomeLaws
 pub mod SimulatedLaws
+-- the code
+pub mod ItemLaws
+pub mod RowLaws
+pub mod BlockLaws
+pub mod PassedLaws
 pub mod AnswerLaws

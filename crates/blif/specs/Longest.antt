@@ -13,7 +13,7 @@ abbrev size : String → ℕ
 size s = length (bytes s)
 
 -- a block over n inputs: its first line, with what it drives; the line of a row; the block
-abbrev pub longestNames : ℕ → ℕ
+abbrev longestNames : ℕ → ℕ
 longestNames n = size ".names" + itemRoom * (n + 1) + 1
 
 abbrev pub longestRow : ℕ → ℕ

@@ -5,25 +5,26 @@ use mathlib.Core.Bool.{Bool, true, false, not}
 use mathlib.Core.List.{List, [], _∷_, _++_, map-append}
 use Prim.Native.Nat.{ℕ, zero, suc, _+_, _≤_, _<_}
 use native.Mathlib.Omega.{arith}
-use lib.ListN.{length, length-map}
+use lib.ListN.{length}
 use Rattle.bits.specs.LogicLaws.{true-false, and-both}
 use Rattle.names.specs.Name.{Name, isName, among, distinct}
 use Rattle.names.specs.AllNamesLaws.{named-among}
 use Rattle.sheet.specs.Lines.{Output}
-use Rattle.sheet.specs.Examine.{Design}
-use Rattle.sheet.specs.WellFormed.{WellFormed}
+use Rattle.sheet.specs.Examine.{Design, outputNames}
+use Rattle.sheet.specs.WellFormed.{WellFormed, outputAt}
 use Rattle.cells.specs.Lists.{false-where}
 use Rattle.classes.specs.Cases.{not-both}
 use Rattle.classes.specs.FreeLaws.{among-cases}
 use Rattle.network.specs.Network.{Network, Node}
 use Rattle.network.specs.Parts.{freeOf, namesOf}
+use Rattle.network.specs.PartLaws.{names-count}
+use Rattle.network.specs.NamedLaws.{design-named}
 use Rattle.network.specs.Wellformed.{Wellformed}
 use Rattle.blif.specs.Printer.{cellName}
 use Rattle.blif.specs.Model.{Block}
 use Rattle.blif.specs.Modelled.{blockOf, lutBlocksOf, nodeBlocksOf, modelOf}
 use Rattle.blif.specs.Drives.{cellNames, drivesOf}
 use Rattle.blif.specs.Reader.{once, drivenSignals}
-use Rattle.blif.specs.SheetNameLaws.{design-named, input-no-output}
 use Rattle.blif.specs.CellNameLaws.{cell-no-name, cells-apart}
 use Rattle.blif.specs.OnceLaws.{once-distinct, distinct-both, among-none}
 
@@ -45,7 +46,7 @@ unfolding modelOf
 model-drives d w g =
     let fs = freeOf d in
     let ns = namesOf d in
-    let count : length (w .nodes) ≡ length ns = g .node-each ∙ sym (length-map (d .outputs) (λ (o : Output). o .name)) in
+    let count : length (w .nodes) ≡ length ns = g .node-each ∙ sym (names-count d) in
     map-append (λ (b : Block). b .drives) (lutBlocksOf (d .bound) 0 (w .luts)) (nodeBlocksOf fs ns (w .nodes))
     ∙ ap₂ (λ (a b : List Name). a ++ b) (lut-drives (d .bound) 0 (w .luts)) (node-drives fs ns (w .nodes) count)
 
@@ -77,6 +78,19 @@ name-no-cell n i (suc k) a e =
     (λ l. name-no-cell n (suc i) k a l)
     (among-cases (cellName i) n (cellNames (suc i) k) e)
 
+no-output-among : (n : Name) (ns : List Name) (os : List Output)
+    → ((o : ℕ) → o < length os → among (outputAt os o .name) ns ≡ false)
+    → among n ns ≡ true
+    → among n (outputNames os) ≡ true
+    → ⊥
+unfolding among
+no-output-among n ns [] h e g = true-false (sym g)
+no-output-among n ns (o ∷ os) h e g =
+    ⊎-elim
+    (λ s. not-both (among (o .name) ns) (subst (λ (m : Name). among m ns ≡ true) (sym s) e) (h 0 (omega arith)))
+    (λ l. no-output-among n ns os (λ i k. h (suc i) (omega arith)) e l)
+    (among-cases (o .name) n (outputNames os) g)
+
 module _ (d : Design) (w : Network) (f : WellFormed d) (g : Wellformed d w) where
   abbrev cells : List Name
   cells = cellNames 0 (length (w .luts))
@@ -86,11 +100,16 @@ module _ (d : Design) (w : Network) (f : WellFormed d) (g : Wellformed d w) wher
       false-where (among n (namesOf d))
       (λ o. name-no-cell n 0 (length (w .luts)) (named-among n (namesOf d) (design-named d f .outputs-named) o) e)
 
+  input-no-output : (n : Name) → among n (d .inputs) ≡ true → among n (namesOf d) ≡ false
+  input-no-output n e =
+      false-where (among n (namesOf d))
+      (λ o. no-output-among n (d .inputs) (d .outputs) (λ i l. f .outputs-right .each i l .new) e o)
+
   input-new : (n : Name) → among n (d .inputs) ≡ true → among n (cells ++ namesOf d) ≡ false
   input-new n e =
       among-none n cells (namesOf d)
       (false-where (among n cells) (name-no-cell n 0 (length (w .luts)) (named-among n (d .inputs) (f .inputs-right .named) e)))
-      (input-no-output d f n e)
+      (input-no-output n e)
 
   drives-distinct : distinct (cells ++ namesOf d) ≡ true
   drives-distinct =

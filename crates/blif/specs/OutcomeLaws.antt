@@ -2,44 +2,24 @@
 -- buffer's start. Assumes nothing.
 use mathlib.Core.Path.{_≡_, refl, sym, ap, ap₂, subst, _∙_}
 use mathlib.Core.Bool.{Bool, true, false}
-use mathlib.Core.List.{List, _++_}
-use mathlib.Core.Option.{Option, some, none}
-use Prim.Native.Nat.{ℕ, zero, suc, _+_, _-_, _≤_, _<_}
+use mathlib.Core.List.{List}
+use Prim.Native.Nat.{ℕ, _≤_, _<_}
 use native.Mathlib.Omega.{arith}
-use native.Mathlib.Nat.{zero-add}
 use lib.Dec.{leb}
-use lib.ListN.{length, getD, take, drop}
-use lib.Seq.{sets, sets-eq, length-sets, take-at, getD-append-add, getD-drop}
+use lib.ListN.{length, getD, take}
+use lib.Seq.{sets, length-sets}
 use borrow.Author.Tests.{leb-true, leb-false, le-leb, lt-leb}
 use Rattle.bits.specs.Logic.{pick}
 use Rattle.sheet.specs.Examine.{Design, Examined, valid}
 use Rattle.network.specs.Network.{Network}
 use Rattle.network.specs.Check as checks
-use Rattle.network.specs.Check.{Checked, Pair, refused-pair, pair, examinePair, differingRow, atRow, compareFrom, comparePair, checkOf}
+use Rattle.network.specs.Check.{Pair, refused-pair, pair, examinePair, comparePair, checkOf}
 use Rattle.network.specs.Answers.{Drawn}
-use Rattle.network.specs.CheckLaws.{pair-drawn, drawn-pair}
+use Rattle.network.specs.CheckLaws.{compared-not-refused, pair-drawn, drawn-pair}
+use Rattle.putting.specs.StoredLaws.{stored-text, stored-after}
 use Rattle.blif.specs.Printer.{printBlif}
 use Rattle.blif.specs.Export.{Exported, refused-by, written, untouched, putText, exportPair, exportOf}
 use Rattle.blif.specs.Simulated.{ExportRefuses, as-check, by-buffer}
-
--- ---- bytes stored from the start
-module _ (b t : List ℕ) (h : length t ≤ length b) where
-  stored : sets b 0 t ≡ t ++ drop (length t) b
-  stored =
-      sets-eq t b 0 (subst (λ (n : ℕ). n ≤ length b) (sym (zero-add (length t))) h)
-      ∙ ap (λ (n : ℕ). t ++ drop n b) (zero-add (length t))
-
-  stored-text : take (length t) (sets b 0 t) ≡ t
-  stored-text = ap (take (length t)) stored ∙ take-at t (drop (length t) b) (length t) refl
-
-  stored-after : (i : ℕ) → length t ≤ i → getD (sets b 0 t) i 0 ≡ getD b i 0
-  stored-after i k =
-      let e : i ≡ length t + (i - length t) = omega arith in
-      ap (λ (l : List ℕ). getD l i 0) stored
-      ∙ ap (λ (j : ℕ). getD (t ++ drop (length t) b) j 0) e
-      ∙ getD-append-add t (drop (length t) b) (i - length t) 0
-      ∙ getD-drop (length t) b (i - length t) 0
-      ∙ ap (λ (j : ℕ). getD b j 0) (sym e)
 
 -- ---- question 9
 abbrev pub wrote : List ℕ → List ℕ → Exported
@@ -59,26 +39,6 @@ module _ (t b : List ℕ) where
   pub put-fits : length t ≤ length b → putText t b ≡ wrote t b
   unfolding putText
   put-fits h = rw (le-leb (length t) (length b) h) refl
-
--- ---- Check on a design and a network refuses nothing
-same-refused : {q l : ℕ} → checks.same ≡ checks.refused-by q l → ⊥
-same-refused e = let z : _≡_ {A = ℕ} 0 1 = cc in omega arith
-
-differs-refused : {o r q l : ℕ} → checks.differs o r ≡ checks.refused-by q l → ⊥
-differs-refused e = let z : _≡_ {A = ℕ} 0 1 = cc in omega arith
-
-at-row-refused : (o : ℕ) (r : Option ℕ) (later : Checked) (q l : ℕ)
-    → (later ≡ checks.refused-by q l → ⊥)
-    → atRow o r later ≡ checks.refused-by q l
-    → ⊥
-at-row-refused o (some r) later q l h e = differs-refused e
-at-row-refused o none later q l h e = h e
-
-compared-refused : (d : Design) (w : Network) (k o q l : ℕ) → compareFrom d w k o ≡ checks.refused-by q l → ⊥
-unfolding compareFrom
-compared-refused d w zero o q l e = same-refused e
-compared-refused d w (suc k) o q l e =
-    at-row-refused o (differingRow d w o) (compareFrom d w k (suc o)) q l (compared-refused d w k (suc o) q l) e
 
 -- ---- what Export comes to
 pub data Outcome (x : Examined) (t b : List ℕ) : Exported → Type 0 where
@@ -129,7 +89,7 @@ module _ (x : Examined) (t b : List ℕ) where
           let i : p ≡ q = cc in
           let j : m ≡ l = cc in
           ap₂ (λ (u v : ℕ). untouched u v b) i j
-      go (pair d w) f = absurd (compared-refused d w (length (d .outputs)) 0 q l f)
+      go (pair d w) f = absurd (compared-not-refused d w q l f)
 
   pub export-refuses : (q l : ℕ) → ExportRefuses x t (length b) q l → exportOf x t b ≡ untouched q l b
   export-refuses q l (as-check p m e) = checked-refused p m e

@@ -11,6 +11,7 @@ use Rattle.bits.specs.Logic.{pick}
 use Rattle.rows.specs.Row.{valuesOf}
 use Rattle.text.specs.Bytes.{bytes, newline}
 use Rattle.text.specs.Line.{endedLines}
+use Rattle.text.specs.EndedLaws.{ended-more, ended-append}
 use Rattle.names.specs.Name.{Name}
 use Rattle.names.specs.Names.{printNames}
 use Rattle.names.specs.Pack.{nameOf}
@@ -24,27 +25,17 @@ use Rattle.network.specs.Network.{Network, Node}
 use Rattle.network.specs.Numbers.{numbersOf}
 use Rattle.network.specs.LineAnswer.{Stands}
 use Rattle.network.specs.Wellformed.{nodeAt}
+use Rattle.network.specs.TableBoundLaws.{node-narrow}
 use Rattle.checker.specs.DrawingLaws.{digit-stands}
 use Rattle.listing.specs.Listed.{item}
 use Rattle.writing.specs.KnownLaws.{held-name}
 use Rattle.writing.specs.WrittenLaws.{bound-named}
 use Rattle.blif.specs.Printer.{cellName, rowLine, rowLines, block, lutBlocks, nodeBlocks, blifLines, printBlif}
-use Rattle.blif.specs.Texts.{textsUpto, rowText, rowsText, blockText, digitsAt, lutText, nodeText, headText}
+use Rattle.putting.specs.Upto.{textsUpto}
+use Rattle.blif.specs.Texts.{rowText, rowsText, blockText, digitsAt, lutText, nodeText, headText}
 use Rattle.blif.specs.Ready.{LutsReady, NodesReady, Passed}
 use Rattle.blif.specs.BlockLaws.{two-counted}
-use Rattle.blif.specs.NarrowLaws.{node-narrow}
-use Rattle.blif.specs.PutLaws.{textsFrom, upto-all, from-same}
-
--- ---- lines one after another
-ended-more : (l : List ℕ) (ls : List (List ℕ)) → endedLines (l ∷ ls) ≡ (l ++ (newline ∷ [])) ++ endedLines ls
-unfolding endedLines
-ended-more l ls = sym (append-assoc l (newline ∷ []) (endedLines ls))
-
-ended-append : (ks ls : List (List ℕ)) → endedLines (ks ++ ls) ≡ endedLines ks ++ endedLines ls
-unfolding endedLines
-ended-append [] ls = refl
-ended-append (k ∷ ks) ls =
-    ap (λ (t : List ℕ). k ++ (newline ∷ t)) (ended-append ks ls) ∙ sym (append-assoc k (newline ∷ endedLines ks) (endedLines ls))
+use Rattle.putting.specs.UptoLaws.{textsFrom, upto-all}
 
 -- ---- rows
 ended-pick : (v : Bool) (l : List ℕ) (ls : List (List ℕ))

@@ -29,9 +29,9 @@ use Rattle.blif.specs.Reader.{Said, inputs, outputs, names, cover, end, 
 use Rattle.blif.specs.Reader.{Rest, onward, withInputs, withOutputs, allLong, withBlock, withCover, readRest}
 use Rattle.blif.specs.Reader.{readModel, once, drivenSignals, complete, readBlif}
 use Rattle.blif.specs.Modelled.{coverOf, blockOf, lutBlocksOf, nodeBlocksOf, modelOf}
-use Rattle.blif.specs.Solid.{isWord, allWords}
-use Rattle.blif.specs.SolidLaws.{cell-word, cells-words, words-append, word-after}
-use Rattle.blif.specs.NamedLaws.{inputs-words, bound-words, frees-words, outputs-words}
+use Rattle.blif.specs.IsWord.{isWord, allWords}
+use Rattle.blif.specs.IsWordLaws.{cell-word, cells-words, words-append, word-after}
+use Rattle.blif.specs.DesignWordLaws.{inputs-words, bound-words, frees-words, outputs-words}
 use Rattle.blif.specs.SaidLaws.{Says, line-said, inputs-said, outputs-said, names-said, row-said, end-said}
 use Rattle.blif.specs.UnbrokenLaws.{names-unbroken, luts-unbroken, nodes-unbroken}
 
@@ -197,7 +197,7 @@ module _ (d : Design) (w : Network) (f : WellFormed d) where
   unfolding printBlif
   print-lines = lines-of-ended (blifLines d w) lines-unbroken
 
-  pub rest-read : readModel (wordLines (lines (printBlif d w))) ≡ some (record { cover = []; model = modelOf d w })
+  rest-read : readModel (wordLines (lines (printBlif d w))) ≡ some (record { cover = []; model = modelOf d w })
   rest-read = ap (λ (ls : List (List ℕ)). readModel (wordLines ls)) print-lines ∙ lines-read
 
   pub text-read : once (drivenSignals (modelOf d w)) ≡ true → readBlif (printBlif d w) ≡ some (modelOf d w)

@@ -16,7 +16,8 @@ use Rattle.putting.specs.Written.{Written}
 use Rattle.putting.specs.PutLaws.{put-none, put-next, put-same}
 use Rattle.blif.specs.Printer.{rowLine}
 use Rattle.blif.specs.Room.{rowRoom}
-use Rattle.blif.specs.Texts.{textsUpto, rowText, rowsText}
+use Rattle.putting.specs.Upto.{textsUpto}
+use Rattle.blif.specs.Texts.{rowText, rowsText}
 
 -- the digit 1
 abbrev oneByte : ℕ

@@ -5,6 +5,7 @@ use mathlib.Core.List.{List, [], _∷_, _++_, map}
 use mathlib.Core.Option.{some}
 use Prim.Native.Nat.{ℕ}
 use Rattle.text.specs.Bytes.{bytes, same}
+use Rattle.text.specs.Solid.{solid}
 use Rattle.names.specs.Name.{Name}
 use Rattle.names.specs.Names.{printNames}
 use Rattle.network.specs.Printer.{printDigits}
@@ -13,8 +14,8 @@ use Rattle.blif.specs.Words.{blank, words}
 use Rattle.blif.specs.Model.{Signal, must-be}
 use Rattle.blif.specs.Reader.{Said, inputs, outputs, names, cover, end, front, final, namesLine}
 use Rattle.blif.specs.Reader.{covered, marksOf, said, kept, wordLines}
-use Rattle.blif.specs.Solid.{solid, allWords}
-use Rattle.blif.specs.SolidLaws.{digits-word}
+use Rattle.blif.specs.IsWord.{allWords}
+use Rattle.blif.specs.IsWordLaws.{digits-word}
 use Rattle.blif.specs.WordsLaws.{words-spaced, words-of-names}
 
 -- a line has a word, and its words say x

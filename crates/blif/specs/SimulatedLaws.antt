@@ -18,13 +18,13 @@ use Rattle.network.specs.Check.{checkOf}
 use Rattle.network.specs.Value.{networkOn}
 use Rattle.network.specs.Wellformed.{Wellformed}
 use Rattle.network.specs.Answers.{Drawn}
+use Rattle.network.specs.NamedLaws.{design-named}
 use Rattle.network.specs.CheckLaws.{check-same}
 use Rattle.network.specs.PrintedLaws.{drawn-wellformed, drawn-within}
 use Rattle.blif.specs.Printer.{printBlif}
 use Rattle.blif.specs.Modelled.{modelOf}
 use Rattle.blif.specs.Export.{Exported, written, exportOf, putText}
 use Rattle.blif.specs.Simulated.{Simulates, ExportDemand}
-use Rattle.blif.specs.SheetNameLaws.{design-named}
 use Rattle.blif.specs.NamesOnceLaws.{signals-once}
 use Rattle.blif.specs.ReadLaws.{text-read}
 use Rattle.blif.specs.LengthLaws.{text-fits}
@@ -91,8 +91,8 @@ module _ (x : Examined) (t b : List ℕ) (right : (d : Design) → x ≡ valid d
       let (w, f, k) = check-same d t (subst (λ (y : Examined). checkOf y t ≡ checks.same) e c) in
       simulates-another d (networkOn d w) (outputOn d) (take n (exportOf x t b .buffer)) (k .agrees) (simulates d w n e f h)
 
-  pub export-demand : ExportDemand x t b
-  export-demand =
+  demanded : ExportDemand x t b
+  demanded =
       record {
         refuses = λ q l r. ap (λ (y : Exported). y .answer) (export-refuses x t b q l r);
         because = λ q l h. refusal-because x t b q l (outcome x t b) h;
@@ -103,6 +103,9 @@ module _ (x : Examined) (t b : List ℕ) (right : (d : Design) → x ≡ valid d
         same-length = outcome-length x t b (outcome x t b);
         later = λ n i h l. outcome-later x t b n i (outcome x t b) h l;
       }
+
+pub export-demand : (x : Examined) (t b : List ℕ) → ((d : Design) → x ≡ valid d → WellFormed d) → ExportDemand x t b
+export-demand x t b right = demanded x t b right
 
 pub sheet-export-demand : (s t b : List ℕ) → ExportDemand (examine s) t b
 sheet-export-demand s t b = export-demand (examine s) t b (valid-well-formed s)

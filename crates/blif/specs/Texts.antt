@@ -1,8 +1,8 @@
--- The text in BLIF by what the code has in hand: texts one after another, and tables as digits that stand in the text of a
+-- The text in BLIF by what the code has in hand: names, rows and blocks, and tables as digits that stand in the text of a
 -- network sheet. Assumes nothing.
 use mathlib.Core.Bool.{Bool}
 use mathlib.Core.List.{List, [], _∷_, _++_, map}
-use Prim.Native.Nat.{ℕ, zero, suc, _+_, _^_}
+use Prim.Native.Nat.{ℕ, _+_, _^_}
 use lib.ListN.{length, getD}
 use Rattle.bits.specs.Logic.{pick}
 use Rattle.bits.specs.Digit.{on}
@@ -13,12 +13,8 @@ use Rattle.names.specs.Names.{printNames}
 use Rattle.names.specs.Pack.{nameOf}
 use Rattle.network.specs.Numbers.{numbersOf}
 use Rattle.checker.specs.Code.{oneAt}
+use Rattle.putting.specs.Upto.{textsUpto}
 use Rattle.blif.specs.Printer.{cellName, rowLine}
-
--- the first n texts that f says
-unfoldable pub textsUpto : (ℕ → List ℕ) → ℕ → List ℕ
-textsUpto f zero = []
-textsUpto f (suc n) = textsUpto f n ++ f n
 
 -- name i of some, and cell i of a mask, after a space
 abbrev pub itemText : List ℕ → ℕ → List ℕ

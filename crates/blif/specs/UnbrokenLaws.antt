@@ -9,14 +9,15 @@ use Rattle.rows.specs.Row.{valuesOf}
 use Rattle.text.specs.Bytes.{bytes}
 use Rattle.text.specs.Unbroken.{unbroken, allUnbroken}
 use Rattle.text.specs.LineLaws.{unbroken-append}
+use Rattle.text.specs.SolidLaws.{solid-unbroken}
 use Rattle.names.specs.Name.{Name}
 use Rattle.names.specs.Names.{printNames}
 use Rattle.network.specs.Network.{Node}
 use Rattle.network.specs.Printer.{printDigits}
 use Rattle.network.specs.UnbrokenLaws.{all-append}
 use Rattle.blif.specs.Printer.{cellName, rowLine, rowLines, block, lutBlocks, nodeBlocks}
-use Rattle.blif.specs.Solid.{isWord, allWords}
-use Rattle.blif.specs.SolidLaws.{solid-unbroken, word-solid, digits-word, cell-word, cells-words, words-append, word-after}
+use Rattle.blif.specs.IsWord.{isWord, allWords}
+use Rattle.blif.specs.IsWordLaws.{word-solid, digits-word, cell-word, cells-words, words-append, word-after}
 
 pub names-unbroken : (ns : List Name) → allWords ns ≡ true → unbroken (printNames ns) ≡ true
 unfolding allWords printNames unbroken

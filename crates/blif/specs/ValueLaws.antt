@@ -35,7 +35,7 @@ use Rattle.blif.specs.MatchLaws.{cover-row}
 use Rattle.blif.specs.DriverLaws.{block-count, cell-driver, output-driver}
 
 -- ---- what is given
-pub given-input : (ns : List Name) (r : ℕ) (n : Name) → among n ns ≡ true → given ns (valuesOf (length ns) r) n ≡ some (onRow ns r n)
+given-input : (ns : List Name) (r : ℕ) (n : Name) → among n ns ≡ true → given ns (valuesOf (length ns) r) n ≡ some (onRow ns r n)
 unfolding given valuesOf onRow among sameName
 given-input [] r n e = absurd (true-false (sym e))
 given-input (m ∷ ns) r n e =
@@ -44,7 +44,7 @@ given-input (m ∷ ns) r n e =
     (λ q. rw q (given-input ns r n (rw q at e)))
     (either (same m n))
 
-pub given-none : (ns : List Name) (vs : List Bool) (n : Name) → among n ns ≡ false → given ns vs n ≡ none
+given-none : (ns : List Name) (vs : List Bool) (n : Name) → among n ns ≡ false → given ns vs n ≡ none
 unfolding given among sameName
 given-none [] vs n e = refl
 given-none (m ∷ ns) [] n e = refl
@@ -111,7 +111,7 @@ module _ (d : Design) (w : Network) (f : WellFormed d) (g : Wellformed d w) (r :
       (given-none (d .inputs) (valuesOf (length (d .inputs)) r) s e)
       h
 
-  pub cell-valued : (k i : ℕ) → i < length (w .luts) → within (suc (suc k)) (cellName i) ≡ some (lutOn d w r i)
+  cell-valued : (k i : ℕ) → i < length (w .luts) → within (suc (suc k)) (cellName i) ≡ some (lutOn d w r i)
   unfolding lutOn vertexOf
   cell-valued k i l =
       let ds = getD (w .luts) i [] in

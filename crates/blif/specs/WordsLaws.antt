@@ -9,10 +9,10 @@ use Rattle.bits.specs.Logic.{pick}
 use Rattle.bits.specs.LogicLaws.{true-false, and-left, and-right}
 use Rattle.text.specs.Bytes.{space}
 use Rattle.text.specs.Line.{onto}
+use Rattle.text.specs.SolidLaws.{solid-first, solid-others}
 use Rattle.names.specs.Names.{printNames}
 use Rattle.blif.specs.Words.{tab, blank, goesOn, words}
-use Rattle.blif.specs.Solid.{isWord, allWords}
-use Rattle.blif.specs.SolidLaws.{solid-first, solid-others}
+use Rattle.blif.specs.IsWord.{isWord, allWords}
 
 above-no-blank : (b : ℕ) → space < b → blank b ≡ false
 unfolding blank

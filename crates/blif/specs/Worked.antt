@@ -26,7 +26,11 @@ luts = bytes "(network 1)\n(lut _0 (a b c) 01101001)\n(lut _1 (a b c) 00000000)\
 abbrev network : List ℕ
 network = luts ++ bytes "(node f (_0 d) 0110)\n(node g (_0 d) 0000)\n(count 2)\n(end)\n"
 
--- its text, of 141 bytes
+-- g reads a cell more than its width
+abbrev wide : List ℕ
+wide = luts ++ bytes "(node f (_0 d) 0110)\n(node g (_0 _1 d) 00000001)\n(count 2)\n(end)\n"
+
+-- the first network's text, of 141 bytes
 abbrev text : List ℕ
 text =
     bytes ".model panel\n.inputs a b c d\n.outputs f g\n"
@@ -75,8 +79,9 @@ pub record Worked : Type 0 where
   -- Export
   pub written-out : export sheet network buffer ≡ record { answer = written 141; buffer = text ++ bytes "!?" }
   pub one-byte-short : export sheet network (blanks ++ blanks) ≡ untouched 9 0 (blanks ++ blanks)
-  pub over-its-width : export sheet (luts ++ bytes "(node f (_0 d) 0110)\n(node g (_0 _1 d) 00000001)\n(count 2)\n(end)\n") [] ≡ untouched 11 5 []
-  pub constants-written : export constants constantNetwork blanks ≡ record { answer = written 61; buffer = constantText ++ bytes "         " }
+  pub over-its-width : export sheet wide [] ≡ untouched 11 5 []
+  pub constants-written : export constants constantNetwork blanks
+      ≡ record { answer = written 61; buffer = constantText ++ bytes "         " }
   -- reading
   pub f-odd : atF text (true ∷ false ∷ false ∷ false ∷ []) ≡ some true
   pub f-even : atF text (true ∷ false ∷ false ∷ true ∷ []) ≡ some false

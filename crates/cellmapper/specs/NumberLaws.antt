@@ -1,10 +1,11 @@
 -- Each operation refuses by one of document 01's numbers, 1 to 11, and so 0 says that no question was answered "no".
 -- Assumes nothing.
 use mathlib.Core.Path.{_≡_, refl, sym, subst}
+use mathlib.Core.Logic.{⊎-elim}
 use mathlib.Core.Bool.{Bool, true, false}
 use mathlib.Core.List.{List}
 use mathlib.Core.Option.{Option, some, none}
-use Prim.Native.Nat.{ℕ, zero, suc}
+use Prim.Native.Nat.{ℕ}
 use native.Mathlib.Omega.{arith}
 use lib.Dec.{leb, ltb}
 use lib.ListN.{length}
@@ -18,7 +19,8 @@ use Rattle.mapper.specs.Map.{MapAnswer, OutcomeFor, OutcomeOf, Outcome}
 use Rattle.network.specs.Network.{Network}
 use Rattle.network.specs.Examine.{Answer, bad-line, network, readNetwork, offending}
 use Rattle.network.specs.Check as check
-use Rattle.network.specs.Check.{Checked, Pair, compareFrom, judge, beside, comparePair, checkOf, examinePair, atRow, differingRow}
+use Rattle.network.specs.Check.{Pair, compared, judge, beside, comparePair, checkOf, examinePair}
+use Rattle.network.specs.CompareLaws.{same-or-differs}
 use Rattle.blif.specs.Printer.{printBlif}
 use Rattle.blif.specs.Export as blif
 use Rattle.blif.specs.Export.{Exported, putText, exportPair, exportOf, export}
@@ -65,18 +67,16 @@ pub map-number : (s b : List ℕ) (a : MapAnswer) (b′ : List ℕ) → Outcome 
 map-number s b a b′ o = map-of-number (examine s) b a b′ (sheet-number s) o
 
 -- ---- Check
-at-row-number : (o : ℕ) (x : Option ℕ) (later : Checked) → CheckNumber later → CheckNumber (atRow o x later)
-at-row-number o (some r) later h = tt
-at-row-number o none later h = h
-
-compare-number : (d : Design) (w : Network) (k o : ℕ) → CheckNumber (compareFrom d w k o)
-unfolding compareFrom
-compare-number d w zero o = tt
-compare-number d w (suc k) o = at-row-number o (differingRow d w o) (compareFrom d w k (suc o)) (compare-number d w k (suc o))
+compare-number : (d : Design) (w : Network) → CheckNumber (compared d w)
+compare-number d w =
+    ⊎-elim
+    (λ e. subst CheckNumber (sym e) tt)
+    (λ (o, r, e). subst CheckNumber (sym e) tt)
+    (same-or-differs d w)
 
 judge-number : (d : Design) (w : Network) (x : Option ℕ) → CheckNumber (comparePair (judge d w x))
 judge-number d w (some l) = record { low = omega arith; high = omega arith }
-judge-number d w none = compare-number d w (length (d .outputs)) 0
+judge-number d w none = compare-number d w
 
 network-number : (d : Design) (x : Answer) → CheckNumber (comparePair (beside d x))
 network-number d (bad-line l) = record { low = omega arith; high = omega arith }

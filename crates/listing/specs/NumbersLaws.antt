@@ -3,18 +3,18 @@
 use mathlib.Core.Path.{_≡_, refl, sym, ap, ap₂, subst, _∙_}
 use mathlib.Core.Bool.{Bool, true, false}
 use mathlib.Core.List.{List, [], _∷_, _++_, map, map-append, append-nil}
-use Prim.Native.Nat.{ℕ, zero, suc, _+_, _*_, _%_, _^_, _≤_, _<_}
+use Prim.Native.Nat.{ℕ, zero, suc, _+_, _*_, _^_, _≤_, _<_}
 use native.Mathlib.Omega.{arith}
 use native.Mathlib.Nat.{add-zero, zero-add, pow-suc, add-suc, suc-add}
 use native.Mathlib.Numerals.{add-one}
 use lib.Pow.{pow-mono}
 use lib.ListN.{length, length-append}
-use borrow.Author.Tests.{lt-ltb}
 use Rattle.limits.specs.Limits.{maxCells, maxCodes}
 use Rattle.bits.specs.Logic.{pick}
 use Rattle.bits.specs.Digit.{on}
 use Rattle.rows.specs.Row.{bit, rowOf}
 use Rattle.text.specs.Number.{printNumber}
+use Rattle.text.specs.FigureLaws.{print-digit}
 use Rattle.names.specs.Name.{Name}
 use Rattle.names.specs.Pack.{pack, nameOf}
 use Rattle.names.specs.PackLaws.{name-of-pack}
@@ -105,22 +105,18 @@ reading-all {mask} {u} {i} {count} {now} g l =
     subst (λ (k : ℕ). Reading mask u k count now) e g
 
 -- ---- the number that holds the name of table i
-pub one-digit : (i : ℕ) → i < oneDigit → printNumber i ≡ (zeroByte + i) ∷ []
-unfolding printNumber
-one-digit i l =
-    let e : zeroByte + i % oneDigit ≡ zeroByte + i = omega arith in
-    rw (lt-ltb i oneDigit l, e)
-
-table-bytes : (i : ℕ) → i < oneDigit → lutName i ≡ underscore ∷ (zeroByte + i) ∷ []
-unfolding lutName
-table-bytes i l = ap (λ (t : List ℕ). underscore ∷ t) (one-digit i l)
+-- a byte b and the digit i
+pub byte-digit-held : (b i : ℕ) → 0 < b → b < 256 → i < oneDigit → nameOf ((i + zeroByte) * 256 + b) ≡ b ∷ printNumber i
+unfolding pack
+byte-digit-held b i p h l =
+    let name : Name = b ∷ (zeroByte + i) ∷ [] in
+    let e : (i + zeroByte) * 256 + b ≡ pack name = omega arith in
+    ap nameOf e ∙ name-of-pack name (omega arith) (p, h, (omega arith, omega arith, tt))
+    ∙ ap (λ (t : List ℕ). b ∷ t) (sym (print-digit i l))
 
 pub table-name : (i : ℕ) → i < oneDigit → nameOf ((i + zeroByte) * 256 + underscore) ≡ lutName i
-unfolding pack
-table-name i l =
-    let name : Name = underscore ∷ (zeroByte + i) ∷ [] in
-    let e : (i + zeroByte) * 256 + underscore ≡ pack name = omega arith in
-    ap nameOf e ∙ name-of-pack name (omega arith) (omega arith, omega arith, (omega arith, omega arith, tt)) ∙ sym (table-bytes i l)
+unfolding lutName
+table-name i l = byte-digit-held underscore i (omega arith) (omega arith) l
 
 -- ---- the code in the tables
 row-step : (a : Bool) (p q r s d : ℕ) → p ≡ q * 2 → r ≡ s * 2 + d → bit a * p + r ≡ (bit a * q + s) * 2 + d

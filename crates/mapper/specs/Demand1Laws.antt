@@ -2,7 +2,7 @@
 use mathlib.Core.Path.{_≡_, refl, sym, _∙_, subst}
 use mathlib.Core.Bool.{Bool, true, false}
 use mathlib.Core.List.{List}
-use mathlib.Core.Logic.{inl, inr, ⊎-elim}
+use mathlib.Core.Logic.{inl, inr}
 use mathlib.Core.Option.{Option, some, none}
 use Prim.Native.Nat.{ℕ, _≤_, _<_}
 use native.Mathlib.Omega.{arith}
@@ -23,7 +23,8 @@ use Rattle.network.specs.Network.{Network}
 use Rattle.network.specs.Printer.{printNetwork}
 use Rattle.network.specs.Examine.{Answer, bad-line, network, readNetwork, offending}
 use Rattle.network.specs.Check as checks
-use Rattle.network.specs.Check.{check, checkOf, examinePair, comparePair, beside, judge, compareFrom}
+use Rattle.network.specs.Check.{check, checkOf, examinePair, comparePair, beside, judge}
+use Rattle.network.specs.CheckLaws.{compared-not-refused}
 use Rattle.network.specs.Wellformed.{Wellformed}
 use Rattle.network.specs.Answers.{WithinLimits, Computes}
 use Rattle.mapper.specs.Map.{Permitted, MapAnswer, refused-by, OutcomeFor, too-many-classes, no-network, buffer-short, written, OutcomeOf, Outcome}
@@ -31,7 +32,7 @@ use Rattle.mapper.specs.LengthLaws.{permitted-length}
 use Rattle.mapper.specs.OutcomeLaws.{outcome-for, outcome-refused}
 use Rattle.mapper.specs.Demand1.{TableRefuses, MapRefuses, CheckRefuses, TableNumber, MapNumber, CheckNumber, Demand1, SheetDemand1}
 use Rattle.mapper.specs.Demand1 as why
-use Rattle.mapper.specs.Demand3Laws.{never-refused, mapped-not-refused}
+use Rattle.mapper.specs.Demand3Laws.{mapped-not-refused}
 
 -- ======== which answer was given
 table-same : {q l p m : ℕ} → tables.refused-by q l ≡ tables.refused-by p m → (q ≡ p) × (l ≡ m)
@@ -85,16 +86,6 @@ module _ (x : Examined) (o : ℕ) (b : List ℕ) where
           record { because = same-table q l 9 0 f (why.by-buffer d e (ltb-true o (length (d .outputs)) h) small); unchanged = refl }
 
 -- ======== Check
-compares-never-refuses : (e : Design) (w : Network) (k o q l : ℕ) → compareFrom e w k o ≡ checks.refused-by q l → ⊥
-compares-never-refuses e w k o q l f =
-    ⊎-elim (λ g. refused-is-same (sym f ∙ g)) (λ g. refused-differs (sym f ∙ g .is)) (never-refused e w k o)
-  where
-    refused-is-same : checks.refused-by q l ≡ checks.same → ⊥
-    refused-is-same e = let z : _≡_ {A = ℕ} 0 1 = cc in omega arith
-
-    refused-differs : {p r : ℕ} → checks.refused-by q l ≡ checks.differs p r → ⊥
-    refused-differs e = let z : _≡_ {A = ℕ} 0 1 = cc in omega arith
-
 module _ (x : Examined) (t : List ℕ) where
   check-refuses : (q l : ℕ) → CheckRefuses x t q l → checkOf x t ≡ checks.refused-by q l
   unfolding checkOf examinePair
@@ -119,7 +110,7 @@ module _ (x : Examined) (t : List ℕ) where
           → comparePair (judge e w i) ≡ checks.refused-by q l
           → CheckRefuses x t q l
       from-judge w h (some m) k f = same-check q l 11 m f (why.by-limits e w m g h k)
-      from-judge w h none k f = absurd (compares-never-refuses e w (length (e .outputs)) 0 q l f)
+      from-judge w h none k f = absurd (compared-not-refused e w q l f)
 
       from-answer : (i : Answer) → readNetwork e t ≡ i → comparePair (beside e i) ≡ checks.refused-by q l → CheckRefuses x t q l
       from-answer (bad-line m) h f = same-check q l 10 m f (why.by-line e m g h)

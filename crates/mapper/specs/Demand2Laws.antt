@@ -1,13 +1,12 @@
 -- Demand 2 holds of every outcome on a well-formed design, and so on every sheet that says one. Assumes nothing.
 use mathlib.Core.Path.{_≡_, refl, sym, ap, _∙_, subst}
 use mathlib.Core.Bool.{Bool, true, false}
-use mathlib.Core.List.{List, _++_}
-use Prim.Native.Nat.{ℕ, _+_, _-_, _≤_, _<_}
+use mathlib.Core.List.{List}
+use Prim.Native.Nat.{ℕ, _≤_, _<_}
 use native.Mathlib.Omega.{arith}
-use native.Mathlib.Nat.{zero-add}
 use lib.Dec.{leb, ltb}
-use lib.ListN.{length, getD, take, drop, List·getD-append}
-use lib.Seq.{sets, sets-eq, length-sets, getD-append-add, getD-drop}
+use lib.ListN.{length, take}
+use lib.Seq.{sets, length-sets}
 use borrow.Author.Tests.{ltb-true, leb-true}
 use Rattle.bits.specs.Logic.{pick}
 use Rattle.rows.specs.DigitLaws.{length-digits, digits-at}
@@ -20,29 +19,11 @@ use Rattle.design.specs.Tabulate.{Tabulated, tableOf, tableDigits, rowCount, un
 use Rattle.network.specs.Printer.{printNetwork}
 use Rattle.network.specs.CheckLaws.{check-compares, same-check}
 use Rattle.network.specs.CompareLaws.{compared-same}
+use Rattle.putting.specs.StoredLaws.{stored-text, stored-at, stored-after}
 use Rattle.mapper.specs.Map.{MapAnswer, mapped, OutcomeFor, too-many-classes, no-network, buffer-short, written, OutcomeOf, Outcome}
 use Rattle.mapper.specs.OutcomeLaws.{outcome-for}
 use Rattle.mapper.specs.Demand2.{TableRight, RightNetwork, Demand2}
-use Rattle.mapper.specs.Demand3Laws.{written-bytes, mapped-not-refused, mapped-length, permitted-drawn}
-
--- ---- bytes stored from the start
-module _ (b t : List ℕ) (h : length t ≤ length b) where
-  stored : sets b 0 t ≡ t ++ drop (length t) b
-  stored =
-      sets-eq t b 0 (subst (λ (n : ℕ). n ≤ length b) (sym (zero-add (length t))) h)
-      ∙ ap (λ (n : ℕ). t ++ drop n b) (zero-add (length t))
-
-  stored-at : (i : ℕ) → i < length t → getD (sets b 0 t) i 0 ≡ getD t i 0
-  stored-at i k = ap (λ (l : List ℕ). getD l i 0) stored ∙ List·getD-append t (drop (length t) b) 0 i k
-
-  stored-after : (i : ℕ) → length t ≤ i → getD (sets b 0 t) i 0 ≡ getD b i 0
-  stored-after i k =
-      let e : i ≡ length t + (i - length t) = omega arith in
-      ap (λ (l : List ℕ). getD l i 0) stored
-      ∙ ap (λ (j : ℕ). getD (t ++ drop (length t) b) j 0) e
-      ∙ getD-append-add t (drop (length t) b) (i - length t) 0
-      ∙ getD-drop (length t) b (i - length t) 0
-      ∙ ap (λ (j : ℕ). getD b j 0) (sym e)
+use Rattle.mapper.specs.Demand3Laws.{mapped-not-refused, mapped-length, permitted-drawn}
 
 -- ---- Table
 table-answered : {m n : ℕ} → tables.written m ≡ tables.written n → m ≡ n
@@ -96,7 +77,7 @@ map-right d b u n f (buffer-short w h p k) e = absurd (mapped-not-refused (sym e
 map-right d b u n f (written w h p k) e =
     let t = sets b 0 (printNetwork d w) in
     let read : take n t ≡ printNetwork d w =
-    ap (λ (i : ℕ). take i t) (sym (mapped-length e)) ∙ written-bytes b (printNetwork d w) k in
+    ap (λ (i : ℕ). take i t) (sym (mapped-length e)) ∙ stored-text b (printNetwork d w) k in
     subst (RightNetwork d) (sym read) (record { said = w; drawn = permitted-drawn d f w p; values = p .computes })
 
 design-demand-2 : (d : Design) (o : ℕ) (b : List ℕ) (a : MapAnswer) (b' : List ℕ)

@@ -1,13 +1,11 @@
 -- Demand 3 holds of every outcome on a well-formed design, and so on every sheet that says one. Assumes nothing.
 use mathlib.Core.Path.{_≡_, refl, sym, ap, _∙_, subst}
 use mathlib.Core.List.{List}
-use mathlib.Core.Logic.{_⊎_, inl, inr, ⊎-elim}
-use mathlib.Core.Option.{Option, some, none}
-use Prim.Native.Nat.{ℕ, zero, suc, _+_, _≤_}
+use mathlib.Core.Logic.{⊎-elim}
+use Prim.Native.Nat.{ℕ, _+_, _≤_}
 use native.Mathlib.Omega.{arith}
-use native.Mathlib.Nat.{zero-add}
-use lib.ListN.{length, take, drop}
-use lib.Seq.{sets, sets-eq, take-at}
+use lib.ListN.{length, take}
+use lib.Seq.{sets}
 use Rattle.limits.specs.Limits.{maxClasses, firstLut}
 use Rattle.sheet.specs.Examine.{Design, Examined, valid, examine}
 use Rattle.sheet.specs.WellFormed.{WellFormed}
@@ -18,37 +16,20 @@ use Rattle.network.specs.Printer.{printNetwork, networkLines}
 use Rattle.text.specs.Line.{lineAt}
 use Rattle.network.specs.Wellformed.{Wellformed}
 use Rattle.network.specs.Answers.{WithinLimits, Computes, Drawn}
-use Rattle.network.specs.Check as c
 use Rattle.network.specs.Check.{Checked, same, differs, checkOf}
+use Rattle.network.specs.NamedLaws.{design-named}
 use Rattle.network.specs.LinePlaceLaws.{count-line-at}
 use Rattle.network.specs.SheetReadLaws.{print-lines}
-use Rattle.network.specs.CompareLaws.{compared-same}
+use Rattle.network.specs.CompareLaws.{same-or-differs, compared-same}
 use Rattle.network.specs.CheckLaws.{check-compares}
 use Rattle.network.specs.PrintedLaws.{printed-drawn, printed-same, drawn-wellformed, drawn-within}
+use Rattle.putting.specs.StoredLaws.{stored-text}
 use Rattle.mapper.specs.Map.{Permitted, MapAnswer, refused-by, mapped, OutcomeFor, too-many-classes, no-network, buffer-short, written, OutcomeOf, Outcome}
 use Rattle.mapper.specs.OutcomeLaws.{outcome-for}
-use Rattle.mapper.specs.DesignLaws.{named-of}
 use Rattle.mapper.specs.SizeLaws.{print-fits}
 use Rattle.mapper.specs.Demand3.{Differs, Cells, Demand3}
 
--- ---- the bytes that Map wrote
-pub written-bytes : (b t : List ℕ) → length t ≤ length b → take (length t) (sets b 0 t) ≡ t
-written-bytes b t h =
-    ap (take (length t)) (sets-eq t b 0 (subst (λ (n : ℕ). n ≤ length b) (sym (zero-add (length t))) h))
-    ∙ take-at t (drop (0 + length t) b) (length t) refl
-
 -- ---- Check on a network that passes 10 and 11 says "same" or "differs"
-at-row : (o : ℕ) (x : Option ℕ) (later : Checked)
-    → (later ≡ same) ⊎ Differs later
-    → (c.atRow o x later ≡ same) ⊎ Differs (c.atRow o x later)
-at-row o (some r) later h = inr (record { output = o; row = r; is = refl })
-at-row o none later h = h
-
-pub never-refused : (d : Design) (w : Network) (k o : ℕ) → (c.compareFrom d w k o ≡ same) ⊎ Differs (c.compareFrom d w k o)
-unfolding c.compareFrom
-never-refused d w zero o = inl refl
-never-refused d w (suc k) o = at-row o (c.differingRow d w o) (c.compareFrom d w k (suc o)) (never-refused d w k (suc o))
-
 same-differs : (a : Checked) → a ≡ same → Differs a → ⊥
 same-differs a e f =
     let g : same ≡ differs (f .output) (f .row) = sym e ∙ f .is in
@@ -59,8 +40,8 @@ differs-or-computes : (d : Design) (t : List ℕ) (w : Network) → Drawn d t w 
 differs-or-computes d t w n h =
     ⊎-elim
     (λ f. absurd (h (compared-same d w f)))
-    (λ f. record { output = f .output; row = f .row; is = check-compares d t w n ∙ f .is })
-    (never-refused d w (length (d .outputs)) 0)
+    (λ (o, r, f). record { output = o; row = r; is = check-compares d t w n ∙ f })
+    (same-or-differs d w)
 
 -- ---- which answer was given
 pub mapped-not-refused : {q l u n : ℕ} → mapped u n ≡ refused-by q l → ⊥
@@ -82,11 +63,11 @@ module _ (d : Design) (f : WellFormed d) where
   module _ (w : Network) (p : Permitted d w) where
     pub permitted-drawn : Drawn d (printNetwork d w) w
     permitted-drawn =
-        printed-drawn d w (named-of d f) (p .wellformed) (p .within) (print-fits d w f (p .wellformed) (p .within))
+        printed-drawn d w (design-named d f) (p .wellformed) (p .within) (print-fits d w f (p .wellformed) (p .within))
 
     pub permitted-same : checkOf (valid d) (printNetwork d w) ≡ same
     permitted-same =
-        printed-same d w (named-of d f) (p .wellformed) (p .within) (print-fits d w f (p .wellformed) (p .within)) (p .computes)
+        printed-same d w (design-named d f) (p .wellformed) (p .within) (print-fits d w f (p .wellformed) (p .within)) (p .computes)
 
     permitted-cells : Cells d (printNetwork d w) (length (w .luts))
     permitted-cells =
@@ -98,13 +79,13 @@ module _ (d : Design) (f : WellFormed d) where
           drawn = permitted-drawn;
           lut-lines = refl;
           count-line =
-              ap (λ (ls : List (List ℕ)). lineAt ls (firstLut + u + m)) (print-lines d w (named-of d f) (p .wellformed))
+              ap (λ (ls : List (List ℕ)). lineAt ls (firstLut + u + m)) (print-lines d w (design-named d f) (p .wellformed))
               ∙ ap (lineAt (networkLines d w)) n ∙ count-line-at d w (p .wellformed .node-each);
         }
 
     rival : (t : List ℕ) (v : Network) → Drawn d t v → checkOf (valid d) t ≡ same → length (w .luts) ≤ length (v .luts)
     rival t v r g =
-        let m = named-of d f in
+        let m = design-named d f in
         p .fewest v (drawn-wellformed d v m t r) (drawn-within d v m t r) (compared-same d v (sym (check-compares d t v r) ∙ g))
 
   -- ---- each outcome
@@ -116,7 +97,7 @@ module _ (d : Design) (f : WellFormed d) where
       let un = length (w .luts) in
       let nn = length (printNetwork d w) in
       let t = sets b 0 (printNetwork d w) in
-      let read : take nn t ≡ printNetwork d w = written-bytes b (printNetwork d w) h in
+      let read : take nn t ≡ printNetwork d w = stored-text b (printNetwork d w) h in
       record {
         refusal-is-true = λ e. absurd (mapped-not-refused e);
         true-refusal = λ g.
@@ -136,7 +117,7 @@ module _ (d : Design) (f : WellFormed d) where
       → ((w : Network) → Wellformed d w → WithinLimits d w → Computes d w → ⊥)
       → Demand3 (valid d) d b (refused-by 8 0) b
   demand-none b h =
-      let m = named-of d f in
+      let m = design-named d f in
       record {
         refusal-is-true = λ _ t w r. differs-or-computes d t w r (h w (drawn-wellformed d w m t r) (drawn-within d w m t r));
         true-refusal = λ _. refl;

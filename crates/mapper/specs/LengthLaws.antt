@@ -7,10 +7,9 @@ use Prim.Native.Nat.{ℕ, suc, _+_, _^_, _≤_, _<_}
 use native.Mathlib.Omega.{arith}
 use native.Mathlib.Nat.{le-antisymm}
 use lib.ListN.{length, getD, length-append, length-map}
-use borrow.Author.Tests.{lt-ltb}
 use Rattle.text.specs.Bytes.{bytes, newline, closeBracket}
 use Rattle.text.specs.Line.{endedLines}
-use Rattle.text.specs.Number.{printNumber}
+use Rattle.text.specs.FigureLaws.{print-digit}
 use Rattle.names.specs.Name.{Name}
 use Rattle.rows.specs.Digits.{digit}
 use Rattle.sheet.specs.Lines.{endLine}
@@ -58,13 +57,9 @@ ended-alike (alike-more {a = a} {b = b} {ps = ps} {qs = qs} e s) =
     append-alike a b (newline ∷ endedLines ps) (newline ∷ endedLines qs) e (ap suc (ended-alike s))
 
 -- ---- the names of shared tables have two bytes
-one-numeral : (n : ℕ) → n < 10 → length (printNumber n) ≡ 1
-unfolding printNumber
-one-numeral n h = rw (lt-ltb n 10 h) refl
-
 lut-name : (i : ℕ) → i < 10 → length (lutName i) ≡ 2
 unfolding lutName
-lut-name i h = ap suc (one-numeral i h)
+lut-name i h = ap (λ (s : List ℕ). suc (length s)) (print-digit i h)
 
 reads-alike : {i j u v : ℕ} {is js : List ℕ} → Rising i u is → Rising j v js → u ≤ 10 → v ≤ 10 → length is ≡ length js → Alike (map lutName is) (map lutName js)
 reads-alike rising-none rising-none a b e = alike-none

@@ -1,6 +1,5 @@
 -- Map of document 01, the demands as theorems, and document 01's sheets to try.
 pub mod Map
-pub mod DesignLaws
 pub mod SizeLaws
 pub mod LengthLaws
 pub mod OutcomeLaws

@@ -6,12 +6,12 @@ use Prim.Native.Nat.{ℕ, _≤_}
 use lib.Dec.{ltb}
 use lib.ListN.{length}
 use borrow.Author.Tests.{ltb-true}
+use Rattle.bits.specs.LogicLaws.{and-left, and-right}
 use Rattle.sheet.specs.Examine.{Design}
 use Rattle.cells.specs.Core.{Cell, Apart, reading}
 use Rattle.classes.specs.Columns.{conflict, vertexCount}
 use Rattle.classes.specs.Width.{budget}
 use Rattle.serving.specs.NetworkCore.{ServesDesign}
-use Rattle.mapper.specs.DesignLaws.{and-left, and-right}
 use Rattle.mapper.specs.CellBounds.{one-cell, two-cells, three-cells}
 
 -- every core that serves the design d has u cells at least

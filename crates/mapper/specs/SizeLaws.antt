@@ -3,44 +3,35 @@
 use mathlib.Core.Path.{_≡_}
 use mathlib.Core.Bool.{Bool, true, false}
 use mathlib.Core.List.{List, [], _∷_, _++_, map}
-use Prim.Native.Nat.{ℕ, suc, _+_, _*_, _/_, _%_, _^_, _≤_, _<_}
+use Prim.Native.Nat.{ℕ, suc, _+_, _*_, _≤_, _<_}
 use native.Mathlib.Omega.{arith}
-use lib.Dec.{ltb}
 use lib.ListN.{length, getD, length-append, length-map}
-use lib.Pow.{pow-mono}
-use Rattle.bits.specs.Logic.{pick}
+use Rattle.bits.specs.LogicLaws.{and-left, and-right}
 use Rattle.limits.specs.Limits.{maxNetwork}
 use Rattle.text.specs.Bytes.{bytes, newline, closeBracket}
 use Rattle.text.specs.Line.{endedLines}
+use Rattle.text.specs.EndedLaws.{ended-append-length}
 use Rattle.text.specs.Number.{printNumber}
+use Rattle.text.specs.FigureLaws.{print-short}
 use Rattle.names.specs.Name.{Name, isName}
 use Rattle.names.specs.Names.{allNames}
 use Rattle.names.specs.IsNameLaws.{name-short}
+use Rattle.names.specs.ShortLaws.{Short, short-none, short-more, short-append, names-short, map-short}
 use Rattle.rows.specs.Digits.{digit}
-use Rattle.sheet.specs.Lines.{endLine, Output}
+use Rattle.sheet.specs.Lines.{endLine}
 use Rattle.sheet.specs.Examine.{Design, outputNames}
 use Rattle.sheet.specs.WellFormed.{WellFormed}
-use Rattle.classes.specs.ProperLaws.{proper-of}
 use Rattle.classes.specs.Columns.{free}
-use Rattle.classes.specs.Width.{budget, width}
-use Rattle.classes.specs.VertexLaws.{width-most}
-use Rattle.classes.specs.FreeLaws.{bound-and-free}
 use Rattle.network.specs.Network.{Network, Node}
 use Rattle.network.specs.Printer.{led, ledAll, lutName, printDigits, networkLine, lutHead, printLut, nodeHead, printNode, printCount, lutLines, nodeLines, networkLines, printNetwork}
 use Rattle.network.specs.Wellformed.{Wellformed, nodeAt}
-use Rattle.network.specs.PartLaws.{free-named}
+use Rattle.network.specs.PartLaws.{free-named, names-count}
+use Rattle.network.specs.NamedLaws.{design-named}
 use Rattle.network.specs.Answers.{WithinLimits}
-use Rattle.mapper.specs.DesignLaws.{named-of, and-left, and-right}
+use Rattle.classes.specs.ProperLaws.{proper-of}
+use Rattle.network.specs.TableBoundLaws.{node-narrow, node-digits-few, lut-digits-few}
 
 -- ---- items of at most eight bytes
-data Short : List (List ℕ) → Type 0 where
-  short-none : Short []
-  short-more : {item : List ℕ} {items : List (List ℕ)} → length item ≤ 8 → Short items → Short (item ∷ items)
-
-short-append : {a b : List (List ℕ)} → Short a → Short b → Short (a ++ b)
-short-append short-none t = t
-short-append (short-more h s) t = short-more h (short-append s t)
-
 led-length : (first : Bool) (item : List ℕ) → length (led first item) ≤ 1 + length item
 led-length true item = omega arith
 led-length false item = omega arith
@@ -48,36 +39,18 @@ led-length false item = omega arith
 led-fits : (first : Bool) {items : List (List ℕ)} → Short items → length (ledAll first items) ≤ 9 * length items
 unfolding ledAll
 led-fits first short-none = omega arith
-led-fits first (short-more {item = item} {items = items} h s) =
+led-fits first (short-more {n = item} {ns = items} h s) =
     let a = length-append (led first item) (ledAll false items) in
     let b = led-length first item in
     let c = led-fits false s in
     omega arith
 
-names-short : (ns : List Name) → allNames ns ≡ true → Short ns
-unfolding allNames
-names-short [] e = short-none
-names-short (n ∷ ns) e = short-more (name-short n (and-left (isName n) (allNames ns) e)) (names-short ns (and-right (isName n) (allNames ns) e))
-
-number-length : (n : ℕ) → length (printNumber n) ≤ 3
-unfolding printNumber
-number-length n = go (ltb n 10) (ltb n 100)
-  where
-    go : (a b : Bool) → length (pick a ((0x30 + n % 10) ∷ []) (pick b ((0x30 + n / 10 % 10) ∷ (0x30 + n % 10) ∷ []) ((0x30 + n / 100 % 10) ∷ (0x30 + n / 10 % 10) ∷ (0x30 + n % 10) ∷ []))) ≤ 3
-    go true b = omega arith
-    go false true = omega arith
-    go false false = omega arith
-
 lut-name-length : (i : ℕ) → length (lutName i) ≤ 4
 unfolding lutName
 lut-name-length i =
-    let a = number-length i in
+    let a = print-short i in
     let b = length-append (bytes "_") (printNumber i) in
     omega arith
-
-lut-names-short : (is : List ℕ) → Short (map lutName is)
-lut-names-short [] = short-none
-lut-names-short (i ∷ is) = let h = lut-name-length i in short-more {item = lutName i} (omega arith) (lut-names-short is)
 
 -- ---- one line
 digits-length : (ds : List Bool) → length (printDigits ds) ≡ length ds
@@ -103,7 +76,7 @@ unfolding printNode nodeHead
 node-line n fs x e f l h =
     let items = map lutName (x .reads) ++ fs in
     let a = name-short n e in
-    let b = led-fits true (short-append (lut-names-short (x .reads)) (names-short fs f)) in
+    let b = led-fits true (short-append (map-short lutName (λ i. omega (arith, lut-name-length i)) (x .reads)) (names-short fs f)) in
     let b1 : length items ≡ length (map lutName (x .reads)) + length fs = length-append (map lutName (x .reads)) fs in
     let b2 : length (map lutName (x .reads)) ≡ length (x .reads) = length-map (x .reads) lutName in
     let c = digits-length (x .digits) in
@@ -118,21 +91,12 @@ node-line n fs x e f l h =
 count-line : (u : ℕ) → length (printCount u) ≤ 11
 unfolding printCount
 count-line u =
-    let a = number-length u in
+    let a = print-short u in
     let b = length-append (printNumber u) (closeBracket ∷ []) in
     let c = length-append (bytes "(count ") (printNumber u ++ (closeBracket ∷ [])) in
     omega arith
 
 -- ---- lines together
-ended-append : (ls ms : List (List ℕ)) → length (endedLines (ls ++ ms)) ≡ length (endedLines ls) + length (endedLines ms)
-unfolding endedLines
-ended-append [] ms = omega arith
-ended-append (l ∷ ls) ms =
-    let a = ended-append ls ms in
-    let b = length-append l (newline ∷ endedLines (ls ++ ms)) in
-    let c = length-append l (newline ∷ endedLines ls) in
-    omega arith
-
 lut-lines : (bs : List Name) (i : ℕ) (ts : List (List Bool))
     → allNames bs ≡ true
     → length bs ≤ 5
@@ -170,41 +134,22 @@ last-lines u =
 
 -- ---- the whole sheet
 module _ (d : Design) (w : Network) (v : WellFormed d) (f : Wellformed d w) (l : WithinLimits d w) where
-  reads-few : (o : ℕ) → o < length (w .nodes) → length (nodeAt (w .nodes) o .reads) + length (free (d .inputs) (d .bound)) ≤ 10
-  unfolding budget
-  reads-few o h =
-      let a : length (nodeAt (w .nodes) o .reads) ≤ width d (d .bound) o = l .reads-within o h in
-      let b = width-most d (d .bound) o in
-      let c = bound-and-free (d .inputs) (d .bound) (proper-of d v .parted) in
-      let e : length (d .inputs) ≤ 10 = v .inputs-right .few in
-      omega arith
-
-  digits-few : (o : ℕ) → o < length (w .nodes) → length (nodeAt (w .nodes) o .digits) ≤ 1024
-  digits-few o h =
-      let a : 2 ^ (length (nodeAt (w .nodes) o .reads) + length (free (d .inputs) (d .bound))) ≤ 1024 = pow-mono (reads-few o h) in
-      let b = f .node-fits o h .counted in
-      omega arith
-
-  luts-few : (i : ℕ) → i < length (w .luts) → length (getD (w .luts) i []) ≤ 32
-  luts-few i h =
-      let a : 2 ^ length (d .bound) ≤ 32 = pow-mono (v .bound-right .few) in
-      let b = f .lut-digits i h in
-      omega arith
-
   pub print-fits : length (printNetwork d w) ≤ maxNetwork
   unfolding printNetwork networkLines endedLines
   print-fits =
-      let m = named-of d v in
+      let m = design-named d v in
       let fs = free (d .inputs) (d .bound) in
       let ls = lutLines (d .bound) 0 (w .luts) in
       let ns = nodeLines fs (outputNames (d .outputs)) (w .nodes) in
       let rest = printCount (length (w .luts)) ∷ endLine ∷ [] in
-      let a = lut-lines (d .bound) 0 (w .luts) (m .bound-named) (v .bound-right .few) luts-few in
-      let b = node-lines fs (outputNames (d .outputs)) (w .nodes) (free-named (d .inputs) (d .bound) (m .inputs-named)) (m .outputs-named) reads-few digits-few in
+      let a = lut-lines (d .bound) 0 (w .luts) (m .bound-named) (v .bound-right .few) (lut-digits-few d w v f) in
+      let frees-named = free-named (d .inputs) (d .bound) (m .inputs-named) in
+      let b =
+      node-lines fs (outputNames (d .outputs)) (w .nodes) frees-named (m .outputs-named) (node-narrow d w (proper-of d v) l) (node-digits-few d w v f l) in
       let c = last-lines (length (w .luts)) in
-      let e = ended-append ls (ns ++ rest) in
-      let g = ended-append ns rest in
-      let h : length (outputNames (d .outputs)) ≡ length (d .outputs) = length-map (d .outputs) (λ (o : Output). o .name) in
+      let e = ended-append-length ls (ns ++ rest) in
+      let g = ended-append-length ns rest in
+      let h = names-count d in
       let k : length (d .outputs) ≤ 4 = v .outputs-right .few in
       let q : length (w .luts) ≤ 6 = f .few-luts in
       let r = length-append networkLine (newline ∷ endedLines (ls ++ (ns ++ rest))) in

@@ -23,6 +23,7 @@ use Rattle.network.specs.Wellformed.{Wellformed, Named}
 use Rattle.network.specs.Answers.{WithinLimits, Computes, Drawn, readCount}
 use Rattle.network.specs.Check.{compared}
 use Rattle.network.specs.Check.{same}
+use Rattle.network.specs.NamedLaws.{design-named}
 use Rattle.network.specs.CompareLaws.{compared-same}
 use Rattle.network.specs.PrintedLaws.{drawn-wellformed, drawn-within, drawn-print}
 use Rattle.serving.specs.NetworkCore.{networkCore}
@@ -30,7 +31,6 @@ use Rattle.serving.specs.Tells.{core-length}
 use Rattle.serving.specs.TheoremA.{drawn-serves}
 use Rattle.serving.specs.FullReads.{reads-width}
 use Rattle.mapper.specs.Map.{Permitted, MapAnswer, refused-by, mapped, OutcomeFor, too-many-classes, no-network, buffer-short, written}
-use Rattle.mapper.specs.DesignLaws.{named-of}
 use Rattle.mapper.specs.LengthLaws.{same-length}
 use Rattle.mapper.specs.NeededCells.{AtLeast}
 use Rattle.mapper.specs.OutcomeLaws.{outcome-for, outcome-refused}
@@ -97,7 +97,7 @@ module _ (s t : List ℕ) (d : Design) (w : Network) (x : Fewest s t d w) where
   proper = proper-of d formed
 
   named : Named d
-  named = named-of d formed
+  named = design-named d formed
 
   well : Wellformed d w
   well = drawn-wellformed d w named t (x .drawn)

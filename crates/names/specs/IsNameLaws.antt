@@ -1,13 +1,20 @@
 -- Which texts are names: what makes one, and what a name is. Assumes nothing.
-use mathlib.Core.Path.{_≡_, ap, _∙_}
-use mathlib.Core.Bool.{Bool, true, false, not, _&&_, and-false}
-use Prim.Native.Nat.{_≤_, _<_}
+use mathlib.Core.Path.{_≡_, refl, ap, _∙_}
+use mathlib.Core.Logic.{_⊎_, inl, inr, ⊎-elim}
+use mathlib.Core.Bool.{Bool, true, false, not, _&&_, _||_, and-false}
+use mathlib.Core.List.{List, [], _∷_}
+use Prim.Native.Nat.{ℕ, _≤_, _<_}
+use native.Mathlib.Omega.{arith}
 use lib.Dec.{leb}
 use lib.ListN.{length}
 use borrow.Author.Tests.{leb-true, le-leb, lt-leb, not-true}
 use Rattle.bits.specs.LogicLaws.{and-left, and-right, and-both}
 use Rattle.limits.specs.Limits.{maxName}
-use Rattle.names.specs.Name.{Name, Operator, none-op, operator, isOperator, allNameBytes, startsWithLetter, isName}
+use Rattle.text.specs.Number.{numeral}
+use Rattle.text.specs.NumeralLaws.{numeral-low, numeral-high}
+use Rattle.text.specs.Solid.{solid}
+use Rattle.text.specs.SolidLaws.{solid-more}
+use Rattle.names.specs.Name.{Name, Operator, none-op, operator, isOperator, letter, nameByte, allNameBytes, startsWithLetter, isName}
 
 pub is-name : (n : Name) → startsWithLetter n ≡ true → allNameBytes n ≡ true → length n ≤ maxName → operator n ≡ none-op → isName n ≡ true
 unfolding isName
@@ -37,6 +44,34 @@ module _ (n : Name) (e : isName n ≡ true) where
   unfolding isName
   name-no-operator =
       not-true (isOperator (operator n)) (and-right (startsWithLetter n && allNameBytes n && leb (length n) maxName) (not (isOperator (operator n))) e)
+
+-- ---- its bytes
+either-true : (a b : Bool) → a || b ≡ true → (a ≡ true) ⊎ (b ≡ true)
+either-true true b e = inl refl
+either-true false b e = inr e
+
+letter-between : (b : ℕ) → letter b ≡ true → (0x61 ≤ b) × (b ≤ 0x7A)
+unfolding letter
+letter-between b e =
+    (leb-true 0x61 b (and-left (leb 0x61 b) (leb b 0x7A) e), leb-true b 0x7A (and-right (leb 0x61 b) (leb b 0x7A) e))
+
+pub name-byte-between : (b : ℕ) → nameByte b ≡ true → (0x30 ≤ b) × (b ≤ 0x7A)
+unfolding nameByte
+name-byte-between b e =
+    ⊎-elim
+    (λ l. omega (arith, letter-between b l))
+    (λ d. omega (arith, numeral-low b d, numeral-high b d))
+    (either-true (letter b) (numeral b) e)
+
+bytes-solid : (n : List ℕ) → allNameBytes n ≡ true → solid n ≡ true
+unfolding solid
+bytes-solid [] h = refl
+bytes-solid (b ∷ n) h =
+    let r = name-byte-between b (and-left (nameByte b) (allNameBytes n) h) in
+    solid-more b n (omega (arith, r)) (bytes-solid n (and-right (nameByte b) (allNameBytes n) h))
+
+pub name-solid : (n : Name) → isName n ≡ true → solid n ≡ true
+name-solid n h = bytes-solid n (name-bytes n h)
 
 -- ---- what is no name
 module _ (n : Name) where

@@ -10,6 +10,7 @@ pub mod Word
 pub mod SameLaws
 pub mod AllNamesLaws
 pub mod IsNameLaws
+pub mod ShortLaws
 pub mod PackLaws
 pub mod WordLaws
 pub mod NameLaws

@@ -1,26 +1,23 @@
 -- Names and their numbers: every number below 2 ^ 64 is the number of the name that it holds, and every list of at most 8
 -- bytes, none of them 0, is the name that its number holds. So numbers are equal where names are. Assumes nothing.
 use mathlib.Core.Path.{_≡_, refl, sym, ap, ap₂, subst, _∙_}
-use mathlib.Core.Logic.{_⊎_, inl, inr, ⊎-elim}
-use mathlib.Core.Bool.{Bool, true, false, _||_}
+use mathlib.Core.Bool.{Bool, true, false}
 use mathlib.Core.List.{List, [], _∷_}
 use Prim.Native.Nat.{ℕ, zero, suc, _+_, _*_, _/_, _%_, _^_, _≤_, _<_}
 use native.Mathlib.Omega.{arith}
 use native.Mathlib.Nat.{pow-suc}
 use native.Mathlib.Decide.{ℕ-discrete}
-use lib.Dec.{eqb, leb}
+use lib.Dec.{eqb}
 use lib.ListN.{length}
-use borrow.Author.Tests.{eq-eqb, ne-eqb, leb-true}
+use borrow.Author.Tests.{eq-eqb, ne-eqb}
 use Rattle.limits.specs.Limits.{maxName}
 use Rattle.bits.specs.Logic.{pick}
 use Rattle.bits.specs.LogicLaws.{and-left, and-right}
 use Rattle.text.specs.Bytes.{same}
 use Rattle.text.specs.BytesLaws.{differ-same}
-use Rattle.text.specs.Number.{numeral}
-use Rattle.text.specs.NumeralLaws.{numeral-low, numeral-high}
-use Rattle.names.specs.Name.{Name, letter, nameByte, allNameBytes, isName, sameName}
+use Rattle.names.specs.Name.{Name, nameByte, allNameBytes, isName, sameName}
 use Rattle.names.specs.Pack.{pack, unpackWithin, nameOf}
-use Rattle.names.specs.IsNameLaws.{name-bytes, name-short}
+use Rattle.names.specs.IsNameLaws.{name-bytes, name-short, name-byte-between}
 use Rattle.names.specs.SameLaws.{same-name-equal, same-name-different}
 
 -- ---- a number, unpacked and packed
@@ -79,28 +76,11 @@ unfolding nameOf
 name-of-pack n h z = unpack-packed maxName n h z
 
 -- ---- the bytes of a name are none of them 0
-either-true : (a b : Bool) → a || b ≡ true → (a ≡ true) ⊎ (b ≡ true)
-either-true true b e = inl refl
-either-true false b e = inr e
-
-letter-bounds : (b : ℕ) → letter b ≡ true → (0x61 ≤ b) × (b ≤ 0x7A)
-unfolding letter
-letter-bounds b e =
-    (leb-true 0x61 b (and-left (leb 0x61 b) (leb b 0x7A) e), leb-true b 0x7A (and-right (leb 0x61 b) (leb b 0x7A) e))
-
-name-byte-bounds : (b : ℕ) → nameByte b ≡ true → (0 < b) × (b < 256)
-unfolding nameByte
-name-byte-bounds b e =
-    ⊎-elim
-    (λ l. omega (arith, letter-bounds b l))
-    (λ d. omega (arith, numeral-low b d, numeral-high b d))
-    (either-true (letter b) (numeral b) e)
-
 name-bytes-no-zero : (n : List ℕ) → allNameBytes n ≡ true → NoZero n
 name-bytes-no-zero [] e = tt
 name-bytes-no-zero (b ∷ s) e =
-    let h = name-byte-bounds b (and-left (nameByte b) (allNameBytes s) e) in
-    (h .0, h .1, name-bytes-no-zero s (and-right (nameByte b) (allNameBytes s) e))
+    let h = name-byte-between b (and-left (nameByte b) (allNameBytes s) e) in
+    (omega (arith, h), omega (arith, h), name-bytes-no-zero s (and-right (nameByte b) (allNameBytes s) e))
 
 pub name-bytes-back : (n : Name) → allNameBytes n ≡ true → length n ≤ maxName → nameOf (pack n) ≡ n
 name-bytes-back n e h = name-of-pack n h (name-bytes-no-zero n e)

@@ -2,6 +2,7 @@
 -- network has the design's value in every output on every row; "differs" exactly at the lowest output that differs and its
 -- lowest row. Assumes nothing.
 use mathlib.Core.Path.{_≡_, refl, sym, ap, _∙_}
+use mathlib.Core.Logic.{⊎-elim}
 use mathlib.Core.List.{List}
 use mathlib.Core.Option.{Option, some, none}
 use Prim.Native.Nat.{ℕ}
@@ -12,7 +13,7 @@ use Rattle.network.specs.Examine.{Answer, bad-line, network, readNetwork
 use Rattle.network.specs.Check.{Checked, refused-by, same, differs, Pair, refused-pair, pair, judge, beside, examinePair, comparePair, checkOf, check}
 use Rattle.network.specs.Answers.{Drawn, Computes, LowestDifference}
 use Rattle.network.specs.Check.{compared}
-use Rattle.network.specs.CompareLaws.{compared-same, same-compared, compared-differs, differs-compared}
+use Rattle.network.specs.CompareLaws.{same-or-differs, compared-same, same-compared, compared-differs, differs-compared}
 
 refused-same : {q l : ℕ} → refused-by q l ≡ same → ⊥
 refused-same e =
@@ -37,6 +38,11 @@ pair-network p = cc
 
 design-is : {d e : Design} → valid d ≡ valid e → d ≡ e
 design-is p = cc
+
+-- a design and a network beside each other are not refused
+pub compared-not-refused : (d : Design) (w : Network) (q l : ℕ) → compared d w ≡ refused-by q l → ⊥
+compared-not-refused d w q l e =
+    ⊎-elim (λ f. refused-same (sym e ∙ f)) (λ (o, r, f). refused-differs (sym e ∙ f)) (same-or-differs d w)
 
 -- ---- a sheet, by what its examination answers
 pub check-sheet : (s t : List ℕ) (x : Examined) → examine s ≡ x → check s t ≡ checkOf x t

@@ -1,6 +1,7 @@
 -- The comparison of a network with a design: "same" exactly where they agree in every output on every row, else the lowest
 -- output that differs, and its lowest row. Assumes nothing.
 use mathlib.Core.Path.{_≡_, refl, sym, ap, _∙_}
+use mathlib.Core.Logic.{_⊎_, inl, inr}
 use mathlib.Core.Bool.{Bool, true, false, not}
 use mathlib.Core.Option.{Option, some, none}
 use Prim.Native.Nat.{ℕ, zero, suc, _^_, _<_}
@@ -162,6 +163,17 @@ module _ (d : Design) (w : Network) where
   -- ---- the comparison
   found-by : (x : Option ℕ) → firstOf somewhere (length (d .outputs)) 0 ≡ x → compared d w ≡ verdict x
   found-by x e = compare-first (length (d .outputs)) 0 ∙ ap verdict e
+
+  pub same-or-differs : (compared d w ≡ same) ⊎ ((o : ℕ) × (r : ℕ) × (compared d w ≡ differs o r))
+  same-or-differs = go (firstOf somewhere (length (d .outputs)) 0) refl
+    where
+      go : (x : Option ℕ)
+          → firstOf somewhere (length (d .outputs)) 0 ≡ x
+          → (compared d w ≡ same) ⊎ ((o : ℕ) × (r : ℕ) × (compared d w ≡ differs o r))
+      go none q = inl (found-by none q)
+      go (some o) q =
+          let (r, f, v) = verdict-at o (some-first somewhere (length (d .outputs)) 0 o q) in
+          inr (o, r, found-by (some o) q ∙ v)
 
   pub compared-same : compared d w ≡ same → Computes d w
   compared-same e = go (firstOf somewhere (length (d .outputs)) 0) refl

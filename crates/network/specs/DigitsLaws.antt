@@ -1,4 +1,4 @@
--- Digits 0 and 1: reading so many is the inverse of printing them. Assumes nothing.
+-- Digits 0 and 1: reading so many is the inverse of printing them, and their print has bytes above 0x20 alone. Assumes nothing.
 use mathlib.Core.Path.{_≡_, refl, ap, ap₂}
 use mathlib.Core.Bool.{Bool, true, false}
 use mathlib.Core.List.{List, [], _∷_, _++_}
@@ -8,6 +8,7 @@ use lib.ListN.{length}
 use borrow.Author.Tests.{eqb-true}
 use Rattle.bits.specs.Logic.{pick}
 use Rattle.text.specs.Bytes.{found, bad, after}
+use Rattle.text.specs.Solid.{solid}
 use Rattle.text.specs.EatLaws.{bad-found, found-item, found-rest, after-found}
 use Rattle.rows.specs.Digits.{digit}
 use Rattle.network.specs.Printer.{printDigits}
@@ -57,3 +58,9 @@ digits-print-of-read zero s ds t e = rw (← found-item e, ← found-rest e) (re
 digits-print-of-read (suc k) [] ds t e = absurd (bad-found e)
 digits-print-of-read (suc k) (b ∷ s) ds t e =
     digits-by (eqb b 0x30) (eqb b 0x31) k b s ds t refl refl (λ es u f. digits-print-of-read k s es u f) e
+
+pub digits-solid : (ds : List Bool) → solid (printDigits ds) ≡ true
+unfolding printDigits solid
+digits-solid [] = refl
+digits-solid (true ∷ ds) = digits-solid ds
+digits-solid (false ∷ ds) = digits-solid ds

@@ -1,13 +1,11 @@
 -- The name of a shared table and the count line as the code spells them, and a lut line and a node line part by part up to
 -- their digits and their list. Assumes nothing.
-use mathlib.Core.Path.{_≡_, refl, sym, ap}
+use mathlib.Core.Path.{_≡_, sym, ap}
 use mathlib.Core.Bool.{Bool, true, false}
 use mathlib.Core.List.{List, [], _∷_, _++_}
-use Prim.Native.Nat.{ℕ, _+_, _%_, _<_}
-use native.Mathlib.Nat.{mod-eq-of-lt}
-use borrow.Author.Tests.{lt-ltb}
+use Prim.Native.Nat.{ℕ, _+_, _<_}
 use Rattle.text.specs.Bytes.{bytes, Read, bad, after, eat, space, closeBracket}
-use Rattle.text.specs.Number.{printNumber}
+use Rattle.text.specs.FigureLaws.{print-digit}
 use Rattle.names.specs.Name.{Name}
 use Rattle.cursor.specs.Item.{At, MovedIs, from}
 use Rattle.cursor.specs.declared.Cursor.{Cursor}
@@ -18,25 +16,19 @@ use Rattle.network.specs.Reader.{readInputs, readLutHead, readNodeHead}
 use Rattle.network.specs.ChainLaws.{part-missing, part-then}
 
 -- ---- a number of one digit
-one-digit : (i : ℕ) → i < 10 → printNumber i ≡ (0x30 + i) ∷ []
-unfolding printNumber
-one-digit i h =
-    let e : i % 10 ≡ i = mod-eq-of-lt h in
-    rw (lt-ltb i 10 h, e) refl
-
 module _ (i : ℕ) (h : i < 10) (first : Bool) where
   pub lut-first : first ≡ true → 0x5F ∷ (0x30 + i) ∷ [] ≡ led first (lutName i)
   unfolding lutName
-  lut-first e = rw e (ap (λ (w : List ℕ). 0x5F ∷ w) (sym (one-digit i h)))
+  lut-first e = rw e (ap (λ (w : List ℕ). 0x5F ∷ w) (sym (print-digit i h)))
 
   pub lut-later : first ≡ false → space ∷ 0x5F ∷ (0x30 + i) ∷ [] ≡ led first (lutName i)
   unfolding lutName
-  lut-later e = rw e (ap (λ (w : List ℕ). space ∷ 0x5F ∷ w) (sym (one-digit i h)))
+  lut-later e = rw e (ap (λ (w : List ℕ). space ∷ 0x5F ∷ w) (sym (print-digit i h)))
 
 pub count-bytes : (u : ℕ) → u < 10
     → 0x28 ∷ 0x63 ∷ 0x6F ∷ 0x75 ∷ 0x6E ∷ 0x74 ∷ 0x20 ∷ (0x30 + u) ∷ 0x29 ∷ [] ≡ printCount u
 unfolding printCount
-count-bytes u h = ap (λ (w : List ℕ). bytes "(count " ++ (w ++ (closeBracket ∷ []))) (sym (one-digit u h))
+count-bytes u h = ap (λ (w : List ℕ). bytes "(count " ++ (w ++ (closeBracket ∷ []))) (sym (print-digit u h))
 
 -- ---- the inputs of a list
 module _ (first : Bool) (ns : List Name) (t : List ℕ) where

@@ -17,6 +17,8 @@ pub mod NodeListLaws
 pub mod LineLaws
 pub mod UnbrokenLaws
 pub mod PartLaws
+pub mod NamedLaws
+pub mod TableBoundLaws
 pub mod StepLaws
 pub mod SheetReadLaws
 pub mod SheetPrintLaws

@@ -1,40 +1,28 @@
 -- No line that is written has 0x0A in it: names, numbers, digits and the words between have none. Assumes nothing.
-use mathlib.Core.Path.{_≡_, refl, sym, ap, _∙_}
+use mathlib.Core.Path.{_≡_, refl}
 use mathlib.Core.Bool.{Bool, true, false}
 use mathlib.Core.List.{List, [], _∷_, _++_, map}
 use Prim.Native.Nat.{ℕ, _≤_, _<_}
 use native.Mathlib.Omega.{arith}
-use lib.Dec.{eqb}
-use borrow.Author.Tests.{ne-eqb}
-use Rattle.bits.specs.LogicLaws.{true-false, and-left, and-right, and-both}
-use Rattle.text.specs.Bytes.{newline, bytes, closeBracket}
+use Rattle.bits.specs.LogicLaws.{and-left, and-right, and-both}
+use Rattle.text.specs.Bytes.{bytes, closeBracket}
 use Rattle.text.specs.Unbroken.{unbroken, allUnbroken}
-use Rattle.text.specs.LineLaws.{unbroken-cons, unbroken-append}
-use Rattle.text.specs.Number.{numeral, printNumber}
+use Rattle.text.specs.LineLaws.{unbroken-append}
+use Rattle.text.specs.Number.{printNumber}
 use Rattle.text.specs.NumberLaws.{print-unbroken}
-use Rattle.names.specs.Name.{Name, letter, nameByte, allNameBytes, isName}
+use Rattle.text.specs.SolidLaws.{solid-unbroken}
+use Rattle.names.specs.Name.{Name, isName}
 use Rattle.names.specs.Names.{allNames}
-use Rattle.names.specs.IsNameLaws.{name-bytes}
+use Rattle.names.specs.IsNameLaws.{name-solid}
 use Rattle.sheet.specs.Lines.{endLine}
 use Rattle.network.specs.Network.{Node}
 use Rattle.network.specs.Printer.{led, ledAll, lutName, printDigits, networkLine, lutHead, printLut, nodeHead, printNode, printCount}
+use Rattle.network.specs.DigitsLaws.{digits-solid}
 use Rattle.network.specs.Reads.{Rising, rising-none, rising-more}
 
 -- ---- names
-name-byte-unbroken : (b : ℕ) → nameByte b ≡ true → eqb b newline ≡ false
-unfolding nameByte letter numeral
-name-byte-unbroken b h = ne-eqb b newline (λ e. true-false (sym h ∙ ap nameByte e))
-
-bytes-unbroken : (n : List ℕ) → allNameBytes n ≡ true → unbroken n ≡ true
-unfolding unbroken
-bytes-unbroken [] h = refl
-bytes-unbroken (b ∷ n) h =
-    unbroken-cons b n
-    (name-byte-unbroken b (and-left (nameByte b) (allNameBytes n) h))
-    (bytes-unbroken n (and-right (nameByte b) (allNameBytes n) h))
-
 name-unbroken : (n : Name) → isName n ≡ true → unbroken n ≡ true
-name-unbroken n h = bytes-unbroken n (name-bytes n h)
+name-unbroken n h = solid-unbroken n (name-solid n h)
 
 names-unbroken : (ns : List Name) → allNames ns ≡ true → allUnbroken ns ≡ true
 unfolding allNames allUnbroken
@@ -80,10 +68,7 @@ lut-names-unbroken h (rising-more {j = j} {js = js} l m r) =
     and-both (unbroken (lutName j)) (allUnbroken (map lutName js)) (lut-name-unbroken j (omega arith)) (lut-names-unbroken h r)
 
 digits-unbroken : (ds : List Bool) → unbroken (printDigits ds) ≡ true
-unfolding printDigits unbroken
-digits-unbroken [] = refl
-digits-unbroken (true ∷ ds) = digits-unbroken ds
-digits-unbroken (false ∷ ds) = digits-unbroken ds
+digits-unbroken ds = solid-unbroken (printDigits ds) (digits-solid ds)
 
 digits-closed-unbroken : (ds : List Bool) → unbroken (printDigits ds ++ (closeBracket ∷ [])) ≡ true
 unfolding unbroken

@@ -1,22 +1,22 @@
 -- Each line that is written holds bytes 0x20 to 0x7E alone: names, numbers, formulas and the words between are made of these.
 -- Assumes nothing.
 use mathlib.Core.Path.{_≡_, refl}
-use mathlib.Core.Bool.{Bool, true, false, _&&_, _||_}
+use mathlib.Core.Bool.{true, false, _&&_}
 use mathlib.Core.List.{List, [], _∷_, _++_}
 use Prim.Native.Nat.{ℕ, _≤_, _<_}
 use native.Mathlib.Omega.{arith}
 use lib.Dec.{leb}
-use borrow.Author.Tests.{leb-true, le-leb}
+use borrow.Author.Tests.{le-leb}
 use Rattle.bits.specs.LogicLaws.{and-left, and-right, and-both}
 use Rattle.text.specs.Bytes.{bytes, space, closeBracket}
 use Rattle.text.specs.Number.{numeral, printNumber}
 use Rattle.text.specs.Numerals.{allNumerals}
 use Rattle.text.specs.NumeralLaws.{numeral-low, numeral-high}
 use Rattle.text.specs.NumberLaws.{print-numerals}
-use Rattle.names.specs.Name.{Name, letter, nameByte, allNameBytes, isName}
+use Rattle.names.specs.Name.{Name, nameByte, allNameBytes, isName}
 use Rattle.names.specs.Names.{printNames}
 use Rattle.names.specs.Names.{allNames}
-use Rattle.names.specs.IsNameLaws.{name-bytes}
+use Rattle.names.specs.IsNameLaws.{name-bytes, name-byte-between}
 use Rattle.cursor.specs.Opening.{Gate, and-gate, or-gate, xor-gate}
 use Rattle.formula.specs.Tree.{Formula, input, constant, negation, gate, Operands, none, more}
 use Rattle.formula.specs.Printer.{gateWord, print, prints, spelled, spelledAll}
@@ -40,23 +40,10 @@ unfolding visible
 closed-visible l h = visible-append l (closeBracket ∷ []) h refl
 
 -- ---- names
-letter-visible : (b : ℕ) → letter b ≡ true → within 0x20 0x7E b ≡ true
-unfolding letter
-letter-visible b h =
-    let l = leb-true 0x61 b (and-left (leb 0x61 b) (leb b 0x7A) h) in
-    let k = leb-true b 0x7A (and-right (leb 0x61 b) (leb b 0x7A) h) in
-    within-visible b (omega arith) (omega arith)
-
-numeral-visible : (b : ℕ) → numeral b ≡ true → within 0x20 0x7E b ≡ true
-numeral-visible b h = within-visible b (omega (arith, numeral-low b h)) (omega (arith, numeral-high b h))
-
 name-byte-visible : (b : ℕ) → nameByte b ≡ true → within 0x20 0x7E b ≡ true
-unfolding nameByte
-name-byte-visible b h = go (letter b) (letter-visible b) h
-  where
-    go : (t : Bool) → (t ≡ true → within 0x20 0x7E b ≡ true) → t || numeral b ≡ true → within 0x20 0x7E b ≡ true
-    go true k e = k refl
-    go false k e = numeral-visible b e
+name-byte-visible b h =
+    let r = name-byte-between b h in
+    within-visible b (omega (arith, r)) (omega (arith, r))
 
 name-bytes-visible : (n : List ℕ) → allNameBytes n ≡ true → visible n ≡ true
 unfolding visible
@@ -78,6 +65,9 @@ names-visible (n ∷ ns) h =
     (names-visible ns (and-right (isName n) (allNames ns) h))
 
 -- ---- numbers
+numeral-visible : (b : ℕ) → numeral b ≡ true → within 0x20 0x7E b ≡ true
+numeral-visible b h = within-visible b (omega (arith, numeral-low b h)) (omega (arith, numeral-high b h))
+
 numerals-visible : (ds : List ℕ) → allNumerals ds ≡ true → visible ds ≡ true
 unfolding allNumerals visible
 numerals-visible [] h = refl

@@ -1,9 +1,9 @@
 -- A text whose last byte is 0x0A is its lines, each ended by 0x0A, and lines with no 0x0A in them are those of the text that
--- they make. Assumes nothing.
+-- they make; the text of lines after lines. Assumes nothing.
 use mathlib.Core.Path.{_≡_, refl, sym, ap, ap₂, _∙_}
 use mathlib.Core.Bool.{Bool, true, false}
-use mathlib.Core.List.{List, [], _∷_, _++_}
-use Prim.Native.Nat.{ℕ, _<_}
+use mathlib.Core.List.{List, [], _∷_, _++_, append-assoc}
+use Prim.Native.Nat.{ℕ, _+_, _<_}
 use native.Mathlib.Omega.{arith}
 use lib.Dec.{eqb}
 use lib.ListN.{length, length-append}
@@ -22,6 +22,25 @@ lines-of-ended (l ∷ ls) h =
     lines-broken l (endedLines ls) (and-left (unbroken l) (allUnbroken ls) h)
     ∙ ap (λ (ms : List (List ℕ)). l ∷ ms) (lines-of-ended ls (and-right (unbroken l) (allUnbroken ls) h))
 
+-- ---- lines after lines
+pub ended-more : (l : List ℕ) (ls : List (List ℕ)) → endedLines (l ∷ ls) ≡ (l ++ (newline ∷ [])) ++ endedLines ls
+unfolding endedLines
+ended-more l ls = sym (append-assoc l (newline ∷ []) (endedLines ls))
+
+pub ended-append : (ls ms : List (List ℕ)) → endedLines (ls ++ ms) ≡ endedLines ls ++ endedLines ms
+unfolding endedLines
+ended-append [] ms = refl
+ended-append (l ∷ ls) ms =
+    ap (λ (t : List ℕ). l ++ (newline ∷ t)) (ended-append ls ms) ∙ sym (append-assoc l (newline ∷ endedLines ls) (endedLines ms))
+
+pub ended-more-length : (l : List ℕ) (ls : List (List ℕ)) → length (endedLines (l ∷ ls)) ≡ length l + 1 + length (endedLines ls)
+unfolding endedLines
+ended-more-length l ls = omega (arith, length-append l (newline ∷ endedLines ls))
+
+pub ended-append-length : (ls ms : List (List ℕ))
+    → length (endedLines (ls ++ ms)) ≡ length (endedLines ls) + length (endedLines ms)
+ended-append-length ls ms = ap length (ended-append ls ms) ∙ length-append (endedLines ls) (endedLines ms)
+
 -- ---- the last byte
 ends-append : (l : List ℕ) (b : ℕ) (s : List ℕ) → endsLine (l ++ (b ∷ s)) ≡ endsLine (b ∷ s)
 unfolding endsLine
@@ -39,8 +58,7 @@ unfolding endedLines
 ended-ends l ls = ends-append l newline (endedLines ls) ∙ ends-after ls
 
 pub ended-some : (l : List ℕ) (ls : List (List ℕ)) → 0 < length (endedLines (l ∷ ls))
-unfolding endedLines
-ended-some l ls = omega (arith, length-append l (newline ∷ endedLines ls))
+ended-some l ls = omega (arith, ended-more-length l ls)
 
 -- ---- a text is its lines
 onto-ended : (b c : ℕ) (s : List ℕ) (ls : List (List ℕ)) → c ∷ s ≡ endedLines ls → b ∷ c ∷ s ≡ endedLines (onto b ls)

@@ -4,6 +4,7 @@ pub mod After
 pub mod Line
 pub mod LineEnd
 pub mod Unbroken
+pub mod Solid
 pub mod Breaks
 pub mod Number
 pub mod Numerals
@@ -14,4 +15,6 @@ pub mod EndedLaws
 pub mod LineEndLaws
 pub mod LineCountLaws
 pub mod NumeralLaws
+pub mod FigureLaws
+pub mod SolidLaws
 pub mod NumberLaws

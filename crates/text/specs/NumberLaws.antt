@@ -14,21 +14,19 @@ use Rattle.text.specs.Unbroken.{unbroken}
 use Rattle.text.specs.Number.{numeral, numerals, afterNumerals, valueFrom, isNumber, readNumber, printNumber}
 use Rattle.text.specs.Numerals.{allNumerals, stops}
 use Rattle.text.specs.NumeralLaws.{numeral-low, numeral-high, numeral-between, numerals-split, numerals-all, after-stops, numerals-of, after-of, numerals-unbroken}
+use Rattle.text.specs.FigureLaws.{figure}
 use Rattle.text.specs.EatLaws.{found-item, found-rest, pick-found}
 
 -- ---- the print, by the number of digits
-abbrev last : ℕ → ℕ
-last n = 0x30 + n % 10
-
-print-one : (n : ℕ) → n < 10 → printNumber n ≡ last n ∷ []
+print-one : (n : ℕ) → n < 10 → printNumber n ≡ figure n ∷ []
 unfolding printNumber
 print-one n h = rw (lt-ltb n 10 h) refl
 
-print-two : (n : ℕ) → 10 ≤ n → n < 100 → printNumber n ≡ last (n / 10) ∷ last n ∷ []
+print-two : (n : ℕ) → 10 ≤ n → n < 100 → printNumber n ≡ figure (n / 10) ∷ figure n ∷ []
 unfolding printNumber
 print-two n l h = rw (le-ltb n 10 l, lt-ltb n 100 h) refl
 
-print-three : (n : ℕ) → 100 ≤ n → printNumber n ≡ last (n / 100) ∷ last (n / 10) ∷ last n ∷ []
+print-three : (n : ℕ) → 100 ≤ n → printNumber n ≡ figure (n / 100) ∷ figure (n / 10) ∷ figure n ∷ []
 unfolding printNumber
 print-three n l =
     let m : 10 ≤ n = omega arith in
@@ -60,22 +58,22 @@ record Printed (n : ℕ) (ds : List ℕ) : Type 0 where
   pub value : valueFrom 0 ds ≡ n
   pub some : 0 < length ds
 
-last-numeral : (n : ℕ) → numeral (last n) ≡ true
-last-numeral n = numeral-between (last n) (omega arith) (omega arith)
+figure-numeral : (n : ℕ) → numeral (figure n) ≡ true
+figure-numeral n = numeral-between (figure n) (omega arith) (omega arith)
 
 -- a first digit other than 0
-first-fits : (n : ℕ) → 0 < n → n < 10 → not (eqb (last n) 0x30) ≡ true
-first-fits n l h = rw (ne-eqb (last n) 0x30 (λ e. omega arith)) refl
+first-fits : (n : ℕ) → 0 < n → n < 10 → not (eqb (figure n) 0x30) ≡ true
+first-fits n l h = rw (ne-eqb (figure n) 0x30 (λ e. omega arith)) refl
 
 printed : (n : ℕ) → n < 1000 → Printed n (printNumber n)
 unfolding allNumerals isNumber valueFrom
 printed =
     by-size (λ (n : ℕ). Printed n (printNumber n))
-    (λ n h. rw (print-one n h) (record { all = rw (last-numeral n) refl; is-number = refl; value = omega arith; some = omega arith }))
+    (λ n h. rw (print-one n h) (record { all = rw (figure-numeral n) refl; is-number = refl; value = omega arith; some = omega arith }))
     (λ n l h.
     rw (print-two n l h)
     (record {
-      all = rw (last-numeral (n / 10), last-numeral n) refl;
+      all = rw (figure-numeral (n / 10), figure-numeral n) refl;
       is-number = rw (first-fits (n / 10) (omega arith) (omega arith)) refl;
       value = omega arith;
       some = omega arith;
@@ -83,7 +81,7 @@ printed =
     (λ n l h.
     rw (print-three n l)
     (record {
-      all = rw (last-numeral (n / 100), last-numeral (n / 10), last-numeral n) refl;
+      all = rw (figure-numeral (n / 100), figure-numeral (n / 10), figure-numeral n) refl;
       is-number = rw (first-fits (n / 100) (omega arith) (omega arith)) refl;
       value = omega (arith, three-digits n h);
       some = omega arith;

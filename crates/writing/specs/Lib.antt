@@ -5,6 +5,5 @@ pub mod DigitLaws
 pub mod TextLaws
 pub mod NodeLaws
 pub mod SheetLaws
-pub mod LineLaws
 pub mod KnownLaws
 pub mod WrittenLaws

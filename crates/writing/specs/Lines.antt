@@ -3,7 +3,7 @@
 use mathlib.Core.Bool.{Bool, false}
 use mathlib.Core.List.{List, [], _∷_, _++_}
 use mathlib.Core.Option.{Option, some, none}
-use Prim.Native.Nat.{ℕ, zero, suc, _+_, _*_, _/_, _%_, _^_, _≤_, _<_}
+use Prim.Native.Nat.{ℕ, _+_, _*_, _/_, _%_, _^_, _≤_, _<_}
 use lib.Dec.{eqb, ltb}
 use lib.ListN.{length, getD}
 use Rattle.limits.specs.Limits.{maxRows, maxVertices, maxFreeRows}
@@ -18,16 +18,19 @@ use Rattle.network.specs.Network.{Node}
 use Rattle.network.specs.Printer.{printCount}
 use Rattle.network.specs.Check.{firstOf}
 use Rattle.serving.specs.Build.{codeIn}
+use Rattle.putting.specs.Upto.{textsUpto}
 use Rattle.listing.specs.Listed.{zeroByte, vertexAt}
 
 -- the first line, of an edition of one digit
 unfoldable pub headLine : ℕ → List ℕ
 headLine edition = bytes "(network " ++ (((zeroByte + edition) ∷ []) ++ bytes ")\n")
 
--- the first n lines that f says
-unfoldable pub linesUpto : (ℕ → List ℕ) → ℕ → List ℕ
-linesUpto f zero = []
-linesUpto f (suc n) = linesUpto f n ++ (f n ++ (newline ∷ []))
+-- the lines that f says, each with its end, and the first n of them
+abbrev pub ended : (ℕ → List ℕ) → ℕ → List ℕ
+ended f i = f i ++ (newline ∷ [])
+
+abbrev pub linesUpto : (ℕ → List ℕ) → ℕ → List ℕ
+linesUpto f n = textsUpto (ended f) n
 
 -- the count line and the last line
 unfoldable pub lastLines : ℕ → List ℕ

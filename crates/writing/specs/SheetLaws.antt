@@ -1,7 +1,7 @@
 -- A network sheet by its lines: what `printNetwork` says of the network of a core is the lines of its tables and its outputs
 -- one after the other. Assumes nothing.
 use mathlib.Core.Path.{_≡_, refl, sym, ap, ap₂, _∙_}
-use mathlib.Core.List.{List, [], _∷_, _++_, append-nil, append-assoc}
+use mathlib.Core.List.{List, [], _∷_, _++_}
 use Prim.Native.Nat.{ℕ, zero, suc, _+_, _<_}
 use native.Mathlib.Omega.{arith}
 use native.Mathlib.Nat.{add-zero, zero-add, add-suc, suc-add}
@@ -9,46 +9,21 @@ use lib.ListN.{length, getD, length-map}
 use Rattle.bits.specs.Digit.{on}
 use Rattle.text.specs.Bytes.{bytes, newline}
 use Rattle.text.specs.Line.{endedLines}
+use Rattle.text.specs.EndedLaws.{ended-more, ended-append}
 use Rattle.names.specs.Name.{Name}
 use Rattle.sheet.specs.Lines.{Output, endLine}
 use Rattle.sheet.specs.Examine.{Design, outputNames}
 use Rattle.classes.specs.Columns.{free, valuesUpto, vertexCount}
+use Rattle.network.specs.Network.{Node}
 use Rattle.network.specs.Printer.{printLut, printNode, printCount, networkLine, lutLines, nodeLines, networkLines, printNetwork}
 use Rattle.serving.specs.Build.{numbers, nodeBuilt, lutsBuilt, nodesBuilt, built}
-use Rattle.writing.specs.Lines.{linesUpto, lastLines}
+use Rattle.putting.specs.UptoLaws.{textsFrom, upto-all, upto-same}
+use Rattle.writing.specs.Lines.{ended, linesUpto, lastLines}
 
--- ---- lines from i on
-unfoldable linesFrom : (ℕ → List ℕ) → ℕ → ℕ → List ℕ
-linesFrom f zero i = []
-linesFrom f (suc k) i = f i ++ (newline ∷ linesFrom f k (suc i))
-
-line-between : (a l b : List ℕ) → a ++ (l ++ (newline ∷ b)) ≡ (a ++ (l ++ (newline ∷ []))) ++ b
-line-between a l b = simp append-assoc
-
-upto-from : (f : ℕ → List ℕ) (k i : ℕ) → linesUpto f i ++ linesFrom f k i ≡ linesUpto f (i + k)
-unfolding linesUpto linesFrom
-upto-from f zero i = append-nil (linesUpto f i) ∙ ap (linesUpto f) (sym (add-zero i))
-upto-from f (suc k) i =
-    line-between (linesUpto f i) (f i) (linesFrom f k (suc i)) ∙ upto-from f k (suc i)
-    ∙ ap (linesUpto f) (suc-add i k ∙ sym (add-suc i k))
-
-from-first : (f : ℕ → List ℕ) (k : ℕ) → linesFrom f k 0 ≡ linesUpto f k
-unfolding linesUpto
-from-first f k = upto-from f k 0 ∙ ap (linesUpto f) (zero-add k)
-
-pub upto-same : (f g : ℕ → List ℕ) (n : ℕ) → ((i : ℕ) → i < n → f i ≡ g i) → linesUpto f n ≡ linesUpto g n
-unfolding linesUpto
-upto-same f g zero h = refl
-upto-same f g (suc n) h =
-    ap₂ (λ (a b : List ℕ). a ++ (b ++ (newline ∷ []))) (upto-same f g n (λ i l. h i (omega arith))) (h n (omega arith))
+pub lines-same : (f g : ℕ → List ℕ) (n : ℕ) → ((i : ℕ) → i < n → f i ≡ g i) → linesUpto f n ≡ linesUpto g n
+lines-same f g n h = upto-same (ended f) (ended g) n (λ i l. ap (λ (t : List ℕ). t ++ (newline ∷ [])) (h i l))
 
 -- ---- the lines of a list
-ended-append : (a b : List (List ℕ)) → endedLines (a ++ b) ≡ endedLines a ++ endedLines b
-unfolding endedLines
-ended-append [] b = refl
-ended-append (l ∷ a) b =
-    ap (λ (t : List ℕ). l ++ (newline ∷ t)) (ended-append a b) ∙ sym (append-assoc l (newline ∷ endedLines a) (endedLines b))
-
 module _ (d : Design) (u : ℕ) (rows codes : ℕ → ℕ) where
   -- the line of table i, and that of output o
   abbrev pub lutLine : ℕ → List ℕ
@@ -58,21 +33,26 @@ module _ (d : Design) (u : ℕ) (rows codes : ℕ → ℕ) where
   nodeLine o =
       printNode (getD (outputNames (d .outputs)) o []) (free (d .inputs) (d .bound)) (nodeBuilt d codes o (numbers u 0 (rows o)))
 
-  ended-luts : (k i : ℕ) → endedLines (lutLines (d .bound) i (lutsBuilt d codes k i)) ≡ linesFrom lutLine k i
-  unfolding endedLines lutLines lutsBuilt linesFrom
+  ended-luts : (k i : ℕ) → endedLines (lutLines (d .bound) i (lutsBuilt d codes k i)) ≡ textsFrom (ended lutLine) k i
+  unfolding endedLines lutLines lutsBuilt textsFrom
   ended-luts zero i = refl
-  ended-luts (suc k) i = ap (λ (t : List ℕ). lutLine i ++ (newline ∷ t)) (ended-luts k (suc i))
+  ended-luts (suc k) i =
+      ended-more (lutLine i) (lutLines (d .bound) (suc i) (lutsBuilt d codes k (suc i)))
+      ∙ ap (λ (t : List ℕ). ended lutLine i ++ t) (ended-luts k (suc i))
 
   ended-nodes : (ns : List Name) (i : ℕ) → ((j : ℕ) → j < length ns → getD ns j [] ≡ getD (outputNames (d .outputs)) (i + j) [])
-      → endedLines (nodeLines (free (d .inputs) (d .bound)) ns (nodesBuilt d u rows codes (length ns) i)) ≡ linesFrom nodeLine (length ns) i
-  unfolding endedLines nodeLines nodesBuilt linesFrom
+      → endedLines (nodeLines (free (d .inputs) (d .bound)) ns (nodesBuilt d u rows codes (length ns) i)) ≡ textsFrom (ended nodeLine) (length ns) i
+  unfolding endedLines nodeLines nodesBuilt textsFrom
   ended-nodes [] i h = refl
   ended-nodes (n ∷ ns) i h =
       let name : n ≡ getD (outputNames (d .outputs)) i []
       = h 0 (omega arith) ∙ ap (λ (k : ℕ). getD (outputNames (d .outputs)) k []) (add-zero i) in
-      ap₂ (λ (m : Name) (t : List ℕ). printNode m (free (d .inputs) (d .bound)) (nodeBuilt d codes i (numbers u 0 (rows i))) ++ (newline ∷ t))
-      name
-      (ended-nodes ns (suc i) (λ j l. h (suc j) (omega arith) ∙ ap (λ (k : ℕ). getD (outputNames (d .outputs)) k []) (add-suc i j ∙ sym (suc-add i j))))
+      let later : (j : ℕ) → j < length ns → getD ns j [] ≡ getD (outputNames (d .outputs)) (suc i + j) []
+      = λ j l. h (suc j) (omega arith) ∙ ap (λ (k : ℕ). getD (outputNames (d .outputs)) k []) (add-suc i j ∙ sym (suc-add i j)) in
+      let x : Node = nodeBuilt d codes i (numbers u 0 (rows i)) in
+      let fs : List Name = free (d .inputs) (d .bound) in
+      ended-more (printNode n fs x) (nodeLines fs ns (nodesBuilt d u rows codes (length ns) (suc i)))
+      ∙ ap₂ (λ (m : Name) (t : List ℕ). (printNode m fs x ++ (newline ∷ [])) ++ t) name (ended-nodes ns (suc i) later)
 
   luts-counted : (k i : ℕ) → length (lutsBuilt d codes k i) ≡ k
   unfolding lutsBuilt
@@ -88,8 +68,8 @@ module _ (d : Design) (u : ℕ) (rows codes : ℕ → ℕ) where
       ap (λ (k : ℕ). endedLines (nodeLines (free (d .inputs) (d .bound)) (outputNames (d .outputs)) (nodesBuilt d u rows codes k 0)))
       (sym outputs-counted)
       ∙ ended-nodes (outputNames (d .outputs)) 0 (λ j l. ap (λ (k : ℕ). getD (outputNames (d .outputs)) k []) (sym (zero-add j)))
-      ∙ ap (λ (k : ℕ). linesFrom nodeLine k 0) outputs-counted
-      ∙ from-first nodeLine (length (d .outputs))
+      ∙ ap (λ (k : ℕ). textsFrom (ended nodeLine) k 0) outputs-counted
+      ∙ sym (upto-all (ended nodeLine) (length (d .outputs)))
 
   last-lines : endedLines (printCount (length (lutsBuilt d codes u 0)) ∷ endLine ∷ []) ≡ lastLines u
   unfolding endedLines lastLines
@@ -106,5 +86,5 @@ module _ (d : Design) (u : ℕ) (rows codes : ℕ → ℕ) where
       sym
       (ap (λ (t : List ℕ). networkLine ++ (newline ∷ t))
       (ended-append ls (ns ++ end)
-      ∙ ap₂ (λ (a b : List ℕ). a ++ b) (ended-luts u 0 ∙ from-first lutLine u)
+      ∙ ap₂ (λ (a b : List ℕ). a ++ b) (ended-luts u 0 ∙ sym (upto-all (ended lutLine) u))
       (ended-append ns end ∙ ap₂ (λ (a b : List ℕ). a ++ b) all-nodes last-lines)))

@@ -6,6 +6,7 @@ use Prim.Native.Nat.{ℕ, _+_, _*_, _^_, _≤_, _<_}
 use lib.ListN.{length}
 use Rattle.limits.specs.Limits.{maxVertices, maxCodes}
 use Rattle.text.specs.Bytes.{bytes, newline, closeBracket}
+use Rattle.text.specs.FigureLaws.{print-digit}
 use Rattle.names.specs.Name.{Name}
 use Rattle.sheet.specs.Lines.{endLine}
 use Rattle.classes.specs.Columns.{valuesUpto}
@@ -14,7 +15,6 @@ use Rattle.network.specs.Network.{Node}
 use Rattle.network.specs.Printer.{ledAll, lutName, printDigits, lutHead, printLut, nodeHead, printNode, printCount}
 use Rattle.serving.specs.Build.{codeIn}
 use Rattle.listing.specs.Listed.{zeroByte, oneDigit, Firsts}
-use Rattle.listing.specs.NumbersLaws.{one-digit}
 use Rattle.writing.specs.Lines.{headLine, lastLines, entryBy, cellBy, nodeBy}
 use Rattle.writing.specs.DigitLaws.{cells-are, entries-within}
 
@@ -53,7 +53,7 @@ head-text e = refl
 pub last-text : (u : ℕ) → u < oneDigit → bytes "(count " ++ (((zeroByte + u) ∷ []) ++ bytes ")\n(end)\n") ≡ lastLines u
 unfolding lastLines printCount
 last-text u l =
-    ap (λ (t : List ℕ). (bytes "(count " ++ (t ++ (closeBracket ∷ []))) ++ (newline ∷ (endLine ++ (newline ∷ [])))) (sym (one-digit u l))
+    ap (λ (t : List ℕ). (bytes "(count " ++ (t ++ (closeBracket ∷ []))) ++ (newline ∷ (endLine ++ (newline ∷ [])))) (sym (print-digit u l))
 
 -- a node line whose digits were looked up by an array of first vertices
 pub node-line : (n : Name) (fs ns rs : List Name) (t vertex free : List ℕ) (l : List Vertex) (codes : ℕ → ℕ) (is : List ℕ) (p c : ℕ)

@@ -21,7 +21,7 @@ use Rattle.listing.specs.Listed.{item}
 use Rattle.writing.specs.Lines.{linesUpto, lastLines, nodeBy}
 use Rattle.writing.specs.KnownLaws.{held-name, names-placed}
 use Rattle.writing.specs.NodeLaws.{node-is}
-use Rattle.writing.specs.SheetLaws.{lutLine, nodeLine, upto-same, sheet-lines}
+use Rattle.writing.specs.SheetLaws.{lutLine, nodeLine, lines-same, sheet-lines}
 
 module _ (d : Design) (k : Sheet) (h : Holds d k) (p : Proper d) where
   pub bound-named : map (λ (q : ℕ). nameOf (item (k .names) q)) (take (k .bounds) (k .bound)) ≡ d .bound
@@ -56,12 +56,12 @@ module _ (d : Design) (k : Sheet) (h : Holds d k) (p : Proper d) where
         let free-is : free-names ≡ free (d .inputs) (d .bound) = ef ∙ ap₂ free (h .inputs-named) bound-is in
         let lut : (i : ℕ) → printLut bs i (valuesUpto (λ (x : ℕ). on (codes x) i) (sh .vertices)) ≡ lutLine d u rows codes i
         = λ i. ap₂ (λ (ns : List Name) (n : ℕ). printLut ns i (valuesUpto (λ (x : ℕ). on (codes x) i) n)) bound-is (s .vertices) in
-        let luts = upto-same (λ (i : ℕ). printLut bs i (valuesUpto (λ (x : ℕ). on (codes x) i) (sh .vertices))) (lutLine d u rows codes) u (λ i l. lut i) in
+        let luts = lines-same (λ (i : ℕ). printLut bs i (valuesUpto (λ (x : ℕ). on (codes x) i) (sh .vertices))) (lutLine d u rows codes) u (λ i l. lut i) in
         let node : (o : ℕ) → o < k .outputs → printNode (nameOf (item (k .outs) o)) free-names (nodeBy (tableAt (k .tables) o) vs fs codes (numbers u 0 (rows o))) ≡ nodeLine d u rows codes o
         = λ o l.
         ap₂ (λ (n : Name) (x : Node). printNode n free-names x) (output-named o l) (node-same codes o (numbers u 0 (rows o)) l)
         ∙ ap (λ (ns : List Name). printNode (getD (outputNames (d .outputs)) o []) ns (nodeBuilt d codes o (numbers u 0 (rows o)))) free-is in
-        let nodes = upto-same (λ (o : ℕ). printNode (nameOf (item (k .outs) o)) free-names (nodeBy (tableAt (k .tables) o) vs fs codes (numbers u 0 (rows o)))) (nodeLine d u rows codes) (k .outputs) node in
+        let nodes = lines-same (λ (o : ℕ). printNode (nameOf (item (k .outs) o)) free-names (nodeBy (tableAt (k .tables) o) vs fs codes (numbers u 0 (rows o)))) (nodeLine d u rows codes) (k .outputs) node in
         ap₂ (λ (a b : List ℕ). bytes "(network 1)\n" ++ (a ++ (b ++ lastLines u)))
         luts
         (nodes ∙ ap (linesUpto (nodeLine d u rows codes)) (h .outputs-counted))

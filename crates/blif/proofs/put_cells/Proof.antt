@@ -5,7 +5,7 @@ use Rattle.putting.specs.Written.{itemRoom}
 use Rattle.putting.specs.PutLaws.{put-length, put-same}
 use Rattle.blif.specs.Texts.{cellText}
 use Rattle.blif.specs.ItemLaws.{cells-text}
-use Rattle.blif.specs.PutLaws.{Texts, texts-none, texts-put, texts-all}
+use Rattle.putting.specs.UptoLaws.{Texts, texts-none, texts-put, texts-all}
 use borrow.Author.Needs.{needs}
 use Rattle.blif.proofs.put_cells.Statement.{statement}
 use Rattle.blif.proofs.put_cells.Tie as tie

@@ -1,5 +1,5 @@
 -- `put_luts`: each turn puts one block more. Assumes nothing.
-use Rattle.blif.specs.PutLaws.{Texts, texts-none, texts-put, texts-all}
+use Rattle.putting.specs.UptoLaws.{Texts, texts-none, texts-put, texts-all}
 use Rattle.blif.specs.Texts.{lutText}
 use Rattle.blif.specs.Room.{blockRoom}
 use Rattle.listing.specs.Listed.{shown}

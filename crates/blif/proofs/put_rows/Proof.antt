@@ -1,6 +1,6 @@
 -- `put_rows`: each turn puts the line of one row more, or none. Assumes nothing.
 use Rattle.blif.specs.RowLaws.{rows-few, rows-text}
-use Rattle.blif.specs.PutLaws.{Texts, texts-none, texts-put, texts-all}
+use Rattle.putting.specs.UptoLaws.{Texts, texts-none, texts-put, texts-all}
 use Rattle.blif.specs.Texts.{rowText, digitsAt}
 use Rattle.blif.specs.Room.{rowRoom}
 use Rattle.putting.specs.PutLaws.{put-length}

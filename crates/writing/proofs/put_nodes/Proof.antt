@@ -1,4 +1,5 @@
 -- `put_nodes`: each turn puts one line more. Assumes nothing.
+use mathlib.Core.Path.{refl}
 use Prim.Native.Nat.{ℕ, _-_}
 use native.Mathlib.Omega.{arith}
 use borrow.Author.Needs.{needs}
@@ -8,21 +9,24 @@ use Rattle.serving.specs.Build.{numbers}
 use Rattle.network.specs.Printer.{printNode}
 use Rattle.sheet.specs.Known.{tableAt}
 use Rattle.names.specs.Pack.{nameOf}
-use Rattle.writing.specs.LineLaws.{Lines, lines-none, lines-put, lines-all}
-use Rattle.writing.specs.Lines.{nodeBy}
+use Rattle.putting.specs.UptoLaws.{Texts, texts-none, texts-put, texts-all}
+use Rattle.writing.specs.Lines.{ended, nodeBy}
 use Rattle.writing.specs.Room.{nodeRoom}
 use Rattle.writing.proofs.put_nodes.Statement.{statement}
 use Rattle.writing.proofs.put_nodes.Tie as tie
 
 abbrev Inv-loop : tie.InvT-loop
-Inv-loop buf₀ at fs u codes vertex free rows outputs outs tables p₀ o₀ buf p o = Lines
-    (λ (j : ℕ). printNode (nameOf (item outs j)) (shown fs) (nodeBy (tableAt tables j) vertex free (item codes) (numbers u 0 (item rows j)))) nodeRoom outputs buf₀ buf at p o
+Inv-loop buf₀ at fs u codes vertex free rows outputs outs tables p₀ o₀ buf p o =
+    Texts
+    (ended
+    (λ (j : ℕ). printNode (nameOf (item outs j)) (shown fs) (nodeBy (tableAt tables j) vertex free (item codes) (numbers u 0 (item rows j)))))
+    nodeRoom outputs buf₀ buf at p o
 
 abbrev μ-loop : tie.MeasureT-loop
 μ-loop buf₀ at fs u codes vertex free rows outputs outs tables p₀ o₀ buf p o = outputs - o
 
 loop-holds : tie.Need-loop-holds Inv-loop μ-loop
-loop-holds c = lines-none _ _ _ _ _
+loop-holds c = texts-none _ _ _ _ _
 
 mul-table : tie.Need-mul-table Inv-loop μ-loop
 mul-table c = search needs
@@ -57,7 +61,7 @@ loop-again c =
     let put-node = c .before .before .put-node in
     let loop-test = c .before .before .before .before .before .before .loop-test in
     let loop = c .before .before .before .before .before .before .before .loop in
-    lines-put (loop .inv) (loop-test .taken) (put-node .ensures)
+    texts-put (loop .inv) (loop-test .taken) (put-node .ensures)
 
 same-length : tie.Need-same-length Inv-loop μ-loop
 same-length c = put-length (c .before .loop .inv .so-far)
@@ -66,7 +70,7 @@ returns : tie.Need-returns Inv-loop μ-loop
 returns c =
     let head = c .before in
     let start = head .before .before .before .before .before .before in
-    lines-all (head .loop .inv) (c .loop-test .left) (omega (arith, start .pre .1, head .loop .inv .within))
+    texts-all (head .loop .inv) (c .loop-test .left) (omega (arith, start .pre .1)) refl
 
 pub put-nodes-spec : {M : Type 1} → statement M
 put-nodes-spec =

@@ -1,15 +1,13 @@
--- Texts put down one after the other: names, cells, rows and blocks are all put down so. Assumes nothing.
-use mathlib.Core.Path.{_≡_, refl, sym, ap, subst, _∙_}
-use mathlib.Core.Bool.{Bool, true, false}
-use mathlib.Core.List.{List, [], _∷_, _++_, append-nil, append-assoc}
+-- Texts put down one after the other: lines, names and blocks are all put down so. Assumes nothing.
+use mathlib.Core.Path.{_≡_, refl, sym, ap, ap₂, subst, _∙_}
+use mathlib.Core.List.{List, [], _++_, append-nil, append-assoc}
 use Prim.Native.Nat.{ℕ, zero, suc, _+_, _*_, _≤_, _<_}
 use native.Mathlib.Omega.{arith}
 use native.Mathlib.Nat.{mul-suc, add-zero, zero-add, add-suc, suc-add}
 use native.Mathlib.Numerals.{add-one}
-use Rattle.bits.specs.Logic.{pick}
 use Rattle.putting.specs.Written.{Written}
 use Rattle.putting.specs.PutLaws.{put-none, put-next, put-same}
-use Rattle.blif.specs.Texts.{textsUpto}
+use Rattle.putting.specs.Upto.{textsUpto}
 
 -- the first i of n texts are put down, each of at most m bytes
 pub record Texts (f : ℕ → List ℕ) (m n : ℕ) (a b : List ℕ) (at p i : ℕ) : Type 0 where
@@ -31,12 +29,6 @@ texts-put {f} {m} {i = i} g l w =
       within = omega arith;
       so-far = put-next (g .so-far) w (ap (textsUpto f) (sym (add-one i))) (more-bytes m i);
     }
-
--- one of the texts may be empty: nothing is put down for it
-pub texts-skip : {f : ℕ → List ℕ} {m n : ℕ} {a b : List ℕ} {at p i : ℕ} → Texts f m n a b at p i → i < n
-    → f i ≡ [] → Texts f m n a b at p (i + 1)
-texts-skip {f} {m} {b = b} {p = p} {i = i} g l e =
-    texts-put g l (put-same (put-none {m = m} b p) (sym e) (omega arith))
 
 pub texts-all : {f : ℕ → List ℕ} {m n k : ℕ} {a b u : List ℕ} {at p i : ℕ} → Texts f m n a b at p i → n ≤ i → m * n ≤ k
     → textsUpto f n ≡ u → Written k a b at p u
@@ -62,10 +54,7 @@ unfolding textsUpto
 upto-all f k = ap (textsUpto f) (sym (zero-add k)) ∙ upto-from f k 0
 
 -- the same texts
-pub from-same : (f g : ℕ → List ℕ) (k i : ℕ) → ((j : ℕ) → i ≤ j → j < i + k → f j ≡ g j) → textsFrom f k i ≡ textsFrom g k i
-unfolding textsFrom
-from-same f g zero i h = refl
-from-same f g (suc k) i h =
-    let here : f i ≡ g i = h i (omega arith) (omega arith) in
-    let later : textsFrom f k (suc i) ≡ textsFrom g k (suc i) = from-same f g k (suc i) (λ j l m. h j (omega arith) (omega arith)) in
-    rw (here, later) refl
+pub upto-same : (f g : ℕ → List ℕ) (n : ℕ) → ((i : ℕ) → i < n → f i ≡ g i) → textsUpto f n ≡ textsUpto g n
+unfolding textsUpto
+upto-same f g zero h = refl
+upto-same f g (suc n) h = ap₂ (λ (a b : List ℕ). a ++ b) (upto-same f g n (λ i l. h i (omega arith))) (h n (omega arith))
