@@ -1,6 +1,6 @@
 -- What the code answers after the examination of the two sheets is what Export answers. Assumes nothing.
 use mathlib.Core.Path.{_≡_, refl, sym, ap, ap₂, _∙_}
-use mathlib.Core.Bool.{Bool, true, false}
+use mathlib.Core.Bool.{true, false}
 use mathlib.Core.List.{List}
 use Prim.Native.Nat.{ℕ, _≤_, _<_}
 use native.Mathlib.Omega.{arith}
@@ -68,7 +68,10 @@ module _ (t : List ℕ) (b : Beside) (x : sheets.Examined) (h : BesideIs t (exam
           let e : n ≡ length (printBlif (q .design) (q .said)) = length-is in
           sym (ap (λ (p : Pair). exportPair p s) (q .is-pair) ∙ put-short (printBlif (q .design) (q .said)) s (omega arith))
 
-      pub answer-written : (s′ : List ℕ) (m : ℕ) → n ≤ length s → Puts s s′ m → record { answer = written m; buffer = s′ } ≡ exportOf x t s
+      pub answer-written : (s′ : List ℕ) (m : ℕ)
+          → n ≤ length s
+          → Puts s s′ m
+          → record { answer = written m; buffer = s′ } ≡ exportOf x t s
       unfolding exportOf
       answer-written s′ m l put =
           let q = passed-pair in

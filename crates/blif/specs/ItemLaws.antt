@@ -40,7 +40,8 @@ pub names-append : (ms ns : List Name) → printNames (ms ++ ns) ≡ printNames 
 unfolding printNames
 names-append [] ns = refl
 names-append (m ∷ ms) ns =
-    ap (λ (t : List ℕ). space ∷ (m ++ t)) (names-append ms ns) ∙ ap (λ (t : List ℕ). space ∷ t) (sym (append-assoc m (printNames ms) (printNames ns)))
+    ap (λ (t : List ℕ). space ∷ (m ++ t)) (names-append ms ns)
+    ∙ ap (λ (t : List ℕ). space ∷ t) (sym (append-assoc m (printNames ms) (printNames ns)))
 
 pub name-alone : (n : Name) → printNames (n ∷ []) ≡ space ∷ n
 unfolding printNames

@@ -1,8 +1,8 @@
 -- What the code puts down, block after block, for a design and a network that it holds is their text in BLIF. Assumes nothing.
 use mathlib.Core.Path.{_≡_, refl, sym, ap, ap₂, subst, _∙_}
 use mathlib.Core.Bool.{Bool, true, false}
-use mathlib.Core.List.{List, [], _∷_, _++_, map, append-nil, append-assoc}
-use Prim.Native.Nat.{ℕ, zero, suc, _+_, _^_, _≤_, _<_}
+use mathlib.Core.List.{List, [], _∷_, _++_, map, append-assoc}
+use Prim.Native.Nat.{ℕ, suc, _+_, _^_, _≤_, _<_}
 use native.Mathlib.Omega.{arith}
 use native.Mathlib.Nat.{add-zero, zero-add, add-suc, suc-add}
 use lib.ListN.{length, length-map, getD, take}
@@ -79,7 +79,8 @@ luts-ended bs f i (t ∷ ts) h =
     let here : f i ≡ endedLines (block bs (cellName i) t)
     = subst (λ (k : ℕ). f k ≡ endedLines (block bs (cellName k) t)) e (h 0 (omega arith)) in
     let later : (j : ℕ) → j < length ts → f (suc i + j) ≡ endedLines (block bs (cellName (suc i + j)) (getD ts j []))
-    = λ j l. subst (λ (k : ℕ). f k ≡ endedLines (block bs (cellName k) (getD ts j []))) (add-suc i j ∙ sym (suc-add i j)) (h (suc j) (omega arith)) in
+    = λ j l.
+    subst (λ (k : ℕ). f k ≡ endedLines (block bs (cellName k) (getD ts j []))) (add-suc i j ∙ sym (suc-add i j)) (h (suc j) (omega arith)) in
     ap₂ (λ (s u : List ℕ). s ++ u) here (luts-ended bs f (suc i) ts later)
     ∙ sym (ended-append (block bs (cellName i) t) (lutBlocks bs (suc i) ts))
 
@@ -168,7 +169,9 @@ module _ (t : List ℕ) (k : Sheet) (n : NetworkSheet) (d : Design) (w : Network
       let e : n .luts ≡ length (w .luts) = held .counted in
       ap (textsUpto f) e ∙ upto-all f (length (w .luts))
       ∙ luts-ended (d .bound) f 0 (w .luts)
-      (λ j l. subst (λ (q : ℕ). f q ≡ endedLines (block (d .bound) (cellName q) (getD (w .luts) j []))) (sym (zero-add j)) (lut-is j (omega (arith, e))))
+      (λ j l.
+      subst (λ (q : ℕ). f q ≡ endedLines (block (d .bound) (cellName q) (getD (w .luts) j []))) (sym (zero-add j))
+      (lut-is j (omega (arith, e))))
 
   abbrev nodeTextAt : ℕ → List ℕ
   nodeTextAt o = nodeText t frees (k .outs) (n .luts) (n .reads) (n .nodeat) o
@@ -208,10 +211,12 @@ module _ (t : List ℕ) (k : Sheet) (n : NetworkSheet) (d : Design) (w : Network
   text-is bs fs eb ef =
       let ls : List (List ℕ) = lutBlocks (d .bound) 0 (w .luts) in
       let ns : List (List ℕ) = nodeBlocks frees (outputNames (d .outputs)) (w .nodes) in
-      let head = ap₂ headText (p .drawing .holds .inputs-named) (p .drawing .holds .outputs-named) ∙ head-ended (d .inputs) (outputNames (d .outputs)) in
+      let holds = p .drawing .holds in
+      let head = ap₂ headText (holds .inputs-named) (holds .outputs-named) ∙ head-ended (d .inputs) (outputNames (d .outputs)) in
       let luts = ap (λ (b : List Name). textsUpto (lutText t b (n .lutat)) (n .luts)) eb ∙ luts-are in
       let nodes = ap (λ (f : List Name). textsUpto (nodeText t f (k .outs) (n .luts) (n .reads) (n .nodeat)) (k .outputs)) ef ∙ nodes-are in
       let blocks = ap₂ (λ (s u : List ℕ). s ++ (u ++ bytes ".end\n")) luts nodes in
       ap₂ (λ (s u : List ℕ). s ++ u) head
-      (blocks ∙ ap (λ (u : List ℕ). endedLines ls ++ u) (sym (ended-append ns (bytes ".end" ∷ []))) ∙ sym (ended-append ls (ns ++ (bytes ".end" ∷ []))))
+      (blocks ∙ ap (λ (u : List ℕ). endedLines ls ++ u) (sym (ended-append ns (bytes ".end" ∷ [])))
+      ∙ sym (ended-append ls (ns ++ (bytes ".end" ∷ []))))
       ∙ sym (ended-append (headLines (d .inputs) (outputNames (d .outputs))) (ls ++ (ns ++ (bytes ".end" ∷ []))))

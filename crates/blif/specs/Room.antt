@@ -11,11 +11,11 @@ use Rattle.putting.specs.Written.{itemRoom}
 abbrev size : String → ℕ
 size s = length (bytes s)
 
--- a directive with n names
-abbrev pub inputsRoom : ℕ
+-- the lines of the inputs and of the outputs, and with them all lines before the blocks
+abbrev inputsRoom : ℕ
 inputsRoom = size ".inputs" + itemRoom * maxInputs + 1
 
-abbrev pub outputsRoom : ℕ
+abbrev outputsRoom : ℕ
 outputsRoom = size ".outputs" + itemRoom * maxOutputs + 1
 
 abbrev pub headRoom : ℕ
@@ -25,7 +25,7 @@ headRoom = size ".model panel\n" + inputsRoom + outputsRoom
 abbrev pub cellsRoom : ℕ
 cellsRoom = itemRoom * maxCells
 
-abbrev pub namesRoom : ℕ
+abbrev namesRoom : ℕ
 namesRoom = size ".names" + cellsRoom + itemRoom * maxInputs + itemRoom + 1
 
 -- the line of a row, the lines of all rows, and a block

@@ -1,8 +1,8 @@
 -- The lines of the rows of value 1, put down one after the other. Assumes nothing.
 use mathlib.Core.Path.{_≡_, refl, sym, ap, _∙_}
-use mathlib.Core.Bool.{Bool, true, false}
+use mathlib.Core.Bool.{Bool}
 use mathlib.Core.List.{List, [], _∷_, _++_, append-assoc}
-use Prim.Native.Nat.{ℕ, zero, suc, _+_, _^_, _≤_, _<_}
+use Prim.Native.Nat.{ℕ, zero, suc, _+_, _^_, _≤_}
 use native.Mathlib.Omega.{arith}
 use lib.Pow.{pow-mono}
 use borrow.Author.Tests.{eq-eqb, ne-eqb}
@@ -43,11 +43,17 @@ ended-many (suc n) r h = sym (append-assoc (printDigits (valuesOf (suc n) r)) (b
 present : (n r b : ℕ) → b ≡ oneByte → endedRow n r ≡ pick (isOne b) (endedRow n r) []
 present n r b one = ap (λ (v : Bool). pick v (endedRow n r) []) (sym (eq-eqb b oneByte one))
 
-pub row-alone : (n r b : ℕ) {a c e : List ℕ} {at p q : ℕ} → b ≡ oneByte → Written maxInputs a c at p (printDigits (valuesOf n r)) → n ≡ 0
+pub row-alone : (n r b : ℕ) {a c e : List ℕ} {at p q : ℕ}
+    → b ≡ oneByte
+    → Written maxInputs a c at p (printDigits (valuesOf n r))
+    → n ≡ 0
     → Written 2 c e p q (bytes "1\n") → Written rowRoom a e at q (pick (isOne b) (endedRow n r) [])
 row-alone n r b one w none v = put-next w v (ended-alone n r none ∙ present n r b one) (omega arith)
 
-pub row-many : (n r b : ℕ) {a c e : List ℕ} {at p q : ℕ} → b ≡ oneByte → Written maxInputs a c at p (printDigits (valuesOf n r)) → (n ≡ 0 → ⊥)
+pub row-many : (n r b : ℕ) {a c e : List ℕ} {at p q : ℕ}
+    → b ≡ oneByte
+    → Written maxInputs a c at p (printDigits (valuesOf n r))
+    → (n ≡ 0 → ⊥)
     → Written 3 c e p q (bytes " 1\n") → Written rowRoom a e at q (pick (isOne b) (endedRow n r) [])
 row-many n r b one w some v = put-next w v (ended-many n r some ∙ present n r b one) (omega arith)
 

@@ -11,7 +11,7 @@ use Rattle.text.specs.Bytes.{bytes}
 use Rattle.blif.specs.Model.{Model}
 use Rattle.blif.specs.Reader.{readBlif}
 use Rattle.blif.specs.Value.{valueIn}
-use Rattle.blif.specs.Export.{Exported, untouched, export, written}
+use Rattle.blif.specs.Export.{untouched, export, written}
 use Rattle.blif.specs.Computing.{computing}
 
 -- sheet A

@@ -63,7 +63,8 @@ fn put_item(buf: &mut [u8], at: usize, v: u64) -> usize
 // The names ns, each after a space.
 fn put_items(buf: &mut [u8], at: usize, ns: &[u64]) -> usize
     requires { ⌜ at + itemRoom * length (now ns) ≤ reach ⌝ }
-    ensures { λ r. ⌜ Written (itemRoom * length (now (ns .entry))) (now (buf .entry)) (now (buf .exit)) at r (printNames (map nameOf (now (ns .entry)))) ⌝ }
+    ensures { λ r. ⌜ Written (itemRoom * length (now (ns .entry))) (now (buf .entry)) (now (buf .exit)) at r
+        (printNames (map nameOf (now (ns .entry)))) ⌝ }
 {
     let mut p = at;
     let mut i = 0;
@@ -126,7 +127,8 @@ fn put_inputs(buf: &mut [u8], at: usize, n: usize, r: usize) -> usize
 // The line of row r of n inputs, where the row's digit is 1.
 fn put_row(buf: &mut [u8], at: usize, n: usize, r: usize, digit: u8) -> usize
     requires { ⌜ (at + rowRoom ≤ reach) × (n ≤ maxInputs) ⌝ }
-    ensures { λ q. ⌜ Written rowRoom (now (buf .entry)) (now (buf .exit)) at q (pick (isOne digit) (rowLine (valuesOf n r) ++ (newline ∷ [])) []) ⌝ }
+    ensures { λ q. ⌜ Written rowRoom (now (buf .entry)) (now (buf .exit)) at q
+        (pick (isOne digit) (rowLine (valuesOf n r) ++ (newline ∷ [])) []) ⌝ }
 {
     if digit != b'1' {
         return at;
@@ -156,7 +158,8 @@ fn put_rows(buf: &mut [u8], at: usize, t: &[u8], place: usize, n: usize) -> usiz
 // The block of shared table i.
 fn put_lut(buf: &mut [u8], at: usize, t: &[u8], bs: Names, i: usize, place: usize) -> usize
     requires { ⌜ (at + blockRoom ≤ reach) × (bs .count ≤ maxBound) × (i < oneDigit) × (place + 2 ^ bs .count ≤ length (now t)) ⌝ }
-    ensures { λ r. ⌜ Written blockRoom (now (buf .entry)) (now (buf .exit)) at r (blockText (shown bs) (cellName i) (digitsAt (now (t .entry)) place)) ⌝ }
+    ensures { λ r. ⌜ Written blockRoom (now (buf .entry)) (now (buf .exit)) at r
+        (blockText (shown bs) (cellName i) (digitsAt (now (t .entry)) place)) ⌝ }
 {
     let p = putting::put_text(buf, at, b".names");
     let q = put_listed(buf, p, bs);
@@ -168,7 +171,8 @@ fn put_lut(buf: &mut [u8], at: usize, t: &[u8], bs: Names, i: usize, place: usiz
 // The blocks of the shared tables.
 fn put_luts(buf: &mut [u8], at: usize, t: &[u8], bs: Names, n: NetworkSheet) -> usize
     requires { ⌜ (at + lutsRoom ≤ reach) × (bs .count ≤ maxBound) × LutsReady (now t) (bs .count) (n .luts) (n .lutat) ⌝ }
-    ensures { λ r. ⌜ Written lutsRoom (now (buf .entry)) (now (buf .exit)) at r (textsUpto (lutText (now (t .entry)) (shown bs) (n .lutat)) (n .luts)) ⌝ }
+    ensures { λ r. ⌜ Written lutsRoom (now (buf .entry)) (now (buf .exit)) at r
+        (textsUpto (lutText (now (t .entry)) (shown bs) (n .lutat)) (n .luts)) ⌝ }
 {
     let luts = n.luts;
     let lutat = n.lutat;
@@ -192,8 +196,10 @@ fn put_node(
     name: u64,
     place: usize,
 ) -> usize
-    requires { ⌜ (at + blockRoom ≤ reach) × (luts ≤ maxCells) × (fs .count ≤ maxInputs) × NodeReady (now t) (length (shown fs)) luts mask place ⌝ }
-    ensures { λ r. ⌜ Written blockRoom (now (buf .entry)) (now (buf .exit)) at r (blockText (map cellName (numbersOf luts mask) ++ shown fs) (nameOf name) (digitsAt (now (t .entry)) place)) ⌝ }
+    requires { ⌜ (at + blockRoom ≤ reach) × (luts ≤ maxCells) × (fs .count ≤ maxInputs)
+        × NodeReady (now t) (length (shown fs)) luts mask place ⌝ }
+    ensures { λ r. ⌜ Written blockRoom (now (buf .entry)) (now (buf .exit)) at r
+        (blockText (map cellName (numbersOf luts mask) ++ shown fs) (nameOf name) (digitsAt (now (t .entry)) place)) ⌝ }
 {
     let n = checker::count(mask, luts) + fs.count;
     let p = putting::put_text(buf, at, b".names");
@@ -206,8 +212,10 @@ fn put_node(
 
 // The blocks of all outputs.
 fn put_nodes(buf: &mut [u8], at: usize, t: &[u8], fs: Names, k: Sheet, n: NetworkSheet) -> usize
-    requires { ⌜ (at + nodesRoom ≤ reach) × (k .outputs ≤ maxOutputs) × (fs .count ≤ maxInputs) × NodesReady (now t) (length (shown fs)) (n .luts) (n .reads) (n .nodeat) (k .outputs) ⌝ }
-    ensures { λ r. ⌜ Written nodesRoom (now (buf .entry)) (now (buf .exit)) at r (textsUpto (nodeText (now (t .entry)) (shown fs) (k .outs) (n .luts) (n .reads) (n .nodeat)) (k .outputs)) ⌝ }
+    requires { ⌜ (at + nodesRoom ≤ reach) × (k .outputs ≤ maxOutputs) × (fs .count ≤ maxInputs)
+        × NodesReady (now t) (length (shown fs)) (n .luts) (n .reads) (n .nodeat) (k .outputs) ⌝ }
+    ensures { λ r. ⌜ Written nodesRoom (now (buf .entry)) (now (buf .exit)) at r
+        (textsUpto (nodeText (now (t .entry)) (shown fs) (k .outs) (n .luts) (n .reads) (n .nodeat)) (k .outputs)) ⌝ }
 {
     let outputs = k.outputs;
     let outs = k.outs;
@@ -226,7 +234,8 @@ fn put_nodes(buf: &mut [u8], at: usize, t: &[u8], fs: Names, k: Sheet, n: Networ
 // The lines before the blocks.
 fn put_head(buf: &mut [u8], at: usize, k: Sheet) -> usize
     requires { ⌜ (at + headRoom ≤ reach) × (k .inputs ≤ maxInputs) × (k .outputs ≤ maxOutputs) ⌝ }
-    ensures { λ r. ⌜ Written headRoom (now (buf .entry)) (now (buf .exit)) at r (headText (map nameOf (take (k .inputs) (k .names))) (map nameOf (take (k .outputs) (k .outs)))) ⌝ }
+    ensures { λ r. ⌜ Written headRoom (now (buf .entry)) (now (buf .exit)) at r
+        (headText (map nameOf (take (k .inputs) (k .names))) (map nameOf (take (k .outputs) (k .outs)))) ⌝ }
 {
     let names = k.names;
     let outs = k.outs;
@@ -242,7 +251,8 @@ fn put_head(buf: &mut [u8], at: usize, k: Sheet) -> usize
 // The whole text, from the buffer's start; the tables stand in the network sheet t.
 fn put_blif(buf: &mut [u8], t: &[u8], k: Sheet, n: NetworkSheet) -> usize
     requires { ⌜ SomePassed (now t) k n ⌝ }
-    ensures { λ r. ⌜ ((d : Design) (w : Network) → Passed (now (t .entry)) k n d w → Written textRoom (now (buf .entry)) (now (buf .exit)) 0 r (printBlif d w)) ⌝ }
+    ensures { λ r. ⌜ ((d : Design) (w : Network) → Passed (now (t .entry)) k n d w
+        → Written textRoom (now (buf .entry)) (now (buf .exit)) 0 r (printBlif d w)) ⌝ }
 {
     let names = k.names;
     let places = k.bound;
@@ -257,7 +267,8 @@ fn put_blif(buf: &mut [u8], t: &[u8], k: Sheet, n: NetworkSheet) -> usize
 // Export, after what the examination of a design answered. A first pass into no buffer gives the length.
 pub fn export_of(e: Examined, network: &[u8], buffer: &mut [u8]) -> Exported
     requires { ⌜ Examination e ⌝ }
-    ensures { λ r. ⌜ ((x : sheets.Examined) → ExaminedIs x e → Right x → record { answer = exportAnswer r; buffer = now (buffer .exit) } ≡ spec.exportOf x (now (network .entry)) (now (buffer .entry))) ⌝ }
+    ensures { λ r. ⌜ ((x : sheets.Examined) → ExaminedIs x e → Right x
+        → record { answer = exportAnswer r; buffer = now (buffer .exit) } ≡ spec.exportOf x (now (network .entry)) (now (buffer .entry))) ⌝ }
 {
     let b = checker::examine_pair(e, network);
     if !b.ok {
@@ -279,7 +290,8 @@ pub fn export_of(e: Examined, network: &[u8], buffer: &mut [u8]) -> Exported
 
 // Export on a design sheet, a network sheet and a buffer.
 pub fn export(sheet: &[u8], network: &[u8], buffer: &mut [u8]) -> Exported
-    ensures { λ r. ⌜ record { answer = exportAnswer r; buffer = now (buffer .exit) } ≡ spec.export (now (sheet .entry)) (now (network .entry)) (now (buffer .entry)) ⌝ }
+    ensures { λ r. ⌜ record { answer = exportAnswer r; buffer = now (buffer .exit) }
+        ≡ spec.export (now (sheet .entry)) (now (network .entry)) (now (buffer .entry)) ⌝ }
 {
     export_of(design::examine(sheet), network, buffer)
 }

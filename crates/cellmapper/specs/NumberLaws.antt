@@ -12,7 +12,6 @@ use lib.ListN.{length}
 use Rattle.bits.specs.Logic.{pick}
 use Rattle.sheet.specs.Examine.{Design, Examined, refused, valid, examine}
 use Rattle.sheet.specs.ExaminationLaws.{refused-right}
-use Rattle.design.specs.Tabulate as table
 use Rattle.design.specs.Tabulate.{Tabulated, tableOf, tabulate, rowCount, untouched}
 use Rattle.mapper.specs.Map as map
 use Rattle.mapper.specs.Map.{MapAnswer, OutcomeFor, OutcomeOf, Outcome}

@@ -197,7 +197,8 @@ pub extern "C" fn cellmapper_export(
     line: &mut usize,
     length: &mut usize,
 ) -> u32
-    ensures { λ r. ⌜ record { number = r; line = now (line .exit); length = now (length .exit) } ≡ exportReport (spec.export (now (sheet .entry)) (now (network .entry)) (now (buffer .entry)) .answer) ⌝ }
+    ensures { λ r. ⌜ record { number = r; line = now (line .exit); length = now (length .exit) }
+        ≡ exportReport (spec.export (now (sheet .entry)) (now (network .entry)) (now (buffer .entry)) .answer) ⌝ }
     ensures { λ _. ⌜ now (buffer .exit) ≡ spec.export (now (sheet .entry)) (now (network .entry)) (now (buffer .entry)) .buffer ⌝ }
 {
     let e = blif::export(sheet, network, buffer);

@@ -1,6 +1,6 @@
 -- `cell_name`: the two bytes of a cell's name as one number. Assumes nothing.
-use Rattle.blif.specs.ItemLaws.{cell-held}
 use borrow.Author.Needs.{needs}
+use Rattle.blif.specs.ItemLaws.{cell-held}
 use Rattle.blif.proofs.cell_name.Statement.{statement}
 use Rattle.blif.proofs.cell_name.Tie as tie
 

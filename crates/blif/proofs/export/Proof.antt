@@ -1,8 +1,8 @@
 -- `export`: Export on what the design sheet's examination answers. Assumes nothing.
-use Rattle.blif.specs.AnswerLaws.{answer-of-sheet}
-use Rattle.checker.specs.CheckLaws.{sheet-right}
-use Rattle.sheet.specs.Examine as sheets
 use borrow.Author.Needs.{needs}
+use Rattle.sheet.specs.Examine as sheets
+use Rattle.checker.specs.CheckLaws.{sheet-right}
+use Rattle.blif.specs.AnswerLaws.{answer-of-sheet}
 use Rattle.blif.proofs.export.Statement.{statement}
 use Rattle.blif.proofs.export.Tie as tie
 

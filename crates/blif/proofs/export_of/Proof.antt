@@ -1,7 +1,7 @@
 -- `export_of`: a refusal, or the text of the pair that passed. Assumes nothing.
-use Rattle.blif.specs.AnswerLaws.{answer-refused, some-passed, answer-short, answer-written}
 use borrow.Author.Tests.{not-true, not-false}
 use borrow.Author.Needs.{needs}
+use Rattle.blif.specs.AnswerLaws.{answer-refused, some-passed, answer-short, answer-written}
 use Rattle.blif.proofs.export_of.Statement.{statement}
 use Rattle.blif.proofs.export_of.Tie as tie
 
@@ -61,7 +61,8 @@ returns-3 c =
     let earlier = c .before .before .before .before .before .before .before .before .before .before .before .before in
     let args = earlier .before .before .before .args in
     λ x h r.
-    answer-written (args .network .now) (examine-pair .result) x (examine-pair .ensures x h r) (not-false _ (if1 .left)) _ _ _ _ (put-blif .ensures) _ _ (if2 .left) (put-blif2 .ensures)
+    answer-written (args .network .now) (examine-pair .result) x (examine-pair .ensures x h r) (not-false _ (if1 .left)) _ _ _ _
+    (put-blif .ensures) _ _ (if2 .left) (put-blif2 .ensures)
 
 pub export-of-spec : {M : Type 1} → statement M
 export-of-spec =

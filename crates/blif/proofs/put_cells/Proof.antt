@@ -1,12 +1,12 @@
 -- `put_cells`: each turn puts one cell more, or none. Assumes nothing.
 use Prim.Native.Nat.{_-_}
 use native.Mathlib.Omega.{arith}
+use borrow.Author.Needs.{needs}
 use Rattle.putting.specs.Written.{itemRoom}
-use Rattle.putting.specs.PutLaws.{put-length, put-same}
+use Rattle.putting.specs.PutLaws.{put-length}
+use Rattle.putting.specs.UptoLaws.{Texts, texts-none, texts-put, texts-all}
 use Rattle.blif.specs.Texts.{cellText}
 use Rattle.blif.specs.ItemLaws.{cells-text}
-use Rattle.putting.specs.UptoLaws.{Texts, texts-none, texts-put, texts-all}
-use borrow.Author.Needs.{needs}
 use Rattle.blif.proofs.put_cells.Statement.{statement}
 use Rattle.blif.proofs.put_cells.Tie as tie
 

@@ -1,11 +1,11 @@
 -- `put_head`: two texts with names after each, and the end of the last line. Assumes nothing.
-use Rattle.blif.specs.BlockLaws.{head-text}
+use mathlib.Core.Path.{sym}
+use native.Mathlib.Omega.{arith}
+use lib.Seq.{length-take-le}
+use borrow.Author.Needs.{needs}
 use Rattle.sheet.proofs.Arrays.{names-sized, outs-sized}
 use Rattle.putting.specs.PutLaws.{put-next, put-then}
-use lib.Seq.{length-take-le}
-use native.Mathlib.Omega.{arith}
-use mathlib.Core.Path.{sym}
-use borrow.Author.Needs.{needs}
+use Rattle.blif.specs.BlockLaws.{head-text}
 use Rattle.blif.proofs.put_head.Statement.{statement}
 use Rattle.blif.proofs.put_head.Tie as tie
 

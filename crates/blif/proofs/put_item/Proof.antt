@@ -1,8 +1,8 @@
 -- `put_item`: a space, and the name after it. Assumes nothing.
 use mathlib.Core.Path.{refl}
 use native.Mathlib.Omega.{arith}
-use Rattle.putting.specs.PutLaws.{put-next}
 use borrow.Author.Needs.{needs}
+use Rattle.putting.specs.PutLaws.{put-next}
 use Rattle.blif.proofs.put_item.Statement.{statement}
 use Rattle.blif.proofs.put_item.Tie as tie
 

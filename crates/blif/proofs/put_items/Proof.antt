@@ -1,13 +1,13 @@
 -- `put_items`: each turn puts one name more. Assumes nothing.
-use lib.ListN.{length}
 use Prim.Native.Nat.{_-_}
 use native.Mathlib.Omega.{arith}
+use lib.ListN.{length}
+use borrow.Author.Needs.{needs}
 use Rattle.putting.specs.Written.{itemRoom}
-use Rattle.putting.specs.PutLaws.{put-length, put-same}
+use Rattle.putting.specs.PutLaws.{put-length}
+use Rattle.putting.specs.UptoLaws.{Texts, texts-none, texts-put, texts-all}
 use Rattle.blif.specs.Texts.{itemText}
 use Rattle.blif.specs.ItemLaws.{names-text}
-use Rattle.putting.specs.UptoLaws.{Texts, texts-none, texts-put, texts-all}
-use borrow.Author.Needs.{needs}
 use Rattle.blif.proofs.put_items.Statement.{statement}
 use Rattle.blif.proofs.put_items.Tie as tie
 

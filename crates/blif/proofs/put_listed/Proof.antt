@@ -1,10 +1,10 @@
 -- `put_listed`: the names that the list holds. Assumes nothing.
-use Rattle.writing.proofs.Arrays.{items-counted}
-use Rattle.listing.proofs.Arrays.{list-sized}
-use Rattle.putting.specs.PutLaws.{put-same}
-use native.Mathlib.Omega.{arith}
 use mathlib.Core.Path.{refl, sym}
+use native.Mathlib.Omega.{arith}
 use borrow.Author.Needs.{needs}
+use Rattle.putting.specs.PutLaws.{put-same}
+use Rattle.listing.proofs.Arrays.{list-sized}
+use Rattle.writing.proofs.Arrays.{items-counted}
 use Rattle.blif.proofs.put_listed.Statement.{statement}
 use Rattle.blif.proofs.put_listed.Tie as tie
 

@@ -1,17 +1,17 @@
-use Rattle.blif.specs.Texts.{digitsAt, blockText}
-use Rattle.listing.specs.Listed.{shown}
+use mathlib.Core.Path.{ap, _∙_, sym}
+use native.Mathlib.Omega.{arith}
+use borrow.Author.Needs.{needs}
 use Rattle.names.specs.Pack.{nameOf}
 use Rattle.names.specs.Name.{Name}
-use mathlib.Core.Path.{ap, _∙_}
--- `put_lut`: the block's first line, part after part, and its rows. Assumes nothing.
-use Rattle.blif.proofs.Arrays.{shown-counted}
-use Rattle.blif.specs.BlockLaws.{block-text}
 use Rattle.putting.specs.PutLaws.{put-next, put-then}
-use native.Mathlib.Omega.{arith}
-use mathlib.Core.Path.{sym}
-use borrow.Author.Needs.{needs}
+use Rattle.listing.specs.Listed.{shown}
+use Rattle.blif.specs.Texts.{digitsAt, blockText}
+use Rattle.blif.specs.BlockLaws.{block-text}
+use Rattle.blif.proofs.Arrays.{shown-counted}
 use Rattle.blif.proofs.put_lut.Statement.{statement}
 use Rattle.blif.proofs.put_lut.Tie as tie
+
+-- `put_lut`: the block's first line, part after part, and its rows. Assumes nothing.
 
 slice-aggregate-put-text : tie.Need-slice-aggregate-put-text
 slice-aggregate-put-text c = search needs

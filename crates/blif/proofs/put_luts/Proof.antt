@@ -1,13 +1,13 @@
 -- `put_luts`: each turn puts one block more. Assumes nothing.
+use mathlib.Core.Path.{refl}
+use Prim.Native.Nat.{_-_}
+use native.Mathlib.Omega.{arith}
+use borrow.Author.Needs.{needs}
 use Rattle.putting.specs.UptoLaws.{Texts, texts-none, texts-put, texts-all}
+use Rattle.putting.specs.PutLaws.{put-length}
+use Rattle.listing.specs.Listed.{shown}
 use Rattle.blif.specs.Texts.{lutText}
 use Rattle.blif.specs.Room.{blockRoom}
-use Rattle.listing.specs.Listed.{shown}
-use Rattle.putting.specs.PutLaws.{put-length}
-use native.Mathlib.Omega.{arith}
-use Prim.Native.Nat.{_-_}
-use mathlib.Core.Path.{refl}
-use borrow.Author.Needs.{needs}
 use Rattle.blif.proofs.put_luts.Statement.{statement}
 use Rattle.blif.proofs.put_luts.Tie as tie
 

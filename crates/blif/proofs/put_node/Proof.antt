@@ -1,21 +1,21 @@
-use mathlib.Core.Path.{ap₂}
+use mathlib.Core.Path.{ap₂, sym, subst}
+use mathlib.Core.List.{map}
+use Prim.Native.Nat.{ℕ, _+_, _^_, _≤_}
+use native.Mathlib.Omega.{arith}
+use lib.ListN.{length}
+use borrow.Author.Needs.{needs}
+use Rattle.names.specs.Pack.{nameOf}
+use Rattle.network.specs.Numbers.{numbersOf}
+use Rattle.putting.specs.PutLaws.{put-next, put-then}
+use Rattle.listing.specs.Listed.{shown}
 use Rattle.blif.specs.Texts.{digitsAt}
 use Rattle.blif.specs.Printer.{cellName}
-use Rattle.names.specs.Pack.{nameOf}
-use mathlib.Core.List.{map}
--- `put_node`: the block's first line, part after part, and its rows. Assumes nothing.
-use Rattle.blif.proofs.Arrays.{shown-counted}
 use Rattle.blif.specs.BlockLaws.{block-text-two, two-counted}
-use Rattle.network.specs.Numbers.{numbersOf}
-use Rattle.listing.specs.Listed.{shown}
-use Rattle.putting.specs.PutLaws.{put-next, put-then}
-use lib.ListN.{length}
-use native.Mathlib.Omega.{arith}
-use Prim.Native.Nat.{ℕ, _+_, _^_, _≤_}
-use mathlib.Core.Path.{sym, subst}
-use borrow.Author.Needs.{needs}
+use Rattle.blif.proofs.Arrays.{shown-counted}
 use Rattle.blif.proofs.put_node.Statement.{statement}
 use Rattle.blif.proofs.put_node.Tie as tie
+
+-- `put_node`: the block's first line, part after part, and its rows. Assumes nothing.
 
 count-requires : tie.Need-count-requires
 count-requires c κs = search needs

@@ -1,18 +1,19 @@
 -- `put_nodes`: each turn puts one block more. Assumes nothing.
+use mathlib.Core.Path.{refl}
+use Prim.Native.Nat.{_-_}
+use native.Mathlib.Omega.{arith}
+use borrow.Author.Needs.{needs}
 use Rattle.putting.specs.UptoLaws.{Texts, texts-none, texts-put, texts-all}
+use Rattle.putting.specs.PutLaws.{put-length}
+use Rattle.listing.specs.Listed.{shown}
 use Rattle.blif.specs.Texts.{nodeText}
 use Rattle.blif.specs.Room.{blockRoom}
-use Rattle.listing.specs.Listed.{shown}
-use Rattle.putting.specs.PutLaws.{put-length}
-use native.Mathlib.Omega.{arith}
-use Prim.Native.Nat.{_-_}
-use mathlib.Core.Path.{refl}
-use borrow.Author.Needs.{needs}
 use Rattle.blif.proofs.put_nodes.Statement.{statement}
 use Rattle.blif.proofs.put_nodes.Tie as tie
 
 abbrev Inv-loop : tie.InvT-loop
-Inv-loop buf₀ at t fs outputs outs luts reads nodeat p₀ o₀ buf p o = Texts (nodeText t (shown fs) outs luts reads nodeat) blockRoom outputs buf₀ buf at p o
+Inv-loop buf₀ at t fs outputs outs luts reads nodeat p₀ o₀ buf p o =
+    Texts (nodeText t (shown fs) outs luts reads nodeat) blockRoom outputs buf₀ buf at p o
 
 abbrev μ-loop : tie.MeasureT-loop
 μ-loop buf₀ at t fs outputs outs luts reads nodeat p₀ o₀ buf p o = outputs - o

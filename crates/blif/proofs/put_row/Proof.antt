@@ -1,7 +1,7 @@
 -- `put_row`: nothing, or the values of the inputs and what ends the line. Assumes nothing.
-use Rattle.blif.specs.RowLaws.{row-absent, row-alone, row-many}
 use native.Mathlib.Omega.{arith}
 use borrow.Author.Needs.{needs}
+use Rattle.blif.specs.RowLaws.{row-absent, row-alone, row-many}
 use Rattle.blif.proofs.put_row.Statement.{statement}
 use Rattle.blif.proofs.put_row.Tie as tie
 

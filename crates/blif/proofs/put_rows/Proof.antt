@@ -1,12 +1,12 @@
 -- `put_rows`: each turn puts the line of one row more, or none. Assumes nothing.
-use Rattle.blif.specs.RowLaws.{rows-few, rows-text}
+use Prim.Native.Nat.{_-_}
+use native.Mathlib.Omega.{arith}
+use borrow.Author.Needs.{needs}
 use Rattle.putting.specs.UptoLaws.{Texts, texts-none, texts-put, texts-all}
+use Rattle.putting.specs.PutLaws.{put-length}
+use Rattle.blif.specs.RowLaws.{rows-few, rows-text}
 use Rattle.blif.specs.Texts.{rowText, digitsAt}
 use Rattle.blif.specs.Room.{rowRoom}
-use Rattle.putting.specs.PutLaws.{put-length}
-use native.Mathlib.Omega.{arith}
-use Prim.Native.Nat.{_-_}
-use borrow.Author.Needs.{needs}
 use Rattle.blif.proofs.put_rows.Statement.{statement}
 use Rattle.blif.proofs.put_rows.Tie as tie
 

@@ -1,7 +1,7 @@
 -- `both`: the two parts lie within the text. Assumes nothing.
-use lib.Seq.{length-take-le}
-use native.Mathlib.Omega.{arith}
 use mathlib.Core.Path.{sym}
+use native.Mathlib.Omega.{arith}
+use lib.Seq.{length-take-le}
 use borrow.Author.Needs.{needs}
 use Rattle.cellcheck.proofs.both.Statement.{statement}
 use Rattle.cellcheck.proofs.both.Tie as tie

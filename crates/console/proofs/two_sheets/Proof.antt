@@ -1,6 +1,6 @@
 -- `two_sheets`: the place stays within the text. Assumes nothing.
-use lib.ListN.{length}
 use Prim.Native.Nat.{_≤_, _-_}
+use lib.ListN.{length}
 use borrow.Author.Needs.{needs}
 use Rattle.console.proofs.two_sheets.Statement.{statement}
 use Rattle.console.proofs.two_sheets.Tie as tie
