@@ -1,7 +1,8 @@
 /* timing map SHEET..: for each sheet a line: name, cells or `refused N`, nanoseconds of a call of Map, nanoseconds of reading
  * the sheet alone.
  * timing large SHEET..: for each sheet a line: name, nanoseconds of Table of the last output, of the same in plain C, of
- * Check on Map's network, of the same in plain C, and of Export of that network. The answers of the two are compared.
+ * Check on Map's network, of the same in plain C, and of Export of that network. The answers of Table and Check are compared
+ * with those of the plain C.
  * Last comes a line `peak` with the most memory that the process had, in KiB. Times are processor time, the best of several
  * batches. */
 #define _POSIX_C_SOURCE 200809L
@@ -74,7 +75,8 @@ static void check_plain(void)
 static void export_here(void)
 {
     size_t line, length;
-    kept += (int)cellmapper_export(sheet, sheet_len, network, network_len, text, sizeof text, &line, &length);
+    if (cellmapper_export(sheet, sheet_len, network, network_len, text, sizeof text, &line, &length) != 0)
+        fail("is not exported", "network");
 }
 
 static double now(void)

@@ -151,6 +151,8 @@ def mapped_cases(dice, count):
         if not network.startswith(b"refused 8 "):
             cases.append(Case(path.stem, path.read_bytes(), network))
     examples = len(cases)
+    if not examples:
+        fail("no example sheet maps")
     while len(cases) < examples + count:
         sheet = random_sheets.text_of(random_sheets.valid(dice))
         network = program("bin/cellmap", sheet)

@@ -24,10 +24,13 @@ pub record Exported : Type 0 where
 abbrev pub untouched : ℕ → ℕ → List ℕ → Exported
 untouched q l b = record { answer = refused-by q l; buffer = b }
 
+-- the text t from the buffer's start
+abbrev pub wrote : List ℕ → List ℕ → Exported
+wrote t b = record { answer = written (length t); buffer = sets b 0 t }
+
 -- question 9
 unfoldable pub putText : List ℕ → List ℕ → Exported
-putText t b =
-    pick (leb (length t) (length b)) (record { answer = written (length t); buffer = sets b 0 t }) (untouched 9 0 b)
+putText t b = pick (leb (length t) (length b)) (wrote t b) (untouched 9 0 b)
 
 abbrev pub exportPair : Pair → List ℕ → Exported
 exportPair (refused-pair q l) b = untouched q l b

@@ -18,13 +18,10 @@ use Rattle.network.specs.Answers.{Drawn}
 use Rattle.network.specs.CheckLaws.{compared-not-refused, pair-drawn, drawn-pair}
 use Rattle.putting.specs.StoredLaws.{stored-text, stored-after}
 use Rattle.blif.specs.Printer.{printBlif}
-use Rattle.blif.specs.Export.{Exported, refused-by, written, untouched, putText, exportPair, exportOf}
+use Rattle.blif.specs.Export.{Exported, refused-by, written, untouched, wrote, putText, exportPair, exportOf}
 use Rattle.blif.specs.Simulated.{ExportRefuses, as-check, by-buffer}
 
 -- ---- question 9
-abbrev pub wrote : List ℕ → List ℕ → Exported
-wrote t b = record { answer = written (length t); buffer = sets b 0 t }
-
 length-written : {m n : ℕ} → written m ≡ written n → m ≡ n
 length-written e = cc
 

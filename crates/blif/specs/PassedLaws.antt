@@ -199,7 +199,7 @@ module _ (t : List ℕ) (k : Sheet) (n : NetworkSheet) (d : Design) (w : Network
       ∙ nodes-ended frees nodeTextAt 0 (outputNames (d .outputs)) (w .nodes) c
       (λ j l. ap nodeTextAt (zero-add j) ∙ node-is j (omega (arith, e, g)))
 
-  -- the parts that the code puts down, with the names that it has in hand
+  -- the parts that the code puts down, with the names that it holds
   pub text-is : (bs fs : List Name)
       → bs ≡ d .bound
       → fs ≡ frees

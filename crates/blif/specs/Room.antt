@@ -8,7 +8,7 @@ use Rattle.text.specs.Bytes.{bytes}
 use Rattle.putting.specs.Written.{itemRoom}
 
 -- the bytes of a quoted text
-abbrev size : String → ℕ
+abbrev pub size : String → ℕ
 size s = length (bytes s)
 
 -- the lines of the inputs and of the outputs, and with them all lines before the blocks

@@ -1,4 +1,4 @@
--- The text in BLIF by what the code has in hand: names, rows and blocks, and tables as digits that stand in the text of a
+-- The text in BLIF by what the code holds: names, rows and blocks, and tables as digits that stand in the text of a
 -- network sheet. Assumes nothing.
 use mathlib.Core.Bool.{Bool}
 use mathlib.Core.List.{List, [], _∷_, _++_, map}

@@ -1,9 +1,14 @@
 // Reads a design sheet, a byte 0x00 and a network sheet from standard input, and prints the network as a text in BLIF, or
 // `refused N line L`. Everything that matters is in blif. The buffer holds every text, so question 9 is always answered yes.
+ghost use Prim.Native.Nat.{_≤_};
+ghost use lib.ListN.{length};
+ghost use Rattle.limits.specs.Limits.{maxBlif};
 use blif::Exported;
 
 // Exports a network, with a buffer for its text.
-fn answer(sheet: &[u8], network: &[u8], buffer: &mut [u8]) {
+fn answer(sheet: &[u8], network: &[u8], buffer: &mut [u8])
+    requires { ⌜ maxBlif ≤ length (now buffer) ⌝ }
+{
     let r = blif::export(sheet, network, buffer);
     match r {
         Exported::Refused { number, line } => console::two(b"refused ", number, b" line ", line),
@@ -12,7 +17,9 @@ fn answer(sheet: &[u8], network: &[u8], buffer: &mut [u8]) {
 }
 
 // The two sheets of a text.
-fn both(s: &[u8], buffer: &mut [u8]) {
+fn both(s: &[u8], buffer: &mut [u8])
+    requires { ⌜ maxBlif ≤ length (now buffer) ⌝ }
+{
     let p = console::two_sheets(s);
     let end = p.end;
     let start = p.start;

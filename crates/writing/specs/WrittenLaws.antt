@@ -57,11 +57,13 @@ module _ (d : Design) (k : Sheet) (h : Holds d k) (p : Proper d) where
         let lut : (i : ℕ) → printLut bs i (valuesUpto (λ (x : ℕ). on (codes x) i) (sh .vertices)) ≡ lutLine d u rows codes i
         = λ i. ap₂ (λ (ns : List Name) (n : ℕ). printLut ns i (valuesUpto (λ (x : ℕ). on (codes x) i) n)) bound-is (s .vertices) in
         let luts = lines-same (λ (i : ℕ). printLut bs i (valuesUpto (λ (x : ℕ). on (codes x) i) (sh .vertices))) (lutLine d u rows codes) u (λ i l. lut i) in
-        let node : (o : ℕ) → o < k .outputs → printNode (nameOf (item (k .outs) o)) free-names (nodeBy (tableAt (k .tables) o) vs fs codes (numbers u 0 (rows o))) ≡ nodeLine d u rows codes o
+        let put : ℕ → List ℕ
+        = λ o. printNode (nameOf (item (k .outs) o)) free-names (nodeBy (tableAt (k .tables) o) vs fs codes (numbers u 0 (rows o))) in
+        let node : (o : ℕ) → o < k .outputs → put o ≡ nodeLine d u rows codes o
         = λ o l.
         ap₂ (λ (n : Name) (x : Node). printNode n free-names x) (output-named o l) (node-same codes o (numbers u 0 (rows o)) l)
         ∙ ap (λ (ns : List Name). printNode (getD (outputNames (d .outputs)) o []) ns (nodeBuilt d codes o (numbers u 0 (rows o)))) free-is in
-        let nodes = lines-same (λ (o : ℕ). printNode (nameOf (item (k .outs) o)) free-names (nodeBy (tableAt (k .tables) o) vs fs codes (numbers u 0 (rows o)))) (nodeLine d u rows codes) (k .outputs) node in
+        let nodes = lines-same put (nodeLine d u rows codes) (k .outputs) node in
         ap₂ (λ (a b : List ℕ). bytes "(network 1)\n" ++ (a ++ (b ++ lastLines u)))
         luts
         (nodes ∙ ap (linesUpto (nodeLine d u rows codes)) (h .outputs-counted))

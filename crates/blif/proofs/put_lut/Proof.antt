@@ -1,3 +1,4 @@
+-- `put_lut`: the block's first line, part after part, and its rows. Assumes nothing.
 use mathlib.Core.Path.{ap, _∙_, sym}
 use native.Mathlib.Omega.{arith}
 use borrow.Author.Needs.{needs}
@@ -10,8 +11,6 @@ use Rattle.blif.specs.BlockLaws.{block-text}
 use Rattle.blif.proofs.Arrays.{shown-counted}
 use Rattle.blif.proofs.put_lut.Statement.{statement}
 use Rattle.blif.proofs.put_lut.Tie as tie
-
--- `put_lut`: the block's first line, part after part, and its rows. Assumes nothing.
 
 slice-aggregate-put-text : tie.Need-slice-aggregate-put-text
 slice-aggregate-put-text c = search needs

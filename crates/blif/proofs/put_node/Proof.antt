@@ -1,3 +1,4 @@
+-- `put_node`: the block's first line, part after part, and its rows. Assumes nothing.
 use mathlib.Core.Path.{ap₂, sym, subst}
 use mathlib.Core.List.{map}
 use Prim.Native.Nat.{ℕ, _+_, _^_, _≤_}
@@ -14,8 +15,6 @@ use Rattle.blif.specs.BlockLaws.{block-text-two, two-counted}
 use Rattle.blif.proofs.Arrays.{shown-counted}
 use Rattle.blif.proofs.put_node.Statement.{statement}
 use Rattle.blif.proofs.put_node.Tie as tie
-
--- `put_node`: the block's first line, part after part, and its rows. Assumes nothing.
 
 count-requires : tie.Need-count-requires
 count-requires c κs = search needs
