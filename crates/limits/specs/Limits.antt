@@ -1,4 +1,4 @@
--- The limits of document 01, each named once. Assumes nothing.
+-- The limits of document 01 and what follows from them, each named once. Assumes nothing.
 use Prim.Native.Nat.{ℕ, _*_, _/_, _^_}
 
 -- "The design sheet": names of the `in` line, names of the `bound` line, N, `out` lines, brackets
@@ -38,7 +38,7 @@ maxClasses = 16
 abbrev pub maxNetwork : ℕ
 maxNetwork = 8192
 
--- the bytes of a network's text in BLIF
+-- the most bytes of a network's text in BLIF: the sum of its parts, each as long as the other limits let it be
 abbrev pub maxBlif : ℕ
 maxBlif = 55735
 

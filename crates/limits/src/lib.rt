@@ -1,5 +1,5 @@
-// Every limit of document 01, named once, the lengths of arrays that follow from them, and the number of a vertex, which the
-// classes and the search share. The definitions name the same limits in specs/; the proofs of the crates above hold the two
+// Every limit of document 01 and what follows from them, named once, and the number of a vertex, which the classes and the
+// search share. The definitions name the same limits in specs/; the proofs of the crates above hold the two
 // together. Rests on nothing.
 
 // The design sheet: names of the `in` line, names of the `bound` line, N, `out` lines, brackets.
@@ -28,7 +28,7 @@ pub const MAX_CLASSES: usize = 16;
 
 pub const MAX_NETWORK: usize = 8192;
 
-// The bytes of a network's text in BLIF.
+// The most bytes of a network's text in BLIF.
 pub const MAX_BLIF: usize = 55_735;
 
 // The line of the first lut.

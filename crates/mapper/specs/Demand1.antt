@@ -24,7 +24,7 @@ use Rattle.network.specs.Answers.{WithinLimits, Computes}
 use Rattle.mapper.specs.Map.{Permitted, MapAnswer, refused-by}
 
 -- ======== the refusals
--- x is what the examination answered: its refusal is that of all three operations, with its number and line (by-sheet).
+-- x is what the examination answered: its refusal is that of Table, Map and Check alike, with its number and line (by-sheet).
 
 -- Table on output o and a buffer of n bytes
 pub data TableRefuses (x : Examined) (o n : ℕ) : ℕ → ℕ → Type 0 where
