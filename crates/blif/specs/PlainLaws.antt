@@ -136,7 +136,10 @@ rows-plain n r (true ∷ ds) =
 rows-plain n r (false ∷ ds) = rows-plain n (suc r) ds
 
 -- ---- blocks
-block-plain : (is : List Name) (n : Name) (ds : List Bool) → allPlain is ≡ true → plain n ≡ true → allPlain (block is n ds) ≡ true
+block-plain : (is : List Name) (n : Name) (ds : List Bool)
+    → allPlain is ≡ true
+    → plain n ≡ true
+    → allPlain (block is n ds) ≡ true
 unfolding block allPlain plain plainByte
 block-plain is n ds h k =
     let last : allPlain (n ∷ []) ≡ true = and-both (plain n) true k refl in

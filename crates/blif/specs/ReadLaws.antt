@@ -205,21 +205,17 @@ module _ (d : Design) (w : Network) (f : WellFormed d) where
   unfolding printBlif
   print-lines = lines-of-ended (blifLines d w) (all-plain-unbroken (blifLines d w) lines-plain)
 
-  -- what is read of the text's lines
-  model-complete : once (drivenSignals (modelOf d w)) ≡ true
-      → complete (readModel (wordLines (blifLines d w))) ≡ some (modelOf d w)
+  model-complete : once (drivenSignals (modelOf d w)) ≡ true → complete (just (modelOf d w)) ≡ some (modelOf d w)
   unfolding modelOf
   model-complete h =
       let ins : filled (d .inputs) ≡ true = some-filled (d .inputs) (f .inputs-right .filled) in
       let outs : filled (namesOf d) ≡ true = some-filled (namesOf d) (omega (arith, f .some-output, names-count d)) in
-      ap complete lines-read
-      ∙ ap (λ (t : Bool). pick (t && filled (namesOf d) && once (drivenSignals (modelOf d w))) (some (modelOf d w)) none) ins
-      ∙ ap (λ (t : Bool). pick (t && once (drivenSignals (modelOf d w))) (some (modelOf d w)) none) outs
-      ∙ ap (λ (t : Bool). pick t (some (modelOf d w)) none) h
+      rw (ins, outs, h) refl
 
   pub text-read : once (drivenSignals (modelOf d w)) ≡ true → readBlif (printBlif d w) ≡ some (modelOf d w)
   unfolding readBlif
   text-read h =
       ap (λ (ls : List (List ℕ)). pick (allPlain ls) (complete (readModel (wordLines ls))) none) print-lines
       ∙ ap (λ (t : Bool). pick t (complete (readModel (wordLines (blifLines d w)))) none) lines-plain
+      ∙ ap complete lines-read
       ∙ model-complete h
