@@ -5,7 +5,7 @@ use Rattle.text.specs.Line.{endedLines}
 use Rattle.names.specs.Names.{printNames}
 use Rattle.network.specs.Computing as network
 use Rattle.blif.specs.Printer.{cellName, rowLines, block, lutBlocks, nodeBlocks, blifLines, printBlif}
-use Rattle.blif.specs.Words.{blank, words}
+use Rattle.blif.specs.Words.{plainByte, plain, allPlain, blank, words}
 use Rattle.blif.specs.Reader.{marksOf, said, readRest, wordLines, stands, once, readBlif}
 use Rattle.blif.specs.Value.{covers, given, driver, allValues, valueWithin, valueIn}
 use Rattle.blif.specs.Export.{putText, exportOf, export}
@@ -15,9 +15,13 @@ unfolding valuesOf endedLines printNames cellName rowLines block lutBlocks nodeB
 printing = tt
 
 reading : Unit {0}
-unfolding blank words marksOf said readRest wordLines stands once readBlif covers given driver allValues valueWithin valueIn
+unfolding plainByte plain allPlain blank words marksOf said readRest wordLines stands once readBlif
 reading = tt
 
+valuing : Unit {0}
+unfolding covers given driver allValues valueWithin valueIn
+valuing = tt
+
 unfoldable pub computing : Unit {0}
-unfolding network.computing printing reading
+unfolding network.computing printing reading valuing
 computing = tt

@@ -18,9 +18,8 @@ use Rattle.network.specs.Parts.{freeOf, namesOf}
 use Rattle.network.specs.PartLaws.{names-count}
 use Rattle.network.specs.Wellformed.{Wellformed, nodeAt}
 use Rattle.blif.specs.Printer.{cellName}
-use Rattle.blif.specs.Model.{Block}
+use Rattle.blif.specs.Model.{Block, drivesOf}
 use Rattle.blif.specs.Modelled.{blockOf, lutBlocksOf, nodeBlocksOf, modelOf}
-use Rattle.blif.specs.Drives.{drivesOf}
 use Rattle.blif.specs.Value.{driver}
 use Rattle.blif.specs.NamesOnceLaws.{blocks-distinct}
 

@@ -14,10 +14,6 @@ use Rattle.network.specs.DigitsLaws.{digits-solid}
 use Rattle.blif.specs.Printer.{cellName}
 use Rattle.blif.specs.IsWord.{isWord, allWords}
 
-pub word-solid : (w : List ℕ) → isWord w ≡ true → solid w ≡ true
-word-solid [] h = absurd (true-false (sym h))
-word-solid (b ∷ s) h = h
-
 -- ---- names
 name-word : (n : Name) → isName n ≡ true → isWord n ≡ true
 name-word [] h = absurd (true-false (sym (name-starts [] h)))

@@ -17,7 +17,7 @@ pub mod IsWord
 pub mod IsWordLaws
 pub mod DesignWordLaws
 pub mod WordsLaws
-pub mod UnbrokenLaws
+pub mod PlainLaws
 pub mod Modelled
 pub mod SaidLaws
 pub mod ReadLaws
@@ -26,7 +26,7 @@ pub mod LengthLaws
 -- values
 pub mod OnceLaws
 pub mod CellNameLaws
-pub mod Drives
+pub mod CellNames
 pub mod NamesOnceLaws
 pub mod MatchLaws
 pub mod DriverLaws

@@ -1,7 +1,7 @@
 -- BLIF: what a text says. A model has inputs, outputs and blocks; a block has a cover, whose lines mark for each of the
 -- block's inputs whether it must be 0, must be 1, or does not matter. Assumes nothing.
 use mathlib.Core.Bool.{Bool}
-use mathlib.Core.List.{List}
+use mathlib.Core.List.{List, map}
 use Prim.Native.Nat.{ℕ}
 
 abbrev pub Signal : Type 0
@@ -16,6 +16,9 @@ pub record Block : Type 0 where
   pub reads : List Signal
   pub drives : Signal
   pub cover : List (List Mark)
+
+abbrev pub drivesOf : List Block → List Signal
+drivesOf bs = map (λ (b : Block). b .drives) bs
 
 pub record Model : Type 0 where
   pub inputs : List Signal

@@ -21,9 +21,9 @@ use Rattle.network.specs.PartLaws.{names-count}
 use Rattle.network.specs.NamedLaws.{design-named}
 use Rattle.network.specs.Wellformed.{Wellformed}
 use Rattle.blif.specs.Printer.{cellName}
-use Rattle.blif.specs.Model.{Block}
+use Rattle.blif.specs.Model.{Block, drivesOf}
 use Rattle.blif.specs.Modelled.{blockOf, lutBlocksOf, nodeBlocksOf, modelOf}
-use Rattle.blif.specs.Drives.{cellNames, drivesOf}
+use Rattle.blif.specs.CellNames.{cellNames}
 use Rattle.blif.specs.Reader.{once, drivenSignals}
 use Rattle.blif.specs.CellNameLaws.{cell-no-name, cells-apart}
 use Rattle.blif.specs.OnceLaws.{once-distinct, distinct-both, among-none}

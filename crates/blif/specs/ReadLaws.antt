@@ -3,7 +3,8 @@ use mathlib.Core.Path.{_≡_, refl, ap, _∙_}
 use mathlib.Core.Bool.{Bool, true, false, _&&_}
 use mathlib.Core.List.{List, [], _∷_, _++_, map, append-assoc, append-nil}
 use mathlib.Core.Option.{Option, some, none}
-use Prim.Native.Nat.{ℕ, suc}
+use Prim.Native.Nat.{ℕ, suc, _≤_}
+use native.Mathlib.Omega.{arith}
 use lib.Dec.{eqb}
 use lib.ListN.{length, length-map}
 use borrow.Author.Tests.{eq-eqb}
@@ -13,7 +14,6 @@ use Rattle.rows.specs.Row.{valuesOf}
 use Rattle.rows.specs.RowLaws.{length-values}
 use Rattle.text.specs.Bytes.{bytes, same}
 use Rattle.text.specs.Line.{lines}
-use Rattle.text.specs.Unbroken.{unbroken, allUnbroken}
 use Rattle.text.specs.EndedLaws.{lines-of-ended}
 use Rattle.names.specs.Name.{Name}
 use Rattle.names.specs.Names.{printNames}
@@ -21,19 +21,20 @@ use Rattle.sheet.specs.Examine.{Design}
 use Rattle.sheet.specs.WellFormed.{WellFormed}
 use Rattle.network.specs.Network.{Network, Node}
 use Rattle.network.specs.Parts.{freeOf, namesOf}
-use Rattle.network.specs.UnbrokenLaws.{all-append}
+use Rattle.network.specs.PartLaws.{free-named, names-count}
+use Rattle.network.specs.NamedLaws.{design-named}
 use Rattle.blif.specs.Printer.{cellName, rowLine, rowLines, block, lutBlocks, nodeBlocks, blifLines, printBlif}
-use Rattle.blif.specs.Words.{blank, words}
+use Rattle.blif.specs.Words.{plainByte, plain, allPlain, blank, words}
 use Rattle.blif.specs.Model.{Signal, Mark, must-be, Block, Model}
 use Rattle.blif.specs.Reader.{Said, inputs, outputs, names, cover, end, said, wordLines}
 use Rattle.blif.specs.Reader.{Rest, onward, withInputs, withOutputs, allLong, withBlock, withCover, readRest}
-use Rattle.blif.specs.Reader.{readModel, once, drivenSignals, complete, readBlif}
+use Rattle.blif.specs.Reader.{readModel, once, drivenSignals, filled, complete, readBlif}
 use Rattle.blif.specs.Modelled.{coverOf, blockOf, lutBlocksOf, nodeBlocksOf, modelOf}
 use Rattle.blif.specs.IsWord.{isWord, allWords}
 use Rattle.blif.specs.IsWordLaws.{cell-word, cells-words, words-append, word-after}
 use Rattle.blif.specs.DesignWordLaws.{inputs-words, bound-words, frees-words, outputs-words}
 use Rattle.blif.specs.SaidLaws.{Says, line-said, inputs-said, outputs-said, names-said, row-said, end-said}
-use Rattle.blif.specs.UnbrokenLaws.{names-unbroken, luts-unbroken, nodes-unbroken}
+use Rattle.blif.specs.PlainLaws.{all-plain-unbroken, all-plain-append, names-plain, printed-plain, luts-plain, nodes-plain}
 
 -- what a reader makes of the lines from some line on
 abbrev readLines : List (List ℕ) → Option Rest
@@ -154,6 +155,10 @@ unfolding wordLines words blank same
 model-read ls = refl
 
 -- ---- the whole text
+some-filled : (ss : List Signal) → 1 ≤ length ss → filled ss ≡ true
+some-filled [] h = absurd (omega arith)
+some-filled (s ∷ ss) h = refl
+
 module _ (d : Design) (w : Network) (f : WellFormed d) where
   abbrev luts : List (List ℕ)
   luts = lutBlocks (d .bound) 0 (w .luts)
@@ -180,28 +185,37 @@ module _ (d : Design) (w : Network) (f : WellFormed d) where
       (outputs-read (namesOf d) (lutsOf ++ nodesOf) blocks (outputs-words d f)
       (luts-read (d .bound) 0 (w .luts) (record { inputs = []; outputs = []; blocks = nodesOf }) (nodes ++ last) (bound-words d f) e))
 
-  lines-unbroken : allUnbroken (blifLines d w) ≡ true
-  unfolding blifLines allUnbroken unbroken
-  lines-unbroken =
-      let ins = printNames (d .inputs) in
-      let outs = printNames (namesOf d) in
-      and-both (unbroken ins) (unbroken outs && allUnbroken (luts ++ (nodes ++ last)))
-      (names-unbroken (d .inputs) (inputs-words d f))
-      (and-both (unbroken outs) (allUnbroken (luts ++ (nodes ++ last)))
-      (names-unbroken (namesOf d) (outputs-words d f))
-      (all-append luts (nodes ++ last)
-      (luts-unbroken (d .bound) 0 (w .luts) (bound-words d f))
-      (all-append nodes last (nodes-unbroken (freeOf d) (namesOf d) (w .nodes) (frees-words d f) (outputs-words d f)) refl)))
+  lines-plain : allPlain (blifLines d w) ≡ true
+  unfolding blifLines allPlain plain plainByte
+  lines-plain =
+      let named = design-named d f in
+      let ins : allPlain (d .inputs) ≡ true = names-plain (d .inputs) (named .inputs-named) in
+      let outs : allPlain (namesOf d) ≡ true = names-plain (namesOf d) (named .outputs-named) in
+      let bound : allPlain (d .bound) ≡ true = names-plain (d .bound) (named .bound-named) in
+      let frees : allPlain (freeOf d) ≡ true = names-plain (freeOf d) (free-named (d .inputs) (d .bound) (named .inputs-named)) in
+      and-both (plain (printNames (d .inputs))) (plain (printNames (namesOf d)) && allPlain (luts ++ (nodes ++ last)))
+      (printed-plain (d .inputs) ins)
+      (and-both (plain (printNames (namesOf d))) (allPlain (luts ++ (nodes ++ last)))
+      (printed-plain (namesOf d) outs)
+      (all-plain-append luts (nodes ++ last)
+      (luts-plain (d .bound) 0 (w .luts) bound)
+      (all-plain-append nodes last (nodes-plain (freeOf d) (namesOf d) (w .nodes) frees outs) refl)))
 
   print-lines : lines (printBlif d w) ≡ blifLines d w
   unfolding printBlif
-  print-lines = lines-of-ended (blifLines d w) lines-unbroken
+  print-lines = lines-of-ended (blifLines d w) (all-plain-unbroken (blifLines d w) lines-plain)
 
-  rest-read : readModel (wordLines (lines (printBlif d w))) ≡ some (record { cover = []; model = modelOf d w })
-  rest-read = ap (λ (ls : List (List ℕ)). readModel (wordLines ls)) print-lines ∙ lines-read
+  model-complete : once (drivenSignals (modelOf d w)) ≡ true → complete (just (modelOf d w)) ≡ some (modelOf d w)
+  unfolding modelOf
+  model-complete h =
+      let ins : filled (d .inputs) ≡ true = some-filled (d .inputs) (f .inputs-right .filled) in
+      let outs : filled (namesOf d) ≡ true = some-filled (namesOf d) (omega (arith, f .some-output, names-count d)) in
+      rw (ins, outs, h) refl
 
   pub text-read : once (drivenSignals (modelOf d w)) ≡ true → readBlif (printBlif d w) ≡ some (modelOf d w)
   unfolding readBlif
   text-read h =
-      ap complete rest-read
-      ∙ ap (λ (t : Bool). pick t (some (modelOf d w)) none) h
+      ap (λ (ls : List (List ℕ)). pick (allPlain ls) (complete (readModel (wordLines ls))) none) print-lines
+      ∙ ap (λ (t : Bool). pick t (complete (readModel (wordLines (blifLines d w)))) none) lines-plain
+      ∙ ap complete lines-read
+      ∙ model-complete h

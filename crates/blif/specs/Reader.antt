@@ -1,6 +1,7 @@
--- BLIF: how a text is read, by the rules of the format and not by what is written here. The directives `.model`, `.inputs`,
--- `.outputs`, `.names` and `.end` and covers with 1 in the output plane are understood, and everything else is refused.
--- Assumes nothing.
+-- BLIF: how a text is read, by the rules of the format and not by what Printer writes. They stand in "Berkeley Logic
+-- Interchange Format (BLIF)", University of California, Berkeley, 1992, which the comments here and in Value quote. The
+-- directives `.model`, `.inputs`, `.outputs`, `.names` and `.end` and covers with 1 in the output plane are understood, and
+-- everything else is refused, comments and continued lines too. Assumes nothing.
 use mathlib.Core.Bool.{Bool, true, false, not, _&&_, _||_}
 use mathlib.Core.List.{List, [], _∷_, _++_, map}
 use mathlib.Core.Option.{Option, some, none}
@@ -10,8 +11,8 @@ use lib.ListN.{length}
 use Rattle.bits.specs.Logic.{pick}
 use Rattle.text.specs.Bytes.{bytes, same}
 use Rattle.text.specs.Line.{lines}
-use Rattle.blif.specs.Words.{words}
-use Rattle.blif.specs.Model.{Signal, Mark, must-be, any, Block, Model}
+use Rattle.blif.specs.Words.{allPlain, words}
+use Rattle.blif.specs.Model.{Signal, Mark, must-be, any, Block, drivesOf, Model}
 
 -- ---- what a line of words says
 pub data Said : Type 0 where
@@ -152,7 +153,7 @@ abbrev pub readModel : List (List Signal) → Option Rest
 readModel [] = none
 readModel (l ∷ ls) = pick (isModel l) (readRest (map said ls)) none
 
--- ---- no signal is driven twice, by the sheet's inputs and blocks together
+-- ---- no signal is driven twice, by inputs and blocks together
 unfoldable pub stands : Signal → List Signal → Bool
 stands s [] = false
 stands s (t ∷ ts) = same t s || stands s ts
@@ -162,11 +163,21 @@ once [] = true
 once (s ∷ ss) = not (stands s ss) && once ss
 
 abbrev pub drivenSignals : Model → List Signal
-drivenSignals m = m .inputs ++ map (λ (b : Block). b .drives) (m .blocks)
+drivenSignals m = m .inputs ++ drivesOf (m .blocks)
+
+-- ---- the whole text
+-- a model without inputs or outputs is refused: BLIF would infer them where their lines are missing
+abbrev pub filled : List Signal → Bool
+filled [] = false
+filled (s ∷ ss) = true
 
 abbrev pub complete : Option Rest → Option Model
 complete none = none
-complete (some r) = pick (noCover (r .cover) && once (drivenSignals (r .model))) (some (r .model)) none
+complete (some r) =
+    let m = r .model in
+    pick (noCover (r .cover) && filled (m .inputs) && filled (m .outputs) && once (drivenSignals m)) (some m) none
 
 unfoldable pub readBlif : List ℕ → Option Model
-readBlif t = complete (readModel (wordLines (lines t)))
+readBlif t =
+    let ls = lines t in
+    pick (allPlain ls) (complete (readModel (wordLines ls))) none

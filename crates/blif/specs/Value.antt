@@ -14,7 +14,8 @@ agrees (must-be b) v = Bool·beq b v
 agrees any v = true
 
 abbrev pub matches : List Mark → List Bool → Bool
-matches [] vs = true
+matches [] [] = true
+matches [] (v ∷ vs) = false
 matches (m ∷ ms) [] = false
 matches (m ∷ ms) (v ∷ vs) = agrees m v && matches ms vs
 

@@ -1,8 +1,8 @@
--- BLIF: a line is cut into words, which blanks part. Assumes nothing.
-use mathlib.Core.Bool.{Bool, false, not, _||_}
+-- BLIF: the bytes of a line, and the line's words, which blanks part. Assumes nothing.
+use mathlib.Core.Bool.{Bool, true, false, not, _&&_, _||_}
 use mathlib.Core.List.{List, [], _∷_}
 use Prim.Native.Nat.{ℕ}
-use lib.Dec.{eqb}
+use lib.Dec.{eqb, leb}
 use Rattle.bits.specs.Logic.{pick}
 use Rattle.text.specs.Bytes.{space}
 use Rattle.text.specs.Line.{onto}
@@ -10,6 +10,25 @@ use Rattle.text.specs.Line.{onto}
 abbrev pub tab : ℕ
 tab = 0x09
 
+-- ---- the bytes of a line that has no comment, which `#` begins, and that no `\` continues on the next line
+abbrev pub numberSign : ℕ
+numberSign = 0x23
+
+abbrev pub backslash : ℕ
+backslash = 0x5C
+
+unfoldable pub plainByte : ℕ → Bool
+plainByte b = leb 0x20 b && leb b 0x7E && not (eqb b numberSign) && not (eqb b backslash) || eqb b tab
+
+unfoldable pub plain : List ℕ → Bool
+plain [] = true
+plain (b ∷ l) = plainByte b && plain l
+
+unfoldable pub allPlain : List (List ℕ) → Bool
+allPlain [] = true
+allPlain (l ∷ ls) = plain l && allPlain ls
+
+-- ---- words
 unfoldable pub blank : ℕ → Bool
 blank b = eqb b space || eqb b tab
 

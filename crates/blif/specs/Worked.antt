@@ -89,6 +89,8 @@ pub record Worked : Type 0 where
   pub other-and : atF other (true ∷ true ∷ false ∷ []) ≡ some true
   pub other-or : atF other (false ∷ true ∷ true ∷ []) ≡ some true
   pub other-not : atF other (true ∷ false ∷ false ∷ []) ≡ some false
+  pub further-inputs : atF (among ".inputs c\n.inputs d\n.names a f\n1 1\n") (true ∷ false ∷ false ∷ false ∷ []) ≡ some true
+  pub further-output : atF (among ".outputs g\n.names a f\n1 1\n") (true ∷ false ∷ []) ≡ some true
   -- no value
   pub undriven : atF (among "") (true ∷ true ∷ []) ≡ none
   pub reads-undriven : atF (among ".names a x f\n1- 1\n") (true ∷ true ∷ []) ≡ none
@@ -99,12 +101,18 @@ pub record Worked : Type 0 where
   pub zero-in-the-output-plane : refused ".names a f\n0 0\n"
   pub row-too-short : refused ".names a b f\n1 1\n"
   pub continued : refused ".names a \\\nf\n1 1\n"
+  pub continued-inputs : refused ".inputs c \\\n.inputs d\n.names a f\n1 1\n"
   pub comment : refused "# f\n.names a f\n1 1\n"
+  pub comment-after-outputs : refused ".outputs g # h\n.names a f\n1 1\n"
+  pub comment-in-a-name : refused ".names a f#g\n1 1\n"
+  pub carriage-return : refused ".names a f\r\n1 1\n"
   pub latch : refused ".latch a f 0\n"
   pub subcircuit : refused ".subckt m a=f\n"
   pub after-end : refused ".end\n"
   pub no-end : readBlif (bytes ".model m\n.inputs a\n.outputs f\n") ≡ none
   pub no-model : readBlif (bytes ".inputs a\n.outputs f\n.end\n") ≡ none
+  pub no-inputs : readBlif (bytes ".model m\n.outputs f\n.names f\n1\n.end\n") ≡ none
+  pub no-outputs : readBlif (bytes ".model m\n.inputs a\n.names a f\n1 1\n.end\n") ≡ none
 
 pub worked : Worked
 unfolding computing
@@ -120,6 +128,8 @@ worked =
       other-and = refl;
       other-or = refl;
       other-not = refl;
+      further-inputs = refl;
+      further-output = refl;
       undriven = refl;
       reads-undriven = refl;
       loop = refl;
@@ -128,10 +138,16 @@ worked =
       zero-in-the-output-plane = refl;
       row-too-short = refl;
       continued = refl;
+      continued-inputs = refl;
       comment = refl;
+      comment-after-outputs = refl;
+      comment-in-a-name = refl;
+      carriage-return = refl;
       latch = refl;
       subcircuit = refl;
       after-end = refl;
       no-end = refl;
       no-model = refl;
+      no-inputs = refl;
+      no-outputs = refl;
     }
