@@ -1,5 +1,5 @@
--- Export: a design and a network sheet examined as Check examines them, then question 9 for the text in BLIF; "the text from
--- the buffer's start, later bytes unchanged, and its length". Whether the two compute the same is not asked. Assumes nothing.
+-- "The export takes a design and a network sheet, examined as Check examines them, then question 9 for this text." "Export
+-- returns the length and leaves later bytes unchanged." Whether the two compute the same is not asked. Assumes nothing.
 use mathlib.Core.List.{List}
 use Prim.Native.Nat.{ℕ}
 use lib.Dec.{leb}

@@ -1,4 +1,5 @@
--- "What is written": a network as a text in BLIF, block by block, in the order of the network sheet. Assumes nothing.
+-- A network as a text in BLIF: "Directives stand one a line with single spaces, inputs and outputs in sheet order, blocks in
+-- network order, rows rising; the model is `panel`." Assumes nothing.
 use mathlib.Core.Bool.{Bool}
 use mathlib.Core.List.{List, [], _∷_, _++_, map}
 use Prim.Native.Nat.{ℕ, suc}

@@ -1,7 +1,7 @@
 -- BLIF: how a text is read, by the rules of the format and not by what Printer writes. They stand in "Berkeley Logic
--- Interchange Format (BLIF)", University of California, Berkeley, 1992, which the comments here and in Value quote. The
--- directives `.model`, `.inputs`, `.outputs`, `.names` and `.end` and covers with 1 in the output plane are understood, and
--- everything else is refused, comments and continued lines too. Assumes nothing.
+-- Interchange Format (BLIF)", University of California, Berkeley, 1992. The directives `.model`, `.inputs`, `.outputs`,
+-- `.names` and `.end` and covers with 1 in the output plane are understood, and everything else is refused, comments and
+-- continued lines too. Assumes nothing.
 use mathlib.Core.Bool.{Bool, true, false, not, _&&_, _||_}
 use mathlib.Core.List.{List, [], _∷_, _++_, map}
 use mathlib.Core.Option.{Option, some, none}
@@ -88,7 +88,7 @@ abbrev pub noCover : List (List Mark) → Bool
 noCover [] = true
 noCover (ms ∷ mss) = false
 
--- "Multiple .inputs lines are allowed, and the lists of inputs are concatenated"; the outputs likewise
+-- several `.inputs` lines are one list; the outputs likewise
 abbrev pub withInputs : List Signal → Rest → Option Rest
 withInputs ss r =
     let m = r .model in

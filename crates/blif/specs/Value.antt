@@ -8,7 +8,7 @@ use Rattle.bits.specs.Logic.{pick}
 use Rattle.text.specs.Bytes.{same}
 use Rattle.blif.specs.Model.{Signal, Mark, must-be, any, Block, Model}
 
--- "Elements of a row are ANDed together, and then all rows are ORed"
+-- all marks of a row agree with the values, and one such row is enough
 abbrev pub agrees : Mark → Bool → Bool
 agrees (must-be b) v = Bool·beq b v
 agrees any v = true

@@ -71,7 +71,12 @@ lut-line bs i ds e l h =
     let c6 = length-append (bytes "(lut " ++ (lutName i ++ (bytes " (" ++ (ledAll true bs ++ bytes ") ")))) (printDigits ds ++ (closeBracket ∷ [])) in
     omega arith
 
-node-line : (n : Name) (fs : List Name) (x : Node) → isName n ≡ true → allNames fs ≡ true → length (x .reads) + length fs ≤ 10 → length (x .digits) ≤ 1024 → length (printNode n fs x) ≤ 1199
+node-line : (n : Name) (fs : List Name) (x : Node)
+    → isName n ≡ true
+    → allNames fs ≡ true
+    → length (x .reads) + length fs ≤ 10
+    → length (x .digits) ≤ 1024
+    → length (printNode n fs x) ≤ 1199
 unfolding printNode nodeHead
 node-line n fs x e f l h =
     let items = map lutName (x .reads) ++ fs in

@@ -1,11 +1,11 @@
 -- `put_head`: two texts with names after each, and the end of the last line. Assumes nothing.
 use mathlib.Core.Path.{sym}
 use native.Mathlib.Omega.{arith}
-use lib.Seq.{length-take-le}
 use borrow.Author.Needs.{needs}
 use Rattle.sheet.proofs.Arrays.{names-sized, outs-sized}
 use Rattle.putting.specs.PutLaws.{put-next, put-then}
 use Rattle.blif.specs.BlockLaws.{head-text}
+use Rattle.blif.proofs.Arrays.{inputs-counted, outputs-counted}
 use Rattle.blif.proofs.put_head.Statement.{statement}
 use Rattle.blif.proofs.put_head.Tie as tie
 
@@ -27,7 +27,7 @@ slice-aggregate-put-items c =
     let args = c .before .before .before .before .before .before .before .before .before .before .args in
     let pre = c .before .before .before .before .before .before .before .before .before .before .pre in
     let good = c .before .before .before .before .before .before .before .before .before .before .good in
-    sym (length-take-le (args .k .inputs) (args .k .names) (omega (arith, pre .1, names-sized (args .k) (good .1 .1 .0))))
+    sym (inputs-counted (args .k) (good .1 .1 .0) (pre .1))
 
 put-items-requires : tie.Need-put-items-requires
 put-items-requires c κs =
@@ -35,7 +35,7 @@ put-items-requires c κs =
     let args = c .before .before .before .before .before .before .before .before .before .before .args in
     let pre = c .before .before .before .before .before .before .before .before .before .before .pre in
     let good = c .before .before .before .before .before .before .before .before .before .before .good in
-    let count = length-take-le (args .k .inputs) (args .k .names) (omega (arith, pre .1, names-sized (args .k) (good .1 .1 .0))) in
+    let count = inputs-counted (args .k) (good .1 .1 .0) (pre .1) in
     omega (arith, pre, count, put-text .ensures .place, put-text .ensures .short)
 
 slice-aggregate-put-text-2 : tie.Need-slice-aggregate-put-text-2
@@ -49,7 +49,7 @@ put-text-requires-2 c κs =
     let args = earlier .before .before .before .args in
     let pre = earlier .before .before .before .pre in
     let good = earlier .before .before .before .good in
-    let count = length-take-le (args .k .inputs) (args .k .names) (omega (arith, pre .1, names-sized (args .k) (good .1 .1 .0))) in
+    let count = inputs-counted (args .k) (good .1 .1 .0) (pre .1) in
     let first = put-text .ensures in
     let second = put-items .ensures in
     omega (arith, pre, count, first .place, first .short, second .place, second .short)
@@ -68,7 +68,7 @@ slice-aggregate-put-items-2 c =
     let args = earlier .before .before .before .before .before .before .before .before .args in
     let pre = earlier .before .before .before .before .before .before .before .before .pre in
     let good = earlier .before .before .before .before .before .before .before .before .good in
-    sym (length-take-le (args .k .outputs) (args .k .outs) (omega (arith, pre .2, outs-sized (args .k) (good .1 .1 .0))))
+    sym (outputs-counted (args .k) (good .1 .1 .0) (pre .2))
 
 put-items-requires-2 : tie.Need-put-items-requires-2
 put-items-requires-2 c κs =
@@ -79,8 +79,8 @@ put-items-requires-2 c κs =
     let args = earlier .before .before .before .before .before .before .before .before .args in
     let pre = earlier .before .before .before .before .before .before .before .before .pre in
     let good = earlier .before .before .before .before .before .before .before .before .good in
-    let inputs = length-take-le (args .k .inputs) (args .k .names) (omega (arith, pre .1, names-sized (args .k) (good .1 .1 .0))) in
-    let outputs = length-take-le (args .k .outputs) (args .k .outs) (omega (arith, pre .2, outs-sized (args .k) (good .1 .1 .0))) in
+    let inputs = inputs-counted (args .k) (good .1 .1 .0) (pre .1) in
+    let outputs = outputs-counted (args .k) (good .1 .1 .0) (pre .2) in
     let first = put-text .ensures in
     let second = put-items .ensures in
     let third = put-text2 .ensures in
@@ -96,8 +96,8 @@ put-byte-requires c κs =
     let args = earlier .before .before .before .before .before .before .before .before .before .before .before .before .args in
     let pre = earlier .before .before .before .before .before .before .before .before .before .before .before .before .pre in
     let good = earlier .before .before .before .before .before .before .before .before .before .before .before .before .good in
-    let inputs = length-take-le (args .k .inputs) (args .k .names) (omega (arith, pre .1, names-sized (args .k) (good .1 .1 .0))) in
-    let outputs = length-take-le (args .k .outputs) (args .k .outs) (omega (arith, pre .2, outs-sized (args .k) (good .1 .1 .0))) in
+    let inputs = inputs-counted (args .k) (good .1 .1 .0) (pre .1) in
+    let outputs = outputs-counted (args .k) (good .1 .1 .0) (pre .2) in
     let first = put-text .ensures in
     let second = put-items .ensures in
     let third = put-text2 .ensures in
@@ -119,8 +119,8 @@ returns c =
     let args = earlier .before .before .before .args in
     let pre = earlier .before .before .before .pre in
     let good = earlier .before .before .before .good in
-    let inputs = length-take-le (args .k .inputs) (args .k .names) (omega (arith, pre .1, names-sized (args .k) (good .1 .1 .0))) in
-    let outputs = length-take-le (args .k .outputs) (args .k .outs) (omega (arith, pre .2, outs-sized (args .k) (good .1 .1 .0))) in
+    let inputs = inputs-counted (args .k) (good .1 .1 .0) (pre .1) in
+    let outputs = outputs-counted (args .k) (good .1 .1 .0) (pre .2) in
     put-next (put-text .ensures) (put-then (put-items .ensures) (put-then (put-text2 .ensures) (put-then (put-items2 .ensures) (put-byte .ensures))))
     (head-text _ _) (omega (arith, pre, inputs, outputs))
 
