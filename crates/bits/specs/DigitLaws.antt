@@ -88,6 +88,21 @@ pub on-or : (a b k : ℕ) → on (bitOr a b) k ≡ orb (on a k) (on b k)
 unfolding on
 on-or a b k = ap (λ (x : ℕ). eqb x 1) (digit-or a b k) ∙ max-or (digit-binary a k) (digit-binary b k)
 
+-- where the second has a digit, and where it has none
+or-true : (x : Bool) → orb x true ≡ true
+or-true true = refl
+or-true false = refl
+
+or-false : (x : Bool) → orb x false ≡ x
+or-false true = refl
+or-false false = refl
+
+pub on-or-one : (a b k : ℕ) → on b k ≡ true → on (bitOr a b) k ≡ true
+on-or-one a b k e = on-or a b k ∙ ap (orb (on a k)) e ∙ or-true (on a k)
+
+pub on-or-none : (a b k : ℕ) → on b k ≡ false → on (bitOr a b) k ≡ on a k
+on-or-none a b k e = on-or a b k ∙ ap (orb (on a k)) e ∙ or-false (on a k)
+
 pub on-xor : (a b k : ℕ) → on (bitXor a b) k ≡ xorb (on a k) (on b k)
 unfolding on
 on-xor a b k = ap (λ (x : ℕ). eqb x 1) (digit-xor a b k) ∙ differ-xor (digit-binary a k) (digit-binary b k)

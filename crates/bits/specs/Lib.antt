@@ -3,3 +3,4 @@ pub mod Logic
 pub mod LogicLaws
 pub mod Digit
 pub mod DigitLaws
+pub mod CarryLaws
