@@ -8,3 +8,5 @@ pub mod Digits
 pub mod DigitLaws
 pub mod Every
 pub mod EveryLaws
+pub mod Step
+pub mod StepLaws

@@ -10,6 +10,7 @@ ghost use Rattle.bits.specs.Digit.{on};
 ghost use Rattle.bits.specs.Logic.{andb, orb, xorb};
 ghost use Rattle.rows.specs.Words.{rowOn, Rowwise, WordOf};
 ghost use Rattle.rows.specs.Digits.{digit, digitsUpto};
+ghost use Rattle.rows.specs.Step.{stepped};
 
 // The lowest digits of a row's number say which digit of a word it is.
 const WORD_DIGITS: usize = 6;
@@ -152,4 +153,12 @@ pub fn row_count(n: usize) -> usize
     ensures { λ r. ⌜ r ≡ 2 ^ n ⌝ }
 {
     1 << n
+}
+
+// The row with the digits of `bound` as in r, and the digits of `free` counted one further.
+pub fn step(r: usize, bound: usize, free: usize) -> usize
+    requires { ⌜ (r < maxRows) × (bound < maxRows) × (free < maxRows) ⌝ }
+    ensures { λ s. ⌜ (s ≡ stepped bound free r) × (s < maxRows) ⌝ }
+{
+    ((r | bound) + 1) & free | r & bound
 }
