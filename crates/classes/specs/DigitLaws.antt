@@ -76,7 +76,7 @@ unfolding gathered
 gathered-last l p z = ap rowOf (map-append (on z) l (p ∷ [])) ∙ row-last (map (on z) l) (on z p)
 
 -- ---- digits of inputs
-from-last-lt : (ms : List Name) (n : Name) → among n ms ≡ true → fromLast ms n < length ms
+pub from-last-lt : (ms : List Name) (n : Name) → among n ms ≡ true → fromLast ms n < length ms
 unfolding fromLast among
 from-last-lt [] n e = absurd (true-false (sym e))
 from-last-lt (m ∷ ms) n e =
@@ -85,7 +85,7 @@ from-last-lt (m ∷ ms) n e =
     (λ s. let later : fromLast ms n < length ms = from-last-lt ms n (rw s at e) in rw s (omega arith))
     (either (sameName m n))
 
-from-last-row : (ms : List Name) (n : Name) (r : ℕ) → among n ms ≡ true → onRow ms r n ≡ on r (fromLast ms n)
+pub from-last-row : (ms : List Name) (n : Name) (r : ℕ) → among n ms ≡ true → onRow ms r n ≡ on r (fromLast ms n)
 unfolding fromLast among onRow
 from-last-row [] n r e = absurd (true-false (sym e))
 from-last-row (m ∷ ms) n r e =

@@ -70,7 +70,7 @@ own-values (m ∷ ms) r e =
     (rw (same-name-self m))
     (map-agree (onRow (m ∷ ms) r) (onRow ms r) ms (λ n h. rw (first-another m n ms e h)) ∙ own-values ms r (distinct-later m ms e))
 
-own-row : (ms : List Name) (r : ℕ) → distinct ms ≡ true → r < 2 ^ length ms → rowOf (map (onRow ms r) ms) ≡ r
+pub own-row : (ms : List Name) (r : ℕ) → distinct ms ≡ true → r < 2 ^ length ms → rowOf (map (onRow ms r) ms) ≡ r
 own-row ms r e l = ap rowOf (own-values ms r e) ∙ row-values (length ms) r l
 
 row-map-lt : (v : Name → Bool) (ms : List Name) → rowOf (map v ms) < 2 ^ length ms
@@ -143,7 +143,7 @@ pick-same : (b : Bool) → pick b false false ≡ false
 pick-same true = refl
 pick-same false = refl
 
-row-zero : (ms : List Name) (n : Name) → onRow ms 0 n ≡ false
+pub row-zero : (ms : List Name) (n : Name) → onRow ms 0 n ≡ false
 unfolding onRow
 row-zero [] n = refl
 row-zero (m ∷ ms) n =

@@ -12,6 +12,8 @@ pub mod ColumnLaws
 pub mod DigitLaws
 pub mod FreeLaws
 pub mod JoinLaws
+pub mod Masks
+pub mod NextLaws
 pub mod PlaceLaws
 pub mod PowerLaws
 pub mod SeenLaws
