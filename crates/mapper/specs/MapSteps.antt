@@ -2,14 +2,13 @@
 use mathlib.Core.Path.{_≡_, refl, sym, ap, ap₂, _∙_, subst}
 use mathlib.Core.Bool.{Bool, true, false}
 use mathlib.Core.List.{List}
-use Prim.Native.Nat.{ℕ, _+_, _*_, _/_, _%_, _^_, _≤_, _<_}
+use Prim.Native.Nat.{ℕ, _+_, _*_, _/_, _%_, _≤_, _<_}
 use native.Mathlib.Omega.{arith}
 use native.Mathlib.Decide.{decLt}
 use lib.ListN.{length, getD}
-use lib.Pow.{pow-mono}
 use lib.Seq.{sets}
 use Rattle.bits.specs.LogicLaws.{true-false}
-use Rattle.limits.specs.Limits.{maxInputs, maxBound, maxOutputs, maxRows, maxVertices, maxCells, maxClasses, searchOutputs}
+use Rattle.limits.specs.Limits.{maxInputs, maxBound, maxOutputs, maxVertices, maxCells, maxClasses, searchOutputs}
 use Rattle.sheet.specs.Examine as spec
 use Rattle.sheet.specs.Known.{Holds}
 use Rattle.sheet.specs.WellFormed.{WellFormed}
@@ -24,7 +23,6 @@ use Rattle.classes.specs.Width.{budget}
 use Rattle.classes.specs.Proper.{Proper}
 use Rattle.classes.specs.Answer.{ClassesAre, Counts, localAt, localsAt}
 use Rattle.classes.specs.ShapeLaws.{proper-counts}
-use Rattle.classes.specs.JoinLaws.{join-add, join-lt}
 use Rattle.classes.specs.VertexLaws.{local-below, local-most}
 use Rattle.classes.specs.declared.Classes.{Classes}
 use Rattle.network.specs.Network.{Network}
@@ -32,6 +30,7 @@ use Rattle.network.specs.Printer.{printNetwork}
 use Rattle.numbering.specs.Given.{Labels, item}
 use Rattle.fewest.specs.Count.{Answered}
 use Rattle.writing.specs.Lines.{Fitting}
+use Rattle.writing.specs.NodeLaws.{shape-fitting}
 use Rattle.serving.specs.Build.{built}
 use Rattle.serving.specs.TheoremA.{built-luts}
 use Rattle.mapper.specs.Map.{Permitted, MapAnswer, refused-by, mapped, OutcomeFor, too-many-classes, no-network, buffer-short, written, OutcomeOf}
@@ -127,19 +126,6 @@ module _ (x : spec.Examined) (k : Sheet) (v : Valid x k) (right : Right x) where
       (let a = v .holds .limit-small in omega arith),
     )
 
-    rows-inside : (y z : ℕ)
-        → y < c .shape .vertices
-        → z < c .shape .frees
-        → getD (c .shape .vertex) y 0 + getD (c .shape .free) z 0 < maxRows
-    rows-inside y z a b =
-        let d = v .design in
-        let e = q .shaped .at-vertex y a in
-        let f = q .shaped .at-free z b in
-        let g = join-add (d .inputs) (d .bound) y z in
-        let h = join-lt (d .inputs) (d .bound) y z in
-        let p : 2 ^ length (d .inputs) ≤ maxRows = pow-mono (is-proper .few-inputs) in
-        omega arith
-
     -- ---- what the search found, beside the labels and budgets that it was given
     module _ (cl bs : List ℕ) (lh : LabelsAre (c .locals) cl) (bh : BudgetsAre (c .widths) (k .outputs) bs)
         (few : c .globals .count ≤ maxClasses) (u : ℕ) (rows codes : List ℕ) where
@@ -167,8 +153,7 @@ module _ (x : spec.Examined) (k : Sheet) (v : Valid x k) (right : Right x) where
           → Found found
           → (k .inputs ≤ maxInputs) × (k .bounds ≤ maxBound) × (k .outputs ≤ maxOutputs) × (u ≤ maxCells) × Fitting (c .shape)
       writer-ready found a =
-          let shape = q .shaped in
-          let fits : Fitting (c .shape) = record { few-vertices = shape .few-vertices; few-free = shape .few-free; inside = rows-inside } in
+          let fits : Fitting (c .shape) = shape-fitting (v .design) (c .shape) (q .shaped) (is-proper .parted) (is-proper .few-inputs) in
           (v .holds .inputs-few, v .holds .bound-few, v .holds .outputs-few, cells-few found a, fits)
 
       permitted : Found true → Permitted (v .design) network

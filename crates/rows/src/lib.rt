@@ -121,9 +121,9 @@ pub fn complement(a: [u64; limits::TABLE_WORDS]) -> [u64; limits::TABLE_WORDS]
 }
 
 // The value on row r.
-pub fn row(a: [u64; limits::TABLE_WORDS], r: usize) -> bool
+pub fn row(a: &[u64; limits::TABLE_WORDS], r: usize) -> bool
     requires { ⌜ r < maxRows ⌝ }
-    ensures { λ v. ⌜ v ≡ rowOn a r ⌝ }
+    ensures { λ v. ⌜ v ≡ rowOn (now (a .entry)) r ⌝ }
 {
     bits::has(a[r / limits::WORD_ROWS], (r % limits::WORD_ROWS) as u32)
 }
@@ -142,7 +142,7 @@ pub fn put_digits(buf: &mut [u8], a: [u64; limits::TABLE_WORDS], n: usize)
 {
     let mut i = 0;
     while i < n {
-        buf[i] = digit_of(row(a, i));
+        buf[i] = digit_of(row(&a, i));
         i += 1;
     }
 }

@@ -1,12 +1,13 @@
 -- Digits put down one after the other, and what a digit of a composition table is. Assumes nothing.
 use mathlib.Core.Path.{_≡_, refl, sym, ap, ap₂, _∙_}
 use mathlib.Core.Bool.{Bool, true, false}
-use mathlib.Core.List.{List, [], _∷_, _++_, map, map-append}
+use mathlib.Core.List.{List, [], _∷_, _++_, map, map-append, append-nil, append-assoc}
 use mathlib.Core.Option.{Option, some, none}
 use Prim.Native.Nat.{ℕ, zero, suc, _+_, _*_, _/_, _%_, _^_, _≤_, _<_}
 use native.Mathlib.Omega.{arith}
-use native.Mathlib.Nat.{mod-lt, div-lt-iff-lt-mul, mul-le-mul, mod-eq-of-lt, one-mul}
+use native.Mathlib.Nat.{div-lt-iff-lt-mul, mul-le-mul, mod-eq-of-lt, one-mul, zero-mul, suc-mul, mul-suc, mul-comm, add-zero, add-suc}
 use native.Mathlib.Numerals.{add-one}
+use lib.Arith.{digits-div, digits-mod}
 use lib.Dec.{eqb, ltb}
 use lib.Pow.{pow-mono}
 use lib.ListN.{length, getD}
@@ -23,6 +24,7 @@ use Rattle.network.specs.Check.{firstOf}
 use Rattle.serving.specs.Build.{codeIn}
 use Rattle.putting.specs.Written.{Written}
 use Rattle.putting.specs.PutLaws.{put-none, put-next, put-same}
+use Rattle.putting.specs.Upto.{textsUpto}
 use Rattle.listing.specs.Listed.{vertexAt, FirstIs, Firsts}
 use Rattle.writing.specs.Room.{entriesRoom}
 use Rattle.writing.specs.Lines.{chosen, entryBy, cellOn, cellBy}
@@ -64,14 +66,8 @@ digits-all {f} {n} {i = i} g l =
     put-same (g .so-far) (ap (λ (k : ℕ). printDigits (valuesUpto f k)) e) (omega arith)
 
 -- ---- codes and free rows of a number
-pub some-free : (j n m : ℕ) → j < n → n ≤ maxCodes * m → 0 < m
-some-free j n m l h = omega arith
-
 pub code-below : (j n m : ℕ) → j < n → n ≤ maxCodes * m → j / m < maxCodes
-code-below j n m l h = div-lt-iff-lt-mul (some-free j n m l h) .1 (omega arith)
-
-pub free-below : (j n m : ℕ) → j < n → n ≤ maxCodes * m → j % m < m
-free-below j n m l h = mod-lt j (some-free j n m l h)
+code-below j n m l h = let some-free : 0 < m = omega arith in div-lt-iff-lt-mul some-free .1 (omega arith)
 
 -- a shift drops what is past a word
 abbrev word : ℕ
@@ -133,7 +129,39 @@ pub cell-there : (t vertex free : List ℕ) (x z : ℕ) → x < length vertex
 unfolding cellOn seen
 cell-there t vertex free x z l = sym (ap (λ (b : Bool). pick b (seen t vertex free x z) false) (lt-ltb x (length vertex) l))
 
-pub cell-by : (t vertex free : List ℕ) (firsts : List Vertex) (j : ℕ)
-    → cellOn t vertex free (vertexAt firsts (j / length free)) (j % length free) ≡ cellBy t vertex free firsts j
+-- ---- the entries code by code
+values-append : (f : ℕ → Bool) (k m : ℕ) → valuesUpto f (k + m) ≡ valuesUpto f k ++ valuesUpto (λ z. f (k + z)) m
+unfolding valuesUpto
+values-append f k zero = ap (valuesUpto f) (add-zero k) ∙ sym (append-nil (valuesUpto f k))
+values-append f k (suc m) =
+    ap (valuesUpto f) (add-suc k m) ∙ ap (λ (l : List Bool). l ++ (f (k + m) ∷ [])) (values-append f k m)
+    ∙ append-assoc (valuesUpto f k) (valuesUpto (λ z. f (k + z)) m) (f (k + m) ∷ [])
+
+-- m values for each of k codes, put down code by code
+pub codes-digits : (f : ℕ → ℕ → Bool) (m k : ℕ) → 0 < m
+    → textsUpto (λ c. printDigits (valuesUpto (f c) m)) k ≡ printDigits (valuesUpto (λ j. f (j / m) (j % m)) (k * m))
+unfolding textsUpto printDigits valuesUpto
+codes-digits f m zero h = sym (ap (λ (n : ℕ). map digit (valuesUpto (λ j. f (j / m) (j % m)) n)) (zero-mul m))
+codes-digits f m (suc k) h =
+    let g : ℕ → Bool = λ j. f (j / m) (j % m) in
+    let own : valuesUpto (λ z. g (k * m + z)) m ≡ valuesUpto (f k) m
+    = values-same (λ z. g (k * m + z)) (f k) m (λ z l. ap₂ f (digits-div k l) (digits-mod k l)) in
+    ap (λ (l : List ℕ). l ++ map digit (valuesUpto (f k) m)) (codes-digits f m k h)
+    ∙ sym (map-append digit (valuesUpto g (k * m)) (valuesUpto (f k) m))
+    ∙ ap (λ (l : List Bool). map digit (valuesUpto g (k * m) ++ l)) (sym own)
+    ∙ ap (map digit) (sym (values-append g (k * m) m))
+    ∙ ap (λ (n : ℕ). map digit (valuesUpto g n)) (sym (suc-mul k m))
+
+pub cells-by-codes : (t vertex free : List ℕ) (firsts : List Vertex) (k : ℕ) → 0 < length free
+    → textsUpto (λ c. printDigits (valuesUpto (cellOn t vertex free (vertexAt firsts c)) (length free))) k
+    ≡ printDigits (valuesUpto (cellBy t vertex free firsts) (k * length free))
 unfolding cellBy
-cell-by t vertex free firsts j = refl
+cells-by-codes t vertex free firsts k h = codes-digits (λ c. cellOn t vertex free (vertexAt firsts c)) (length free) k h
+
+-- room for one code more
+pub code-room : (m c k : ℕ) → c < k → m * c + m ≤ k * m
+code-room m c k h =
+    let e : m * suc c ≡ m * c + m = mul-suc m c in
+    let l : suc c * m ≤ k * m = mul-le-mul h (omega arith) in
+    let q : suc c * m ≡ m * suc c = mul-comm (suc c) m in
+    omega arith

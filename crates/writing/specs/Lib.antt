@@ -2,6 +2,8 @@
 pub mod Room
 pub mod Lines
 pub mod DigitLaws
+pub mod Running
+pub mod RunningLaws
 pub mod TextLaws
 pub mod NodeLaws
 pub mod SheetLaws

@@ -1,17 +1,20 @@
 -- The lines of a network sheet by what the code has in hand: a table for each output, and the rows of a design by their
 -- parts. Assumes nothing.
+use mathlib.Core.Path.{_≡_}
 use mathlib.Core.Bool.{Bool, false}
 use mathlib.Core.List.{List, [], _∷_, _++_}
 use mathlib.Core.Option.{Option, some, none}
 use Prim.Native.Nat.{ℕ, _+_, _*_, _/_, _%_, _^_, _≤_, _<_}
 use lib.Dec.{eqb, ltb}
 use lib.ListN.{length, getD}
-use Rattle.limits.specs.Limits.{maxRows, maxVertices, maxFreeRows}
+use Rattle.limits.specs.Limits.{maxInputs, maxVertices, maxFreeRows}
 use Rattle.bits.specs.Logic.{pick}
 use Rattle.text.specs.Bytes.{bytes, newline}
+use Rattle.names.specs.Name.{Name}
 use Rattle.sheet.specs.Lines.{endLine}
-use Rattle.classes.specs.Columns.{valuesUpto}
-use Rattle.classes.specs.Seen.{Inside, seen}
+use Rattle.classes.specs.Columns.{valuesUpto, joinRow, vertexCount, freeCount}
+use Rattle.classes.specs.Proper.{Parted}
+use Rattle.classes.specs.Seen.{seen}
 use Rattle.classes.specs.declared.Shape.{Shape}
 use Rattle.limits.specs.declared.Vertex.{Vertex}
 use Rattle.network.specs.Network.{Node}
@@ -58,14 +61,25 @@ cellOn t vertex free x z = pick (ltb x (length vertex)) (seen t vertex free x z)
 unfoldable pub cellBy : List ℕ → List ℕ → List ℕ → List Vertex → ℕ → Bool
 cellBy t vertex free firsts j = cellOn t vertex free (vertexAt firsts (j / length free)) (j % length free)
 
+-- arrays have the rows of the vertices and of the free rows of some inputs ns, of which bs are bound
+pub record Laid (vertices frees : ℕ) (vertex free : List ℕ) : Type 0 where
+  pub ns : List Name
+  pub bs : List Name
+  pub parted : Parted ns bs
+  pub few-inputs : length ns ≤ maxInputs
+  pub vertex-count : vertices ≡ vertexCount bs
+  pub free-count : frees ≡ freeCount ns bs
+  pub at-vertex : (x : ℕ) → x < vertices → getD vertex x 0 ≡ joinRow ns bs x 0
+  pub at-free : (y : ℕ) → y < frees → getD free y 0 ≡ joinRow ns bs 0 y
+
 -- as many vertices and free rows as there may be, on rows of a table
 pub record Bounded (vertex free : List ℕ) : Type 0 where
   pub few-vertices : length vertex ≤ maxVertices
   pub few-free : length free ≤ maxFreeRows
-  pub inside : Inside vertex free
+  pub laid : Laid (length vertex) (length free) vertex free
 
 -- the same of a shape
 pub record Fitting (sh : Shape) : Type 0 where
   pub few-vertices : sh .vertices ≤ maxVertices
   pub few-free : sh .frees ≤ maxFreeRows
-  pub inside : (x y : ℕ) → x < sh .vertices → y < sh .frees → getD (sh .vertex) x 0 + getD (sh .free) y 0 < maxRows
+  pub laid : Laid (sh .vertices) (sh .frees) (sh .vertex) (sh .free)

@@ -17,6 +17,7 @@ use Rattle.rows.specs.Words.{rowOn, Rowwise}
 use Rattle.sheet.specs.Examine.{Design}
 use Rattle.sheet.specs.Value.{outputOn}
 use Rattle.classes.specs.Columns.{free, valuesUpto, joinRow, valueAt, vertexCount, freeCount}
+use Rattle.classes.specs.Proper.{Parted}
 use Rattle.classes.specs.Seen.{seen}
 use Rattle.classes.specs.Answer.{ShapeIs}
 use Rattle.classes.specs.JoinLaws.{join-lt, join-add}
@@ -50,21 +51,30 @@ module _ (d : Design) (sh : Shape) (s : ShapeIs d sh) where
   join-of x y a b =
       ap₂ (λ (m n : ℕ). m + n) (s .at-vertex x a) (s .at-free y b) ∙ sym (join-add (d .inputs) (d .bound) x y)
 
+  -- the shape of a design fits
+  pub shape-fitting : Parted (d .inputs) (d .bound) → length (d .inputs) ≤ maxInputs → Fitting sh
+  shape-fitting parted few =
+      record {
+        few-vertices = s .few-vertices;
+        few-free = s .few-free;
+        laid = record {
+          ns = d .inputs;
+          bs = d .bound;
+          parted = parted;
+          few-inputs = few;
+          vertex-count = s .vertices;
+          free-count = s .free-rows;
+          at-vertex = s .at-vertex;
+          at-free = s .at-free;
+        };
+      }
+
   module _ (few : length (d .inputs) ≤ maxInputs) where
     row-small : (x y : ℕ) → joinRow (d .inputs) (d .bound) x y < maxRows
     row-small x y =
         let l : joinRow (d .inputs) (d .bound) x y < 2 ^ length (d .inputs) = join-lt (d .inputs) (d .bound) x y in
         let m : 2 ^ length (d .inputs) ≤ maxRows = pow-mono few in
         omega arith
-
-    -- the shape of a design fits
-    pub shape-fitting : Fitting sh
-    shape-fitting =
-        record {
-          few-vertices = s .few-vertices;
-          few-free = s .few-free;
-          inside = λ x y a b. subst (λ (r : ℕ). r < maxRows) (sym (join-of x y a b)) (row-small x y);
-        }
 
     module _ (v-long : sh .vertices ≤ length (sh .vertex)) (f-long : sh .frees ≤ length (sh .free)) (t : List ℕ) (o : ℕ) (table : Rowwise (outputOn d o) t) where
       -- the vertices' and the free rows' own parts of the arrays
@@ -118,12 +128,20 @@ fitting-bounded sh g v-long f-long =
     record {
       few-vertices = omega (arith, g .few-vertices);
       few-free = omega (arith, g .few-free);
-      inside = record {
-        each = λ x y m n.
-            let p : x < sh .vertices = omega arith in
-            let q : y < sh .frees = omega arith in
-            let e : getD (take (sh .vertices) (sh .vertex)) x 0 ≡ getD (sh .vertex) x 0 = getD-take (sh .vertices) (sh .vertex) x 0 p in
-            let f : getD (take (sh .frees) (sh .free)) y 0 ≡ getD (sh .free) y 0 = getD-take (sh .frees) (sh .free) y 0 q in
-            omega (arith, g .inside x y p q);
-      };
+      laid =
+          let laid = g .laid in
+          record {
+            ns = laid .ns;
+            bs = laid .bs;
+            parted = laid .parted;
+            few-inputs = laid .few-inputs;
+            vertex-count = a ∙ laid .vertex-count;
+            free-count = b ∙ laid .free-count;
+            at-vertex = λ x m.
+                let p : x < sh .vertices = omega arith in
+                getD-take (sh .vertices) (sh .vertex) x 0 p ∙ laid .at-vertex x p;
+            at-free = λ y n.
+                let q : y < sh .frees = omega arith in
+                getD-take (sh .frees) (sh .free) y 0 q ∙ laid .at-free y q;
+          };
     }

@@ -7,18 +7,19 @@ ghost use Prim.Native.Nat.{ℕ, _+_, _*_, _≤_, _<_, _^_};
 ghost use lib.ListN.{length};
 ghost use Rattle.limits.specs.Limits.{maxInputs, maxOutputs, maxCells, maxVertices, maxCodes};
 ghost use Rattle.bits.specs.Digit.{on};
+ghost use Rattle.rows.specs.Words.{rowOn};
 ghost use Rattle.text.specs.Bytes.{bytes, newline};
 ghost use Rattle.names.specs.Pack.{nameOf};
 ghost use Rattle.sheet.specs.Known.{tableAt};
 ghost use Rattle.classes.specs.Columns.{valuesUpto};
-ghost use Rattle.classes.specs.Seen.{Inside};
 ghost use Rattle.network.specs.Printer.{ledAll, printDigits, lutHead, printLut, nodeHead, printNode};
 ghost use Rattle.serving.specs.Build.{numbers};
 ghost use Rattle.putting.specs.Written.{reach, Written};
 ghost use Rattle.listing.specs.Listed.{maxNames, oneDigit, shown, item};
-ghost use Rattle.writing.specs.Lines.{headLine, linesUpto, lastLines, cellOn, cellBy, nodeBy, Bounded};
+ghost use Rattle.writing.specs.Lines.{headLine, linesUpto, lastLines, cellOn, cellBy, nodeBy, Laid, Bounded};
+ghost use Rattle.writing.specs.Running.{VertexRow, rowAt};
 ghost use Rattle.writing.specs.Room.{headRoom, listRoom, lutHeadRoom, lutRoom, lutsRoom, nodeHeadRoom, nodeRoom, nodesRoom, endRoom};
-ghost use mathlib.Core.Bool.{true};
+ghost use mathlib.Core.Bool.{true, false};
 use limits::Vertex;
 use listing::Names;
 use sheet::Sheet;
@@ -123,25 +124,68 @@ fn put_node_head(buf: &mut [u8], at: usize, name: u64) -> usize
     putting::put_text(buf, q, b" (")
 }
 
-// The value of the table t at vertex x and free row z, and 0 where x is no vertex.
-fn cell<'a>(
+// The digit 0, n times.
+fn put_zeros(buf: &mut [u8], at: usize, n: usize) -> usize
+    requires { ⌜ at + n ≤ reach ⌝ }
+    ensures { λ r. ⌜ Written n (now (buf .entry)) (now (buf .exit)) at r (printDigits (valuesUpto (λ (z : ℕ). false) n)) ⌝ }
+{
+    let mut p = at;
+    let mut z = 0;
+    while z < n {
+        p = putting::put_digit(buf, p, false);
+        z += 1;
+    }
+    p
+}
+
+// The values of the table t at a vertex, free row by free row for n of them: a running row number starts at the vertex's row
+// and is stepped on over the free digits.
+fn put_column(
+    buf: &mut [u8],
+    at: usize,
+    t: [u64; limits::TABLE_WORDS],
+    start: usize,
+    bound: usize,
+    free: usize,
+    n: usize,
+) -> usize
+    requires { ⌜ (at + n ≤ reach) × VertexRow start bound free ⌝ }
+    ensures { λ r. ⌜ ((v : VertexRow start bound free) → Written n (now (buf .entry)) (now (buf .exit)) at r (printDigits (valuesUpto (λ (z : ℕ). rowOn t (rowAt v z)) n))) ⌝ }
+{
+    let mut p = at;
+    let mut row = start;
+    let mut z = 0;
+    while z < n {
+        p = putting::put_digit(buf, p, rows::row(&t, row));
+        row = rows::step(row, bound, free);
+        z += 1;
+    }
+    p
+}
+
+// The entries of a code that vertex x produces, and zeros where x is no vertex. The row of the last vertex has every bound
+// digit, and that of the last free row every free digit.
+fn put_code<'a>(
+    buf: &mut [u8],
+    at: usize,
     t: [u64; limits::TABLE_WORDS],
     vertex: &'a [usize],
     free: &'a [usize],
     x: Vertex,
-    z: usize,
-) -> bool
-    requires { ⌜ (z < length (now free)) × Inside (now vertex) (now free) ⌝ }
-    ensures { λ r. ⌜ r ≡ cellOn t (now (vertex .entry)) (now (free .entry)) (x .0) z ⌝ }
+) -> usize
+    requires { ⌜ (at + length (now free) ≤ reach) × Laid (length (now vertex)) (length (now free)) (now vertex) (now free) ⌝ }
+    ensures { λ r. ⌜ Written (length (now (free .entry))) (now (buf .entry)) (now (buf .exit)) at r (printDigits (valuesUpto (cellOn t (now (vertex .entry)) (now (free .entry)) (x .0)) (length (now (free .entry))))) ⌝ }
 {
     let i = x.0;
-    if vertex.len() <= i {
-        return false;
+    let v = vertex.len();
+    let n = free.len();
+    if v <= i {
+        return put_zeros(buf, at, n);
     }
-    rows::row(t, vertex[i] + free[z])
+    put_column(buf, at, t, vertex[i], vertex[v - 1], free[n - 1], n)
 }
 
-// The first n digits of a composition table: code by code, and for each code free row by free row.
+// A composition table, code by code.
 fn put_entries<'a>(
     buf: &mut [u8],
     at: usize,
@@ -149,18 +193,17 @@ fn put_entries<'a>(
     vertex: &'a [usize],
     free: &'a [usize],
     firsts: [Vertex; limits::MAX_CODES],
-    n: usize,
+    count: usize,
 ) -> usize
-    requires { ⌜ (at + n ≤ reach) × (n ≤ maxCodes * length (now free)) × Inside (now vertex) (now free) ⌝ }
-    ensures { λ r. ⌜ Written n (now (buf .entry)) (now (buf .exit)) at r (printDigits (valuesUpto (cellBy t (now (vertex .entry)) (now (free .entry)) firsts) n)) ⌝ }
+    requires { ⌜ (at + count * length (now free) ≤ reach) × (count ≤ maxCodes) × Laid (length (now vertex)) (length (now free)) (now vertex) (now free) ⌝ }
+    ensures { λ r. ⌜ Written (count * length (now (free .entry))) (now (buf .entry)) (now (buf .exit)) at r (printDigits (valuesUpto (cellBy t (now (vertex .entry)) (now (free .entry)) firsts) (count * length (now (free .entry))))) ⌝ }
 {
-    let m = free.len();
     let mut p = at;
-    let mut j = 0;
-    while j < n {
-        let x = firsts[j / m];
-        p = putting::put_digit(buf, p, cell(t, vertex, free, x, j % m));
-        j += 1;
+    let mut c = 0;
+    while c < count {
+        let x = firsts[c];
+        p = put_code(buf, p, t, vertex, free, x);
+        c += 1;
     }
     p
 }
@@ -190,11 +233,11 @@ fn put_node<'a>(
     ensures { λ r. ⌜ Written nodeRoom (now (buf .entry)) (now (buf .exit)) at r (printNode (nameOf name) (shown fs) (nodeBy t (now (vertex .entry)) (now (free .entry)) (item codes) (numbers u 0 mask)) ++ (newline ∷ [])) ⌝ }
 {
     let reads = listing::read_names(u, mask);
-    let n = power(reads.count) * free.len();
+    let count = power(reads.count);
     let firsts = listing::firsts(u, mask, codes, vertex.len());
     let p = put_node_head(buf, at, name);
     let q = put_list(buf, p, listing::joined(reads, fs));
-    let r = put_entries(buf, q, t, vertex, free, firsts, n);
+    let r = put_entries(buf, q, t, vertex, free, firsts, count);
     putting::put_text(buf, r, b")\n")
 }
 

@@ -9,10 +9,10 @@ use Rattle.rows.proofs.put_digits.Statement.{statement}
 use Rattle.rows.proofs.put_digits.Tie as tie
 
 abbrev Inv-loop : tie.InvT-loop
-Inv-loop buf₀ a n i₀ buf i = Put buf₀ (rowOn a) n buf i
+Inv-loop buf₀ n a i₀ buf i = Put buf₀ (rowOn a) n buf i
 
 abbrev μ-loop : tie.MeasureT-loop
-μ-loop buf₀ a n i₀ buf i = n - i
+μ-loop buf₀ n a i₀ buf i = n - i
 
 loop-holds : tie.Need-loop-holds Inv-loop μ-loop
 loop-holds c = put-none _ _ _
@@ -33,7 +33,9 @@ loop-less : tie.Need-loop-less Inv-loop μ-loop
 loop-less c = search needs
 
 loop-again : tie.Need-loop-again Inv-loop μ-loop
-loop-again c = put-next (c .before .before .before .loop .inv) (c .before .before .loop-test .taken) (c .digit-of .ensures ∙ ap digit (c .before .row .ensures))
+loop-again c =
+    let turn = c .before .before .before in
+    put-next (turn .before .loop .inv) (turn .loop-test .taken) (c .digit-of .ensures ∙ ap digit (c .before .row .ensures))
 
 same-length : tie.Need-same-length Inv-loop μ-loop
 same-length c = search needs

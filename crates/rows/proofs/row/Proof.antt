@@ -7,8 +7,8 @@ use Rattle.rows.proofs.row.Tie as tie
 mul-has : tie.Need-mul-has
 mul-has c = search needs
 
-array-read-has : tie.Need-array-read-has
-array-read-has c = search needs
+element-copy-out-has : tie.Need-element-copy-out-has
+element-copy-out-has c = search needs
 
 cast-has : tie.Need-cast-has
 cast-has c = search needs
@@ -21,4 +21,4 @@ unfolding rowOn
 returns c = c .has .ensures
 
 pub row-spec : {M : Type 1} → statement M
-row-spec = tie.close (tie.spec mul-has array-read-has cast-has has-requires returns)
+row-spec = tie.close (tie.spec mul-has element-copy-out-has cast-has has-requires returns)

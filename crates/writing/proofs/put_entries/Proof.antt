@@ -1,57 +1,51 @@
--- `put_entries`: each turn puts one digit more. Assumes nothing.
-use mathlib.Core.Path.{_∙_}
-use Prim.Native.Nat.{_-_}
+-- `put_entries`: each turn puts the entries of one code more. Assumes nothing.
+use Prim.Native.Nat.{ℕ, _*_, _-_, _≤_}
 use native.Mathlib.Omega.{arith}
+use native.Mathlib.Nat.{mul-comm}
 use lib.ListN.{length}
 use borrow.Author.Needs.{needs}
+use Rattle.classes.specs.Columns.{valuesUpto}
+use Rattle.network.specs.Printer.{printDigits}
 use Rattle.putting.specs.PutLaws.{put-length}
-use Rattle.writing.specs.DigitLaws.{Digits, digits-none, digits-put, digits-all, cell-by, code-below, free-below}
-use Rattle.writing.specs.Lines.{cellBy}
+use Rattle.putting.specs.UptoLaws.{Texts, texts-none, texts-put, texts-all}
+use Rattle.listing.specs.Listed.{vertexAt}
+use Rattle.writing.specs.DigitLaws.{cells-by-codes, code-room}
+use Rattle.writing.specs.Lines.{cellOn}
+use Rattle.writing.specs.RunningLaws.{some-free}
 use Rattle.writing.proofs.put_entries.Statement.{statement}
 use Rattle.writing.proofs.put_entries.Tie as tie
 
 abbrev Inv-loop : tie.InvT-loop
-Inv-loop buf₀ at t vertex free n firsts m p₀ j₀ buf p j = Digits (cellBy t vertex free firsts) n buf₀ buf at p j
+Inv-loop buf₀ at t vertex free count firsts p₀ c₀ buf p c =
+    Texts (λ (k : ℕ). printDigits (valuesUpto (cellOn t vertex free (vertexAt firsts k)) (length free))) (length free) count buf₀ buf at p c
 
 abbrev μ-loop : tie.MeasureT-loop
-μ-loop buf₀ at t vertex free n firsts m p₀ j₀ buf p j = n - j
+μ-loop buf₀ at t vertex free count firsts p₀ c₀ buf p c = count - c
 
 loop-holds : tie.Need-loop-holds Inv-loop μ-loop
-loop-holds c = digits-none _ _ _ _
-
-div-x : tie.Need-div-x Inv-loop μ-loop
-div-x c = search needs
+loop-holds c = texts-none _ _ _ _ _
 
 mul-x : tie.Need-mul-x Inv-loop μ-loop
 mul-x c =
-    let head = c .before in
-    let start = head .before .before .before .before in
-    record { fits = omega (arith, code-below (head .loop .j) (start .args .n) (length (start .args .free .now)) (c .loop-test .taken) (start .pre .1)) }
+    let start = c .before .before .before .before .before in
+    record { fits = omega (arith, c .loop-test .taken, start .pre .1) }
 
 array-copy-out-x : tie.Need-array-copy-out-x Inv-loop μ-loop
 array-copy-out-x c =
-    let head = c .before in
-    let start = head .before .before .before .before in
-    code-below (head .loop .j) (start .args .n) (length (start .args .free .now)) (c .loop-test .taken) (start .pre .1)
+    let start = c .before .before .before .before .before in
+    omega (arith, c .loop-test .taken, start .pre .1)
 
-rem-cell : tie.Need-rem-cell Inv-loop μ-loop
-rem-cell c = search needs
-
-cell-requires : tie.Need-cell-requires Inv-loop μ-loop
-cell-requires c κs =
+put-code-requires : tie.Need-put-code-requires Inv-loop μ-loop
+put-code-requires c κs =
     let turn = c .before .before in
     let head = turn .before in
     let start = head .before .before .before .before in
-    (free-below (head .loop .j) (start .args .n) (length (start .args .free .now)) (turn .loop-test .taken) (start .pre .1), start .pre .2)
+    let so-far = head .loop .inv .so-far in
+    let room = code-room (length (start .args .free .now)) (head .loop .c) (start .args .count) (turn .loop-test .taken) in
+    (omega (arith, start .pre .0, so-far .place, so-far .short, room), start .pre .2)
 
-put-digit-requires : tie.Need-put-digit-requires Inv-loop μ-loop
-put-digit-requires c κs =
-    let head = c .before .before .before .before in
-    let start = head .before .before .before .before in
-    omega (arith, start .pre, head .loop .inv .so-far .place, head .loop .inv .so-far .short)
-
-add-j : tie.Need-add-j Inv-loop μ-loop
-add-j c = search needs
+add-c : tie.Need-add-c Inv-loop μ-loop
+add-c c = search needs
 
 loop-less : tie.Need-loop-less Inv-loop μ-loop
 loop-less c = search needs
@@ -59,14 +53,21 @@ loop-less c = search needs
 loop-again : tie.Need-loop-again Inv-loop μ-loop
 loop-again c =
     let put = c .before .before in
-    let turn = put .before .before .before .before in
-    digits-put (turn .before .loop .inv) (turn .loop-test .taken) (put .put-digit .ensures) (put .before .cell .ensures ∙ cell-by _ _ _ _ _)
+    let turn = put .before .before .before in
+    texts-put (turn .before .loop .inv) (turn .loop-test .taken) (put .put-code .ensures)
 
 same-length : tie.Need-same-length Inv-loop μ-loop
 same-length c = put-length (c .before .loop .inv .so-far)
 
 returns : tie.Need-returns Inv-loop μ-loop
-returns c = digits-all (c .before .loop .inv) (c .loop-test .left)
+returns c =
+    let head = c .before in
+    let start = head .before .before .before .before in
+    let args = start .args in
+    let frees = length (args .free .now) in
+    let room : frees * args .count ≤ args .count * frees = omega (arith, mul-comm frees (args .count)) in
+    texts-all (head .loop .inv) (c .loop-test .left) room
+    (cells-by-codes (args .t) (args .vertex .now) (args .free .now) _ (args .count) (some-free (start .pre .2)))
 
 pub put-entries-spec : {M : Type 1} → statement M
 put-entries-spec =
@@ -75,13 +76,10 @@ put-entries-spec =
     Inv-loop
     μ-loop
     loop-holds
-    div-x
     mul-x
     array-copy-out-x
-    rem-cell
-    cell-requires
-    put-digit-requires
-    add-j
+    put-code-requires
+    add-c
     loop-less
     loop-again
     same-length

@@ -4,7 +4,7 @@ use native.Mathlib.Omega.{arith}
 use lib.ListN.{length}
 use Rattle.putting.specs.PutLaws.{put-next, put-then, put-length}
 use Rattle.writing.specs.TextLaws.{node-line}
-use Rattle.writing.specs.DigitLaws.{entries-few, entries-within}
+use Rattle.writing.specs.DigitLaws.{entries-few}
 use Rattle.writing.proofs.put_node.Statement.{statement}
 use Rattle.writing.proofs.put_node.Tie as tie
 
@@ -13,11 +13,6 @@ read-names-requires c κs = c .before .before .before .pre .2
 
 power-requires : tie.Need-power-requires
 power-requires c κs = let start = c .before .before .before .before in omega (arith, start .pre .2, c .read-names .ensures .2)
-
-mul-n : tie.Need-mul-n
-mul-n c =
-    let start = c .before .before .before .before .before in
-    record { fits = omega (arith, entries-few (c .power .result) (length (start .args .free .now)) (c .power .ensures .1) (start .pre .3 .few-free)) }
 
 firsts-requires : tie.Need-firsts-requires
 firsts-requires c κs = let start = c .before .before .before .before .before in (start .pre .2, start .pre .3 .few-vertices)
@@ -50,7 +45,7 @@ put-entries-requires c κs =
     let few = entries-few (power .result) frees (power .ensures .1) (start .pre .3 .few-free) in
     let a = head .put-node-head .ensures in
     let b = list .put-list .ensures in
-    (omega (arith, start .pre .0, a .place, a .short, b .place, b .short), entries-within (power .result) frees (power .ensures .1), start .pre .3 .inside)
+    (omega (arith, start .pre .0, a .place, a .short, b .place, b .short), power .ensures .1, start .pre .3 .laid)
 
 slice-aggregate-put-text : tie.Need-slice-aggregate-put-text
 slice-aggregate-put-text c = refl
@@ -98,7 +93,6 @@ put-node-spec =
     (tie.spec
     read-names-requires
     power-requires
-    mul-n
     firsts-requires
     put-node-head-requires
     joined-requires

@@ -1,0 +1,32 @@
+-- A running row number: it starts at the row of a vertex and is stepped on from free row to free row. Assumes nothing.
+use mathlib.Core.Path.{_≡_}
+use mathlib.Core.List.{List}
+use Prim.Native.Nat.{ℕ, _≤_}
+use lib.ListN.{length}
+use Rattle.limits.specs.Limits.{maxInputs}
+use Rattle.names.specs.Name.{Name}
+use Rattle.rows.specs.Words.{rowOn}
+use Rattle.classes.specs.Columns.{joinRow}
+use Rattle.classes.specs.Masks.{boundDigits, freeDigits}
+use Rattle.classes.specs.Proper.{Parted}
+use Rattle.writing.specs.DigitLaws.{Digits}
+
+-- start is the row of a vertex and of free row 0, for some inputs with these bound and these free digits
+pub record VertexRow (start bound free : ℕ) : Type 0 where
+  pub ns : List Name
+  pub bs : List Name
+  pub vertex : ℕ
+  pub parted : Parted ns bs
+  pub few-inputs : length ns ≤ maxInputs
+  pub start-is : start ≡ joinRow ns bs vertex 0
+  pub bound-is : bound ≡ boundDigits ns bs
+  pub free-is : free ≡ freeDigits ns bs
+
+-- the row, over all inputs, of that vertex and of free row z
+abbrev pub rowAt : {start bound free : ℕ} → VertexRow start bound free → ℕ → ℕ
+rowAt v z = joinRow (v .ns) (v .bs) (v .vertex) z
+
+-- the number at free row z, and the digits of the free rows before
+pub record Running {start bound free : ℕ} (v : VertexRow start bound free) (t : List ℕ) (n : ℕ) (a b : List ℕ) (at p row z : ℕ) : Type 0 where
+  pub runs : row ≡ rowAt v z
+  pub put : Digits (λ y. rowOn t (rowAt v y)) n a b at p z

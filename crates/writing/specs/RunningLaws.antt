@@ -1,0 +1,109 @@
+-- The running row number at every free row, and the column that is put down by it. Assumes nothing.
+use mathlib.Core.Path.{_≡_, sym, ap, ap₂, _∙_}
+use mathlib.Core.Bool.{Bool, false}
+use mathlib.Core.List.{List, _∷_, []}
+use Prim.Native.Nat.{ℕ, _+_, _-_, _≤_, _<_, _^_}
+use native.Mathlib.Omega.{arith}
+use lib.ListN.{length, getD}
+use lib.Pow.{pow-mono, pow-pos}
+use Rattle.limits.specs.Limits.{maxInputs, maxRows}
+use Rattle.rows.specs.Digits.{digit}
+use Rattle.rows.specs.Words.{rowOn}
+use Rattle.rows.specs.Step.{stepped}
+use Rattle.classes.specs.Columns.{free, valuesUpto, joinRow, vertexCount, freeCount}
+use Rattle.classes.specs.Masks.{boundDigits, freeDigits}
+use Rattle.classes.specs.JoinLaws.{join-add, join-lt}
+use Rattle.classes.specs.NextLaws.{next-row}
+use Rattle.network.specs.Printer.{printDigits}
+use Rattle.putting.specs.Written.{Written}
+use Rattle.writing.specs.Lines.{cellOn, Laid}
+use Rattle.writing.specs.DigitLaws.{digits-none, digits-put, digits-all, values-same, cell-past, cell-there}
+use Rattle.writing.specs.Running.{VertexRow, rowAt, Running}
+
+-- a row of at most as many inputs as there may be
+small : {n r : ℕ} → n ≤ maxInputs → r < 2 ^ n → r < maxRows
+small {n} {r} few l = let m : 2 ^ n ≤ maxRows = pow-mono few in omega arith
+
+module _ {start bound free : ℕ} (v : VertexRow start bound free) where
+  pub row-small : (z : ℕ) → rowAt v z < maxRows
+  row-small z = small (v .few-inputs) (join-lt (v .ns) (v .bs) (v .vertex) z)
+
+  pub bound-small : bound < maxRows
+  bound-small =
+      let l : boundDigits (v .ns) (v .bs) < maxRows
+      = small (v .few-inputs) (join-lt (v .ns) (v .bs) (vertexCount (v .bs) - 1) 0) in
+      omega (arith, v .bound-is)
+
+  pub free-small : free < maxRows
+  free-small =
+      let l : freeDigits (v .ns) (v .bs) < maxRows
+      = small (v .few-inputs) (join-lt (v .ns) (v .bs) 0 (freeCount (v .ns) (v .bs) - 1)) in
+      omega (arith, v .free-is)
+
+  -- one step on is the row of the next free row
+  row-next : (row z : ℕ) → row ≡ rowAt v z → stepped bound free row ≡ rowAt v (z + 1)
+  row-next row z e =
+      ap (stepped bound free) e
+      ∙ ap₂ (λ (b f : ℕ). stepped b f (rowAt v z)) (v .bound-is) (v .free-is)
+      ∙ next-row (v .ns) (v .bs) (v .parted) (v .vertex) z
+
+  module _ {t : List ℕ} {n : ℕ} {a : List ℕ} {at : ℕ} where
+    pub running-start : Running v t n a a at at start 0
+    running-start = record { runs = v .start-is; put = digits-none _ n a at }
+
+    pub running-step : {b e : List ℕ} {p q row next z : ℕ} {w : Bool} → Running v t n a b at p row z → z < n
+        → Written 1 b e p q (digit w ∷ []) → w ≡ rowOn t row → next ≡ stepped bound free row → Running v t n a e at q next (z + 1)
+    running-step {row = row} {z = z} g l put value step =
+        record {
+          runs = step ∙ row-next row z (g .runs);
+          put = digits-put (g .put) l put (value ∙ ap (rowOn t) (g .runs));
+        }
+
+    pub running-all : {b : List ℕ} {p row z : ℕ} → Running v t n a b at p row z → n ≤ z
+        → Written n a b at p (printDigits (valuesUpto (λ y. rowOn t (rowAt v y)) n))
+    running-all g l = digits-all (g .put) l
+
+-- ---- the entries of a code
+module _ {vs fs : List ℕ} (l : Laid (length vs) (length fs) vs fs) where
+  some-vertices : 0 < length vs
+  some-vertices = omega (arith, l .vertex-count, pow-pos (length (l .bs)))
+
+  pub some-free : 0 < length fs
+  some-free = omega (arith, l .free-count, pow-pos (length (free (l .ns) (l .bs))))
+
+  pub last-vertex : length vs - 1 < length vs
+  last-vertex = omega (arith, some-vertices)
+
+  pub last-free : length fs - 1 < length fs
+  last-free = omega (arith, some-free)
+
+  -- the row of vertex x starts a running row number
+  pub vertex-row : (x : ℕ) → x < length vs → VertexRow (getD vs x 0) (getD vs (length vs - 1) 0) (getD fs (length fs - 1) 0)
+  vertex-row x h =
+      record {
+        ns = l .ns;
+        bs = l .bs;
+        vertex = x;
+        parted = l .parted;
+        few-inputs = l .few-inputs;
+        start-is = l .at-vertex x h;
+        bound-is = l .at-vertex (length vs - 1) last-vertex ∙ ap (λ (k : ℕ). joinRow (l .ns) (l .bs) (k - 1) 0) (l .vertex-count);
+        free-is = l .at-free (length fs - 1) last-free ∙ ap (λ (k : ℕ). joinRow (l .ns) (l .bs) 0 (k - 1)) (l .free-count);
+      }
+
+  -- the values along it are the entries of a code that vertex x produces
+  pub column-entries : (t : List ℕ) (x : ℕ) (h : x < length vs)
+      → valuesUpto (λ z. rowOn t (rowAt (vertex-row x h) z)) (length fs) ≡ valuesUpto (cellOn t vs fs x) (length fs)
+  unfolding vertex-row
+  column-entries t x h =
+      values-same (λ z. rowOn t (joinRow (l .ns) (l .bs) x z)) (cellOn t vs fs x) (length fs)
+      (λ z g.
+      ap (rowOn t)
+      (join-add (l .ns) (l .bs) x z
+      ∙ ap₂ (λ (m n : ℕ). m + n) (sym (l .at-vertex x h)) (sym (l .at-free z g)))
+      ∙ cell-there t vs fs x z h)
+
+-- a code that no vertex produces has no running row number, and its entries are 0
+pub zero-entries : (t vs fs : List ℕ) (x : ℕ) → length vs ≤ x
+    → valuesUpto (λ z. false) (length fs) ≡ valuesUpto (cellOn t vs fs x) (length fs)
+zero-entries t vs fs x h = values-same (λ z. false) (cellOn t vs fs x) (length fs) (λ z g. cell-past t vs fs x z h)
