@@ -10,3 +10,4 @@ pub mod Every
 pub mod EveryLaws
 pub mod Step
 pub mod StepLaws
+pub mod WorkedStep
