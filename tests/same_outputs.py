@@ -1,7 +1,7 @@
 #!/usr/bin/env python3
 """same_outputs.py OTHER [COUNT [SEED]]: whether cellmap, cellcheck and cellblif answer byte for byte as those of another checkout
 do, whose target/bin/ has them built (cellblif is left out where it has none). The sheets are those of bench/ and examples/, COUNT
-random valid ones and as many damaged (3,000 unless given); beside each sheet that maps Check and Export are asked of the network,
+random valid ones, as many of many free inputs, and as many damaged (3,000 unless given); beside each sheet that maps Check and Export are asked of the network,
 of it with a table's digit turned, with any one byte changed, with a line lost, and cut off. The last line counts the answers by
 kind, and those that differ."""
 import collections
@@ -51,9 +51,10 @@ def main():
     other = pathlib.Path(sys.argv[1]).resolve()
     count = int(sys.argv[2]) if len(sys.argv) > 2 else 3000
     dice = random.Random(int(sys.argv[3]) if len(sys.argv) > 3 else 1)
-    sheets = [p.read_bytes() for d in ("bench/border", "bench/large", "examples") for p in sorted((ROOT / d).glob("*.sheet"))]
+    sheets = [p.read_bytes() for d in ("bench/border", "bench/large", "bench/wide", "examples") for p in sorted((ROOT / d).glob("*.sheet"))]
     for _ in range(count):
-        sheets += [random_sheets.text_of(random_sheets.valid(dice)), random_sheets.damaged(dice)]
+        drawn = [random_sheets.valid(dice), random_sheets.wide(dice)]
+        sheets += [*map(random_sheets.text_of, drawn), random_sheets.damaged(dice)]
     of_pairs = [name for name in ("cellcheck", "cellblif") if (other / "target/bin" / name).exists()]
     kinds, differ = collections.Counter(), 0
     for sheet in sheets:

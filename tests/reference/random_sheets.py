@@ -37,18 +37,29 @@ def formula(dice, inputs, depth):
     return f"({operator} {' '.join(parts)})"
 
 
-def valid(dice):
-    """The lines of a valid sheet."""
+def sheet(dice, count, most_bound, depths):
+    """The lines of a valid sheet of so many inputs, at most so many of them bound, with formulas of these depths."""
     taken = []
-    for _ in range(dice.choice((1, 2, 3, 3, 4, 4, 5, 5, 6, 6, 7, 8, 9, 10))):
+    for _ in range(count):
         taken.append(new_name(dice, taken))
     inputs = list(taken)
-    bound = dice.sample(inputs, dice.randrange(1, min(5, len(inputs)) + 1))
+    bound = dice.sample(inputs, dice.randrange(1, min(most_bound, count) + 1))
     lines = ["(design 1)", f"(in {' '.join(inputs)})", f"(bound {' '.join(bound)})", f"(limit {dice.randrange(7)})"]
     for _ in range(dice.randrange(1, 5)):
         taken.append(new_name(dice, taken))
-        lines.append(f"(out {taken[-1]} {formula(dice, inputs, dice.choice((0, 1, 1, 2, 2, 3, 3, 4, 5, 8, 32)))})")
+        lines.append(f"(out {taken[-1]} {formula(dice, inputs, dice.choice(depths))})")
     return lines + ["(end)"]
+
+
+def valid(dice):
+    """The lines of a valid sheet."""
+    count = dice.choice((1, 2, 3, 3, 4, 4, 5, 5, 6, 6, 7, 8, 9, 10))
+    return sheet(dice, count, 5, (0, 1, 1, 2, 2, 3, 3, 4, 5, 8, 32))
+
+
+def wide(dice):
+    """The lines of a valid sheet of many free inputs."""
+    return sheet(dice, dice.choice((8, 9, 10, 10)), 2, (1, 2, 3, 3, 4, 5, 8))
 
 
 def text_of(lines):
