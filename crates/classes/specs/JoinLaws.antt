@@ -8,7 +8,8 @@ use Prim.Native.Nat.{ℕ, _+_, _*_, _%_, _^_, _≤_, _<_}
 use native.Mathlib.Omega.{arith}
 use native.Mathlib.Nat.{add-zero, add-mul}
 use lib.ListN.{length, length-map}
-use lib.Pow.{high, low}
+use lib.Pow.{high, low, pow-mono}
+use Rattle.limits.specs.Limits.{maxInputs, maxRows}
 use Rattle.bits.specs.Logic.{pick}
 use Rattle.bits.specs.LogicLaws.{true-false}
 use Rattle.bits.specs.Digit.{on, digit}
@@ -81,6 +82,13 @@ module _ (ns bs : List Name) where
   pub join-lt : (x y : ℕ) → joinRow ns bs x y < 2 ^ length ns
   unfolding joinRow
   join-lt x y = row-map-lt (onParts bs (free ns bs) x y) ns
+
+  -- of as many inputs as there may be
+  pub join-small : (x y : ℕ) → length ns ≤ maxInputs → joinRow ns bs x y < maxRows
+  join-small x y few =
+      let l : joinRow ns bs x y < 2 ^ length ns = join-lt x y in
+      let m : 2 ^ length ns ≤ maxRows = pow-mono few in
+      omega arith
 
   pub vertex-lt : (r : ℕ) → vertexOf ns bs r < vertexCount bs
   unfolding vertexOf

@@ -3,15 +3,14 @@
 use mathlib.Core.Path.{_≡_, sym, ap, ap₂, subst, _∙_}
 use mathlib.Core.Bool.{Bool, _&&_}
 use mathlib.Core.List.{List}
-use Prim.Native.Nat.{ℕ, suc, _+_, _*_, _^_, _≤_, _<_}
+use Prim.Native.Nat.{ℕ, suc, _+_, _*_, _≤_, _<_}
 use native.Mathlib.Omega.{arith}
 use lib.Dec.{eqb}
 use lib.ListN.{length, getD, take}
-use lib.Pow.{pow-mono}
 use lib.Seq.{getD-take, length-take-le}
 use borrow.Author.Tests.{eq-eqb, eqb-true}
 use Rattle.bits.specs.LogicLaws.{and-left, and-right, and-both}
-use Rattle.limits.specs.Limits.{maxInputs, maxBound, maxVertices, maxFreeRows}
+use Rattle.limits.specs.Limits.{maxBound, maxVertices, maxFreeRows}
 use Rattle.names.specs.Name.{Name}
 use Rattle.sheet.specs.Examine.{Design}
 use Rattle.sheet.specs.Known.{Holds, tableAt}
@@ -26,7 +25,7 @@ use Rattle.classes.specs.Seen.{seen, sameColumn, alikeSeen, sameKey, Cla
 use Rattle.classes.specs.Answer.{ShapeIs, localAt, globalAt, LocalsAre, WidthIs, GlobalsAre}
 use Rattle.classes.specs.ClassLaws.{Equivalence, count-most, class-below, class-test, count-agrees, class-agrees}
 use Rattle.classes.specs.ColumnLaws.{alike-columns, same-columns, alike-equivalence}
-use Rattle.classes.specs.JoinLaws.{join-add, join-lt}
+use Rattle.classes.specs.JoinLaws.{join-add, join-small}
 use Rattle.classes.specs.declared.Shape.{Shape}
 use Rattle.classes.specs.declared.Locals.{Locals}
 use Rattle.classes.specs.declared.Globals.{Globals}
@@ -82,9 +81,7 @@ module _ (d : Design) (k : Sheet) (sh : Shape) (h : Holds d k) (p : Proper d) (s
       (getD-take (sh .vertices) (sh .vertex) x 0 inx ∙ s .at-vertex x inx)
       (getD-take (sh .frees) (sh .free) y 0 iny ∙ s .at-free y iny)
       ∙ sym (join-add ns bs x y) in
-      let lt : joinRow ns bs x y < 2 ^ length ns = join-lt ns bs x y in
-      let most : 2 ^ length ns ≤ 2 ^ maxInputs = pow-mono {j = maxInputs} (p .few-inputs) in
-      ap (rowOn (tableAt (k .tables) o)) row ∙ h .tabled o l .each (joinRow ns bs x y) (omega arith)
+      ap (rowOn (tableAt (k .tables) o)) row ∙ h .tabled o l .each (joinRow ns bs x y) (join-small ns bs x y (p .few-inputs))
 
   alike-seen : (o x y : ℕ) → o < k .outputs → x < vertexCount (d .bound) → y < vertexCount (d .bound)
       → alikeSeen (tableAt (k .tables) o) (take (sh .vertices) (sh .vertex)) (take (sh .frees) (sh .free)) x y ≡ alike d (d .bound) o x y

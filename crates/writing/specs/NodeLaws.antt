@@ -8,10 +8,10 @@ use Prim.Native.Nat.{ℕ, zero, suc, _+_, _*_, _/_, _%_, _^_, _≤_, _<_}
 use native.Mathlib.Omega.{arith}
 use native.Mathlib.Nat.{mod-lt}
 use lib.Dec.{eqb}
-use lib.Pow.{pow-add, pow-mono, pow-pos}
+use lib.Pow.{pow-add, pow-pos}
 use lib.ListN.{length, getD, take}
 use lib.Seq.{getD-take, length-take-le}
-use Rattle.limits.specs.Limits.{maxInputs, maxRows}
+use Rattle.limits.specs.Limits.{maxInputs}
 use Rattle.bits.specs.Logic.{pick}
 use Rattle.rows.specs.Words.{rowOn, Rowwise}
 use Rattle.sheet.specs.Examine.{Design}
@@ -20,7 +20,7 @@ use Rattle.classes.specs.Columns.{free, valuesUpto, joinRow, valueAt, vertexCou
 use Rattle.classes.specs.Proper.{Parted}
 use Rattle.classes.specs.Seen.{seen}
 use Rattle.classes.specs.Answer.{ShapeIs}
-use Rattle.classes.specs.JoinLaws.{join-lt, join-add}
+use Rattle.classes.specs.JoinLaws.{join-small, join-add}
 use Rattle.classes.specs.declared.Shape.{Shape}
 use Rattle.network.specs.Check.{firstOf}
 use Rattle.serving.specs.Build.{codeIn, entry, entryAt, nodeBuilt}
@@ -70,12 +70,6 @@ module _ (d : Design) (sh : Shape) (s : ShapeIs d sh) where
       }
 
   module _ (few : length (d .inputs) ≤ maxInputs) where
-    row-small : (x y : ℕ) → joinRow (d .inputs) (d .bound) x y < maxRows
-    row-small x y =
-        let l : joinRow (d .inputs) (d .bound) x y < 2 ^ length (d .inputs) = join-lt (d .inputs) (d .bound) x y in
-        let m : 2 ^ length (d .inputs) ≤ maxRows = pow-mono few in
-        omega arith
-
     module _ (v-long : sh .vertices ≤ length (sh .vertex)) (f-long : sh .frees ≤ length (sh .free)) (t : List ℕ) (o : ℕ) (table : Rowwise (outputOn d o) t) where
       -- the vertices' and the free rows' own parts of the arrays
       abbrev vs : List ℕ
@@ -97,7 +91,7 @@ module _ (d : Design) (sh : Shape) (s : ShapeIs d sh) where
           let q : y < sh .frees = subst (λ (n : ℕ). y < n) (f-size ∙ sym (s .free-rows)) b in
           ap (rowOn t)
           (ap₂ (λ (m n : ℕ). m + n) (getD-take (sh .vertices) (sh .vertex) x 0 p) (getD-take (sh .frees) (sh .free) y 0 q) ∙ join-of x y p q)
-          ∙ table .each (joinRow (d .inputs) (d .bound) x y) (row-small x y)
+          ∙ table .each (joinRow (d .inputs) (d .bound) x y) (join-small (d .inputs) (d .bound) x y few)
 
       entry-is : (codes : ℕ → ℕ) (is : List ℕ) (j : ℕ) → entryBy t vs fs codes is j ≡ entry d codes o is j
       unfolding entryBy entry

@@ -1,15 +1,13 @@
--- A running row number: it starts at the row of a vertex and is stepped on from free row to free row. Assumes nothing.
+-- Where a running row number starts, and which row it is at a free row. Assumes nothing.
 use mathlib.Core.Path.{_≡_}
 use mathlib.Core.List.{List}
 use Prim.Native.Nat.{ℕ, _≤_}
 use lib.ListN.{length}
 use Rattle.limits.specs.Limits.{maxInputs}
 use Rattle.names.specs.Name.{Name}
-use Rattle.rows.specs.Words.{rowOn}
 use Rattle.classes.specs.Columns.{joinRow}
 use Rattle.classes.specs.Masks.{boundDigits, freeDigits}
 use Rattle.classes.specs.Proper.{Parted}
-use Rattle.writing.specs.DigitLaws.{Digits}
 
 -- start is the row of a vertex and of free row 0, for some inputs with these bound and these free digits
 pub record VertexRow (start bound free : ℕ) : Type 0 where
@@ -25,8 +23,3 @@ pub record VertexRow (start bound free : ℕ) : Type 0 where
 -- the row, over all inputs, of that vertex and of free row z
 abbrev pub rowAt : {start bound free : ℕ} → VertexRow start bound free → ℕ → ℕ
 rowAt v z = joinRow (v .ns) (v .bs) (v .vertex) z
-
--- the number at free row z, and the digits of the free rows before
-pub record Running {start bound free : ℕ} (v : VertexRow start bound free) (t : List ℕ) (n : ℕ) (a b : List ℕ) (at p row z : ℕ) : Type 0 where
-  pub runs : row ≡ rowAt v z
-  pub put : Digits (λ y. rowOn t (rowAt v y)) n a b at p z

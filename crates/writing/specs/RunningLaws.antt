@@ -1,44 +1,39 @@
--- The running row number at every free row, and the column that is put down by it. Assumes nothing.
+-- A running row number is at every free row the row of its vertex and that free row, and the column that is put down by it
+-- is the vertex's. Assumes nothing.
 use mathlib.Core.Path.{_≡_, sym, ap, ap₂, _∙_}
 use mathlib.Core.Bool.{Bool, false}
 use mathlib.Core.List.{List, _∷_, []}
-use Prim.Native.Nat.{ℕ, _+_, _-_, _≤_, _<_, _^_}
+use Prim.Native.Nat.{ℕ, _+_, _-_, _≤_, _<_}
 use native.Mathlib.Omega.{arith}
 use lib.ListN.{length, getD}
-use lib.Pow.{pow-mono, pow-pos}
-use Rattle.limits.specs.Limits.{maxInputs, maxRows}
+use lib.Pow.{pow-pos}
+use Rattle.limits.specs.Limits.{maxRows}
 use Rattle.rows.specs.Digits.{digit}
 use Rattle.rows.specs.Words.{rowOn}
 use Rattle.rows.specs.Step.{stepped}
 use Rattle.classes.specs.Columns.{free, valuesUpto, joinRow, vertexCount, freeCount}
-use Rattle.classes.specs.Masks.{boundDigits, freeDigits}
-use Rattle.classes.specs.JoinLaws.{join-add, join-lt}
+use Rattle.classes.specs.JoinLaws.{join-add, join-small}
 use Rattle.classes.specs.NextLaws.{next-row}
 use Rattle.network.specs.Printer.{printDigits}
 use Rattle.putting.specs.Written.{Written}
 use Rattle.writing.specs.Lines.{cellOn, Laid}
-use Rattle.writing.specs.DigitLaws.{digits-none, digits-put, digits-all, values-same, cell-past, cell-there}
-use Rattle.writing.specs.Running.{VertexRow, rowAt, Running}
+use Rattle.writing.specs.DigitLaws.{Digits, digits-none, digits-put, digits-all, values-same, cell-past, cell-there}
+use Rattle.writing.specs.Running.{VertexRow, rowAt}
 
--- a row of at most as many inputs as there may be
-small : {n r : ℕ} → n ≤ maxInputs → r < 2 ^ n → r < maxRows
-small {n} {r} few l = let m : 2 ^ n ≤ maxRows = pow-mono few in omega arith
+-- the number at free row z, and the digits of the free rows before
+pub record Running {start bound free : ℕ} (v : VertexRow start bound free) (t : List ℕ) (n : ℕ) (a b : List ℕ) (at p row z : ℕ) : Type 0 where
+  pub runs : row ≡ rowAt v z
+  pub put : Digits (λ y. rowOn t (rowAt v y)) n a b at p z
 
 module _ {start bound free : ℕ} (v : VertexRow start bound free) where
   pub row-small : (z : ℕ) → rowAt v z < maxRows
-  row-small z = small (v .few-inputs) (join-lt (v .ns) (v .bs) (v .vertex) z)
+  row-small z = join-small (v .ns) (v .bs) (v .vertex) z (v .few-inputs)
 
   pub bound-small : bound < maxRows
-  bound-small =
-      let l : boundDigits (v .ns) (v .bs) < maxRows
-      = small (v .few-inputs) (join-lt (v .ns) (v .bs) (vertexCount (v .bs) - 1) 0) in
-      omega (arith, v .bound-is)
+  bound-small = omega (arith, v .bound-is, join-small (v .ns) (v .bs) (vertexCount (v .bs) - 1) 0 (v .few-inputs))
 
   pub free-small : free < maxRows
-  free-small =
-      let l : freeDigits (v .ns) (v .bs) < maxRows
-      = small (v .few-inputs) (join-lt (v .ns) (v .bs) 0 (freeCount (v .ns) (v .bs) - 1)) in
-      omega (arith, v .free-is)
+  free-small = omega (arith, v .free-is, join-small (v .ns) (v .bs) 0 (freeCount (v .ns) (v .bs) - 1) (v .few-inputs))
 
   -- one step on is the row of the next free row
   row-next : (row z : ℕ) → row ≡ rowAt v z → stepped bound free row ≡ rowAt v (z + 1)

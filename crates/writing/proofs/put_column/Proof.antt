@@ -4,8 +4,8 @@ use Prim.Native.Nat.{_-_}
 use native.Mathlib.Omega.{arith}
 use borrow.Author.Needs.{needs}
 use Rattle.putting.specs.PutLaws.{put-length}
-use Rattle.writing.specs.Running.{VertexRow, Running}
-use Rattle.writing.specs.RunningLaws.{row-small, bound-small, free-small, running-start, running-step, running-all}
+use Rattle.writing.specs.Running.{VertexRow}
+use Rattle.writing.specs.RunningLaws.{Running, row-small, bound-small, free-small, running-start, running-step, running-all}
 use Rattle.writing.proofs.put_column.Statement.{statement}
 use Rattle.writing.proofs.put_column.Tie as tie
 
