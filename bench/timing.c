@@ -4,7 +4,8 @@
  * Check on Map's network, of the same in plain C, and of Export of that network. The answers of Table and Check are compared
  * with those of the plain C.
  * Last comes a line `peak` with the most memory that the process had, in KiB. Times are processor time, the best of several
- * batches. */
+ * batches.
+ * timing once SHEET: calls Map once and writes the network, for a program that counts instructions. */
 #define _POSIX_C_SOURCE 200809L
 #include "cellmapper.h"
 #include "plain.h"
@@ -150,9 +151,22 @@ static void print_peak(void)
         fclose(file);
 }
 
+static void map_once(const char *path)
+{
+    size_t line, cells;
+    load(path);
+    if (cellmapper_map(sheet, sheet_len, network, sizeof network, &line, &cells, &network_len) != 0)
+        fail("is refused", path);
+    fwrite(network, 1, network_len, stdout);
+}
+
 int main(int argc, char **argv)
 {
     int i;
+    if (argc == 3 && strcmp(argv[1], "once") == 0) {
+        map_once(argv[2]);
+        return 0;
+    }
     for (i = 2; i < argc; i++)
         (strcmp(argv[1], "map") == 0 ? time_map : time_large)(argv[i]);
     print_peak();

@@ -1,0 +1,71 @@
+"""Map on wide panels, before and after: the sheets of bench/wide/ and the two of bench/large/ with 1 and 2 bound inputs, all of
+10 inputs and 4 outputs, with the archive of this checkout and with that of another commit, which is built in a clone of its own.
+Times are processor time, the best of several batches taken in turns; instructions are counted by callgrind, in one call of Map
+and, of it, in writer::put_network, which puts the network sheet down, its composition tables above all. Networks that are not
+the same byte for byte end the run."""
+import pathlib
+import re
+import shutil
+import subprocess
+import sys
+
+ROUNDS = 5
+SHEETS = ["bench/wide/*.sheet", "bench/large/bound[12].sheet"]
+HEAD = ["sheet", "cells", "bytes", "network before", "network after", "ratio", "Map before", "Map after", "ratio", "µs before", "µs after", "ratio"]
+
+
+def archive_of(root, out, commit):
+    """the archive of another commit, proved and built in a clone below out unless it stands there already"""
+    said = subprocess.run(["git", "-C", root, "rev-parse", "--short", commit], capture_output=True, text=True, check=True)
+    clone = out / f"before-{said.stdout.strip()}"
+    archive = clone / "target" / "staticlib" / "libcellmapper.a"
+    if not archive.exists():
+        shutil.rmtree(clone, ignore_errors=True)
+        subprocess.run(["git", "clone", "-q", root, clone], check=True)
+        subprocess.run(["git", "-C", clone, "checkout", "-q", said.stdout.strip()], check=True)
+        subprocess.run(["rt", "staticlib", "cellmapper"], cwd=clone, check=True, stdout=sys.stderr)
+    return archive
+
+
+def nanoseconds(program, path):
+    """of one call of Map"""
+    return int(subprocess.run([program, "map", path], capture_output=True, text=True, check=True).stdout.split()[2])
+
+
+def instructions(program, path, out):
+    """in what puts the network sheet down, and in the whole call of Map; the network"""
+    counts = out / "callgrind.out"
+    done = subprocess.run(["valgrind", "--tool=callgrind", f"--callgrind-out-file={counts}", program, "once", path],
+                          capture_output=True, check=True)
+    said = subprocess.run(["callgrind_annotate", "--inclusive=yes", "--threshold=100", counts], capture_output=True, text=True, check=True)
+    found = []
+    for name in ("writer::put_network", "cellmapper_map"):
+        line = re.search(rf"^\s*([0-9,]+) .*:{name} ", said.stdout, re.MULTILINE)
+        if line is None:
+            sys.exit(f"callgrind says nothing of {name} in {program}")
+        found.append(int(line[1].replace(",", "")))
+    return found, done.stdout
+
+
+def compared(programs, path, out):
+    """the row of one sheet"""
+    (before, network), (after, same) = (instructions(program, path, out) for program in programs)
+    if network != same:
+        sys.exit(f"{path}: the two networks differ")
+    turns = [[nanoseconds(program, path) for program in programs] for _ in range(ROUNDS)]
+    old, new = (min(turn[i] for turn in turns) / 1000 for i in range(2))
+    row = [f"{path.parent.name}/{path.stem}", str(network.count(b"(lut ")), str(len(network))]
+    for a, b in zip(before, after):
+        row += [f"{a:,}", f"{b:,}", f"{b / a:.2f}"]
+    return row + [f"{old:.1f}", f"{new:.1f}", f"{new / old:.2f}"]
+
+
+def table(root, programs, out, say):
+    """the rows for programs linked to the archives of before and after"""
+    if shutil.which("valgrind") is None:
+        sys.exit("valgrind is not installed (apt-get install valgrind)")
+    rows = []
+    for path in (p for pattern in SHEETS for p in sorted(pathlib.Path(root).glob(pattern))):
+        say(f"wide: {path.stem}")
+        rows.append(compared(programs, path, out))
+    return rows
