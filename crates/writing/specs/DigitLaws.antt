@@ -138,25 +138,25 @@ values-append f k (suc m) =
     ∙ append-assoc (valuesUpto f k) (valuesUpto (λ z. f (k + z)) m) (f (k + m) ∷ [])
 
 -- m values for each of k codes, put down code by code
-pub codes-digits : (f : ℕ → ℕ → Bool) (m k : ℕ) → 0 < m
+codes-digits : (f : ℕ → ℕ → Bool) (m k : ℕ)
     → textsUpto (λ c. printDigits (valuesUpto (f c) m)) k ≡ printDigits (valuesUpto (λ j. f (j / m) (j % m)) (k * m))
 unfolding textsUpto printDigits valuesUpto
-codes-digits f m zero h = sym (ap (λ (n : ℕ). map digit (valuesUpto (λ j. f (j / m) (j % m)) n)) (zero-mul m))
-codes-digits f m (suc k) h =
+codes-digits f m zero = sym (ap (λ (n : ℕ). map digit (valuesUpto (λ j. f (j / m) (j % m)) n)) (zero-mul m))
+codes-digits f m (suc k) =
     let g : ℕ → Bool = λ j. f (j / m) (j % m) in
     let own : valuesUpto (λ z. g (k * m + z)) m ≡ valuesUpto (f k) m
     = values-same (λ z. g (k * m + z)) (f k) m (λ z l. ap₂ f (digits-div k l) (digits-mod k l)) in
-    ap (λ (l : List ℕ). l ++ map digit (valuesUpto (f k) m)) (codes-digits f m k h)
+    ap (λ (l : List ℕ). l ++ map digit (valuesUpto (f k) m)) (codes-digits f m k)
     ∙ sym (map-append digit (valuesUpto g (k * m)) (valuesUpto (f k) m))
     ∙ ap (λ (l : List Bool). map digit (valuesUpto g (k * m) ++ l)) (sym own)
     ∙ ap (map digit) (sym (values-append g (k * m) m))
     ∙ ap (λ (n : ℕ). map digit (valuesUpto g n)) (sym (suc-mul k m))
 
-pub cells-by-codes : (t vertex free : List ℕ) (firsts : List Vertex) (k : ℕ) → 0 < length free
+pub cells-by-codes : (t vertex free : List ℕ) (firsts : List Vertex) (k : ℕ)
     → textsUpto (λ c. printDigits (valuesUpto (cellOn t vertex free (vertexAt firsts c)) (length free))) k
     ≡ printDigits (valuesUpto (cellBy t vertex free firsts) (k * length free))
 unfolding cellBy
-cells-by-codes t vertex free firsts k h = codes-digits (λ c. cellOn t vertex free (vertexAt firsts c)) (length free) k h
+cells-by-codes t vertex free firsts k = codes-digits (λ c. cellOn t vertex free (vertexAt firsts c)) (length free) k
 
 -- room for one code more
 pub code-room : (m c k : ℕ) → c < k → m * c + m ≤ k * m

@@ -72,7 +72,7 @@ pub record Laid (vertices frees : ℕ) (vertex free : List ℕ) : Type 0 where
   pub at-vertex : (x : ℕ) → x < vertices → getD vertex x 0 ≡ joinRow ns bs x 0
   pub at-free : (y : ℕ) → y < frees → getD free y 0 ≡ joinRow ns bs 0 y
 
--- as many vertices and free rows as there may be, on rows of a table
+-- as many vertices and free rows as there may be, with their rows
 pub record Bounded (vertex free : List ℕ) : Type 0 where
   pub few-vertices : length vertex ≤ maxVertices
   pub few-free : length free ≤ maxFreeRows

@@ -163,8 +163,8 @@ fn put_column(
     p
 }
 
-// The entries of a code that vertex x produces, and zeros where x is no vertex. The row of the last vertex has every bound
-// digit, and that of the last free row every free digit.
+// The entries of a code that vertex x produces. Where x is no vertex the code has no running row number, and its entries are
+// zeros. The row of the last vertex has every bound digit, and that of the last free row every free digit.
 fn put_code<'a>(
     buf: &mut [u8],
     at: usize,

@@ -11,7 +11,6 @@ use Rattle.putting.specs.UptoLaws.{Texts, texts-none, texts-put, texts-all}
 use Rattle.listing.specs.Listed.{vertexAt}
 use Rattle.writing.specs.DigitLaws.{cells-by-codes, code-room}
 use Rattle.writing.specs.Lines.{cellOn}
-use Rattle.writing.specs.RunningLaws.{some-free}
 use Rattle.writing.proofs.put_entries.Statement.{statement}
 use Rattle.writing.proofs.put_entries.Tie as tie
 
@@ -67,7 +66,7 @@ returns c =
     let frees = length (args .free .now) in
     let room : frees * args .count ≤ args .count * frees = omega (arith, mul-comm frees (args .count)) in
     texts-all (head .loop .inv) (c .loop-test .left) room
-    (cells-by-codes (args .t) (args .vertex .now) (args .free .now) _ (args .count) (some-free (start .pre .2)))
+    (cells-by-codes (args .t) (args .vertex .now) (args .free .now) _ (args .count))
 
 pub put-entries-spec : {M : Type 1} → statement M
 put-entries-spec =
