@@ -8,12 +8,8 @@ use lib.Dec.{eqb}
 use lib.Pow.{shr-shr}
 use Rattle.bits.specs.Logic.{andb, xorb, pick}
 use Rattle.bits.specs.Digit.{digit, on}
+use Rattle.bits.specs.Carry.{full}
 use Rattle.bits.specs.DigitLaws.{Binary, is0, is1, digit-binary}
-
--- whether the k lowest digits of n are all 1
-unfoldable pub full : ℕ → ℕ → Bool
-full n zero = true
-full n (suc k) = andb (on n k) (full n k)
 
 -- what is carried into digit k
 abbrev carry : Bool → ℕ

@@ -3,4 +3,5 @@ pub mod Logic
 pub mod LogicLaws
 pub mod Digit
 pub mod DigitLaws
+pub mod Carry
 pub mod CarryLaws

@@ -12,7 +12,8 @@ use Rattle.bits.specs.Logic.{andb, xorb, pick}
 use Rattle.bits.specs.LogicLaws.{true-false}
 use Rattle.bits.specs.Digit.{on}
 use Rattle.bits.specs.DigitLaws.{on-or-one, on-or-none, on-ones}
-use Rattle.bits.specs.CarryLaws.{full, on-next}
+use Rattle.bits.specs.Carry.{full}
+use Rattle.bits.specs.CarryLaws.{on-next}
 use Rattle.names.specs.Name.{Name, sameName, among, distinct}
 use Rattle.names.specs.SameLaws.{same-name-true, same-name-self}
 use Rattle.rows.specs.Row.{rowOf}

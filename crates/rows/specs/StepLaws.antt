@@ -8,7 +8,8 @@ use lib.Bits.{bitAnd, bitOr, and-le-r, or-lt}
 use Rattle.bits.specs.Logic.{andb, orb, xorb}
 use Rattle.bits.specs.Digit.{on}
 use Rattle.bits.specs.DigitLaws.{on-and, on-or, on-or-none}
-use Rattle.bits.specs.CarryLaws.{full, on-next}
+use Rattle.bits.specs.Carry.{full}
+use Rattle.bits.specs.CarryLaws.{on-next}
 use Rattle.rows.specs.Step.{stepped}
 
 of-bound : (carried kept : Bool) → orb (andb carried false) (andb kept true) ≡ kept
