@@ -62,8 +62,6 @@ def compared(programs, path, out):
 
 def table(root, programs, out, say):
     """the rows for programs linked to the archives of before and after"""
-    if shutil.which("valgrind") is None:
-        sys.exit("valgrind is not installed (apt-get install valgrind)")
     rows = []
     for path in (p for pattern in SHEETS for p in sorted(pathlib.Path(root).glob(pattern))):
         say(f"wide: {path.stem}")

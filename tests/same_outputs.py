@@ -1,9 +1,9 @@
 #!/usr/bin/env python3
 """same_outputs.py OTHER [COUNT [SEED]]: whether cellmap, cellcheck and cellblif answer byte for byte as those of another checkout
 do, whose target/bin/ has them built (cellblif is left out where it has none). The sheets are those of bench/ and examples/, COUNT
-random valid ones, as many of many free inputs, and as many damaged (3,000 unless given); beside each sheet that maps Check and Export are asked of the network,
-of it with a table's digit turned, with any one byte changed, with a line lost, and cut off. The last line counts the answers by
-kind, and those that differ."""
+random valid ones, as many of many free inputs, and as many damaged (3,000 unless given); beside each sheet that maps Check and
+Export are asked of the network, of it with a table's digit turned, with any one byte changed, with a line lost, and cut off. The
+last line counts the answers by kind, and those that differ."""
 import collections
 import pathlib
 import random
