@@ -1,5 +1,5 @@
 // Truth tables of up to ten inputs: all 1,024 rows in sixteen words, row r as digit r % 64 of word r / 64. Each function says
-// what its table holds on every row.
+// what its table holds on every row. Beside them the step from a row to the next over some of its digits.
 ghost use mathlib.Core.Path.{_≡_};
 ghost use mathlib.Core.Bool.{not};
 ghost use Prim.Native.Nat.{ℕ, _^_, _<_, _≤_};
