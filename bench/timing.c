@@ -5,7 +5,9 @@
  * with those of the plain C.
  * Last comes a line `peak` with the most memory that the process had, in KiB. Times are processor time, the best of several
  * batches.
- * timing once SHEET: calls Map once and writes the network, for a program that counts instructions. */
+ * timing once SHEET: calls Map once and writes the network, for a program that counts instructions.
+ * timing wide SHEET: nanoseconds of a call of Map, and of one with a buffer of no bytes, which is refused once the length of the
+ * network is known. */
 #define _POSIX_C_SOURCE 200809L
 #include "cellmapper.h"
 #include "plain.h"
@@ -42,6 +44,12 @@ static void map(void)
 {
     size_t line, cells, length;
     kept += (int)cellmapper_map(sheet, sheet_len, network, sizeof network, &line, &cells, &length);
+}
+
+static void map_unwritten(void)
+{
+    size_t line, cells, length;
+    kept += (int)cellmapper_map(sheet, sheet_len, network, 0, &line, &cells, &length);
 }
 
 static void read_only(void)
@@ -165,6 +173,11 @@ int main(int argc, char **argv)
     int i;
     if (argc == 3 && strcmp(argv[1], "once") == 0) {
         map_once(argv[2]);
+        return 0;
+    }
+    if (argc == 3 && strcmp(argv[1], "wide") == 0) {
+        load(argv[2]);
+        printf("%.0f %.0f\n", time_of(map), time_of(map_unwritten));
         return 0;
     }
     for (i = 2; i < argc; i++)

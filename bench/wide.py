@@ -1,8 +1,9 @@
 """Map on wide panels, before and after: the sheets of bench/wide/ and the two of bench/large/ with 1 and 2 bound inputs, all of
 10 inputs and 4 outputs, with the archive of this checkout and with that of another commit, which is built in a clone of its own.
-Times are processor time, the best of several batches taken in turns; instructions are counted by callgrind, in one call of Map
-and, of it, in writer::put_network, which puts the network sheet down, its composition tables above all. Networks that are not
-the same byte for byte end the run."""
+Times are processor time, the best of several batches taken in turns: of Map, and of putting the network sheet down once, which
+is what Map takes longer than with a buffer of no bytes. Instructions are counted by callgrind, in one call of Map and, of it, in
+writer::put_network, which puts the network sheet down twice, first without a buffer. Networks that are not the same byte for
+byte end the run."""
 import pathlib
 import re
 import shutil
@@ -11,7 +12,7 @@ import sys
 
 ROUNDS = 5
 SHEETS = ["bench/wide/*.sheet", "bench/large/bound[12].sheet"]
-HEAD = ["sheet", "cells", "bytes", "network before", "network after", "ratio", "Map before", "Map after", "ratio", "µs before", "µs after", "ratio"]
+HEAD = ["sheet", "cells", "bytes", *(f"{what} {when}" for what in ("network", "Map", "network µs", "Map µs") for when in ("before", "after", "ratio"))]
 
 
 def archive_of(root, out, commit):
@@ -27,9 +28,11 @@ def archive_of(root, out, commit):
     return archive
 
 
-def nanoseconds(program, path):
-    """of one call of Map"""
-    return int(subprocess.run([program, "map", path], capture_output=True, text=True, check=True).stdout.split()[2])
+def microseconds(program, path):
+    """of putting the network sheet down once, and of the whole call of Map"""
+    said = subprocess.run([program, "wide", path], capture_output=True, text=True, check=True).stdout.split()
+    whole, unwritten = (int(word) / 1000 for word in said)
+    return whole - unwritten, whole
 
 
 def instructions(program, path, out):
@@ -52,12 +55,14 @@ def compared(programs, path, out):
     (before, network), (after, same) = (instructions(program, path, out) for program in programs)
     if network != same:
         sys.exit(f"{path}: the two networks differ")
-    turns = [[nanoseconds(program, path) for program in programs] for _ in range(ROUNDS)]
-    old, new = (min(turn[i] for turn in turns) / 1000 for i in range(2))
+    turns = [[microseconds(program, path) for program in programs] for _ in range(ROUNDS)]
     row = [f"{path.parent.name}/{path.stem}", str(network.count(b"(lut ")), str(len(network))]
     for a, b in zip(before, after):
         row += [f"{a:,}", f"{b:,}", f"{b / a:.2f}"]
-    return row + [f"{old:.1f}", f"{new:.1f}", f"{new / old:.2f}"]
+    for i in range(2):
+        a, b = (min(turn[program][i] for turn in turns) for program in range(2))
+        row += [f"{a:.1f}", f"{b:.1f}", f"{b / a:.2f}"]
+    return row
 
 
 def table(root, programs, out, say):

@@ -8,15 +8,14 @@ use native.Mathlib.Omega.{arith}
 use native.Mathlib.Nat.{add-assoc}
 use lib.ListN.{length, getD, drop, length-map, length-append, List·getD-map}
 use lib.Seq.{getD-take, getD-drop}
-use lib.Pow.{pow-mono, pow-pos}
-use Rattle.limits.specs.Limits.{maxRows}
+use lib.Pow.{pow-pos}
 use Rattle.rows.specs.Row.{rowOf, valuesOf}
 use Rattle.rows.specs.RowLaws.{row-lt, row-values, length-values}
 use Rattle.rows.specs.Digits.{digit}
 use Rattle.sheet.specs.Examine.{Design}
 use Rattle.sheet.specs.declared.Sheet.{Sheet}
 use Rattle.classes.specs.Columns.{joinRow, vertexOf, freeRowOf, vertexCount, freeCount}
-use Rattle.classes.specs.JoinLaws.{join-add, join-parts, join-lt, vertex-lt, free-row-lt}
+use Rattle.classes.specs.JoinLaws.{join-small, join-sum, join-parts, vertex-lt, free-row-lt}
 use Rattle.classes.specs.declared.Shape.{Shape}
 use Rattle.network.specs.Network.{Network}
 use Rattle.network.specs.Printer.{printDigits}
@@ -83,7 +82,7 @@ module _ {d : Design} {w : Network} {t : List ℕ} {k : Sheet} {n : Places} {sh 
 
   row-is : (x y : ℕ) → x < sh .vertices → y < sh .frees → rowAt sh x y ≡ joinRow (d .inputs) (d .bound) x y
   row-is x y a b =
-      ap₂ _+_ (h .shaped .at-vertex x a) (h .shaped .at-free y b) ∙ sym (join-add (d .inputs) (d .bound) x y)
+      join-sum (d .inputs) (d .bound) x y (h .shaped .at-vertex x a) (h .shaped .at-free y b)
 
   -- ---- what the code may read and set
   pub drawing-ready : (o : ℕ) → o < length (d .outputs)
@@ -101,11 +100,7 @@ module _ {d : Design} {w : Network} {t : List ℕ} {k : Sheet} {n : Places} {sh 
             omega (arith, h .shaped .vertices));
         readable = λ x a. room o x l a table;
         rows = λ x y a b.
-            (let e = row-is x y a b in
-            let p = join-lt (d .inputs) (d .bound) x y in
-            let i = h .proper .few-inputs in
-            let q : 2 ^ length (d .inputs) ≤ maxRows = pow-mono i in
-            omega arith);
+            omega (arith, row-is x y a b, join-small (d .inputs) (d .bound) x y (h .proper .few-inputs));
       }
     where
       room : (o x : ℕ) → o < length (d .outputs) → x < sh .vertices

@@ -177,7 +177,10 @@ module _ (ns bs : List Name) (x y : ℕ) where
       (λ e. rw (on-free bs fs x y n e, on-free bs fs x 0 n e, on-free bs fs 0 y n e, row-zero fs n) (omega arith))
       (either (among n bs))
 
-  pub join-add : joinRow ns bs x y ≡ joinRow ns bs x 0 + joinRow ns bs 0 y
+  join-add : joinRow ns bs x y ≡ joinRow ns bs x 0 + joinRow ns bs 0 y
   unfolding joinRow
   join-add =
       rows-add (onParts bs (free ns bs) x 0) (onParts bs (free ns bs) 0 y) (onParts bs (free ns bs) x y) parts-add ns
+
+  pub join-sum : {a b : ℕ} → a ≡ joinRow ns bs x 0 → b ≡ joinRow ns bs 0 y → a + b ≡ joinRow ns bs x y
+  join-sum e f = ap₂ (λ (m n : ℕ). m + n) e f ∙ sym join-add

@@ -39,9 +39,9 @@ unfolding fromLast
 from-later m n ms e = rw e
 
 -- ---- a carry passes through bound digits
--- y is spread over the digits of free names in z, and those of bound names are 1
+-- z has y's digits at those of free names, and 1 at those of bound names
 module _ (bs : List Name) (z y : ℕ) where
-  pub record Spread (ms : List Name) : Type 0 where
+  record Follows (ms : List Name) : Type 0 where
     pub each : (n : Name) → among n ms ≡ true → on z (fromLast ms n) ≡ pick (among n bs) true (on y (fromLast (free ms bs) n))
 
   free-later : (m n : Name) (ms : List Name) → sameName m n ≡ false → fromLast (free (m ∷ ms) bs) n ≡ fromLast (free ms bs) n
@@ -51,8 +51,8 @@ module _ (bs : List Name) (z y : ℕ) where
       (λ f. ap (λ (l : List Name). fromLast l n) (free-unbound m ms bs f) ∙ from-later m n (free ms bs) e)
       (either (among m bs))
 
-  spread-later : (m : Name) (ms : List Name) → distinct (m ∷ ms) ≡ true → Spread (m ∷ ms) → Spread ms
-  spread-later m ms e g =
+  follows-later : (m : Name) (ms : List Name) → distinct (m ∷ ms) ≡ true → Follows (m ∷ ms) → Follows ms
+  follows-later m ms e g =
       record {
         each = λ n h.
             let other : sameName m n ≡ false = first-another m n ms e h in
@@ -61,11 +61,11 @@ module _ (bs : List Name) (z y : ℕ) where
       }
 
   -- the digits of some last names are all 1 in z where y's are
-  full-later : (ms : List Name) → distinct ms ≡ true → Spread ms → full z (length ms) ≡ full y (length (free ms bs))
+  full-later : (ms : List Name) → distinct ms ≡ true → Follows ms → full z (length ms) ≡ full y (length (free ms bs))
   unfolding full free
   full-later [] e g = refl
   full-later (m ∷ ms) e g =
-      let later : full z (length ms) ≡ full y (length (free ms bs)) = full-later ms (distinct-later m ms e) (spread-later m ms e g) in
+      let later : full z (length ms) ≡ full y (length (free ms bs)) = full-later ms (distinct-later m ms e) (follows-later m ms e g) in
       let here : on z (length ms) ≡ pick (among m bs) true (on y (fromLast (free (m ∷ ms) bs) m))
       = ap (on z) (sym (from-here m ms)) ∙ g .each m (among-first m ms) in
       ⊎-elim
@@ -81,7 +81,7 @@ module _ (bs : List Name) (z y : ℕ) where
       (either (among m bs))
 
   -- and so are those below a free name's
-  full-below : (ms : List Name) (n : Name) → distinct ms ≡ true → Spread ms → among n ms ≡ true → among n bs ≡ false
+  full-below : (ms : List Name) (n : Name) → distinct ms ≡ true → Follows ms → among n ms ≡ true → among n bs ≡ false
       → full z (fromLast ms n) ≡ full y (fromLast (free ms bs) n)
   unfolding among
   full-below [] n e g h f = absurd (true-false (sym h))
@@ -91,12 +91,12 @@ module _ (bs : List Name) (z y : ℕ) where
       let same : m ≡ n = same-name-true m n s in
       let unbound : among m bs ≡ false = ap (λ (k : Name). among k bs) same ∙ f in
       ap (λ (k : Name). full z (fromLast (m ∷ ms) k)) (sym same) ∙ ap (full z) (from-here m ms)
-      ∙ full-later ms (distinct-later m ms e) (spread-later m ms e g)
+      ∙ full-later ms (distinct-later m ms e) (follows-later m ms e g)
       ∙ ap (full y) (sym (from-here m (free ms bs)))
       ∙ ap₂ (λ (l : List Name) (k : Name). full y (fromLast l k)) (sym (free-unbound m ms bs unbound)) same)
       (λ s.
       ap (full z) (from-later m n ms s)
-      ∙ full-below ms n (distinct-later m ms e) (spread-later m ms e g) (rw s at h) f
+      ∙ full-below ms n (distinct-later m ms e) (follows-later m ms e g) (rw s at h) f
       ∙ ap (full y) (sym (free-later m n ms s)))
       (either (sameName m n))
 
@@ -144,8 +144,8 @@ module _ (ns bs : List Name) where
     abbrev next : ℕ
     next = stepped (boundDigits ns bs) (freeDigits ns bs) row
 
-    spread : Spread bs (bitOr row (boundDigits ns bs)) y ns
-    spread =
+    follows : Follows bs (bitOr row (boundDigits ns bs)) y ns
+    follows =
         record {
           each = λ n h.
               let k : ℕ = fromLast ns n in
@@ -169,7 +169,7 @@ module _ (ns bs : List Name) where
         ∙ on-join x y n h ∙ on-bound bs fs x y n b ∙ sym (on-bound bs fs x (y + 1) n b))
         (λ f.
         step-free (boundDigits ns bs) (freeDigits ns bs) row k (bound-on-free n h f) (free-on-free n h f)
-        ∙ ap₂ xorb (on-join-free x y n h f) (full-below bs (bitOr row (boundDigits ns bs)) y ns n (p .inputs-distinct) spread h f)
+        ∙ ap₂ xorb (on-join-free x y n h f) (full-below bs (bitOr row (boundDigits ns bs)) y ns n (p .inputs-distinct) follows h f)
         ∙ sym (on-next y (fromLast fs n))
         ∙ sym (from-last-row fs n (y + 1) (unbound-free ns bs n h f))
         ∙ sym (on-free bs fs x (y + 1) n f))

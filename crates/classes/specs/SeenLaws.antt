@@ -25,7 +25,7 @@ use Rattle.classes.specs.Seen.{seen, sameColumn, alikeSeen, sameKey, Cla
 use Rattle.classes.specs.Answer.{ShapeIs, localAt, globalAt, LocalsAre, WidthIs, GlobalsAre}
 use Rattle.classes.specs.ClassLaws.{Equivalence, count-most, class-below, class-test, count-agrees, class-agrees}
 use Rattle.classes.specs.ColumnLaws.{alike-columns, same-columns, alike-equivalence}
-use Rattle.classes.specs.JoinLaws.{join-add, join-small}
+use Rattle.classes.specs.JoinLaws.{join-small, join-sum}
 use Rattle.classes.specs.declared.Shape.{Shape}
 use Rattle.classes.specs.declared.Locals.{Locals}
 use Rattle.classes.specs.declared.Globals.{Globals}
@@ -77,10 +77,9 @@ module _ (d : Design) (k : Sheet) (sh : Shape) (h : Holds d k) (p : Proper d) (s
       let inx : x < sh .vertices = subst (λ (n : ℕ). x < n) (sym (s .vertices)) a in
       let iny : y < sh .frees = subst (λ (n : ℕ). y < n) (sym (s .free-rows)) b in
       let row : getD (take (sh .vertices) (sh .vertex)) x 0 + getD (take (sh .frees) (sh .free)) y 0 ≡ joinRow ns bs x y
-      = ap₂ (λ (u w : ℕ). u + w)
+      = join-sum ns bs x y
       (getD-take (sh .vertices) (sh .vertex) x 0 inx ∙ s .at-vertex x inx)
-      (getD-take (sh .frees) (sh .free) y 0 iny ∙ s .at-free y iny)
-      ∙ sym (join-add ns bs x y) in
+      (getD-take (sh .frees) (sh .free) y 0 iny ∙ s .at-free y iny) in
       ap (rowOn (tableAt (k .tables) o)) row ∙ h .tabled o l .each (joinRow ns bs x y) (join-small ns bs x y (p .few-inputs))
 
   alike-seen : (o x y : ℕ) → o < k .outputs → x < vertexCount (d .bound) → y < vertexCount (d .bound)

@@ -2,7 +2,7 @@
 use Prim.Native.Nat.{ℕ, _+_}
 use lib.Bits.{bitAnd, bitOr}
 
--- the digits of `bound` stay; those of `free`, read as one number, count one further. With the bound digits 1 a carry passes
--- through them to the next free digit, and what it leaves there is cleared
+-- where each digit is one of `bound` or one of `free`, the digits of `bound` stay, and those of `free`, read as one number, count
+-- one further. With the bound digits 1 a carry passes through them to the next free digit, and what it leaves there is cleared
 unfoldable pub stepped : ℕ → ℕ → ℕ → ℕ
 stepped bound free r = bitOr (bitAnd (bitOr r bound + 1) free) (bitAnd r bound)

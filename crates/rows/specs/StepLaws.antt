@@ -1,5 +1,5 @@
--- The step over any set of digits: a bound digit stays, and a free digit changes exactly where every free digit below it
--- is 1. Assumes nothing.
+-- The step over any set of digits: a bound digit stays, and a free digit changes exactly where every digit below it is 1 or
+-- bound. Assumes nothing.
 use mathlib.Core.Path.{_≡_, refl, ap, ap₂, _∙_}
 use mathlib.Core.Bool.{Bool, true, false}
 use Prim.Native.Nat.{ℕ, _+_, _≤_, _^_, _<_}

@@ -157,8 +157,8 @@ pub fn row_count(n: usize) -> usize
 
 // The row with the digits of `bound` as in r, and the digits of `free` counted one further.
 pub fn step(r: usize, bound: usize, free: usize) -> usize
-    requires { ⌜ (r < maxRows) × (bound < maxRows) × (free < maxRows) ⌝ }
-    ensures { λ s. ⌜ (s ≡ stepped bound free r) × (s < maxRows) ⌝ }
+    requires { ⌜ (r < maxRows) × (bound < maxRows) ⌝ }
+    ensures { λ s. ⌜ s ≡ stepped bound free r ⌝ }
 {
     ((r | bound) + 1) & free | r & bound
 }

@@ -66,7 +66,7 @@ digits-all {f} {n} {i = i} g l =
     put-same (g .so-far) (ap (λ (k : ℕ). printDigits (valuesUpto f k)) e) (omega arith)
 
 -- ---- codes and free rows of a number
-pub code-below : (j n m : ℕ) → j < n → n ≤ maxCodes * m → j / m < maxCodes
+code-below : (j n m : ℕ) → j < n → n ≤ maxCodes * m → j / m < maxCodes
 code-below j n m l h = let some-free : 0 < m = omega arith in div-lt-iff-lt-mul some-free .1 (omega arith)
 
 -- a shift drops what is past a word

@@ -20,7 +20,7 @@ use Rattle.classes.specs.Columns.{free, valuesUpto, joinRow, valueAt, vertexCou
 use Rattle.classes.specs.Proper.{Parted}
 use Rattle.classes.specs.Seen.{seen}
 use Rattle.classes.specs.Answer.{ShapeIs}
-use Rattle.classes.specs.JoinLaws.{join-small, join-add}
+use Rattle.classes.specs.JoinLaws.{join-small, join-sum}
 use Rattle.classes.specs.declared.Shape.{Shape}
 use Rattle.network.specs.Check.{firstOf}
 use Rattle.serving.specs.Build.{codeIn, entry, entryAt, nodeBuilt}
@@ -49,7 +49,7 @@ module _ (d : Design) (sh : Shape) (s : ShapeIs d sh) where
   join-of : (x y : ℕ) → x < sh .vertices → y < sh .frees
       → getD (sh .vertex) x 0 + getD (sh .free) y 0 ≡ joinRow (d .inputs) (d .bound) x y
   join-of x y a b =
-      ap₂ (λ (m n : ℕ). m + n) (s .at-vertex x a) (s .at-free y b) ∙ sym (join-add (d .inputs) (d .bound) x y)
+      join-sum (d .inputs) (d .bound) x y (s .at-vertex x a) (s .at-free y b)
 
   -- the shape of a design fits
   pub shape-fitting : Parted (d .inputs) (d .bound) → length (d .inputs) ≤ maxInputs → Fitting sh

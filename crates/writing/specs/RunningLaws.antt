@@ -11,8 +11,8 @@ use Rattle.limits.specs.Limits.{maxRows}
 use Rattle.rows.specs.Digits.{digit}
 use Rattle.rows.specs.Words.{rowOn}
 use Rattle.rows.specs.Step.{stepped}
-use Rattle.classes.specs.Columns.{free, valuesUpto, joinRow, vertexCount, freeCount}
-use Rattle.classes.specs.JoinLaws.{join-add, join-small}
+use Rattle.classes.specs.Columns.{free, valuesUpto, joinRow, vertexCount}
+use Rattle.classes.specs.JoinLaws.{join-small, join-sum}
 use Rattle.classes.specs.NextLaws.{next-row}
 use Rattle.network.specs.Printer.{printDigits}
 use Rattle.putting.specs.Written.{Written}
@@ -31,9 +31,6 @@ module _ {start bound free : ℕ} (v : VertexRow start bound free) where
 
   pub bound-small : bound < maxRows
   bound-small = omega (arith, v .bound-is, join-small (v .ns) (v .bs) (vertexCount (v .bs) - 1) 0 (v .few-inputs))
-
-  pub free-small : free < maxRows
-  free-small = omega (arith, v .free-is, join-small (v .ns) (v .bs) 0 (freeCount (v .ns) (v .bs) - 1) (v .few-inputs))
 
   -- one step on is the row of the next free row
   row-next : (row z : ℕ) → row ≡ rowAt v z → stepped bound free row ≡ rowAt v (z + 1)
@@ -66,10 +63,10 @@ module _ {vs fs : List ℕ} (l : Laid (length vs) (length fs) vs fs) where
   pub some-free : 0 < length fs
   some-free = omega (arith, l .free-count, pow-pos (length (free (l .ns) (l .bs))))
 
-  pub last-vertex : length vs - 1 < length vs
+  last-vertex : length vs - 1 < length vs
   last-vertex = omega (arith, some-vertices)
 
-  pub last-free : length fs - 1 < length fs
+  last-free : length fs - 1 < length fs
   last-free = omega (arith, some-free)
 
   -- the row of vertex x starts a running row number
@@ -92,11 +89,7 @@ module _ {vs fs : List ℕ} (l : Laid (length vs) (length fs) vs fs) where
   unfolding vertex-row
   column-entries t x h =
       values-same (λ z. rowOn t (joinRow (l .ns) (l .bs) x z)) (cellOn t vs fs x) (length fs)
-      (λ z g.
-      ap (rowOn t)
-      (join-add (l .ns) (l .bs) x z
-      ∙ ap₂ (λ (m n : ℕ). m + n) (sym (l .at-vertex x h)) (sym (l .at-free z g)))
-      ∙ cell-there t vs fs x z h)
+      (λ z g. ap (rowOn t) (sym (join-sum (l .ns) (l .bs) x z (l .at-vertex x h) (l .at-free z g))) ∙ cell-there t vs fs x z h)
 
 -- a code that no vertex produces has no running row number, and its entries are 0
 pub zero-entries : (t vs fs : List ℕ) (x : ℕ) → length vs ≤ x

@@ -5,7 +5,7 @@ use native.Mathlib.Omega.{arith}
 use borrow.Author.Needs.{needs}
 use Rattle.putting.specs.PutLaws.{put-length}
 use Rattle.writing.specs.Running.{VertexRow}
-use Rattle.writing.specs.RunningLaws.{Running, row-small, bound-small, free-small, running-start, running-step, running-all}
+use Rattle.writing.specs.RunningLaws.{Running, row-small, bound-small, running-start, running-step, running-all}
 use Rattle.writing.proofs.put_column.Statement.{statement}
 use Rattle.writing.proofs.put_column.Tie as tie
 
@@ -36,7 +36,7 @@ step-requires : tie.Need-step-requires Inv-loop μ-loop
 step-requires c κs =
     let head = c .before .before .before .before .before .before .before in
     let v = head .before .before .pre .1 in
-    (omega (arith, head .loop .inv v .runs, row-small v (head .loop .z)), bound-small v, free-small v)
+    (omega (arith, head .loop .inv v .runs, row-small v (head .loop .z)), bound-small v)
 
 add-z : tie.Need-add-z Inv-loop μ-loop
 add-z c = search needs
@@ -49,7 +49,7 @@ loop-again c = λ v.
     let put = c .before .before .before in
     let row = put .before .row in
     let turn = put .before .before .before .before in
-    running-step v (turn .before .loop .inv v) (turn .loop-test .taken) (put .put-digit .ensures) (row .ensures) (c .step .ensures .0)
+    running-step v (turn .before .loop .inv v) (turn .loop-test .taken) (put .put-digit .ensures) (row .ensures) (c .step .ensures)
 
 same-length : tie.Need-same-length Inv-loop μ-loop
 same-length c = put-length (c .before .loop .inv (c .before .before .before .pre .1) .put .so-far)
