@@ -10,7 +10,7 @@ import shutil
 import subprocess
 import sys
 
-ROUNDS = 5
+ROUNDS = 9
 SHEETS = ["bench/wide/*.sheet", "bench/large/bound[12].sheet"]
 HEAD = ["sheet", "cells", "bytes", *(f"{what} {when}" for what in ("network", "Map", "network µs", "Map µs") for when in ("before", "after", "ratio"))]
 
@@ -29,10 +29,9 @@ def archive_of(root, out, commit):
 
 
 def microseconds(program, path):
-    """of putting the network sheet down once, and of the whole call of Map"""
+    """of a call of Map, and of one with a buffer of no bytes"""
     said = subprocess.run([program, "wide", path], capture_output=True, text=True, check=True).stdout.split()
-    whole, unwritten = (int(word) / 1000 for word in said)
-    return whole - unwritten, whole
+    return [int(word) / 1000 for word in said]
 
 
 def instructions(program, path, out):
@@ -56,11 +55,11 @@ def compared(programs, path, out):
     if network != same:
         sys.exit(f"{path}: the two networks differ")
     turns = [[microseconds(program, path) for program in programs] for _ in range(ROUNDS)]
+    old, new = ([min(times) for times in zip(*(turn[i] for turn in turns))] for i in range(2))
     row = [f"{path.parent.name}/{path.stem}", str(network.count(b"(lut ")), str(len(network))]
     for a, b in zip(before, after):
         row += [f"{a:,}", f"{b:,}", f"{b / a:.2f}"]
-    for i in range(2):
-        a, b = (min(turn[program][i] for turn in turns) for program in range(2))
+    for a, b in ((old[0] - old[1], new[0] - new[1]), (old[0], new[0])):
         row += [f"{a:.1f}", f"{b:.1f}", f"{b / a:.2f}"]
     return row
 
