@@ -54,7 +54,7 @@ abbrev pub codeOf : List Cell → ℕ → ℕ
 codeOf l x = numberOf (λ c. c .table x) l
 
 -- ======== digits
-on-low : (b : Bool) (n : ℕ) → on (bit b + 2 * n) 0 ≡ b
+pub on-low : (b : Bool) (n : ℕ) → on (bit b + 2 * n) 0 ≡ b
 unfolding on digit
 on-low true n = let e : (1 + 2 * n) / 1 % 2 ≡ 1 = omega arith in rw e refl
 on-low false n = let e : (0 + 2 * n) / 1 % 2 ≡ 0 = omega arith in rw e refl
@@ -63,7 +63,7 @@ pub on-half : (n i : ℕ) → on n (suc i) ≡ on (n / 2) i
 unfolding on digit
 on-half n i = sym (ap (λ (x : ℕ). eqb (x % 2) 1) (shr-shr n 1 i ∙ ap (λ (j : ℕ). n / 2 ^ j) (one-add i)))
 
-on-high : (b : Bool) (n i : ℕ) → on (bit b + 2 * n) (suc i) ≡ on n i
+pub on-high : (b : Bool) (n i : ℕ) → on (bit b + 2 * n) (suc i) ≡ on n i
 on-high b n i = on-half (bit b + 2 * n) i ∙ ap (λ (z : ℕ). on z i) (let h = bit-le b in let e : (bit b + 2 * n) / 2 ≡ n = omega arith in e)
 
 -- the number with the digits p below n
@@ -88,7 +88,7 @@ count-shift p zero = omega arith
 count-shift p (suc n) = let e = count-shift p n in omega arith
 
 -- ======== from cells to numbers
-number-lt : (p : Cell → Bool) (l : List Cell) → numberOf p l < 2 ^ length l
+pub number-lt : (p : Cell → Bool) (l : List Cell) → numberOf p l < 2 ^ length l
 unfolding numberOf
 number-lt p [] = omega arith
 number-lt p (c ∷ l) =
@@ -97,7 +97,7 @@ number-lt p (c ∷ l) =
     let e : 2 ^ suc (length l) ≡ 2 ^ length l * 2 = pow-suc 2 (length l) in
     omega arith
 
-number-reading : (o : ℕ) (l : List Cell) → count (on (rowOf l o)) (length l) ≡ reading o l
+pub number-reading : (o : ℕ) (l : List Cell) → count (on (rowOf l o)) (length l) ≡ reading o l
 unfolding numberOf reading count
 number-reading o [] = refl
 number-reading o (c ∷ l) =
@@ -106,7 +106,7 @@ number-reading o (c ∷ l) =
     (count-alike (λ (i : ℕ). on (bit (c .readers o) + 2 * rowOf l o) (suc i)) (on (rowOf l o)) (length l) (λ i h. on-high (c .readers o) (rowOf l o) i)
     ∙ number-reading o l)
 
-number-apart : (o x y : ℕ) (l : List Cell) → Apart o x y l → ((i : ℕ) → on (rowOf l o) i ≡ true → on (codeOf l x) i ≡ on (codeOf l y) i) → ⊥
+pub number-apart : (o x y : ℕ) (l : List Cell) → Apart o x y l → ((i : ℕ) → on (rowOf l o) i ≡ true → on (codeOf l x) i ≡ on (codeOf l y) i) → ⊥
 unfolding numberOf
 number-apart o x y [] a h = a
 number-apart o x y (c ∷ l) a h = ⊎-elim

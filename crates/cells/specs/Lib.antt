@@ -5,6 +5,11 @@ pub mod Pigeon
 pub mod Free
 pub mod Sorted
 pub mod Codes
+pub mod Cut
 pub mod Shared
 pub mod Sets
 pub mod Renumbered
+pub mod Swap
+pub mod Reorder
+pub mod Weaker
+pub mod FullSize
