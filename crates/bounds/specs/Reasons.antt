@@ -1,4 +1,4 @@
--- How many blocks a class cannot do without. Class l of output o holds g classes of output q. Vertices of these have to differ
+-- How many blocks a class cannot do without. Class l of output o holds g classes of one part of output q. Vertices of these have to differ
 -- in what q reads; what o too reads of it shows in o's blocks, and the x cells that only q reads tell at most 2 ^ x of them
 -- apart inside a block. So class l occurs in at least g / 2 ^ x blocks of o, rounded up. Assumes nothing.
 use mathlib.Core.Path.{_≡_, refl, sym, ap, _∙_, subst}
@@ -6,6 +6,7 @@ use mathlib.Core.Bool.{Bool, true, false, not}
 use mathlib.Core.List.{List, [], _∷_}
 use mathlib.Core.Logic.{_⊎_, inl, inr, ⊎-elim}
 use Prim.Native.Nat.{ℕ, zero, suc, _+_, _-_, _*_, _/_, _%_, _^_, _≤_, _<_}
+use native.Mathlib.Decide.{ℕ-discrete}
 use native.Mathlib.Omega.{arith}
 use native.Mathlib.Nat.{div-mul-le-self, suc-mul, one-mul, mod-eq-of-lt}
 use lib.Pow.{pow-lt, pow-pos, pow-mono}
@@ -19,12 +20,12 @@ use Rattle.bits.specs.Logic.{orb}
 use Rattle.bits.specs.Digit.{on}
 use Rattle.cells.specs.Lists.{All, Pairs, count, all-map, less-or-equal, never-both, or-on}
 use Rattle.cells.specs.Sets.{With}
-use Rattle.numbering.specs.Given.{labelAt, item}
+use Rattle.numbering.specs.Given.{labelAt, partOf, item}
 
 -- ======== definitions
--- g classes of q occur in class l of o
+-- g classes of one part of q occur in class l of o
 abbrev pub Kinds : List ℕ → ℕ → ℕ → ℕ → ℕ → ℕ → Type 0
-Kinds cl v o l q g = (ys : List ℕ) × All (λ (x : ℕ). (x < v) × (labelAt cl o x ≡ l)) ys × Pairs (λ (x y : ℕ). labelAt cl q x ≡ labelAt cl q y → ⊥) ys × (length ys ≡ g)
+Kinds cl v o l q g = (p : ℕ) × (ys : List ℕ) × All (λ (x : ℕ). (x < v) × (labelAt cl o x ≡ l) × (partOf cl q x ≡ p)) ys × Pairs (λ (x y : ℕ). labelAt cl q x ≡ labelAt cl q y → ⊥) ys × (length ys ≡ g)
 
 -- 2 to the number of cells that q reads and o does not
 abbrev pub apart : List ℕ → ℕ → ℕ → ℕ
@@ -40,61 +41,83 @@ pub record Based (cl rows : List ℕ) (v j n : ℕ) (base : List ℕ) : Type 0 w
   pub reasons : (i : ℕ) → i < n → Reason cl rows v j (i / maxVertices) (i % maxVertices) (item base i)
   pub rest : (i : ℕ) → n ≤ i → item base i ≡ 0
 
--- ======== the classes of q in class l of o
-pub record Counting (cl : List ℕ) (o l q x seen g : ℕ) : Type 0 where
-  pub found : (ys : List ℕ) × All (λ (y : ℕ). (y < x) × (labelAt cl o y ≡ l) × (on seen (labelAt cl q y) ≡ true)) ys × Pairs (λ (a b : ℕ). labelAt cl q a ≡ labelAt cl q b → ⊥) ys × (length ys ≡ g)
-  pub few : g ≤ x
-
-module _ (cl : List ℕ) (o l q : ℕ) where
-  pub counting-start : Counting cl o l q 0 0 0
-  counting-start = record { found = ([], tt, tt, refl); few = omega arith }
-
-  pub counting-skip : (x seen g seen' g' : ℕ) → seen' ≡ seen → g' ≡ g → Counting cl o l q x seen g → Counting cl o l q (x + 1) seen' g'
-  counting-skip x seen g seen' g' a b s = subst (λ (z : ℕ). Counting cl o l q (x + 1) z g') (sym a) (subst (Counting cl o l q (x + 1) seen) (sym b) (record {
-    found = (let r = s .found in (
-      r .0,
-      all-map (λ (y : ℕ). (y < x) × (labelAt cl o y ≡ l) × (on seen (labelAt cl q y) ≡ true))
-          (λ (y : ℕ). (y < x + 1) × (labelAt cl o y ≡ l) × (on seen (labelAt cl q y) ≡ true)) (r .0) (λ y p. ((let z = p .0 in omega arith), p .1, p .2)) (r .1),
-      r .2,
-      r .3,
-    ));
-    few = (let z = s .few in omega arith);
-  }))
-
-  -- a class of q that was not met so far; t and k are the classes read at x
-  pub counting-new : (x seen g seen' g' t k w : ℕ) → t ≡ labelAt cl o x → t ≡ l → k ≡ labelAt cl q x → false ≡ on seen k
-      → With seen k w → seen' ≡ w → g' ≡ g + 1 → Counting cl o l q x seen g → Counting cl o l q (x + 1) seen' g'
-  counting-new x seen g seen' g' t k w et el ek off is a b s = subst (λ (z : ℕ). Counting cl o l q (x + 1) z g') (sym a) (subst (Counting cl o l q (x + 1) w) (sym b) (record {
-    found = (let r = s .found in (
-      x ∷ r .0,
-      (
-        ((omega arith), sym et ∙ el, subst (λ (z : ℕ). on w z ≡ true) ek (is k ∙ ap (λ (z : Bool). orb (on seen k) z) (eq-eqb k k refl) ∙ or-on (on seen k))),
-        all-map (λ (y : ℕ). (y < x) × (labelAt cl o y ≡ l) × (on seen (labelAt cl q y) ≡ true)) (λ (y : ℕ). (y < x + 1) × (labelAt cl o y ≡ l) × (on w (labelAt cl q y) ≡ true)) (r .0)
-            (λ y p. ((let z = p .0 in omega arith), p .1, is (labelAt cl q y) ∙ ap (λ (z : Bool). orb z (eqb (labelAt cl q y) k)) (p .2))) (r .1),
-      ),
-      (
-        all-map (λ (y : ℕ). (y < x) × (labelAt cl o y ≡ l) × (on seen (labelAt cl q y) ≡ true)) (λ (y : ℕ). labelAt cl q x ≡ labelAt cl q y → ⊥) (r .0)
-            (λ y p e. never-both (subst (λ (z : ℕ). on seen z ≡ true) (sym (ek ∙ e)) (p .2)) (sym off)) (r .1),
-        r .2,
-      ),
-      (let z = r .3 in omega arith),
-    ));
-    few = (let z = s .few in omega arith);
-  }))
-
-  pub counting-end : (v x seen g : ℕ) → v ≤ x → x ≤ v → Counting cl o l q x seen g → Kinds cl v o l q g
-  counting-end v x seen g a b s = let r = s .found in (
-    r .0,
-    all-map (λ (y : ℕ). (y < x) × (labelAt cl o y ≡ l) × (on seen (labelAt cl q y) ≡ true)) (λ (y : ℕ). (y < v) × (labelAt cl o y ≡ l)) (r .0)
-        (λ y p. ((let z = p .0 in omega arith), p .1)) (r .1),
-    r .2,
-    r .3,
-  )
-
 -- what kinds answers
 pub record FewKinds (cl : List ℕ) (v o l q g : ℕ) : Type 0 where
   pub kinds : Kinds cl v o l q g
   pub few : g ≤ maxVertices
+
+-- ======== the classes of q in class l of o, part by part
+pub record Counting (cl : List ℕ) (o l q x seen : ℕ) (g : List ℕ) : Type 0 where
+  pub long : length g ≡ 32
+  pub found : (p : ℕ) → p < 32 → (ys : List ℕ) × All (λ (y : ℕ). (y < x) × (labelAt cl o y ≡ l) × (on seen (labelAt cl q y) ≡ true) × (partOf cl q y ≡ p)) ys × Pairs
+      (λ (a b : ℕ). labelAt cl q a ≡ labelAt cl q b → ⊥) ys × (length ys ≡ item g p)
+  pub few : (p : ℕ) → p < 32 → item g p ≤ x
+
+module _ (cl : List ℕ) (o l q : ℕ) where
+  abbrev In : ℕ → ℕ → ℕ → ℕ → Type 0
+  In x seen p y = (y < x) × (labelAt cl o y ≡ l) × (on seen (labelAt cl q y) ≡ true) × (partOf cl q y ≡ p)
+
+  abbrev Part : ℕ → ℕ → ℕ → ℕ → Type 0
+  Part x seen p n = (ys : List ℕ) × All (In x seen p) ys × Pairs (λ (a b : ℕ). labelAt cl q a ≡ labelAt cl q b → ⊥) ys × (length ys ≡ n)
+
+  pub counting-start : (g : List ℕ) → length g ≡ 32 → ((p : ℕ) → p < 32 → item g p ≡ 0) → Counting cl o l q 0 0 g
+  counting-start g e z = record { long = e; found = λ p h. ([], tt, tt, sym (z p h)); few = λ p h. let a = z p h in omega arith }
+
+  pub counting-skip : (x seen seen' : ℕ) (g g' : List ℕ) → seen' ≡ seen → g' ≡ g → Counting cl o l q x seen g → Counting cl o l q (x + 1) seen' g'
+  counting-skip x seen seen' g g' a b s = subst (λ (z : ℕ). Counting cl o l q (x + 1) z g') (sym a) (subst (Counting cl o l q (x + 1) seen) (sym b) (record {
+    long = s .long;
+    found = λ p h. let r = s .found p h in (r .0, all-map (In x seen p) (In (x + 1) seen p) (r .0) (λ y i. ((let z = i .0 in omega arith), i .1, i .2, i .3)) (r .1), r .2, r .3);
+    few = λ p h. let z = s .few p h in omega arith;
+  }))
+
+  -- a class of q that was not met so far; t and k are the classes read at x, d is k's part
+  pub counting-new : (x seen seen' t k w d : ℕ) (g g' : List ℕ) → t ≡ labelAt cl o x → t ≡ l → k ≡ labelAt cl q x → false ≡ on seen k → With seen k w → seen' ≡ w → d ≡ partOf cl q x → d < 32
+      → g' ≡ set g d (item g d + 1) → Counting cl o l q x seen g → Counting cl o l q (x + 1) seen' g'
+  counting-new x seen seen' t k w d g g' et el ek off is a ed small b s = subst (λ (z : ℕ). Counting cl o l q (x + 1) z g') (sym a) (subst (Counting cl o l q (x + 1) w) (sym b) (record {
+    long = length-set g d (item g d + 1) ∙ s .long;
+    found = λ p h. grow p h (ℕ-discrete p d);
+    few = λ p h. less p h (ℕ-discrete p d);
+  }))
+    where
+      here : item (set g d (item g d + 1)) d ≡ item g d + 1
+      here = getD-set-same g d (item g d + 1) 0 (let z = s .long in omega arith)
+
+      other : (p : ℕ) → (p ≡ d → ⊥) → item (set g d (item g d + 1)) p ≡ item g p
+      other p ne = getD-set-other g d p (item g d + 1) 0 ne
+
+      up : (p y : ℕ) → In x seen p y → In (x + 1) w p y
+      up p y i = ((let z = i .0 in omega arith), i .1, is (labelAt cl q y) ∙ ap (λ (z : Bool). orb z (eqb (labelAt cl q y) k)) (i .2), i .3)
+
+      grow : (p : ℕ) → p < 32 → Dec (p ≡ d) → Part (x + 1) w p (item (set g d (item g d + 1)) p)
+      grow p h (no ne) = let r = s .found p h in (r .0, all-map (In x seen p) (In (x + 1) w p) (r .0) (up p) (r .1), r .2, r .3 ∙ sym (other p ne))
+      grow p h (yes e) =
+          let r = s .found p h in (
+            x ∷ r .0,
+            (
+              ((omega arith), sym et ∙ el, subst (λ (z : ℕ). on w z ≡ true) ek (is k ∙ ap (λ (z : Bool). orb (on seen k) z) (eq-eqb k k refl) ∙ or-on (on seen k)), sym ed ∙ sym e),
+              all-map (In x seen p) (In (x + 1) w p) (r .0) (up p) (r .1),
+            ),
+            (all-map (In x seen p) (λ (y : ℕ). labelAt cl q x ≡ labelAt cl q y → ⊥) (r .0) (λ y i m. never-both (subst (λ (z : ℕ). on seen z ≡ true) (sym (ek ∙ m)) (i .2)) (sym off)) (r .1), r .2),
+            (let z = r .3 in let f : item (set g d (item g d + 1)) p ≡ item g d + 1 = ap (item (set g d (item g d + 1))) e ∙ here in let j : item g p ≡ item g d = ap (item g) e in omega arith),
+          )
+
+      less : (p : ℕ) → p < 32 → Dec (p ≡ d) → item (set g d (item g d + 1)) p ≤ x + 1
+      less p h (no ne) = let z = s .few p h in let f = other p ne in omega arith
+      less p h (yes e) = let z = s .few d small in let f : item (set g d (item g d + 1)) p ≡ item g d + 1 = ap (item (set g d (item g d + 1))) e ∙ here in omega arith
+
+  -- the most classes of one part
+  pub counting-end : (v x seen : ℕ) (g : List ℕ) (p n : ℕ) → v ≤ x → x ≤ v → v ≤ 32 → p < 32 → n ≡ item g p → Counting cl o l q x seen g → FewKinds cl v o l q n
+  counting-end v x seen g p n a b c h e s = record {
+    kinds = (let r = s .found p h in (
+      p,
+      r .0,
+      all-map (In x seen p) (λ (y : ℕ). (y < v) × (labelAt cl o y ≡ l) × (partOf cl q y ≡ p)) (r .0) (λ y i. ((let z = i .0 in omega arith), i .1, i .3))
+          (r .1),
+      r .2,
+      r .3 ∙ sym e,
+    ));
+    few = (let z = s .few p h in omega arith);
+  }
 
 -- ======== the most that some output asks
 -- 2 ^ k as the code shifts it

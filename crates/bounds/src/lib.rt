@@ -36,13 +36,28 @@ pub fn power(k: u8) -> u8
     1 << k
 }
 
-// How many classes of q occur in class l of o.
-pub fn kinds(cl: &[u8], v: usize, o: usize, l: u8, q: usize) -> u8
+// The largest of the numbers.
+fn most(t: [u8; MAX_VERTICES]) -> u8
+    ensures { λ r. ⌜ ((p : ℕ) × (p < maxVertices) × (r ≡ item t p)) ⌝ }
+{
+    let mut m = t[0];
+    let mut i = 1;
+    while i < MAX_VERTICES {
+        if m < t[i] {
+            m = t[i];
+        }
+        i += 1;
+    }
+    m
+}
+
+// How many classes of one part of q occur in class l of o, for the part with the most.
+fn kinds(cl: &[u8], v: usize, o: usize, l: u8, q: usize) -> u8
     requires { ⌜ Labels (now cl) × (v ≤ maxVertices) × (o < searchOutputs) × (q < searchOutputs) ⌝ }
     ensures { λ r. ⌜ FewKinds (now (cl .entry)) v o l q r ⌝ }
 {
     let mut seen: u64 = 0;
-    let mut g: u8 = 0;
+    let mut g = [0u8; MAX_VERTICES];
     let mut x = 0;
     while x < v {
         let t = numbering::label(cl, o, x);
@@ -50,16 +65,17 @@ pub fn kinds(cl: &[u8], v: usize, o: usize, l: u8, q: usize) -> u8
             let k = numbering::label(cl, q, x);
             if !cells::in_set(seen, k) {
                 seen = cells::with(seen, k);
-                g += 1;
+                let p = numbering::part(cl, q, x) as usize;
+                g[p] = g[p] + 1;
             }
         }
         x += 1;
     }
-    g
+    most(g)
 }
 
 // How many blocks class l of o needs.
-pub fn need(cl: &[u8], v: usize, j: usize, rows: [u8; SEARCH_OUTPUTS], o: usize, l: u8) -> u8
+fn need(cl: &[u8], v: usize, j: usize, rows: [u8; SEARCH_OUTPUTS], o: usize, l: u8) -> u8
     requires { ⌜ Labels (now cl) × (v ≤ maxVertices) × (j ≤ searchOutputs) × (o < j) ⌝ }
     ensures { λ r. ⌜ Reason (now (cl .entry)) rows v j o l r ⌝ }
 {
@@ -78,7 +94,7 @@ pub fn need(cl: &[u8], v: usize, j: usize, rows: [u8; SEARCH_OUTPUTS], o: usize,
 }
 
 // The classes of output o.
-pub fn classes(cl: &[u8], v: usize, o: usize) -> u64
+fn classes(cl: &[u8], v: usize, o: usize) -> u64
     requires { ⌜ Labels (now cl) × (v ≤ maxVertices) × (o < searchOutputs) ⌝ }
 {
     let mut r: u64 = 0;

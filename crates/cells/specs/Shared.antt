@@ -2,10 +2,12 @@
 -- inside each block, a block being the vertices with one code in the shared cells that the output reads. So codes over the
 -- shared cells stand for a core when no block of an output holds more classes than 2 to the number of its private cells.
 -- Here is what every core that tells apart says of its codes over the shared cells; the way back numbers the classes
--- (see Numbering). Conflict is "the classes differ" throughout: counting the classes of a block asks for that. Assumes nothing.
-use mathlib.Core.Path.{_≡_, refl, sym, ap, _∙_}
+-- (see Numbering). Conflict is "two classes of one part" throughout (see Cut): the classes of each part of a block are counted.
+-- Without parts all classes are in part 0. Assumes nothing.
+use mathlib.Core.Path.{_≡_, refl, sym, ap, _∙_, subst}
 use mathlib.Core.Bool.{Bool, true, false}
 use mathlib.Core.List.{List, [], _++_}
+use mathlib.Core.Logic.{_⊎_, inl, inr}
 use Prim.Native.Nat.{ℕ, zero, suc, _+_, _^_, _≤_, _<_}
 use native.Mathlib.Decide.{ℕ-discrete}
 use native.Mathlib.Omega.{arith}
@@ -15,7 +17,7 @@ use Rattle.bits.specs.Logic.{andb, orb}
 use Rattle.bits.specs.LogicLaws.{true-false}
 use Rattle.bits.specs.Digit.{on}
 use Rattle.bits.specs.DigitLaws.{on-and}
-use Rattle.cells.specs.Core.{Differ}
+use Rattle.cells.specs.Cut.{Within}
 use Rattle.cells.specs.Lists.{All, Pairs, count, sum, all-map, all-append, pairs-append, pairs-map, and-on}
 use Rattle.cells.specs.Pigeon.{Agree, agree-and, and-agree, pigeon}
 use Rattle.cells.specs.Codes.{Coded}
@@ -34,11 +36,12 @@ pub record Split (j u : ℕ) (rows shared private : ℕ → ℕ) (sh : ℕ) : Ty
 abbrev pub block : (ℕ → ℕ) → (ℕ → ℕ) → ℕ → ℕ → ℕ
 block mask g o x = bitAnd (g x) (mask o)
 
--- codes g over the shared cells: no block holds more classes than cap, no more pairs of a class and a block occur than
--- spots, and class l of o, of k classes, occurs in at least base o l blocks
-pub record Fits (v j k : ℕ) (cls : ℕ → ℕ → ℕ) (mask cap spots : ℕ → ℕ) (base : ℕ → ℕ → ℕ) (g : ℕ → ℕ) : Type 0 where
-  pub crowd : (o b : ℕ) (xs : List ℕ) → o < j → All (λ (x : ℕ). (x < v) × (block mask g o x ≡ b)) xs → Pairs (λ (x y : ℕ). cls o x ≡ cls o y → ⊥) xs → length xs ≤ cap o
-  pub places : (o : ℕ) (xs : List ℕ) → o < j → All (λ (x : ℕ). x < v) xs → Pairs (λ (x y : ℕ). cls o x ≡ cls o y → block mask g o x ≡ block mask g o y → ⊥) xs → length xs ≤ spots o
+-- codes g over the shared cells: no block holds more classes of one part than cap, no more pairs of a class of one part and a
+-- block occur than spots, and class l of o, of k classes, occurs in at least base o l blocks
+pub record Fits (v j k : ℕ) (part cls : ℕ → ℕ → ℕ) (mask cap spots : ℕ → ℕ) (base : ℕ → ℕ → ℕ) (g : ℕ → ℕ) : Type 0 where
+  pub crowd : (o p b : ℕ) (xs : List ℕ) → o < j → All (λ (x : ℕ). (x < v) × (part o (cls o x) ≡ p) × (block mask g o x ≡ b)) xs → Pairs (λ (x y : ℕ). cls o x ≡ cls o y → ⊥) xs → length xs ≤ cap o
+  pub places : (o p : ℕ) (xs : List ℕ) → o < j → All (λ (x : ℕ). (x < v) × (part o (cls o x) ≡ p)) xs → Pairs (λ (x y : ℕ). cls o x ≡ cls o y → block mask g o x ≡ block mask g o y → ⊥) xs
+      → length xs ≤ spots o
   pub needs : (o l : ℕ) → o < j → l < k → (xs : List ℕ) × All (λ (x : ℕ). (x < v) × (cls o x ≡ l)) xs × Pairs (λ (x y : ℕ). block mask g o x ≡ block mask g o y → ⊥) xs × (base o l ≤ length xs)
 
 -- the codes of a core over the shared cells
@@ -46,7 +49,7 @@ abbrev pub sharedCode : ℕ → (ℕ → ℕ) → ℕ → ℕ
 sharedCode sh f x = bitAnd (f x) sh
 
 -- ======== laws
-module _ (v j u : ℕ) (cls : ℕ → ℕ → ℕ) (rows shared private : ℕ → ℕ) (sh : ℕ) (s : Split j u rows shared private sh) (f : ℕ → ℕ) (c : Coded v j (Differ cls) rows f) where
+module _ (v j u : ℕ) (part cls : ℕ → ℕ → ℕ) (rows shared private : ℕ → ℕ) (sh : ℕ) (s : Split j u rows shared private sh) (f : ℕ → ℕ) (c : Coded v j (Within part cls) rows f) where
   -- a digit that o reads in a shared cell is the same in the code and in its shared part
   pub shared-digit : (o i x : ℕ) → o < j → on (shared o) i ≡ true → on (sharedCode sh f x) i ≡ on (f x) i
   shared-digit o i x h e = on-and (f x) sh i ∙ ap (λ (b : Bool). andb (on (f x) i) b) (s .among o i h e) ∙ and-on (on (f x) i)
@@ -66,52 +69,62 @@ module _ (v j u : ℕ) (cls : ℕ → ℕ → ℕ) (rows shared private : ℕ �
       go false ep true eq e = b i l eq
       go false ep false eq e = absurd (true-false (sym e ∙ ap (λ (t : Bool). orb t (on (private o) i)) ep ∙ eq))
 
-  agree-class : (o x y : ℕ) → o < j → x < v → y < v → Agree u (rows o) (f x) (f y) → cls o x ≡ cls o y
-  agree-class o x y h p q a = go (ℕ-discrete (cls o x) (cls o y))
+  agree-class : (o x y : ℕ) → o < j → x < v → y < v → part o (cls o x) ≡ part o (cls o y) → Agree u (rows o) (f x) (f y) → cls o x ≡ cls o y
+  agree-class o x y h p q e a = go (ℕ-discrete (cls o x) (cls o y))
     where
       go : Dec (cls o x ≡ cls o y) → cls o x ≡ cls o y
-      go (yes e) = e
-      go (no d) = absurd (c .tells o x y h p q d (agree-and u (rows o) (f x) (f y) (s .short o h) a))
+      go (yes d) = d
+      go (no d) = absurd (c .tells o x y h p q (e, d) (agree-and u (rows o) (f x) (f y) (s .short o h) a))
 
-  -- a block holds at most 2 to the private cells classes
-  pub crowd-bound : (o k : ℕ) (xs : List ℕ) → o < j
-      → All (λ (x : ℕ). (x < v) × (block shared (sharedCode sh f) o x ≡ k)) xs
+  -- a block holds at most 2 to the private cells classes of one part
+  pub crowd-bound : (o t k : ℕ) (xs : List ℕ) → o < j → All (λ (x : ℕ). (x < v) × (part o (cls o x) ≡ t) × (block shared (sharedCode sh f) o x ≡ k)) xs
       → Pairs (λ (x y : ℕ). cls o x ≡ cls o y → ⊥) xs → length xs ≤ 2 ^ count (on (private o)) u
-  crowd-bound o k xs h a p = pigeon f (private o) u xs (pairs-map (λ (x : ℕ). (x < v) × (block shared (sharedCode sh f) o x ≡ k)) (λ (x y : ℕ). cls o x ≡ cls o y → ⊥)
+  crowd-bound o t k xs h a p = pigeon f (private o) u xs (pairs-map (λ (x : ℕ). (x < v) × (part o (cls o x) ≡ t) × (block shared (sharedCode sh f) o x ≡ k)) (λ (x y : ℕ). cls o x ≡ cls o y → ⊥)
       (λ (x y : ℕ). Agree u (private o) (f x) (f y) → ⊥) xs
-      (λ x y m n r b. r (agree-class o x y h (m .0) (n .0) (both o x y h (same-block o x y h (m .1 ∙ sym (n .1))) b))) a p)
+      (λ x y m n r b. r (agree-class o x y h (m .0) (n .0) (m .1 ∙ sym (n .1)) (both o x y h (same-block o x y h (m .2 ∙ sym (n .2))) b))) a p)
 
-  -- there are at most 2 to the cells read pairs of a class and a block
-  pub places-bound : (o : ℕ) (xs : List ℕ) → o < j → All (λ (x : ℕ). x < v) xs
-      → Pairs (λ (x y : ℕ). cls o x ≡ cls o y → block shared (sharedCode sh f) o x ≡ block shared (sharedCode sh f) o y → ⊥) xs
-      → length xs ≤ 2 ^ count (on (rows o)) u
-  places-bound o xs h a p = pigeon f (rows o) u xs (pairs-map (λ (x : ℕ). x < v) (λ (x y : ℕ). cls o x ≡ cls o y → block shared (sharedCode sh f) o x ≡ block shared (sharedCode sh f) o y → ⊥)
-      (λ (x y : ℕ). Agree u (rows o) (f x) (f y) → ⊥) xs
-      (λ x y m n r b. r (agree-class o x y h m n b) (agree-block o x y h b)) a p)
+  -- there are at most 2 to the cells read pairs of a class of one part and a block
+  pub places-bound : (o t : ℕ) (xs : List ℕ) → o < j → All (λ (x : ℕ). (x < v) × (part o (cls o x) ≡ t)) xs
+      → Pairs (λ (x y : ℕ). cls o x ≡ cls o y → block shared (sharedCode sh f) o x ≡ block shared (sharedCode sh f) o y → ⊥) xs → length xs ≤ 2 ^ count (on (rows o)) u
+  places-bound o t xs h a p = pigeon f (rows o) u xs (pairs-map (λ (x : ℕ). (x < v) × (part o (cls o x) ≡ t))
+      (λ (x y : ℕ). cls o x ≡ cls o y → block shared (sharedCode sh f) o x ≡ block shared (sharedCode sh f) o y → ⊥) (λ (x y : ℕ). Agree u (rows o) (f x) (f y) → ⊥) xs
+      (λ x y m n r b. r (agree-class o x y h (m .0) (n .0) (m .1 ∙ sym (n .1)) b) (agree-block o x y h b)) a p)
 
--- ---- the classes of an output, each in as many blocks as it needs, need as many places together
+-- ---- the classes of an output with Q, each in as many blocks as it needs, need as many places together
 module _ (v : ℕ) (label key : ℕ → ℕ) where
   -- class l in at least n blocks
   abbrev pub Group : ℕ → ℕ → Type 0
   Group l n = (xs : List ℕ) × All (λ (x : ℕ). (x < v) × (label x ≡ l)) xs × Pairs (λ (x y : ℕ). key x ≡ key y → ⊥) xs × (n ≤ length xs)
 
-  pub gather : (need : ℕ → ℕ) (n : ℕ) → ((l : ℕ) → l < n → Group l (need l))
-      → (xs : List ℕ) × All (λ (x : ℕ). (x < v) × (label x < n)) xs × Pairs (λ (x y : ℕ). label x ≡ label y → key x ≡ key y → ⊥) xs × (sum need n ≤ length xs)
+module _ (v : ℕ) (label key : ℕ → ℕ) (Q : ℕ → Type 0) where
+  -- n places taken by classes below k with Q
+  abbrev pub Gathered : ℕ → ℕ → Type 0
+  Gathered k n = (xs : List ℕ) × All (λ (x : ℕ). (x < v) × (label x < k) × Q (label x)) xs × Pairs (λ (x y : ℕ). label x ≡ label y → key x ≡ key y → ⊥) xs × (n ≤ length xs)
+
+  pub gather : (need : ℕ → ℕ) (n : ℕ) → ((l : ℕ) → l < n → (need l ≡ 0) ⊎ (Q l × Group v label key l (need l))) → Gathered n (sum need n)
   unfolding sum
   gather need zero h = ([], tt, tt, omega arith)
-  gather need (suc n) h =
-      let r = gather need n (λ l k. h l (omega arith)) in
-      let q = h n (omega arith) in (
-        r .0 ++ q .0,
-        all-append (λ (x : ℕ). (x < v) × (label x < suc n)) (r .0) (q .0)
-            (all-map (λ (x : ℕ). (x < v) × (label x < n)) (λ (x : ℕ). (x < v) × (label x < suc n)) (r .0) (λ x p. (p .0, (let z = p .1 in omega arith))) (r .1))
-            (all-map (λ (x : ℕ). (x < v) × (label x ≡ n)) (λ (x : ℕ). (x < v) × (label x < suc n)) (q .0) (λ x p. (p .0, (let z = p .1 in omega arith))) (q .1)),
-        pairs-append R (r .0) (q .0) (r .2)
-            (pairs-map (λ (x : ℕ). (x < v) × (label x ≡ n)) (λ (x y : ℕ). key x ≡ key y → ⊥) R (q .0) (λ x y a b d e. d) (q .1) (q .2))
-            (all-map (λ (x : ℕ). (x < v) × (label x < n)) (λ (x : ℕ). All (R x) (q .0)) (r .0)
-            (λ x a. all-map (λ (y : ℕ). (y < v) × (label y ≡ n)) (R x) (q .0) (λ y b e k. let z = a .1 in let w = b .1 in omega arith) (q .1)) (r .1)),
-        (let a = r .3 in let b = q .3 in simp length-append (omega arith)),
-      )
+  gather need (suc n) h = go (gather need n (λ l k. h l (omega arith))) (h n (omega arith))
     where
+      In : ℕ → ℕ → Type 0
+      In k x = (x < v) × (label x < k) × Q (label x)
+
       R : ℕ → ℕ → Type 0
       R x y = label x ≡ label y → key x ≡ key y → ⊥
+
+      up : (xs : List ℕ) → All (In n) xs → All (In (suc n)) xs
+      up xs a = all-map (In n) (In (suc n)) xs (λ x p. (p .0, (let z = p .1 in omega arith), p .2)) a
+
+      go : Gathered n (sum need n) → (need n ≡ 0) ⊎ (Q n × Group v label key n (need n)) → Gathered (suc n) (sum need n + need n)
+      go r (inl z) = (r .0, up (r .0) (r .1), r .2, (let a = r .3 in omega arith))
+      go r (inr (is, q)) = (
+        r .0 ++ q .0,
+        all-append (In (suc n)) (r .0) (q .0)
+            (up (r .0) (r .1))
+            (all-map (λ (x : ℕ). (x < v) × (label x ≡ n)) (In (suc n)) (q .0) (λ x p. (p .0, (let z = p .1 in omega arith), subst Q (sym (p .1)) is)) (q .1)),
+        pairs-append R (r .0) (q .0) (r .2)
+            (pairs-map (λ (x : ℕ). (x < v) × (label x ≡ n)) (λ (x y : ℕ). key x ≡ key y → ⊥) R (q .0) (λ x y a b d e. d) (q .1) (q .2))
+            (all-map (In n) (λ (x : ℕ). All (R x) (q .0)) (r .0) (λ x a. all-map (λ (y : ℕ). (y < v) × (label y ≡ n)) (R x) (q .0) (λ y b e k. let z = a .1 in let w = b .1 in omega arith)
+            (q .1)) (r .1)),
+        (let a = r .3 in let b = q .3 in simp length-append (omega arith)),
+      )

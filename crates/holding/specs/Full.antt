@@ -1,8 +1,10 @@
--- Full blocks: where a block of an output holds as many classes as it can, a vertex of another class keeps out of it.
+-- Full blocks: where a block of an output holds as many classes of a part as it can, a vertex of another class of that part
+-- keeps out of it.
 -- Assumes nothing.
 use mathlib.Core.Path.{_≡_, refl, sym, ap, _∙_, subst}
 use mathlib.Core.Bool.{Bool, true, false}
 use mathlib.Core.List.{List, [], _∷_}
+use mathlib.Core.Logic.{⊎-elim}
 use Prim.Native.Nat.{ℕ, _+_, _≤_, _<_}
 use native.Mathlib.Omega.{arith}
 use lib.Bits.{bitAnd}
@@ -11,65 +13,98 @@ use lib.ListN.{length, set}
 use borrow.Author.Tests.{eq-eqb, eqb-true}
 use Rattle.bits.specs.Logic.{orb}
 use Rattle.bits.specs.Digit.{on}
-use Rattle.cells.specs.Lists.{All, Pairs, all-map, never-both, false-where, or-on}
+use Rattle.cells.specs.Lists.{All, Pairs, all-map, less-or-equal, never-both, false-where, or-on}
 use Rattle.cells.specs.Sets.{With}
-use Rattle.numbering.specs.Given.{noCode, labelAt, item, Block, Solves, Extends, Kept}
+use Rattle.numbering.specs.Given.{labelAt, partAt, partOf, item, Block, Solves, Extends, Kept}
 use Rattle.holding.specs.Blocks.{Minus, minus-keeps}
 use Rattle.holding.specs.Narrow.{Narrowed, narrowed-more}
 
 -- ======== definitions
--- n of the first y vertices have codes in b, each of another class, and these classes are in seen
-pub record Crowd (cl codes : List ℕ) (o b y seen n : ℕ) : Type 0 where
-  pub found : (ws : List ℕ) × All (λ (w : ℕ). (w < y) × (item codes w < noCode) × (on b (item codes w) ≡ true) × (on seen (labelAt cl o w) ≡ true)) ws × Pairs
+-- n of the first y vertices have codes in b, each of another class of part p, and these classes are in seen, as are all classes
+-- of other parts
+pub record Crowd (cl codes : List ℕ) (o p b y seen n : ℕ) : Type 0 where
+  pub found : (ws : List ℕ) × All (λ (w : ℕ). (w < y) × (item codes w < 64) × (on b (item codes w) ≡ true) × (on seen (labelAt cl o w) ≡ true) × (partOf cl o w ≡ p)) ws × Pairs
       (λ (a b : ℕ). labelAt cl o a ≡ labelAt cl o b → ⊥) ws × (length ws ≡ n)
   pub few : n ≤ y
+  pub strangers : (l : ℕ) → l < 32 → on seen l ≡ false → partAt cl o l ≡ p
 
--- a code k at y where the block b is full: y's class is among those in it, or k is outside
+-- a code k at y where the block b is full: y's class is among those in it or of another part, or k is outside
 abbrev pub Free : List ℕ → ℕ → ℕ → ℕ → ℕ → ℕ → Type 0
 Free cl o seen b y k = on seen (labelAt cl o y) ≡ false → on b k ≡ false
 
 -- ======== laws
-module _ (cl codes : List ℕ) (o b : ℕ) where
+unseen : (a b : Bool) → orb a b ≡ false → a ≡ false
+unseen true b e = e
+unseen false b e = refl
+
+-- the classes of other parts than p, of the first n
+pub record Others (cl : List ℕ) (o p n r : ℕ) : Type 0 where
+  pub rest : (l : ℕ) → l < n → on r l ≡ false → partAt cl o l ≡ p
+
+pub others-start : (cl : List ℕ) (o p : ℕ) → Others cl o p 0 0
+others-start cl o p = record { rest = λ l h. absurd (omega arith) }
+
+pub others-in : (cl : List ℕ) (o p n r r' q : ℕ) → q ≡ partAt cl o n → q ≡ p → r' ≡ r → Others cl o p n r → Others cl o p (n + 1) r'
+others-in cl o p n r r' q a e b f = subst (Others cl o p (n + 1)) (sym b) (record
+    { rest = λ l h k. ⊎-elim (λ i. f .rest l i k) (λ i. ap (partAt cl o) i ∙ sym a ∙ e) (less-or-equal l n (omega arith)) })
+
+pub others-out : (cl : List ℕ) (o p n r r' s : ℕ) → With r n s → r' ≡ s → Others cl o p n r → Others cl o p (n + 1) r'
+others-out cl o p n r r' s w b f = subst (Others cl o p (n + 1)) (sym b) (record {
+  rest = λ l h k. ⊎-elim (λ i. f .rest l i (unseen (on r l) (eqb l n) (sym (w l) ∙ k))) (λ i. absurd (never-both (w l ∙ ap (orb (on r l)) (eq-eqb l n i) ∙ or-on (on r l)) k))
+      (less-or-equal l n (omega arith));
+})
+
+module _ (cl codes : List ℕ) (o p b : ℕ) where
   abbrev In : ℕ → ℕ → ℕ → Type 0
-  In y seen w = (w < y) × (item codes w < 64) × (on b (item codes w) ≡ true) × (on seen (labelAt cl o w) ≡ true)
+  In y seen w = (w < y) × (item codes w < 64) × (on b (item codes w) ≡ true) × (on seen (labelAt cl o w) ≡ true) × (partOf cl o w ≡ p)
 
-  pub crowd-start : Crowd cl codes o b 0 0 0
-  crowd-start = record { found = ([], tt, tt, refl); few = omega arith }
+  pub crowd-start : (seen : ℕ) → ((l : ℕ) → l < 32 → on seen l ≡ false → partAt cl o l ≡ p) → Crowd cl codes o p b 0 seen 0
+  crowd-start seen f = record { found = ([], tt, tt, refl); few = omega arith; strangers = f }
 
-  pub crowd-same : (y seen n seen' n' : ℕ) → seen' ≡ seen → n' ≡ n → Crowd cl codes o b y seen n → Crowd cl codes o b (y + 1) seen' n'
-  crowd-same y seen n seen' n' e f s = subst (λ (z : ℕ). Crowd cl codes o b (y + 1) z n') (sym e) (subst (Crowd cl codes o b (y + 1) seen) (sym f) (record {
-    found = (let r = s .found in (r .0, all-map (In y seen) (In (y + 1) seen) (r .0) (λ w p. ((let z = p .0 in omega arith), p .1, p .2, p .3)) (r .1), r .2, r .3));
+  pub crowd-same : (y seen n seen' n' : ℕ) → seen' ≡ seen → n' ≡ n → Crowd cl codes o p b y seen n → Crowd cl codes o p b (y + 1) seen' n'
+  crowd-same y seen n seen' n' e f s = subst (λ (z : ℕ). Crowd cl codes o p b (y + 1) z n') (sym e) (subst (Crowd cl codes o p b (y + 1) seen) (sym f) (record {
+    found = (let r = s .found in (r .0, all-map (In y seen) (In (y + 1) seen) (r .0) (λ w q. ((let z = q .0 in omega arith), q .1, q .2, q .3, q .4)) (r .1), r .2, r .3));
     few = (let z = s .few in omega arith);
+    strangers = s .strangers;
   }))
 
   -- y has a code in b, and its class l was not met so far
-  pub crowd-more : (y seen n l t seen' n' : ℕ) → l ≡ labelAt cl o y → item codes y < 64 → on b (item codes y) ≡ true
-      → on seen l ≡ false → With seen l t → seen' ≡ t → n' ≡ n + 1 → Crowd cl codes o b y seen n
-      → Crowd cl codes o b (y + 1) seen' n'
-  crowd-more y seen n l t seen' n' q low in-b off is e f s = subst (λ (z : ℕ). Crowd cl codes o b (y + 1) z n') (sym e) (subst (Crowd cl codes o b (y + 1) t) (sym f) (record {
+  pub crowd-more : (y seen n l t seen' n' : ℕ) → l ≡ labelAt cl o y → l < 32 → item codes y < 64 → on b (item codes y) ≡ true → on seen l ≡ false → With seen l t → seen' ≡ t → n' ≡ n + 1
+      → Crowd cl codes o p b y seen n → Crowd cl codes o p b (y + 1) seen' n'
+  crowd-more y seen n l t seen' n' q small low in-b off is e f s = subst (λ (z : ℕ). Crowd cl codes o p b (y + 1) z n') (sym e) (subst (Crowd cl codes o p b (y + 1) t) (sym f) (record {
     found = (let r = s .found in (
       y ∷ r .0,
       (
-        ((omega arith), low, in-b, subst (λ (z : ℕ). on t z ≡ true) q (is l ∙ ap (λ (x : Bool). orb (on seen l) x) (eq-eqb l l refl) ∙ or-on (on seen l))),
-        all-map (In y seen) (In (y + 1) t) (r .0) (λ w p. ((let z = p .0 in omega arith), p .1, p .2, is (labelAt cl o w) ∙ ap (λ (x : Bool). orb x (eqb (labelAt cl o w) l)) (p .3))) (r .1),
+        (
+          (omega arith),
+          low,
+          in-b,
+          subst (λ (z : ℕ). on t z ≡ true) q (is l ∙ ap (λ (x : Bool). orb (on seen l) x) (eq-eqb l l refl) ∙ or-on (on seen l)),
+          ap (partAt cl o) (sym q) ∙ s .strangers
+              l small off,
+        ),
+        all-map (In y seen) (In (y + 1) t) (r .0) (λ w i. ((let z = i .0 in omega arith), i .1, i .2, is (labelAt cl o w) ∙ ap (λ (x : Bool). orb x (eqb (labelAt cl o w) l)) (i .3), i .4)) (r .1),
       ),
-      (all-map (In y seen) (λ (w : ℕ). labelAt cl o y ≡ labelAt cl o w → ⊥) (r .0) (λ w p d. never-both (p .3) (ap (on seen) (sym (q ∙ d)) ∙ off)) (r .1), r .2),
+      (all-map (In y seen) (λ (w : ℕ). labelAt cl o y ≡ labelAt cl o w → ⊥) (r .0) (λ w i d. never-both (i .3) (ap (on seen) (sym (q ∙ d)) ∙ off)) (r .1), r .2),
       (let z = r .3 in omega arith),
     ));
     few = (let z = s .few in omega arith);
+    strangers = λ k h a. s .strangers k h (unseen (on seen k) (eqb k l) (sym (is k) ∙ a));
   }))
 
--- the block b of c is full: a vertex of another class keeps out
-module _ (cl base ms caps spots : List ℕ) (v j o : ℕ) (codes dom : List ℕ) (h : o < j) (c b seen n : ℕ) (is : Block (item ms o) c b) (s : Crowd cl codes o b v seen n) (full : item caps o ≤ n) where
+-- the block b of c is full: a vertex of another class of part p keeps out
+module _ (cl base ms caps spots : List ℕ) (v j o p : ℕ) (codes dom : List ℕ) (h : o < j) (low : (x : ℕ) → x < v → labelAt cl o x < 32) (c b seen n : ℕ) (is : Block (item ms o) c b)
+    (s : Crowd cl codes o p b v seen n) (full : item caps o ≤ n) where
   keeps-out : (g : ℕ → ℕ) → Solves cl base ms caps spots v j g → Extends codes dom v g → (y : ℕ) → y < v → on seen (labelAt cl o y) ≡ false → on b (g y) ≡ true → ⊥
   keeps-out g f e y i off t =
       let r = s .found in
-      let a = f .fits .crowd o (bitAnd c (item ms o)) (y ∷ r .0) h (
-        (i, block-of (g y) (f .small y i) t),
-        all-map (In cl codes o b v seen) (λ (w : ℕ). (w < v) × (bitAnd (g w) (item ms o) ≡ bitAnd c (item ms o))) (r .0)
-            (λ w p. (p .0, ap (λ (z : ℕ). bitAnd z (item ms o)) (e .coded w (p .0) (p .1)) ∙ block-of (item codes w) (p .1) (p .2))) (r .1),
+      let a = f .fits .crowd o p (bitAnd c (item ms o)) (y ∷ r .0) h (
+        (i, s .strangers (labelAt cl o y) (low y i) off, block-of (g y) (f .small y i) t),
+        all-map (In cl codes o p b v seen)
+            (λ (w : ℕ). (w < v) × (partOf cl o w ≡ p) × (bitAnd (g w) (item ms o) ≡ bitAnd c (item ms o))) (r .0)
+            (λ w q. (q .0, q .4, ap (λ (z : ℕ). bitAnd z (item ms o)) (e .coded w (q .0) (q .1)) ∙ block-of (item codes w) (q .1) (q .2))) (r .1),
       )
-      (all-map (In cl codes o b v seen) (λ (w : ℕ). labelAt cl o y ≡ labelAt cl o w → ⊥) (r .0) (λ w p d. never-both (p .3) (ap (on seen) (sym d) ∙ off)) (r .1), r .2) in
+      (all-map (In cl codes o p b v seen) (λ (w : ℕ). labelAt cl o y ≡ labelAt cl o w → ⊥) (r .0) (λ w q d. never-both (q .3) (ap (on seen) (sym d) ∙ off)) (r .1), r .2) in
       let z = r .3 in omega arith
     where
       block-of : (k : ℕ) → k < 64 → on b k ≡ true → bitAnd k (item ms o) ≡ bitAnd c (item ms o)

@@ -9,7 +9,7 @@ use native.Mathlib.Omega.{arith}
 use lib.Bits.{bitAnd, bitOr}
 use lib.ListN.{length, getD, set, length-set}
 use lib.Seq.{getD-set-same, getD-set-other}
-use borrow.Author.Tests.{eq-eqb, eqb-true}
+use borrow.Author.Tests.{eq-eqb, ne-eqb, eqb-true}
 use Rattle.limits.specs.Limits.{maxVertices, maxCodes}
 use Rattle.bits.specs.Logic.{orb}
 use Rattle.bits.specs.Digit.{on}
@@ -18,7 +18,8 @@ use Rattle.cells.specs.Lists.{All, Pairs, all-map, less-or-equal, never-both, o
 use Rattle.numbering.specs.Given.{noCode, labelAt, item, Block}
 
 -- ======== definitions
--- own has for each class the codes of the blocks that it holds among the first y vertices, owns how many blocks
+-- own has for each class the codes of the blocks that it holds among the first y vertices, owns how many blocks; the vertices of
+-- a list have each another of these blocks, and a code in none of theirs is in none of these
 pub record Held (cl codes : List ℕ) (o mask y : ℕ) (own owns : List ℕ) : Type 0 where
   pub own-long : length own ≡ maxVertices
   pub owns-long : length owns ≡ maxVertices
@@ -27,7 +28,8 @@ pub record Held (cl codes : List ℕ) (o mask y : ℕ) (own owns : List ℕ) : T
       → (w : ℕ) × (w < y) × (item codes w < noCode) × (labelAt cl o w ≡ l) × (bitAnd (item codes w) mask ≡ bitAnd c mask)
   pub lists : (l : ℕ) → l < maxVertices
       → (ws : List ℕ) × All (λ (w : ℕ). (w < y) × (item codes w < noCode) × (labelAt cl o w ≡ l)) ws × Pairs (λ (a b : ℕ). bitAnd (item codes a) mask ≡ bitAnd (item codes b) mask → ⊥) ws ×
-      (length ws ≡ getD owns l 0)
+      (length ws ≡ getD owns l 0) ×
+      ((c : ℕ) → c < maxCodes → All (λ (w : ℕ). bitAnd (item codes w) mask ≡ bitAnd c mask → ⊥) ws → on (getD own l 0) c ≡ false)
   pub less : (l : ℕ) → l < maxVertices → getD owns l 0 ≤ y
 
 -- ======== the scan
@@ -44,7 +46,7 @@ module _ (cl codes : List ℕ) (o mask : ℕ) where
     owns-long = b;
     inside = λ w c h. absurd (omega arith);
     outside = λ l c h k t. absurd (never-both t (ap (λ (z : ℕ). on z c) (e l h) ∙ on-zero c));
-    lists = λ l h. ([], tt, tt, sym (f l h));
+    lists = λ l h. ([], tt, tt, sym (f l h), λ c k a. ap (λ (z : ℕ). on z c) (e l h) ∙ on-zero c);
     less = λ l h. let z = f l h in omega arith;
   }
 
@@ -54,7 +56,7 @@ module _ (cl codes : List ℕ) (o mask : ℕ) where
     owns-long = s .owns-long;
     inside = λ w c h k b e. ⊎-elim (λ l. s .inside w c l k b e) (λ q. absurd (let z : item codes y < 64 = subst (λ (i : ℕ). item codes i < 64) q k in omega arith)) (less-or-equal w y (omega arith));
     outside = λ l c h b t. let r = s .outside l c h b t in (r .0, (let z = r .1 in omega arith), r .2, r .3, r .4);
-    lists = λ l h. let r = s .lists l h in (r .0, up y l (r .0) (r .1), r .2, r .3);
+    lists = λ l h. let r = s .lists l h in (r .0, up y l (r .0) (r .1), r .2, r .3, r .4);
     less = λ l h. let z = s .less l h in omega arith;
   }
 
@@ -70,7 +72,7 @@ module _ (cl codes : List ℕ) (o mask : ℕ) where
         subst (λ (i : ℕ). on (getD own i 0) c ≡ true) (r .3 ∙ ap (labelAt cl o) (sym q)) (s .inside (r .0) c (r .1) (r .2) d f))
         (less-or-equal w y (omega arith));
     outside = λ l c h d t. let r = s .outside l c h d t in (r .0, (let z = r .1 in omega arith), r .2, r .3, r .4);
-    lists = λ l h. let r = s .lists l h in (r .0, up y l (r .0) (r .1), r .2, r .3);
+    lists = λ l h. let r = s .lists l h in (r .0, up y l (r .0) (r .1), r .2, r .3, r .4);
     less = λ l h. let z = s .less l h in omega arith;
   }
 
@@ -133,11 +135,17 @@ module _ (cl codes : List ℕ) (o mask : ℕ) where
       owns' : List ℕ
       owns' = set owns q (getD owns q 0 + 1)
 
+      none-new : (c : ℕ) → c < 64 → on (getD own q 0) c ≡ false → (bitAnd (item codes y) mask ≡ bitAnd c mask → ⊥) → on new c ≡ false
+      none-new c d off ne = on-or (getD own q 0) bs c ∙ ap (λ (a : Bool). orb a (on bs c)) off ∙ is c d ∙ ne-eqb _ _ (λ e. ne (sym e))
+
       List' : ℕ → Type 0
-      List' l = (ws : List ℕ) × All (Fact (y + 1) l) ws × Pairs (λ (a b : ℕ). bitAnd (item codes a) mask ≡ bitAnd (item codes b) mask → ⊥) ws × (length ws ≡ getD owns' l 0)
+      List' l = (ws : List ℕ) × All (Fact (y + 1) l) ws × Pairs (λ (a b : ℕ). bitAnd (item codes a) mask ≡ bitAnd (item codes b) mask → ⊥) ws × (length ws ≡ getD owns' l 0) ×
+          ((c : ℕ) → c < 64 → All (λ (w : ℕ). bitAnd (item codes w) mask ≡ bitAnd c mask → ⊥) ws → on (getD (set own q new) l 0) c ≡ false)
 
       grow : (l : ℕ) → l < 32 → Dec (l ≡ q) → List' l
-      grow l h (no p) = let r = s .lists l h in (r .0, up y l (r .0) (r .1), r .2, r .3 ∙ sym (getD-set-other owns q l (getD owns q 0 + 1) 0 p))
+      grow l h (no p) =
+          let r = s .lists l h in
+          (r .0, up y l (r .0) (r .1), r .2, r .3 ∙ sym (getD-set-other owns q l (getD owns q 0 + 1) 0 p), λ c k a. ap (λ (z : ℕ). on z c) (other l p) ∙ r .4 c k a)
       grow l h (yes p) =
           let r = s .lists l h in (
             y ∷ r .0,
@@ -150,6 +158,7 @@ module _ (cl codes : List ℕ) (o mask : ℕ) where
             (let e : getD owns' l 0 ≡ getD owns q 0 + 1 = subst (λ (i : ℕ). getD owns' i 0 ≡ getD owns q 0 + 1) (sym p)
                 (getD-set-same owns q (getD owns q 0 + 1) 0 (let z = s .owns-long in omega arith)) in
                 let f : length (r .0) ≡ getD owns q 0 = r .3 ∙ ap (λ (i : ℕ). getD owns i 0) p in omega arith),
+            λ c k a. ap (λ (i : ℕ). on (getD (set own q new) i 0) c) p ∙ ap (λ (z : ℕ). on z c) same ∙ none-new c k (ap (λ (i : ℕ). on (getD own i 0) c) (sym p) ∙ r .4 c k (a .1)) (a .0),
           )
 
       bound : (l : ℕ) → l < 32 → Dec (l ≡ q) → getD owns' l 0 ≤ y + 1

@@ -1,9 +1,10 @@
 -- Blocks has sets of codes and blocks, Held and Wants what the classes hold and need, Rules what follows of every solution,
--- Narrow and Full the sets of codes narrowed by it, Search the steps of the search. Contracts cite their definitions.
+-- Narrow, Full and Reach the sets of codes narrowed by it, Search the steps of the search. Contracts cite their definitions.
 pub mod Blocks
 pub mod Held
 pub mod Wants
 pub mod Rules
 pub mod Narrow
 pub mod Full
+pub mod Reach
 pub mod Search

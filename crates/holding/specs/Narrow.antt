@@ -12,10 +12,10 @@ use lib.Seq.{getD-set-same, getD-set-other}
 use Rattle.limits.specs.Limits.{maxVertices, maxCodes}
 use Rattle.bits.specs.Digit.{on}
 use Rattle.cells.specs.Lists.{sum, less-or-equal}
-use Rattle.numbering.specs.Given.{labelAt, item, Labels, Kept}
+use Rattle.numbering.specs.Given.{labelAt, partAt, partOf, item, Labels, Kept, Hopeless}
 use Rattle.holding.specs.Blocks.{on-both}
 use Rattle.holding.specs.Held.{Held}
-use Rattle.holding.specs.Wants.{Wanted, need, needed}
+use Rattle.holding.specs.Wants.{Wanted, Tight, need, needed}
 use Rattle.holding.specs.Rules.{enough, keeps-near, keeps-to}
 
 -- ======== sets of codes narrowed by one output
@@ -31,8 +31,10 @@ pub record Keeps (own meet has wants need k : ℕ) : Type 0 where
   pub held : wants ≡ has → need ≤ has → on own k ≡ true
   pub near : wants ≡ has + 1 → need ≤ has + 1 → (on own k ≡ true) ⊎ (on meet k ≡ true)
 
-abbrev pub Stays : List ℕ → List ℕ → ℕ → List ℕ → List ℕ → List ℕ → List ℕ → ℕ → ℕ → Type 0
-Stays cl base o own meet owns wants y k = Keeps (item own (labelAt cl o y)) (item meet (labelAt cl o y)) (item owns (labelAt cl o y)) (item wants (labelAt cl o y)) (labelAt base o (labelAt cl o y)) k
+-- a code of a vertex in whose part no place is left, by the set of these parts
+abbrev pub Stays : List ℕ → List ℕ → ℕ → ℕ → List ℕ → List ℕ → List ℕ → List ℕ → ℕ → ℕ → Type 0
+Stays cl base o tight own meet owns wants y k =
+    on tight (partOf cl o y) ≡ true → Keeps (item own (labelAt cl o y)) (item meet (labelAt cl o y)) (item owns (labelAt cl o y)) (item wants (labelAt cl o y)) (labelAt base o (labelAt cl o y)) k
 
 module _ (P : ℕ → ℕ → Type 0) (dom : List ℕ) where
   pub narrowed-start : length dom ≡ 32 → Narrowed P dom 0 dom
@@ -56,15 +58,13 @@ module _ (P : ℕ → ℕ → Type 0) (dom : List ℕ) where
     rest = λ y a. getD-set-other r n y d 0 (λ q. let z : y ≡ n = q in omega arith) ∙ s .rest y (omega arith);
   })
 
--- the same as the code says it: q is y's class
-pub keep-more : (cl base : List ℕ) (o n q need d : ℕ) (own meet owns wants dom r r' : List ℕ) → n < 32
-    → q ≡ labelAt cl o n → need ≡ labelAt base o q
-    → ((k : ℕ) → k < 64 → Keeps (item own q) (item meet q) (item owns q) (item wants q) need k → on d k ≡ true)
-    → r' ≡ set r n (bitAnd (item r n) d) → Narrowed (Stays cl base o own meet owns wants) dom n r
-    → Narrowed (Stays cl base o own meet owns wants) dom (n + 1) r'
-keep-more cl base o n q need d own meet owns wants dom r r' h e a f g s = narrowed-more (Stays cl base o own meet owns wants) dom n (bitAnd (item r n) d) r r' h (λ k l p st.
-    on-both (item r n) d k p (f k l (subst (λ (z : ℕ). Keeps (item own q) (item meet q) (item owns q) (item wants q) z k) (sym a)
-    (subst (λ (z : ℕ). Keeps (item own z) (item meet z) (item owns z) (item wants z) (labelAt base o z) k) (sym e) st)))) g s
+-- the same as the code says it: q is y's class, and its part p is in tight
+pub keep-more : (cl base : List ℕ) (o tight n p q need d : ℕ) (own meet owns wants dom r r' : List ℕ) → n < 32 → q ≡ labelAt cl o n → p ≡ partAt cl o q → on tight p ≡ true → need ≡ labelAt base o q
+    → ((k : ℕ) → k < 64 → Keeps (item own q) (item meet q) (item owns q) (item wants q) need k → on d k ≡ true) → r' ≡ set r n (bitAnd (item r n) d)
+    → Narrowed (Stays cl base o tight own meet owns wants) dom n r → Narrowed (Stays cl base o tight own meet owns wants) dom (n + 1) r'
+keep-more cl base o tight n p q need d own meet owns wants dom r r' h e i t a f g s = narrowed-more (Stays cl base o tight own meet owns wants) dom n (bitAnd (item r n) d) r r' h (λ k l b st.
+    on-both (item r n) d k b (f k l (subst (λ (z : ℕ). Keeps (item own q) (item meet q) (item owns q) (item wants q) z k) (sym a)
+    (subst (λ (z : ℕ). Keeps (item own z) (item meet z) (item owns z) (item wants z) (labelAt base o z) k) (sym e) (st (ap (on tight) (ap (partAt cl o) (sym e) ∙ sym i) ∙ t)))))) g s
 
 -- a sum, one more
 pub sum-next : (f : ℕ → ℕ) (l t x : ℕ) → x ≡ f l → t ≡ sum f l → t + x ≡ sum f (l + 1)
@@ -77,20 +77,21 @@ module _ (cl base ms caps spots : List ℕ) (v j o : ℕ) (codes dom own owns : 
   low x l = labels .low (o * 32 + x) (omega arith)
 
   -- more is held or needed than there are places
-  pub settled-none : (wants meet r : List ℕ) → Wanted cl o (item ms o) v dom own owns wants meet → item spots o < needed wants base o → Kept cl base ms caps spots v j codes dom r
-  settled-none wants meet r want l = record { keeps = λ g f e. absurd (let z = enough cl base ms caps spots v j o codes dom own owns wants meet g h low s want f e in omega arith) }
+  pub settled-none : (wants meet : List ℕ) (p : ℕ) → Wanted cl o (item ms o) v dom own owns wants meet → item spots o < needed cl wants base o p
+      → (kn val : ℕ) → Hopeless cl base ms caps spots v j kn val codes dom
+  settled-none wants meet p want l kn val = record { none = λ g f e d. let z = enough cl base ms caps spots v j o codes dom own owns wants meet g h low s want f e p in omega arith }
 
   -- no place is left
-  pub settled-tight : (wants meet r : List ℕ) → Wanted cl o (item ms o) v dom own owns wants meet
-      → needed wants base o ≡ item spots o → Narrowed (Stays cl base o own meet owns wants) dom v r
-      → Kept cl base ms caps spots v j codes dom r
-  settled-tight wants meet r want t n = record {
+  pub settled-tight : (wants meet r : List ℕ) (spot tight : ℕ) → Wanted cl o (item ms o) v dom own owns wants meet → Tight cl wants base o spot tight → spot ≡ item spots o
+      → Narrowed (Stays cl base o tight own meet owns wants) dom v r → Kept cl base ms caps spots v j codes dom r
+  settled-tight wants meet r spot tight want t i n = record {
     keeps = λ g f e. record {
       coded = e .coded;
-      within = λ x k. n .done x (g x) k (f .small x k) (e .within x k) (record {
-        held = λ p q. keeps-to cl base ms caps spots v j o codes dom own owns wants meet g h low s want f e x k t q p;
-        near = λ p q. keeps-near cl base ms caps spots v j o codes dom own owns wants meet g h low s want f e x k t q p;
-      });
+      within = λ x k. n .done x (g x) k (f .small x k) (e .within x k) (λ q.
+          let full = t .full (partOf cl o x) (labels .low (256 + (o * 32 + labelAt cl o x)) (let z = low x k in omega arith)) q ∙ i in record {
+            held = λ p q. keeps-to cl base ms caps spots v j o codes dom own owns wants meet g h low s want f e x k full q p;
+            near = λ p q. keeps-near cl base ms caps spots v j o codes dom own owns wants meet g h low s want f e x k full q p;
+          });
     };
   }
 
@@ -101,3 +102,7 @@ pub kept-more : (cl base ms caps spots : List ℕ) (v j : ℕ) (codes dom r r' :
     → Kept cl base ms caps spots v j codes dom r → Kept cl base ms caps spots v j codes r r'
     → Kept cl base ms caps spots v j codes dom r'
 kept-more cl base ms caps spots v j codes dom r r' a b = record { keeps = λ g f e. b .keeps g f (a .keeps g f e) }
+
+pub hopeless-before : (cl base ms caps spots : List ℕ) (v j : ℕ) (codes dom r : List ℕ) → Kept cl base ms caps spots v j codes dom r
+    → (kn val : ℕ) → Hopeless cl base ms caps spots v j kn val codes r → Hopeless cl base ms caps spots v j kn val codes dom
+hopeless-before cl base ms caps spots v j codes dom r a kn val b = record { none = λ g f e d. b .none g f (a .keeps g f e) d }

@@ -1,4 +1,4 @@
--- What every solution says of the blocks held and needed: they are no more than there are places; and where they are as many, a
+-- What every solution says of the blocks held and needed: of each part they are no more than there are places; and where they are as many, a
 -- class that needs no more keeps to the blocks it holds, and one that needs one more keeps to these and to the blocks in common.
 -- Assumes nothing.
 use mathlib.Core.Path.{_≡_, refl, sym, ap, ap₂, _∙_, subst}
@@ -17,9 +17,9 @@ use Rattle.bits.specs.Digit.{on}
 use Rattle.bits.specs.DigitLaws.{on-and, on-zero}
 use Rattle.cells.specs.Lists.{sum, all-map, pairs-map, less-or-equal, never-both, false-where, true-where, sum-more}
 use Rattle.cells.specs.Shared.{block, Group, gather}
-use Rattle.numbering.specs.Given.{labelAt, item, Solves, Extends}
+use Rattle.numbering.specs.Given.{labelAt, partAt, partOf, item, Solves, Extends}
 use Rattle.holding.specs.Held.{Held}
-use Rattle.holding.specs.Wants.{New, Wanted, need, needed}
+use Rattle.holding.specs.Wants.{New, Wanted, need, share, needed}
 
 -- ======== the rules
 module _ (cl base ms caps spots : List ℕ) (v j o : ℕ) (codes dom own owns : List ℕ) (g : ℕ → ℕ) (h : o < j) (low : (x : ℕ) → x < v → labelAt cl o x < 32)
@@ -142,53 +142,65 @@ module _ (cl base ms caps spots : List ℕ) (v j o : ℕ) (codes dom own owns wa
           (λ y. two l (x .0) (y .0) b (x .1) (y .1) (x .2) (y .2) (none l (x .0) (x .1) (x .3)) (none l (y .0) (y .1) (y .3)) (y .4))
           (same-or-other cl base ms caps spots v j o codes dom own owns g h low s f e l (x .0) v (omega arith)))
 
-  need-group : (l : ℕ) → l < 32 → Group v (labelAt cl o) key' l (need wants base o l)
+  -- a class has as many blocks as it holds or needs
+  pub need-group : (l : ℕ) → l < 32 → Group v (labelAt cl o) key' l (need wants base o l)
   need-group l b = elim (decLt (getD wants l 0) (labelAt base o l)) as (λ _. Group v (labelAt cl o) key' l (need wants base o l)) [
     | yes k ↦ (let r = f .fits .needs o l h b in (r .0, r .1, r .2, (let z = r .3 in omega arith)))
     | no k ↦ (let r = want-group l b in (r .0, r .1, r .2, (let z = r .3 in omega arith)))
   ]
 
-  places : (n : ℕ → ℕ) → ((l : ℕ) → l < 32 → Group v (labelAt cl o) key' l (n l)) → sum n 32 ≤ item spots o
-  places n k =
-      let r = gather v (labelAt cl o) key' n 32 k in
-      let a = f .fits .places o (r .0) h (all-map (λ (x : ℕ). (x < v) × (labelAt cl o x < 32)) (λ (x : ℕ). x < v) (r .0) (λ x p. p .0) (r .1)) (r .2) in
+  -- what a class of part p takes, and no other class
+  abbrev Takes : ℕ → ℕ → ℕ → Type 0
+  Takes p l n = (n ≡ 0) ⊎ ((partAt cl o l ≡ p) × Group v (labelAt cl o) key' l n)
+
+  places : (p : ℕ) (n : ℕ → ℕ) → ((l : ℕ) → l < 32 → Takes p l (n l)) → sum n 32 ≤ item spots o
+  places p n k =
+      let r = gather v (labelAt cl o) key' (λ (l : ℕ). partAt cl o l ≡ p) n 32 k in
+      let a = f .fits .places o p (r .0) h (all-map (λ (x : ℕ). (x < v) × (labelAt cl o x < 32) × (partOf cl o x ≡ p)) (λ (x : ℕ). (x < v) × (partOf cl o x ≡ p)) (r .0) (λ x q. (q .0, q .2))
+      (r .1)) (r .2) in
       let b = r .3 in omega arith
 
-  -- there are at least as many places as are held or needed
-  pub enough : needed wants base o ≤ item spots o
-  enough = places (need wants base o) need-group
+  takes : (p l : ℕ) → l < 32 → Takes p l (share cl wants base o p l)
+  takes p l b = elim (ℕ-discrete (partAt cl o l) p) as (λ _. Takes p l (share cl wants base o p l)) [
+    | yes q ↦ inr (q, subst (Group v (labelAt cl o) key' l) (sym (ap (λ (z : Bool). pick z (need wants base o l) 0) (eq-eqb (partAt cl o l) p q))) (need-group l b))
+    | no q ↦ inl (ap (λ (z : Bool). pick z (need wants base o l) 0) (ne-eqb (partAt cl o l) p q))
+  ]
+
+  -- there are at least as many places as are held or needed by the classes of a part
+  pub enough : (p : ℕ) → needed cl wants base o p ≤ item spots o
+  enough p = places p (share cl wants base o p) (takes p)
 
   -- no place is left: no class has more blocks than it needs
-  no-more : (q m : ℕ) → q < 32 → needed wants base o ≡ item spots o → need wants base o q < m → Group v (labelAt cl o) key' q m → ⊥
+  no-more : (q m : ℕ) → q < 32 → needed cl wants base o (partAt cl o q) ≡ item spots o → need wants base o q < m → Group v (labelAt cl o) key' q m → ⊥
   no-more q m b t k group =
-      let a = places n (λ l c. grow l c (ℕ-discrete l q)) in
-      let w = sum-more (need wants base o) n 32 q b (let z = n-here in omega arith) (λ l c ne. let z = n-other l ne in omega arith) in
+      let a = places (partAt cl o q) n (λ l c. grow l c (ℕ-discrete l q)) in
+      let w = sum-more (share cl wants base o (partAt cl o q)) n 32 q b (let z = n-here in let y = own-share in omega arith) (λ l c ne. let z = n-other l ne in omega arith) in
       omega arith
     where
       n : ℕ → ℕ
-      n l = pick (eqb l q) m (need wants base o l)
+      n l = pick (eqb l q) m (share cl wants base o (partAt cl o q) l)
+
+      own-share : share cl wants base o (partAt cl o q) q ≡ need wants base o q
+      own-share = ap (λ (z : Bool). pick z (need wants base o q) 0) (eq-eqb (partAt cl o q) (partAt cl o q) refl)
 
       n-here : n q ≡ m
-      n-here = ap (λ (z : Bool). pick z m (need wants base o q)) (eq-eqb q q refl)
+      n-here = ap (λ (z : Bool). pick z m (share cl wants base o (partAt cl o q) q)) (eq-eqb q q refl)
 
-      n-other : (l : ℕ) → (l ≡ q → ⊥) → n l ≡ need wants base o l
-      n-other l ne = ap (λ (z : Bool). pick z m (need wants base o l)) (ne-eqb l q ne)
+      n-other : (l : ℕ) → (l ≡ q → ⊥) → n l ≡ share cl wants base o (partAt cl o q) l
+      n-other l ne = ap (λ (z : Bool). pick z m (share cl wants base o (partAt cl o q) l)) (ne-eqb l q ne)
 
-      grow : (l : ℕ) → l < 32 → Dec (l ≡ q) → Group v (labelAt cl o) key' l (n l)
-      grow l c (yes p) = subst (λ (i : ℕ). Group v (labelAt cl o) key' i (n i)) (sym p) (subst (Group v (labelAt cl o) key' q) (sym n-here) group)
-      grow l c (no p) = subst (Group v (labelAt cl o) key' l) (sym (n-other l p)) (need-group l c)
+      grow : (l : ℕ) → l < 32 → Dec (l ≡ q) → Takes (partAt cl o q) l (n l)
+      grow l c (yes p) = inr (ap (partAt cl o) p, subst (λ (i : ℕ). Group v (labelAt cl o) key' i (n i)) (sym p) (subst (Group v (labelAt cl o) key' q) (sym n-here) group))
+      grow l c (no p) = subst (Takes (partAt cl o q) l) (sym (n-other l p)) (takes (partAt cl o q) l c)
 
   -- no place is left: a class that holds what it needs, and wants no more, keeps to its blocks
-  pub keeps-to : (y : ℕ) → y < v → needed wants base o ≡ item spots o
-      → labelAt base o (labelAt cl o y) ≤ getD owns (labelAt cl o y) 0
+  pub keeps-to : (y : ℕ) → y < v → needed cl wants base o (partOf cl o y) ≡ item spots o → labelAt base o (labelAt cl o y) ≤ getD owns (labelAt cl o y) 0
       → getD wants (labelAt cl o y) 0 ≡ getD owns (labelAt cl o y) 0 → on (getD own (labelAt cl o y) 0) (g y) ≡ true
   keeps-to y b t k same = true-where _ (λ off. absurd (no-more (labelAt cl o y) (getD owns (labelAt cl o y) 0 + 1) (low y b) t (omega arith) (one (labelAt cl o y) y (low y b) b refl off)))
 
   -- and one that wants just one more keeps to its blocks and to those in common
-  pub keeps-near : (y : ℕ) → y < v → needed wants base o ≡ item spots o
-      → labelAt base o (labelAt cl o y) ≤ getD owns (labelAt cl o y) 0 + 1
-      → getD wants (labelAt cl o y) 0 ≡ getD owns (labelAt cl o y) 0 + 1
-      → (on (getD own (labelAt cl o y) 0) (g y) ≡ true) ⊎ (on (getD meet (labelAt cl o y) 0) (g y) ≡ true)
+  pub keeps-near : (y : ℕ) → y < v → needed cl wants base o (partOf cl o y) ≡ item spots o → labelAt base o (labelAt cl o y) ≤ getD owns (labelAt cl o y) 0 + 1
+      → getD wants (labelAt cl o y) 0 ≡ getD owns (labelAt cl o y) 0 + 1 → (on (getD own (labelAt cl o y) 0) (g y) ≡ true) ⊎ (on (getD meet (labelAt cl o y) 0) (g y) ≡ true)
   keeps-near y b t k same = case (on (getD own q 0) (g y)) refl
     where
       q : ℕ

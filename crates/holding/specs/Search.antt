@@ -54,15 +54,15 @@ uncoded-less codes v x c e w h k l = count-drop (λ (y : ℕ). leb 64 (item code
 abbrev pub Empty : List ℕ → ℕ → Type 0
 Empty dom v = (y : ℕ) × (y < v) × (item dom y ≡ 0)
 
-pub empty-hopeless : (cl base ms caps spots : List ℕ) (v j : ℕ) (codes dom : List ℕ) → Empty dom v → Hopeless cl base ms caps spots v j codes dom
-empty-hopeless cl base ms caps spots v j codes dom e = record { none = λ g f k. never-both (k .within (e .0) (e .1)) (ap (λ (n : ℕ). on n (g (e .0))) (e .2) ∙ on-zero (g (e .0))) }
+pub empty-hopeless : (cl base ms caps spots : List ℕ) (v j kn val : ℕ) (codes dom : List ℕ) → Empty dom v → Hopeless cl base ms caps spots v j kn val codes dom
+empty-hopeless cl base ms caps spots v j kn val codes dom e = record { none = λ g f k d. never-both (k .within (e .0) (e .1)) (ap (λ (n : ℕ). on n (g (e .0))) (e .2) ∙ on-zero (g (e .0))) }
 
 -- the two answers
-module _ (cl base ms ps caps spots : List ℕ) (v j : ℕ) (codes dom codes' dom' r : List ℕ) where
-  pub told-found : (ok : Bool) → ok ≡ true → Told cl base ms ps caps spots v j codes' dom' ok r → Told cl base ms ps caps spots v j codes dom ok r
+module _ (cl base ms ps caps spots : List ℕ) (v j kn val : ℕ) (codes dom codes' dom' r : List ℕ) where
+  pub told-found : (ok : Bool) → ok ≡ true → Told cl base ms ps caps spots v j kn val codes' dom' ok r → Told cl base ms ps caps spots v j kn val codes dom ok r
   told-found true e t = t
   told-found false e t = absurd (true-false (sym e))
 
-  pub told-lost : (ok : Bool) → ok ≡ false → Told cl base ms ps caps spots v j codes dom ok r → Hopeless cl base ms caps spots v j codes dom
+  pub told-lost : (ok : Bool) → ok ≡ false → Told cl base ms ps caps spots v j kn val codes dom ok r → Hopeless cl base ms caps spots v j kn val codes dom
   told-lost true e t = absurd (true-false e)
   told-lost false e t = t

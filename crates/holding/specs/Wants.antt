@@ -1,21 +1,25 @@
 -- How many blocks each class of an output needs: those that it holds, one more where some vertex of it can take none of these,
 -- and two more where the vertices that can take none have no block in common. Assumes nothing.
 use mathlib.Core.Path.{_≡_, refl, sym, ap, ap₂, _∙_, subst}
-use mathlib.Core.Bool.{true}
+use mathlib.Core.Bool.{Bool, true, false}
 use mathlib.Core.List.{List}
 use mathlib.Core.Logic.{_⊎_, inl, inr, ⊎-elim}
-use Prim.Native.Nat.{ℕ, _+_, _-_, _^_, _<_, max}
+use Prim.Native.Nat.{ℕ, _+_, _-_, _*_, _^_, _≤_, _<_, max}
 use native.Mathlib.Decide.{ℕ-discrete}
 use native.Mathlib.Omega.{arith}
+use native.Mathlib.Numerals.{add-one}
 use lib.Bits.{bitAnd}
+use lib.Dec.{eqb}
 use lib.ListN.{length, getD, set, length-set}
 use lib.Seq.{getD-set-same, getD-set-other}
+use borrow.Author.Tests.{eq-eqb, ne-eqb, eqb-true}
 use Rattle.limits.specs.Limits.{maxVertices, maxCodes}
-use Rattle.bits.specs.Logic.{andb}
+use Rattle.bits.specs.Logic.{andb, orb, pick}
 use Rattle.bits.specs.Digit.{on}
-use Rattle.bits.specs.DigitLaws.{on-and, on-ones}
-use Rattle.cells.specs.Lists.{count, sum}
-use Rattle.numbering.specs.Given.{labelAt, item}
+use Rattle.bits.specs.DigitLaws.{on-and, on-ones, on-zero}
+use Rattle.cells.specs.Lists.{count, sum, never-both}
+use Rattle.cells.specs.Sets.{With}
+use Rattle.numbering.specs.Given.{labelAt, partAt, item}
 
 -- ======== definitions
 -- one of the first y vertices, of class l, can take none of the blocks that its class holds
@@ -38,10 +42,91 @@ pub record Wanted (cl : List ℕ) (o mask y : ℕ) (dom own owns wants meet : Li
 abbrev pub need : List ℕ → List ℕ → ℕ → ℕ → ℕ
 need owns base o l = max (getD owns l 0) (labelAt base o l)
 
-abbrev pub needed : List ℕ → List ℕ → ℕ → ℕ
-needed owns base o = sum (need owns base o) 32
+-- the same, or nothing for a class of another part than p
+abbrev pub share : List ℕ → List ℕ → List ℕ → ℕ → ℕ → ℕ → ℕ
+share cl owns base o p l = pick (eqb (partAt cl o l) p) (need owns base o l) 0
+
+-- how many blocks the classes of part p hold or need
+abbrev pub needed : List ℕ → List ℕ → List ℕ → ℕ → ℕ → ℕ
+needed cl owns base o p = sum (share cl owns base o p) 32
+
+-- the same for each part, of the first n classes
+pub record Totals (cl owns base : List ℕ) (o n : ℕ) (t : List ℕ) : Type 0 where
+  pub long : length t ≡ 32
+  pub each : (p : ℕ) → p < 32 → item t p ≡ sum (share cl owns base o p) n
+  pub low : (p : ℕ) → p < 32 → item t p ≤ n * 255
+
+-- the parts of tight hold or need spot
+pub record Tight (cl wants base : List ℕ) (o spot tight : ℕ) : Type 0 where
+  pub full : (p : ℕ) → p < maxVertices → on tight p ≡ true → needed cl wants base o p ≡ spot
+
+-- of the first n numbers those of tight are spot
+pub record Filled (ts : List ℕ) (spot n tight : ℕ) : Type 0 where
+  pub all : (p : ℕ) → on tight p ≡ true → (p < n) × (item ts p ≡ spot)
+
+-- ======== the parts without a place
+pub filled-start : (ts : List ℕ) (spot : ℕ) → Filled ts spot 0 0
+filled-start ts spot = record { all = λ p e. absurd (never-both e (on-zero p)) }
+
+pub filled-same : (ts : List ℕ) (spot n r r' : ℕ) → r' ≡ r → Filled ts spot n r → Filled ts spot (n + 1) r'
+filled-same ts spot n r r' e s = record { all = λ p t. let a = s .all p (ap (λ (z : ℕ). on z p) (sym e) ∙ t) in ((let z = a .0 in omega arith), a .1) }
+
+pub filled-more : (ts : List ℕ) (spot n r r' w : ℕ) → item ts n ≡ spot → With r n w → r' ≡ w → Filled ts spot n r → Filled ts spot (n + 1) r'
+filled-more ts spot n r r' w q is e s = record { all = λ p t. go p (on r p) refl (ap (λ (z : ℕ). on z p) (sym e) ∙ t) }
+  where
+    go : (p : ℕ) (b : Bool) → on r p ≡ b → on w p ≡ true → (p < n + 1) × (item ts p ≡ spot)
+    go p true f t = let a = s .all p f in ((let z = a .0 in omega arith), a .1)
+    go p false f t = let i : p ≡ n = eqb-true p n (sym (ap (λ (b : Bool). orb b (eqb p n)) f) ∙ sym (is p) ∙ t) in (omega arith, ap (item ts) i ∙ q)
+
+pub filled-tight : (cl wants base : List ℕ) (o spot : ℕ) (ts : List ℕ) (tight : ℕ) → Totals cl wants base o 32 ts → Filled ts spot 32 tight → Tight cl wants base o spot tight
+filled-tight cl wants base o spot ts tight t s = record { full = λ p h e. sym (t .each p h) ∙ s .all p e .1 }
+
+-- ======== the scan of totals
+pub totals-start : (cl owns base : List ℕ) (o : ℕ) (t : List ℕ) → length t ≡ 32 → ((p : ℕ) → p < 32 → item t p ≡ 0) → Totals cl owns base o 0 t
+unfolding sum
+totals-start cl owns base o t e z = record { long = e; each = λ p h. z p h; low = λ p h. let a = z p h in omega arith }
+
+pub totals-more : (cl owns base : List ℕ) (o n : ℕ) (t : List ℕ) (q x : ℕ) → q ≡ partAt cl o n → q < 32 → x ≡ need owns base o n → x ≤ 255 → Totals cl owns base o n t
+    → Totals cl owns base o (n + 1) (set t q (item t q + x))
+unfolding sum
+totals-more cl owns base o n t q x a b c d s = record {
+  long = length-set t q (item t q + x) ∙ s .long;
+  each = λ p h. go p h (ℕ-discrete p q) ∙ sym (ap (sum (share cl owns base o p)) (add-one n));
+  low = λ p h. lows p h (ℕ-discrete p q);
+}
+  where
+    here : item (set t q (item t q + x)) q ≡ item t q + x
+    here = getD-set-same t q (item t q + x) 0 (let z = s .long in omega arith)
+
+    other : (p : ℕ) → (p ≡ q → ⊥) → item (set t q (item t q + x)) p ≡ item t p
+    other p ne = getD-set-other t q p (item t q + x) 0 ne
+
+    go : (p : ℕ) → p < 32 → Dec (p ≡ q) → item (set t q (item t q + x)) p ≡ sum (share cl owns base o p) n + share cl owns base o p n
+    go p h (yes e) =
+        let f : item (set t q (item t q + x)) p ≡ item t q + x = ap (item (set t q (item t q + x))) e ∙ here in
+        let k : item t q ≡ sum (share cl owns base o p) n = ap (item t) (sym e) ∙ s .each p h in
+        let w : share cl owns base o p n ≡ x = ap (λ (b : Bool). pick b (need owns base o n) 0) (eq-eqb (partAt cl o n) p (sym a ∙ sym e)) ∙ sym c in
+        omega arith
+    go p h (no e) =
+        let f = other p e in
+        let k = s .each p h in
+        let w : share cl owns base o p n ≡ 0 = ap (λ (b : Bool). pick b (need owns base o n) 0) (ne-eqb (partAt cl o n) p (λ i. e (sym i ∙ sym a))) in
+        omega arith
+
+    lows : (p : ℕ) → p < 32 → Dec (p ≡ q) → item (set t q (item t q + x)) p ≤ (n + 1) * 255
+    lows p h (yes e) = let f : item (set t q (item t q + x)) p ≡ item t q + x = ap (item (set t q (item t q + x))) e ∙ here in let k = s .low q b in omega arith
+    lows p h (no e) = let f = other p e in let k = s .low p h in omega arith
 
 -- ======== the scan of what is wanted
+-- a class wants what it holds, or more
+pub wanted-held : (cl : List ℕ) (o mask y : ℕ) (dom own owns wants meet : List ℕ) → Wanted cl o mask y dom own owns wants meet → (l : ℕ) → l < 32 → item owns l ≤ item wants l
+wanted-held cl o mask y dom own owns wants meet s l h = go (s .each l h)
+  where
+    go : (item wants l ≡ item owns l) ⊎ (New cl o y dom own l × ((item wants l ≡ item owns l + 1) ⊎ ((item wants l ≡ item owns l + 2) × (item meet l ≡ 0)))) → item owns l ≤ item wants l
+    go (inl e) = omega arith
+    go (inr (n, inl e)) = omega arith
+    go (inr (n, inr e)) = let z = e .0 in omega arith
+
 module _ (cl : List ℕ) (o mask : ℕ) (dom own owns : List ℕ) where
   -- what is said of a class when y vertices are seen
   abbrev Each : ℕ → ℕ → ℕ → ℕ → Type 0

@@ -1,18 +1,21 @@
 // What the classes of one output hold while vertices take codes, and the sets of codes of the others narrowed by it. A rule
-// that prunes is one law of specs/Rules or specs/Full: what it takes away is in no solution.
+// that prunes is one law of specs/Rules, specs/Full or specs/Reach: what it takes away is in no solution.
 ghost use mathlib.Core.Path.{_≡_};
 ghost use mathlib.Core.Bool.{Bool, true, false};
 ghost use mathlib.Core.List.{List};
 ghost use Prim.Native.Nat.{ℕ, _+_, _*_, _<_, _≤_, max};
+ghost use lib.Dec.{eqb};
+ghost use Rattle.bits.specs.Logic.{pick};
 ghost use lib.ListN.{length, getD};
 ghost use Rattle.limits.specs.Limits.{searchOutputs, maxVertices, labelCount, blockCount, maxCodes};
 ghost use Rattle.bits.specs.Digit.{on};
-ghost use Rattle.numbering.specs.Given.{noCode, labelAt, item, Block, Labels, Blocks, Kept};
+ghost use Rattle.numbering.specs.Given.{noCode, labelAt, partAt, item, Block, Labels, Blocks, Kept, Hopeless};
 ghost use Rattle.holding.specs.Held.{Held};
-ghost use Rattle.holding.specs.Wants.{Wanted, needed};
+ghost use Rattle.holding.specs.Wants.{Wanted, Totals, Filled, Tight, needed};
 ghost use Rattle.holding.specs.Blocks.{Table, Minus, Spans};
 ghost use Rattle.holding.specs.Narrow.{Narrowed, Keeps, Stays};
-ghost use Rattle.holding.specs.Full.{Crowd, Free};
+ghost use Rattle.holding.specs.Full.{Crowd, Free, Others};
+ghost use Rattle.holding.specs.Reach.{Lacks, Reached, Fewer, Lost};
 use limits::BLOCKS;
 use limits::MAX_CODES;
 use limits::MAX_VERTICES;
@@ -61,17 +64,17 @@ pub struct Hold {
     pub owns: [u8; MAX_VERTICES],
 }
 
-pub fn held(
+fn held(
     cl: &[u8],
     bs: &[u64],
     ms: [u8; SEARCH_OUTPUTS],
     v: usize,
     j: usize,
     o: usize,
-    codes: [u8; MAX_VERTICES],
+    codes: &[u8],
 ) -> Hold
-    requires { ⌜ Labels (now cl) × Blocks ms (now bs) j × (v ≤ maxVertices) × (j ≤ searchOutputs) × (o < j) ⌝ }
-    ensures { λ r. ⌜ Held (now (cl .entry)) codes o (item ms o) v (r .own) (r .owns) ⌝ }
+    requires { ⌜ Labels (now cl) × Blocks ms (now bs) j × (v ≤ maxVertices) × (j ≤ searchOutputs) × (o < j) × (length (now codes) ≡ maxVertices) ⌝ }
+    ensures { λ r. ⌜ Held (now (cl .entry)) (now (codes .entry)) o (item ms o) v (r .own) (r .owns) ⌝ }
 {
     let mut own = [0u64; MAX_VERTICES];
     let mut owns = [0u8; MAX_VERTICES];
@@ -91,14 +94,14 @@ pub fn held(
 }
 
 // d without b.
-pub fn minus(d: u64, b: u64) -> u64
+fn minus(d: u64, b: u64) -> u64
     ensures { λ r. ⌜ Minus d b r ⌝ }
 {
     d & !b
 }
 
 // The codes of the blocks of output o that meet d.
-pub fn spread(bs: &[u64], o: usize, d: u64) -> u64
+fn spread(bs: &[u64], o: usize, d: u64) -> u64
     requires { ⌜ (length (now bs) ≡ blockCount) × (o < searchOutputs) ⌝ }
     ensures { λ r. ⌜ ((mask : ℕ) → ((c : ℕ) → c < maxCodes → Block mask c (getD (now (bs .entry)) (o * maxCodes + c) 0)) → Spans mask d r) ⌝ }
 {
@@ -114,7 +117,7 @@ pub fn spread(bs: &[u64], o: usize, d: u64) -> u64
 }
 
 // One more than n, or two more where m is empty.
-pub fn more(n: u8, m: u64) -> u8
+fn more(n: u8, m: u64) -> u8
     requires { ⌜ n ≤ maxVertices ⌝ }
     ensures { λ r. ⌜ (m ≡ 0 → r ≡ n + 2) × ((m ≡ 0 → ⊥) → r ≡ n + 1) ⌝ }
 {
@@ -128,7 +131,7 @@ pub struct Wants {
     pub meet: [u64; MAX_VERTICES],
 }
 
-pub fn wanted(
+fn wanted(
     cl: &[u8],
     bs: &[u64],
     v: usize,
@@ -137,8 +140,10 @@ pub fn wanted(
     own: &[u64],
     owns: [u8; MAX_VERTICES],
 ) -> Wants
-    requires { ⌜ Labels (now cl) × (length (now bs) ≡ blockCount) × (v ≤ maxVertices) × (o < searchOutputs) × (length (now dom) ≡ maxVertices) × (length (now own) ≡ maxVertices) × ((l : ℕ) → l < maxVertices → item owns l ≤ maxVertices) ⌝ }
-    ensures { λ r. ⌜ ((mask : ℕ) → ((c : ℕ) → c < maxCodes → Block mask c (getD (now (bs .entry)) (o * maxCodes + c) 0)) → Wanted (now (cl .entry)) o mask v (now (dom .entry)) (now (own .entry)) owns (r .wants) (r .meet)) ⌝ }
+    requires { ⌜ Labels (now cl) × (length (now bs) ≡ blockCount) × (v ≤ maxVertices) × (o < searchOutputs) × (length (now dom) ≡ maxVertices) × (length (now own) ≡ maxVertices)
+        × ((l : ℕ) → l < maxVertices → item owns l ≤ maxVertices) ⌝ }
+    ensures { λ r. ⌜ ((mask : ℕ) → ((c : ℕ) → c < maxCodes → Block mask c (getD (now (bs .entry)) (o * maxCodes + c) 0))
+        → Wanted (now (cl .entry)) o mask v (now (dom .entry)) (now (own .entry)) owns (r .wants) (r .meet)) ⌝ }
 {
     let mut wants = owns;
     let mut meet = [cells::ALL_CODES; MAX_VERTICES];
@@ -157,28 +162,46 @@ pub fn wanted(
 }
 
 // The larger of two numbers.
-pub fn larger(a: u8, b: u8) -> u8
+fn larger(a: u8, b: u8) -> u8
     ensures { λ r. ⌜ (r ≡ max a b) × (r ≤ 255) ⌝ }
 {
     if a < b { b } else { a }
 }
 
-// The blocks that the classes of o hold, or need where that is more.
-pub fn total(base: &[u8], o: usize, owns: [u8; MAX_VERTICES]) -> usize
-    requires { ⌜ (length (now base) ≡ labelCount) × (o < searchOutputs) ⌝ }
-    ensures { λ r. ⌜ r ≡ needed owns (now (base .entry)) o ⌝ }
+// The blocks that the classes of each part of o hold, or need where that is more.
+fn totals(cl: &[u8], base: &[u8], o: usize, owns: &[u8]) -> [usize; MAX_VERTICES]
+    requires { ⌜ Labels (now cl) × (length (now base) ≡ labelCount) × (o < searchOutputs) × (length (now owns) ≡ maxVertices) ⌝ }
+    ensures { λ r. ⌜ Totals (now (cl .entry)) (now (owns .entry)) (now (base .entry)) o maxVertices r ⌝ }
 {
-    let mut t: usize = 0;
+    let mut t = [0usize; MAX_VERTICES];
     let mut l = 0;
     while l < MAX_VERTICES {
-        t += larger(owns[l], numbering::label(base, o, l)) as usize;
+        let p = numbering::class_part(cl, o, l) as usize;
+        let n = larger(owns[l], numbering::label(base, o, l)) as usize;
+        t[p] = t[p] + n;
         l += 1;
     }
     t
 }
 
+// The place of the largest of the numbers.
+fn largest(t: &[usize]) -> usize
+    requires { ⌜ length (now t) ≡ maxVertices ⌝ }
+    ensures { λ r. ⌜ r < maxVertices ⌝ }
+{
+    let mut m: usize = 0;
+    let mut i = 1;
+    while i < MAX_VERTICES {
+        if t[m] < t[i] {
+            m = i;
+        }
+        i += 1;
+    }
+    m
+}
+
 // Whether a vertex with code c is in b; without a code it is not.
-pub fn inside(b: u64, c: u8) -> bool
+fn inside(b: u64, c: u8) -> bool
     ensures { λ r. ⌜ (r ≡ true → (c < noCode) × (on b c ≡ true)) ⌝ }
 {
     if c < numbering::NO_CODE {
@@ -188,17 +211,76 @@ pub fn inside(b: u64, c: u8) -> bool
     }
 }
 
-// The classes of output o in the block b, and how many.
+// The same for the part where it is most.
+pub fn total(cl: &[u8], base: &[u8], o: usize, owns: &[u8]) -> usize
+    requires { ⌜ Labels (now cl) × (length (now base) ≡ labelCount) × (o < searchOutputs) × (length (now owns) ≡ maxVertices) ⌝ }
+    ensures { λ r. ⌜ ((p : ℕ) × (r ≡ needed (now (cl .entry)) (now (owns .entry)) (now (base .entry)) o p)) ⌝ }
+{
+    let ts = totals(cl, base, o, owns);
+    let p = largest(&ts);
+    ts[p]
+}
+
+// The most classes that an output has.
+const CLASSES: u8 = MAX_VERTICES as u8;
+
+// The classes of output o that are not of part p, one by one.
+fn others(cl: &[u8], o: usize, p: u8) -> u64
+    requires { ⌜ Labels (now cl) × (o < searchOutputs) ⌝ }
+    ensures { λ r. ⌜ Others (now (cl .entry)) o p maxVertices r ⌝ }
+{
+    let mut r: u64 = 0;
+    let mut l: u8 = 0;
+    while l < CLASSES {
+        let q = numbering::class_part(cl, o, l as usize);
+        if q != p {
+            r = cells::with(r, l);
+        }
+        l += 1;
+    }
+    r
+}
+
+// Whether all classes of output o are of part p.
+fn one_part(cl: &[u8], o: usize, p: u8) -> bool
+    requires { ⌜ Labels (now cl) × (o < searchOutputs) ⌝ }
+    ensures { λ r. ⌜ (r ≡ true → (l : ℕ) → l < maxVertices → partAt (now (cl .entry)) o l ≡ p) ⌝ }
+{
+    let mut all = true;
+    let mut l = 0;
+    while l < MAX_VERTICES {
+        let q = numbering::class_part(cl, o, l);
+        if q != p {
+            all = false;
+        }
+        l += 1;
+    }
+    all
+}
+
+// The classes of output o that are not of part p. Where there are none, which is the usual case, no set is made up.
+fn strangers(cl: &[u8], o: usize, p: u8) -> u64
+    requires { ⌜ Labels (now cl) × (o < searchOutputs) ⌝ }
+    ensures { λ r. ⌜ Others (now (cl .entry)) o p maxVertices r ⌝ }
+{
+    if one_part(cl, o, p) {
+        0
+    } else {
+        others(cl, o, p)
+    }
+}
+
+// The classes of output o in the block b and the classes of other parts than p, and how many of part p are in b.
 pub struct Classes {
     pub seen: u64,
     pub count: u8,
 }
 
-pub fn crowd(cl: &[u8], v: usize, o: usize, codes: [u8; MAX_VERTICES], b: u64) -> Classes
-    requires { ⌜ Labels (now cl) × (v ≤ maxVertices) × (o < searchOutputs) ⌝ }
-    ensures { λ r. ⌜ Crowd (now (cl .entry)) codes o b v (r .seen) (r .count) ⌝ }
+pub fn crowd(cl: &[u8], v: usize, o: usize, p: u8, codes: &[u8], b: u64) -> Classes
+    requires { ⌜ Labels (now cl) × (v ≤ maxVertices) × (o < searchOutputs) × (length (now codes) ≡ maxVertices) ⌝ }
+    ensures { λ r. ⌜ Crowd (now (cl .entry)) (now (codes .entry)) o p b v (r .seen) (r .count) ⌝ }
 {
-    let mut seen: u64 = 0;
+    let mut seen = strangers(cl, o, p);
     let mut count: u8 = 0;
     let mut y = 0;
     while y < v {
@@ -214,8 +296,198 @@ pub fn crowd(cl: &[u8], v: usize, o: usize, codes: [u8; MAX_VERTICES], b: u64) -
     Classes { seen, count }
 }
 
+// n where q is p, or nothing.
+fn counted(q: u8, p: u8, n: u8) -> u8
+    ensures { λ r. ⌜ (r ≡ pick (eqb q p) n 0) × (r ≤ 255) ⌝ }
+{
+    if q == p { n } else { 0 }
+}
+
+// What the classes of part p of output o hold or need, and how many of these blocks they lack.
+pub struct Lack {
+    pub total: u16,
+    pub news: u16,
+}
+
+fn lacks(cl: &[u8], base: &[u8], o: usize, p: u8, owns: &[u8], wants: &[u8]) -> Lack
+    requires { ⌜ Labels (now cl) × (length (now base) ≡ labelCount) × (o < searchOutputs) × ((l : ℕ) → l < maxVertices → item (now owns) l ≤ item (now wants) l)
+        × (length (now owns) ≡ maxVertices) × (length (now wants) ≡ maxVertices) ⌝ }
+    ensures { λ r. ⌜ Lacks (now (cl .entry)) (now (owns .entry)) (now (wants .entry)) (now (base .entry)) o p maxVertices (r .total) (r .news) ⌝ }
+{
+    let mut total: u16 = 0;
+    let mut news: u16 = 0;
+    let mut l = 0;
+    while l < MAX_VERTICES {
+        let q = numbering::class_part(cl, o, l);
+        let n = larger(wants[l], numbering::label(base, o, l));
+        let t = counted(q, p, n);
+        let s = counted(q, p, n - owns[l]);
+        total = total + t as u16;
+        news = news + s as u16;
+        l += 1;
+    }
+    Lack { total, news }
+}
+
+// The part p alone where t is spot, or no part.
+fn tight_part(p: u8, t: usize, spot: usize) -> u64
+    requires { ⌜ p < maxVertices ⌝ }
+    ensures { λ r. ⌜ ((q : ℕ) → on r q ≡ true → (q ≡ p) × (t ≡ spot)) ⌝ }
+{
+    if t == spot { cells::with(0, p) } else { 0 }
+}
+
+// The parts whose number is spot.
+fn tight_parts(ts: &[usize], spot: usize) -> u64
+    requires { ⌜ length (now ts) ≡ maxVertices ⌝ }
+    ensures { λ r. ⌜ Filled (now (ts .entry)) spot maxVertices r ⌝ }
+{
+    let mut r: u64 = 0;
+    let mut p: u8 = 0;
+    while p < CLASSES {
+        if ts[p as usize] == spot {
+            r = cells::with(r, p);
+        }
+        p += 1;
+    }
+    r
+}
+
+// A part of output o that holds or needs most, what it holds or needs and what it lacks, and the parts that hold or need spot.
+pub struct Busy {
+    pub part: u8,
+    pub total: u16,
+    pub news: u16,
+    pub tight: u64,
+}
+
+fn busiest(cl: &[u8], base: &[u8], o: usize, owns: &[u8], wants: &[u8], spot: usize) -> Busy
+    requires { ⌜ Labels (now cl) × (length (now base) ≡ labelCount) × (o < searchOutputs) × ((l : ℕ) → l < maxVertices → item (now owns) l ≤ item (now wants) l)
+        × (length (now owns) ≡ maxVertices) × (length (now wants) ≡ maxVertices) ⌝ }
+    ensures { λ r. ⌜ Lacks (now (cl .entry)) (now (owns .entry)) (now (wants .entry)) (now (base .entry)) o (r .part) maxVertices (r .total) (r .news)
+        × Tight (now (cl .entry)) (now (wants .entry)) (now (base .entry)) o spot (r .tight) ⌝ }
+{
+    let p = numbering::class_part(cl, o, 0);
+    if one_part(cl, o, p) {
+        let a = lacks(cl, base, o, p, owns, wants);
+        let one = tight_part(p, a.total as usize, spot);
+        return Busy {
+            part: p,
+            total: a.total,
+            news: a.news,
+            tight: one,
+        };
+    }
+    let ts = totals(cl, base, o, wants);
+    let q = largest(&ts) as u8;
+    let b = lacks(cl, base, o, q, owns, wants);
+    let tight = tight_parts(&ts, spot);
+    Busy {
+        part: q,
+        total: b.total,
+        news: b.news,
+        tight,
+    }
+}
+
+// Whether class l of output o is of part p and lacks blocks: it holds has and wants wants of them.
+fn lacking(cl: &[u8], base: &[u8], o: usize, p: u8, l: usize, has: u8, wants: u8) -> bool
+    requires { ⌜ Labels (now cl) × (length (now base) ≡ labelCount) × (o < searchOutputs) × (l < maxVertices) ⌝ }
+    ensures { λ r. ⌜ (r ≡ false → partAt (now (cl .entry)) o l ≡ p → max wants (labelAt (now (base .entry)) o l) ≤ has) ⌝ }
+{
+    let q = numbering::class_part(cl, o, l);
+    if q != p {
+        return false;
+    }
+    let n = larger(wants, numbering::label(base, o, l));
+    has < n
+}
+
+// What the vertices without a code whose classes are of part p and lack blocks can take besides the blocks that these hold.
+fn reach(
+    cl: &[u8],
+    base: &[u8],
+    v: usize,
+    o: usize,
+    p: u8,
+    owns: &[u8],
+    wants: &[u8],
+    codes: &[u8],
+    dom: &[u64],
+    own: &[u64],
+) -> u64
+    requires { ⌜ Labels (now cl) × (length (now base) ≡ labelCount) × (v ≤ maxVertices) × (o < searchOutputs) × (length (now dom) ≡ maxVertices) × (length (now own) ≡ maxVertices)
+        × (length (now codes) ≡ maxVertices) × (length (now owns) ≡ maxVertices) × (length (now wants) ≡ maxVertices) ⌝ }
+    ensures { λ r. ⌜ Reached (now (cl .entry)) (now (base .entry)) (now (owns .entry)) (now (wants .entry)) (now (codes .entry)) (now (dom .entry)) (now (own .entry)) o p v r ⌝ }
+{
+    let mut r: u64 = 0;
+    let mut y = 0;
+    while y < v {
+        if codes[y] >= numbering::NO_CODE {
+            let l = numbering::label(cl, o, y) as usize;
+            if lacking(cl, base, o, p, l, owns[l], wants[l]) {
+                r = r | minus(dom[y], own[l]);
+            }
+        }
+        y += 1;
+    }
+    r
+}
+
+// Whether d meets fewer than n blocks of output o.
+fn fewer_blocks(bs: &[u64], o: usize, d: u64, n: u16) -> bool
+    requires { ⌜ (length (now bs) ≡ blockCount) × (o < searchOutputs) ⌝ }
+    ensures { λ r. ⌜ (r ≡ true → (mask : ℕ) → ((c : ℕ) → c < maxCodes → Block mask c (getD (now (bs .entry)) (o * maxCodes + c) 0)) → Fewer mask d n) ⌝ }
+{
+    let mut rest = d;
+    let mut k: u16 = 0;
+    while rest != 0 {
+        if n <= k {
+            return false;
+        }
+        let c = cells::lowest(rest);
+        let b = bs[o * MAX_CODES + c as usize];
+        rest = minus(cells::without(rest, c), b);
+        k += 1;
+    }
+    k < n
+}
+
+// Whether the classes of part p of output o lack more blocks than their vertices can take, news of them, where a block has room
+// for one class of each part.
+fn out_of_reach(
+    cl: &[u8],
+    base: &[u8],
+    bs: &[u64],
+    v: usize,
+    o: usize,
+    cap: u8,
+    p: u8,
+    news: u16,
+    owns: &[u8],
+    wants: &[u8],
+    codes: &[u8],
+    dom: &[u64],
+    own: &[u64],
+) -> bool
+    requires { ⌜ Labels (now cl) × (length (now base) ≡ labelCount) × (length (now bs) ≡ blockCount) × (v ≤ maxVertices) × (o < searchOutputs)
+        × (length (now dom) ≡ maxVertices) × (length (now own) ≡ maxVertices)
+        × (length (now codes) ≡ maxVertices) × (length (now owns) ≡ maxVertices) × (length (now wants) ≡ maxVertices) ⌝ }
+    ensures { λ r. ⌜ (r ≡ true → (cap ≤ 1) × ((mask : ℕ) → ((c : ℕ) → c < maxCodes → Block mask c (getD (now (bs .entry)) (o * maxCodes + c) 0))
+        → Lost (now (cl .entry)) (now (base .entry)) (now (owns .entry)) (now (wants .entry)) (now (codes .entry)) (now (dom .entry)) (now (own .entry)) o p mask v news)) ⌝ }
+{
+    if 1 < cap {
+        return false;
+    }
+    if news == 0 {
+        return false;
+    }
+    let d = reach(cl, base, v, o, p, owns, wants, codes, dom, own);
+    fewer_blocks(bs, o, d, news)
+}
+
 // The codes that a class keeps to where no place is left.
-pub fn keep(own: u64, meet: u64, has: u8, wants: u8, need: u8) -> u64
+fn keep(own: u64, meet: u64, has: u8, wants: u8, need: u8) -> u64
     requires { ⌜ has ≤ maxVertices ⌝ }
     ensures { λ r. ⌜ ((k : ℕ) → k < maxCodes → Keeps own meet has wants need k → on r k ≡ true) ⌝ }
 {
@@ -231,63 +503,58 @@ pub fn keep(own: u64, meet: u64, has: u8, wants: u8, need: u8) -> u64
     cells::ALL_CODES
 }
 
-// The sets of the vertices without a code, narrowed where no place is left.
-pub fn narrow(
+// The sets of the vertices without a code are narrowed where no place is left: in the parts of tight.
+fn narrow(
     cl: &[u8],
     base: &[u8],
     v: usize,
     o: usize,
-    own: [u64; MAX_VERTICES],
-    meet: [u64; MAX_VERTICES],
-    owns: [u8; MAX_VERTICES],
-    wants: [u8; MAX_VERTICES],
-    codes: [u8; MAX_VERTICES],
-    dom: [u64; MAX_VERTICES],
-) -> [u64; MAX_VERTICES]
-    requires { ⌜ Labels (now cl) × (length (now base) ≡ labelCount) × (v ≤ maxVertices) × (o < searchOutputs) × ((l : ℕ) → l < maxVertices → item owns l ≤ maxVertices) ⌝ }
-    ensures { λ r. ⌜ Narrowed (Stays (now (cl .entry)) (now (base .entry)) o own meet owns wants) dom v r ⌝ }
+    own: &[u64],
+    meet: &[u64],
+    owns: &[u8],
+    wants: &[u8],
+    tight: u64,
+    codes: &[u8],
+    dom: &mut [u64],
+)
+    requires { ⌜ Labels (now cl) × (length (now base) ≡ labelCount) × (v ≤ maxVertices) × (o < searchOutputs) × (length (now own) ≡ maxVertices)
+        × (length (now meet) ≡ maxVertices) × ((l : ℕ) → l < maxVertices → item (now owns) l ≤ maxVertices)
+        × (length (now codes) ≡ maxVertices) × (length (now dom) ≡ maxVertices) × (length (now owns) ≡ maxVertices) × (length (now wants) ≡ maxVertices) ⌝ }
+    ensures { λ r. ⌜ Narrowed (Stays (now (cl .entry)) (now (base .entry)) o tight (now (own .entry)) (now (meet .entry)) (now (owns .entry)) (now (wants .entry)))
+        (now (dom .entry)) v (now (dom .exit)) ⌝ }
 {
-    let mut r = dom;
     let mut y = 0;
     while y < v {
         if codes[y] >= numbering::NO_CODE {
             let l = numbering::label(cl, o, y) as usize;
-            let need = numbering::label(base, o, l);
-            r[y] = r[y] & keep(own[l], meet[l], owns[l], wants[l], need);
+            let p = numbering::class_part(cl, o, l);
+            if cells::in_set(tight, p) {
+                let need = numbering::label(base, o, l);
+                dom[y] = dom[y] & keep(own[l], meet[l], owns[l], wants[l], need);
+            }
         }
         y += 1;
     }
-    r
 }
 
-// The sets of the vertices without a code whose classes are not in seen, without b.
-pub fn shut(
-    cl: &[u8],
-    v: usize,
-    o: usize,
-    seen: u64,
-    codes: [u8; MAX_VERTICES],
-    dom: [u64; MAX_VERTICES],
-    b: u64,
-) -> [u64; MAX_VERTICES]
-    requires { ⌜ Labels (now cl) × (v ≤ maxVertices) × (o < searchOutputs) ⌝ }
-    ensures { λ r. ⌜ Narrowed (Free (now (cl .entry)) o seen b) dom v r ⌝ }
+// The sets of the vertices without a code whose classes are not in seen lose b.
+pub fn shut(cl: &[u8], v: usize, o: usize, seen: u64, codes: &[u8], dom: &mut [u64], b: u64)
+    requires { ⌜ Labels (now cl) × (v ≤ maxVertices) × (o < searchOutputs) × (length (now codes) ≡ maxVertices) × (length (now dom) ≡ maxVertices) ⌝ }
+    ensures { λ r. ⌜ Narrowed (Free (now (cl .entry)) o seen b) (now (dom .entry)) v (now (dom .exit)) ⌝ }
 {
-    let mut r = dom;
     let mut y = 0;
     while y < v {
         if codes[y] >= numbering::NO_CODE {
             let l = numbering::label(cl, o, y);
             if !cells::in_set(seen, l) {
-                r[y] = minus(r[y], b);
+                dom[y] = minus(dom[y], b);
             }
         }
         y += 1;
     }
-    r
 }
 
-// The sets narrowed by what the classes of output o hold and need.
+// The sets are narrowed by what the classes of output o hold and need. False where no solution keeps to them.
 pub fn settle(
     cl: &[u8],
     base: &[u8],
@@ -298,25 +565,57 @@ pub fn settle(
     v: usize,
     j: usize,
     o: usize,
-    codes: [u8; MAX_VERTICES],
-    dom: [u64; MAX_VERTICES],
-) -> [u64; MAX_VERTICES]
-    requires { ⌜ Labels (now cl) × (length (now base) ≡ labelCount) × Blocks ms (now bs) j × (v ≤ maxVertices) × (j ≤ searchOutputs) × (o < j) ⌝ }
-    ensures { λ r. ⌜ Kept (now (cl .entry)) (now (base .entry)) ms caps spots v j codes dom r ⌝ }
+    codes: &[u8],
+    dom: &mut [u64],
+) -> bool
+    requires { ⌜ Labels (now cl) × (length (now base) ≡ labelCount) × Blocks ms (now bs) j × (v ≤ maxVertices) × (j ≤ searchOutputs) × (o < j)
+        × (length (now codes) ≡ maxVertices) × (length (now dom) ≡ maxVertices) ⌝ }
+    ensures { λ r. ⌜ Kept (now (cl .entry)) (now (base .entry)) ms caps spots v j (now (codes .entry)) (now (dom .entry)) (now (dom .exit)) × (length (now (dom .exit)) ≡ maxVertices)
+        × (r ≡ false → (kn val : ℕ) → Hopeless (now (cl .entry)) (now (base .entry)) ms caps spots v j kn val (now (codes .entry)) (now (dom .entry))) ⌝ }
 {
     let h = held(cl, bs, ms, v, j, o, codes);
-    let own = h.own;
     let owns = h.owns;
-    let w = wanted(cl, bs, v, o, &dom, &own, owns);
+    let w = wanted(cl, bs, v, o, dom, &h.own, owns);
     let wants = w.wants;
-    let t = total(base, o, wants);
     let spot = spots[o] as usize;
+    let b = busiest(cl, base, o, &owns, &wants, spot);
+    let t = b.total as usize;
     if spot < t {
-        return [0u64; MAX_VERTICES];
+        return false;
     }
-    if t < spot {
-        return dom;
+    if out_of_reach(
+        cl,
+        base,
+        bs,
+        v,
+        o,
+        caps[o],
+        b.part,
+        b.news,
+        &owns,
+        &wants,
+        codes,
+        dom,
+        &h.own,
+    ) {
+        return false;
     }
-    let meet = w.meet;
-    narrow(cl, base, v, o, own, meet, owns, wants, codes, dom)
+    let tight = b.tight;
+    if tight == 0 {
+        return true;
+    }
+    narrow(
+        cl,
+        base,
+        v,
+        o,
+        &h.own,
+        &w.meet,
+        &owns,
+        &wants,
+        tight,
+        codes,
+        dom,
+    );
+    true
 }

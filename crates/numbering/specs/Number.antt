@@ -1,4 +1,4 @@
--- Private cells written out. Inside each block of an output the classes are numbered, a new class by the number after the
+-- Private cells written out. Inside each block and part of an output the classes are numbered, a new class by the number after the
 -- highest so far; a class whose number is n has n other classes before it in its block, so a number that the private cells
 -- cannot hold shows a block with too many classes. The number's digits go to the private cells, lowest first. Assumes nothing.
 use mathlib.Core.Path.{_≡_, refl, sym, ap, ap₂, _∙_, subst}
@@ -21,12 +21,17 @@ use Rattle.bits.specs.DigitLaws.{on-and, on-or, on-zero, on-ones, on-above, on-
 use Rattle.cells.specs.Core.{bit}
 use Rattle.cells.specs.Lists.{All, Pairs, count, all-map, less-or-equal, never-both, count-more, count-same, and-off, and-on, or-off, or-on}
 use Rattle.cells.specs.Pigeon.{agree-and, and-agree}
-use Rattle.numbering.specs.Given.{labelAt, item, Plan, Parted, Hopeless}
+use Rattle.numbering.specs.Given.{labelAt, partOf, item, Plan, Parted, Fixed, Knows, Hopeless}
 
 -- ======== numbering
+-- a part and a block are the same exactly when both are
+pub both-same : {a b c d : ℕ} → a ≡ c → b ≡ d → _≡_ {A = ℕ × ℕ} (a, b) (c, d)
+both-same e f = let pair : ℕ → ℕ → ℕ × ℕ = λ x y. (x, y) in ap₂ pair e f
+
 module _ (cl codes : List ℕ) (o mask : ℕ) where
-  abbrev pub key : ℕ → ℕ
-  key x = bitAnd (item codes x) mask
+  -- the part and the block of x
+  abbrev pub key : ℕ → ℕ × ℕ
+  key x = (partOf cl o x, bitAnd (item codes x) mask)
 
   -- n vertices before b in x's block, of classes that differ from each other and from x's
   abbrev pub Fellows : ℕ → ℕ → ℕ → Type 0
@@ -53,7 +58,7 @@ pub record Passed (cl codes : List ℕ) (o mask x : ℕ) (nums : List ℕ) (y ne
   pub under : next ≤ y
 
 module _ (cl codes : List ℕ) (o mask x : ℕ) (nums : List ℕ) where
-  abbrev K : ℕ → ℕ
+  abbrev K : ℕ → ℕ × ℕ
   K = key cl codes o mask
 
   pub passed-start : Passed cl codes o mask x nums 0 0
@@ -329,9 +334,9 @@ written-large nums p cap v codes true r e w = absurd (true-false e)
 
 -- ======== output after output
 pub record Finished (cl ms ps : List ℕ) (v o : ℕ) (codes r : List ℕ) : Type 0 where
-  pub long : length r ≡ maxVertices
-  pub kept : (x i : ℕ) → x < v → i < maxCells → ((q : ℕ) → q < o → on (item ps q) i ≡ false) → on (item r x) i ≡ on (item codes x) i
-  pub parted : (q x y : ℕ) → q < o → x < v → y < v → bitAnd (item r x) (item ms q) ≡ bitAnd (item r y) (item ms q)
+  pub long : length r ≡ 32
+  pub kept : (x i : ℕ) → x < v → i < 6 → ((q : ℕ) → q < o → on (item ps q) i ≡ false) → on (item r x) i ≡ on (item codes x) i
+  pub parted : (q x y : ℕ) → q < o → x < v → y < v → partOf cl q x ≡ partOf cl q y → bitAnd (item r x) (item ms q) ≡ bitAnd (item r y) (item ms q)
       → bitAnd (item r x) (item ps q) ≡ bitAnd (item r y) (item ps q) → labelAt cl q x ≡ labelAt cl q y
 
 pub finished-start : (cl ms ps : List ℕ) (v : ℕ) (codes : List ℕ) → length codes ≡ 32 → Finished cl ms ps v 0 codes codes
@@ -348,7 +353,7 @@ module _ (cl ms ps caps : List ℕ) (v j : ℕ) (plan : Plan ms ps caps j) where
   finished-more o codes nums r r' h num w f = record {
     long = w .long;
     kept = λ x i a l k. w .there x i a l (k o (omega arith)) ∙ f .kept x i a l (λ q b. k q (omega arith));
-    parted = λ q x y b c d e g. ⊎-elim (λ l. before q x y l c d e g) (λ p. here q x y p c d e g) (less-or-equal q o (omega arith));
+    parted = λ q x y b c d t e g. ⊎-elim (λ l. before q x y l c d t e g) (λ p. here q x y p c d t e g) (less-or-equal q o (omega arith));
   }
     where
       -- a mask that p has no digit of sees no change
@@ -356,9 +361,9 @@ module _ (cl ms ps caps : List ℕ) (v j : ℕ) (plan : Plan ms ps caps j) where
           → bitAnd (item r' x) mask ≡ bitAnd (item r' y) mask → bitAnd (item r x) mask ≡ bitAnd (item r y) mask
       same mask x y s d a b e = agree-and 6 mask (item r x) (item r y) s (λ i l m. sym (w .there x i a l (d i m)) ∙ and-agree 6 mask (item r' x) (item r' y) e i l m ∙ w .there y i b l (d i m))
 
-      before : (q x y : ℕ) → q < o → x < v → y < v → bitAnd (item r' x) (item ms q) ≡ bitAnd (item r' y) (item ms q)
+      before : (q x y : ℕ) → q < o → x < v → y < v → partOf cl q x ≡ partOf cl q y → bitAnd (item r' x) (item ms q) ≡ bitAnd (item r' y) (item ms q)
           → bitAnd (item r' x) (item ps q) ≡ bitAnd (item r' y) (item ps q) → labelAt cl q x ≡ labelAt cl q y
-      before q x y l a b e g = f .parted q x y l a b
+      before q x y l a b t e g = f .parted q x y l a b t
           (same (item ms q) x y (plan .short-shared q (omega arith)) (λ i m. off-where _ (λ t. never-both m (plan .private o q i h (omega arith) t))) a b e)
           (same (item ps q) x y (plan .short q (omega arith)) (λ i m. plan .single q o i (omega arith) h (λ z. omega arith) m) a b g)
 
@@ -367,10 +372,11 @@ module _ (cl ms ps caps : List ℕ) (v j : ℕ) (plan : Plan ms ps caps j) where
       given x i a l m = w .there x i a l (off-where _ (λ t. never-both m (plan .private o o i h h t))) ∙ f .kept x i a l
           (λ q b. off-where _ (λ t. never-both m (plan .private q o i (omega arith) h t)))
 
-      at : (x y : ℕ) → x < v → y < v → bitAnd (item r' x) (item ms o) ≡ bitAnd (item r' y) (item ms o)
+      at : (x y : ℕ) → x < v → y < v → partOf cl o x ≡ partOf cl o y → bitAnd (item r' x) (item ms o) ≡ bitAnd (item r' y) (item ms o)
           → bitAnd (item r' x) (item ps o) ≡ bitAnd (item r' y) (item ps o) → labelAt cl o x ≡ labelAt cl o y
-      at x y a b e g = num .apart x y a b
-          (agree-and 6 (item ms o) (item codes x) (item codes y) (plan .short-shared o h) (λ i l m. sym (given x i a l m) ∙ and-agree 6 (item ms o) (item r' x) (item r' y) e i l m ∙ given y i b l m))
+      at x y a b t e g = num .apart x y a b
+          (both-same t (agree-and 6 (item ms o) (item codes x) (item codes y) (plan .short-shared o h)
+          (λ i l m. sym (given x i a l m) ∙ and-agree 6 (item ms o) (item r' x) (item r' y) e i l m ∙ given y i b l m)))
           (equal-digits (item nums x) (item nums y) (λ k. go k (decLt k (count (on (item ps o)) 6))))
         where
           fits : (z : ℕ) → z < v → item nums z < 2 ^ count (on (item ps o)) 6
@@ -383,26 +389,31 @@ module _ (cl ms ps caps : List ℕ) (v j : ℕ) (plan : Plan ms ps caps j) where
               (d .2) ∙ ap (on (item nums y)) (d .3)
           go k (no l) = on-above (count (on (item ps o)) 6) (item nums x) k (fits x a) (omega arith) ∙ sym (on-above (count (on (item ps o)) 6) (item nums y) k (fits y b) (omega arith))
 
-      here : (q x y : ℕ) → q ≡ o → x < v → y < v → bitAnd (item r' x) (item ms q) ≡ bitAnd (item r' y) (item ms q)
+      here : (q x y : ℕ) → q ≡ o → x < v → y < v → partOf cl q x ≡ partOf cl q y → bitAnd (item r' x) (item ms q) ≡ bitAnd (item r' y) (item ms q)
           → bitAnd (item r' x) (item ps q) ≡ bitAnd (item r' y) (item ps q) → labelAt cl q x ≡ labelAt cl q y
-      here q x y p a b e g = ap (λ (z : ℕ). labelAt cl z x) p ∙ at x y a b (subst (λ (z : ℕ). bitAnd (item r' x) (item ms z) ≡ bitAnd (item r' y) (item ms z)) p e)
-          (subst (λ (z : ℕ). bitAnd (item r' x) (item ps z) ≡ bitAnd (item r' y) (item ps z)) p g) ∙ ap (λ (z : ℕ). labelAt cl z y) (sym p)
+      here q x y p a b t e g = ap (λ (z : ℕ). labelAt cl z x) p ∙ at x y a b (subst (λ (z : ℕ). partOf cl z x ≡ partOf cl z y) p t)
+          (subst (λ (z : ℕ). bitAnd (item r' x) (item ms z) ≡ bitAnd (item r' y) (item ms z)) p e) (subst (λ (z : ℕ). bitAnd (item r' x) (item ps z) ≡ bitAnd (item r' y) (item ps z)) p g) ∙ ap
+          (λ (z : ℕ). labelAt cl z y) (sym p)
 
   pub finished-all : (o : ℕ) (codes r : List ℕ) → j ≤ o → Finished cl ms ps v o codes r → Parted cl ms ps v j r
   finished-all o codes r h f = record { parted = λ q x y a. f .parted q x y (omega arith) }
 
+  pub finished-fixed : (o kn val : ℕ) (codes r : List ℕ) → o ≤ j → ((x : ℕ) → x < v → item codes x < 64) → Knows kn val ps codes v j → Finished cl ms ps v o codes r → Fixed kn val v (item r)
+  finished-fixed o kn val codes r h all k f x b t = f .kept x 0 b (omega arith) (λ q l. k .public x q b t (omega arith)) ∙ k .given x b t (all x b)
+
 -- a number that the private cells cannot hold: no solution has these codes
-pub crowded : (cl base ms caps spots : List ℕ) (v j o : ℕ) (codes dom nums : List ℕ) (x : ℕ) → o < j → x < v
+pub crowded : (cl base ms caps spots : List ℕ) (v j o kn val : ℕ) (codes dom nums : List ℕ) (x : ℕ) → o < j → x < v
     → ((y : ℕ) → y < v → item codes y < 64) → item caps o ≤ item nums x → Numbered cl codes o (item ms o) v nums
-    → Hopeless cl base ms caps spots v j codes dom
-crowded cl base ms caps spots v j o codes dom nums x h b all k s = record {
-  none = λ g f e.
+    → Hopeless cl base ms caps spots v j kn val codes dom
+crowded cl base ms caps spots v j o kn val codes dom nums x h b all k s = record {
+  none = λ g f e d.
       let same : (w : ℕ) → w < v → bitAnd (g w) (item ms o) ≡ bitAnd (item codes w) (item ms o) = λ w l. ap (λ (z : ℕ). bitAnd z (item ms o)) (e .coded w l (all w l)) in
       let r = s .fellows x b in
-      let a = f .fits .crowd o (bitAnd (item codes x) (item ms o)) (x ∷ r .0) h (
-        (b, same x b),
+      let a = f .fits .crowd o (partOf cl o x) (bitAnd (item codes x) (item ms o)) (x ∷ r .0) h (
+        (b, refl, same x b),
         all-map (λ (w : ℕ). (w < x) × (key cl codes o (item ms o) w ≡ key cl codes o (item ms o) x) × (labelAt cl o w ≡ labelAt cl o x → ⊥))
-            (λ (w : ℕ). (w < v) × (bitAnd (g w) (item ms o) ≡ bitAnd (item codes x) (item ms o))) (r .0) (λ w p. let z : w < v = (let y = p .0 in omega arith) in (z, same w z ∙ p .1)) (r .1),
+            (λ (w : ℕ). (w < v) × (partOf cl o w ≡ partOf cl o x) × (bitAnd (g w) (item ms o) ≡ bitAnd (item codes x) (item ms o))) (r .0)
+            (λ w p. let z : w < v = (let y = p .0 in omega arith) in (z, ap (λ (k : ℕ × ℕ). k .0) (p .1), same w z ∙ ap (λ (k : ℕ × ℕ). k .1) (p .1))) (r .1),
       ) (
         all-map (λ (w : ℕ). (w < x) × (key cl codes o (item ms o) w ≡ key cl codes o (item ms o) x) × (labelAt cl o w ≡ labelAt cl o x → ⊥)) (λ (w : ℕ). labelAt cl o x ≡ labelAt cl o w → ⊥)
             (r .0) (λ w p q. p .2 (sym q)) (r .1),

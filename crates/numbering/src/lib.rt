@@ -8,8 +8,9 @@ ghost use mathlib.Core.List.{List};
 ghost use lib.ListN.{length, getD};
 ghost use Rattle.limits.specs.Limits.{searchOutputs, maxVertices, labelCount, maxCodes, maxCells};
 ghost use Rattle.bits.specs.Digit.{on};
-ghost use Rattle.numbering.specs.Given.{labelAt, item, Plan, Told};
+ghost use Rattle.numbering.specs.Given.{labelAt, partAt, partOf, item, Labels, Plan, Knows, Told};
 ghost use Rattle.numbering.specs.Number.{Numbered, Number, Spread, Written};
+use limits::LABELS;
 use limits::MAX_VERTICES;
 use limits::SEARCH_OUTPUTS;
 
@@ -18,16 +19,48 @@ pub const NO_CODE: u8 = cells::MAX_CODES;
 
 pub const NO_VERTEX: usize = MAX_VERTICES;
 
+// The labels of the outputs at the vertices, and after them the parts of the classes.
+pub const LABELS_AND_PARTS: usize = 2 * LABELS;
+
 // The class of vertex x for output o.
 pub fn label(cl: &[u8], o: usize, x: usize) -> u8
-    requires { ⌜ (length (now cl) ≡ labelCount) × (o < searchOutputs) × (x < maxVertices) ⌝ }
+    requires { ⌜ (labelCount ≤ length (now cl)) × (o < searchOutputs) × (x < maxVertices) ⌝ }
     ensures { λ r. ⌜ r ≡ labelAt (now (cl .entry)) o x ⌝ }
 {
     cl[o * MAX_VERTICES + x]
 }
 
+// The part of class l of output o.
+pub fn class_part(cl: &[u8], o: usize, l: usize) -> u8
+    requires { ⌜ Labels (now cl) × (o < searchOutputs) × (l < maxVertices) ⌝ }
+    ensures { λ r. ⌜ (r ≡ partAt (now (cl .entry)) o l) × (r < maxVertices) ⌝ }
+{
+    cl[LABELS + (o * MAX_VERTICES + l)]
+}
+
+// The part of vertex x for output o: that of its class.
+pub fn part(cl: &[u8], o: usize, x: usize) -> u8
+    requires { ⌜ Labels (now cl) × (o < searchOutputs) × (x < maxVertices) ⌝ }
+    ensures { λ r. ⌜ (r ≡ partOf (now (cl .entry)) o x) × (r < maxVertices) ⌝ }
+{
+    let l = label(cl, o, x) as usize;
+    class_part(cl, o, l)
+}
+
+// Whether a vertex y with a code in some block is in the same block b and in part p.
+fn together(cl: &[u8], o: usize, y: usize, p: u8, own: u8, b: u8) -> bool
+    requires { ⌜ Labels (now cl) × (o < searchOutputs) × (y < maxVertices) ⌝ }
+    ensures { λ r. ⌜ (r ≡ true → (partOf (now (cl .entry)) o y ≡ p) × (own ≡ b)) × (r ≡ false → partOf (now (cl .entry)) o y ≡ p → own ≡ b → ⊥) ⌝ }
+{
+    if own == b {
+        let q = part(cl, o, y);
+        return q == p;
+    }
+    false
+}
+
 // A number for x's class inside its block: the one that it has, or the next after the highest.
-pub fn number(
+fn number(
     cl: &[u8],
     o: usize,
     mask: u8,
@@ -35,15 +68,16 @@ pub fn number(
     nums: [u8; MAX_VERTICES],
     x: usize,
 ) -> u8
-    requires { ⌜ (length (now cl) ≡ labelCount) × (o < searchOutputs) × (x < maxVertices) × Numbered (now cl) codes o mask x nums ⌝ }
+    requires { ⌜ Labels (now cl) × (o < searchOutputs) × (x < maxVertices) × Numbered (now cl) codes o mask x nums ⌝ }
     ensures { λ r. ⌜ Number (now (cl .entry)) codes o mask x nums r ⌝ }
 {
     let block = codes[x] & mask;
     let class = label(cl, o, x);
+    let own = part(cl, o, x);
     let mut next: u8 = 0;
     let mut y = 0;
     while y < x {
-        if codes[y] & mask == block {
+        if together(cl, o, y, own, codes[y] & mask, block) {
             let n = nums[y];
             let l = label(cl, o, y);
             if l == class {
@@ -59,14 +93,8 @@ pub fn number(
 }
 
 // The numbers of all v vertices.
-pub fn numbers(
-    cl: &[u8],
-    o: usize,
-    mask: u8,
-    codes: [u8; MAX_VERTICES],
-    v: usize,
-) -> [u8; MAX_VERTICES]
-    requires { ⌜ (length (now cl) ≡ labelCount) × (o < searchOutputs) × (v ≤ maxVertices) ⌝ }
+fn numbers(cl: &[u8], o: usize, mask: u8, codes: [u8; MAX_VERTICES], v: usize) -> [u8; MAX_VERTICES]
+    requires { ⌜ Labels (now cl) × (o < searchOutputs) × (v ≤ maxVertices) ⌝ }
     ensures { λ r. ⌜ Numbered (now (cl .entry)) codes o mask v r ⌝ }
 {
     let mut nums = [0u8; MAX_VERTICES];
@@ -79,7 +107,7 @@ pub fn numbers(
 }
 
 // The digits of n, lowest first, at the digits of p.
-pub fn spread(n: u8, p: u8) -> u8
+fn spread(n: u8, p: u8) -> u8
     ensures { λ r. ⌜ Spread n p maxCells r ⌝ }
 {
     let mut r: u64 = 0;
@@ -104,7 +132,7 @@ pub struct Codes {
 }
 
 // The codes with the numbers in the digits of p, unless a number is too large for them.
-pub fn write(nums: [u8; MAX_VERTICES], cap: u8, p: u8, v: usize, codes: [u8; MAX_VERTICES]) -> Codes
+fn write(nums: [u8; MAX_VERTICES], cap: u8, p: u8, v: usize, codes: [u8; MAX_VERTICES]) -> Codes
     requires { ⌜ v ≤ maxVertices ⌝ }
     ensures { λ r. ⌜ Written nums p cap v codes (r .ok) (r .codes) ⌝ }
 {
@@ -131,8 +159,8 @@ pub fn finish(
     v: usize,
     codes: [u8; MAX_VERTICES],
 ) -> Codes
-    requires { ⌜ (length (now cl) ≡ labelCount) × (j ≤ searchOutputs) × (v ≤ maxVertices) × Plan ms ps caps j × ((x : ℕ) → x < v → item codes x < maxCodes) ⌝ }
-    ensures { λ r. ⌜ ((base spots dom : List ℕ) → Told (now (cl .entry)) base ms ps caps spots v j codes dom (r .ok) (r .codes)) ⌝ }
+    requires { ⌜ Labels (now cl) × (j ≤ searchOutputs) × (v ≤ maxVertices) × Plan ms ps caps j × ((x : ℕ) → x < v → item codes x < maxCodes) ⌝ }
+    ensures { λ r. ⌜ ((base spots dom : List ℕ) (kn val : ℕ) → Knows kn val ps codes v j → Told (now (cl .entry)) base ms ps caps spots v j kn val codes dom (r .ok) (r .codes)) ⌝ }
 {
     let mut r = codes;
     let mut o = 0;

@@ -1,5 +1,4 @@
-use mathlib.Core.Path.{_≡_, refl, sym, ap, _∙_, subst}
-use Prim.Native.Nat.{ℕ, _<_, _≤_, _+_, _-_, _*_}
+use Prim.Native.Nat.{_≤_, _+_, _-_, _*_}
 use native.Mathlib.Omega.{arith}
 use borrow.Author.Needs.{needs}
 use Rattle.bounds.proofs.classes.Statement.{statement}
@@ -15,31 +14,32 @@ Inv-loop cl v o r₀ x₀ r x = x ≤ v
 abbrev μ-loop : tie.MeasureT-loop
 μ-loop cl v o r₀ x₀ r x = v - x
 
--- src/lib.rt:82:5
 loop-holds : tie.Need-loop-holds Inv-loop μ-loop
 loop-holds c = omega arith
 
--- src/lib.rt:83:28
 label-requires : tie.Need-label-requires Inv-loop μ-loop
-label-requires c κs = let h = c .loop-test .taken in let p = c .before .before .before .pre in let a = p .1 in (p .0 .long, p .2, omega arith)
+label-requires c κs = let h = c .loop-test .taken in let p = c .before .before .before .pre in let a = p .1 in (let e = p .0 .long in omega arith, p .2, omega arith)
 
--- src/lib.rt:83:9
 with-requires : tie.Need-with-requires Inv-loop μ-loop
-with-requires c κs = let h = c .before .loop-test .taken in let a = c .before .before .before .before .pre .1 in let o = c .before .before .before .before .pre .2 in let l = c .before .before .before .before .pre .0 .low (c .before .before .before .before .args .o * 32 + c .before .before .loop .x) (omega arith) in let e = c .label .ensures in omega arith
+with-requires c κs =
+    let args = c .before .before .before .before .args in
+    let pre = c .before .before .before .before .pre in
+    let h = c .before .loop-test .taken in
+    let a = pre .1 in
+    let o = pre .2 in
+    let l = pre .0 .low (args .o * 32 + c .before .before .loop .x) (omega arith) in
+    let e = c .label .ensures in
+    omega arith
 
--- src/lib.rt:84:9
 add-x : tie.Need-add-x Inv-loop μ-loop
 add-x c = search needs
 
--- src/lib.rt:82:5
 loop-less : tie.Need-loop-less Inv-loop μ-loop
 loop-less c = search needs
 
--- src/lib.rt:82:5
 loop-again : tie.Need-loop-again Inv-loop μ-loop
 loop-again c = let h = c .before .before .loop-test .taken in omega arith
 
--- src/lib.rt:77:1
 returns : tie.Need-returns Inv-loop μ-loop
 returns c = search needs
 

@@ -20,85 +20,93 @@ Inv-loop n ms r₀ end i₀ r i = (i ≤ end) × (end ≡ n * 64) × Table ms i 
 abbrev μ-loop : tie.MeasureT-loop
 μ-loop n ms r₀ end i₀ r i = end - i
 
--- src/lib.rt:35:15
 mul-end : tie.Need-mul-end Inv-loop μ-loop
 mul-end c = let h = c .pre in search needs
 
--- src/lib.rt:37:5
 loop-holds : tie.Need-loop-holds Inv-loop μ-loop
 loop-holds c = (omega arith, refl, record { long = refl; filled = λ k h. absurd (omega arith) })
 
--- src/lib.rt:38:17
 array-read-m : tie.Need-array-read-m Inv-loop μ-loop
 array-read-m c = let h = c .loop-test .taken in let e = c .before .loop .inv .1 in let p = c .before .before .pre in search needs
 
--- src/lib.rt:39:17
 cast-c : tie.Need-cast-c Inv-loop μ-loop
 cast-c c = search needs
 
--- src/lib.rt:42:20
 block-requires : tie.Need-block-requires Inv-loop μ-loop
 block-requires c κs = search needs
 
--- src/lib.rt:42:13
 mul-r : tie.Need-mul-r Inv-loop μ-loop
 mul-r c = let h = c .before .before .loop-test .taken in let e = c .before .before .before .loop .inv .1 in let p = c .before .before .before .before .pre in search needs
 
--- src/lib.rt:42:13
 array-write-r : tie.Need-array-write-r Inv-loop μ-loop
 array-write-r c = let h = c .before .before .loop-test .taken in let e = c .before .before .before .loop .inv .1 in let p = c .before .before .before .before .pre in search needs
 
--- src/lib.rt:44:22
 mul-r-2 : tie.Need-mul-r-2 Inv-loop μ-loop
 mul-r-2 c = let h = c .before .loop-test .taken in let e = c .before .before .loop .inv .1 in let p = c .before .before .before .pre in search needs
 
--- src/lib.rt:44:36
 cast-r : tie.Need-cast-r Inv-loop μ-loop
 cast-r c = let z = and-le-l (c .before .before .loop .i % 64) (item (c .before .before .before .args .t1) (c .before .before .loop .i / 64)) in search needs
 
--- src/lib.rt:44:22
 add-r : tie.Need-add-r Inv-loop μ-loop
-add-r c = let z = and-le-l (c .before .before .loop .i % 64) (item (c .before .before .before .args .t1) (c .before .before .loop .i / 64)) in let h = c .before .loop-test .taken in let e = c .before .before .loop .inv .1 in let p = c .before .before .before .pre in search needs
+add-r c =
+    let loop = c .before .before .loop in
+    let args = c .before .before .before .args in
+    let pre = c .before .before .before .pre in
+    let z = and-le-l (loop .i % 64) (item (args .t1) (loop .i / 64)) in
+    let h = c .before .loop-test .taken in
+    let e = loop .inv .1 in
+    search needs
 
--- src/lib.rt:44:20
 mul-r-3 : tie.Need-mul-r-3 Inv-loop μ-loop
-mul-r-3 c = let z = and-le-l (c .before .before .loop .i % 64) (item (c .before .before .before .args .t1) (c .before .before .loop .i / 64)) in let h = c .before .loop-test .taken in let e = c .before .before .loop .inv .1 in let p = c .before .before .before .pre in search needs
+mul-r-3 c =
+    let loop = c .before .before .loop in
+    let args = c .before .before .before .args in
+    let pre = c .before .before .before .pre in
+    let z = and-le-l (loop .i % 64) (item (args .t1) (loop .i / 64)) in
+    let h = c .before .loop-test .taken in
+    let e = loop .inv .1 in
+    search needs
 
--- src/lib.rt:44:20
 array-read-r : tie.Need-array-read-r Inv-loop μ-loop
-array-read-r c = let z = and-le-l (c .before .before .loop .i % 64) (item (c .before .before .before .args .t1) (c .before .before .loop .i / 64)) in let h = c .before .loop-test .taken in let e = c .before .before .loop .inv .1 in let p = c .before .before .before .pre in search needs
+array-read-r c =
+    let loop = c .before .before .loop in
+    let args = c .before .before .before .args in
+    let pre = c .before .before .before .pre in
+    let z = and-le-l (loop .i % 64) (item (args .t1) (loop .i / 64)) in
+    let h = c .before .loop-test .taken in
+    let e = loop .inv .1 in
+    search needs
 
--- src/lib.rt:44:13
 mul-r-4 : tie.Need-mul-r-4 Inv-loop μ-loop
 mul-r-4 c = let h = c .before .loop-test .taken in let e = c .before .before .loop .inv .1 in let p = c .before .before .before .pre in search needs
 
--- src/lib.rt:44:13
 array-write-r-2 : tie.Need-array-write-r-2 Inv-loop μ-loop
 array-write-r-2 c = let h = c .before .loop-test .taken in let e = c .before .before .loop .inv .1 in let p = c .before .before .before .pre in search needs
 
--- src/lib.rt:46:9
 add-i : tie.Need-add-i Inv-loop μ-loop
 add-i c = let h = c .before .loop-test .taken in let e = c .before .before .loop .inv .1 in let p = c .before .before .before .pre in search needs
 
--- src/lib.rt:37:5
 loop-less : tie.Need-loop-less Inv-loop μ-loop
 loop-less c = search needs
 
--- src/lib.rt:37:5
 loop-again : tie.Need-loop-again Inv-loop μ-loop
 loop-again c =
-    let h = c .before .loop-test .taken in let e = c .before .before .loop .inv .1 in let p = c .before .before .before .pre in (
+    let loop = c .before .before .loop in
+    let args = c .before .before .before .args in
+    let pre = c .before .before .before .pre in
+    let h = c .before .loop-test .taken in
+    let e = loop .inv .1 in (
       omega arith,
       e,
-      ⊎-elim
-          (λ w. subst (λ (z : List ℕ). Table (c .before .before .before .args .t1) (c .before .before .loop .i + 1) z) (sym (w .2)) (table-more (c .before .before .before .args .t1) (c .before .before .loop .i) (c .before .before .loop .r) _ (omega arith) (w .1 .ensures) (c .before .before .loop .inv .2)))
-          (λ w. subst (λ (z : List ℕ). Table (c .before .before .before .args .t1) (c .before .before .loop .i + 1) z) (sym (w .1)) (table-more (c .before .before .before .args .t1) (c .before .before .loop .i) (c .before .before .loop .r) _ (omega arith) (entry-again (c .before .before .before .args .t1) (c .before .before .loop .i) (c .before .before .loop .r) _ _ refl refl (w .0 .left) (c .before .before .loop .inv .2)) (c .before .before .loop .inv .2)))
-          (c .if1 .came),
+      ⊎-elim (λ w. subst (λ (z : List ℕ). Table (args .t1) (loop .i + 1) z) (sym (w .2)) (table-more (args .t1) (loop .i) (loop .r) _ (omega arith) (w .1 .ensures) (loop .inv .2)))
+          (λ w. subst (λ (z : List ℕ). Table (args .t1) (loop .i + 1) z) (sym (w .1)) (table-more (args .t1) (loop .i) (loop .r) _ (omega arith)
+          (entry-again (args .t1) (loop .i) (loop .r) _ _ refl refl (w .0 .left) (loop .inv .2)) (loop .inv .2))) (c .if1 .came),
     )
 
--- src/lib.rt:30:1
 returns : tie.Need-returns Inv-loop μ-loop
-returns c = subst (λ (z : ℕ). Table (c .before .before .args .t1) z (c .before .loop .r)) (let h = c .loop-test .left in let z = c .before .loop .inv .0 in let e = c .before .loop .inv .1 in omega arith) (c .before .loop .inv .2)
+returns c =
+    let loop = c .before .loop in
+    subst (λ (z : ℕ). Table (c .before .before .args .t1) z (loop .r)) (let h = c .loop-test .left in let z = loop .inv .0 in let e = loop .inv .1 in omega arith) (loop .inv .2)
 
 pub blocks-spec : {M : Type 1} → statement M
 blocks-spec =

@@ -1,6 +1,5 @@
 use Rattle.cells.specs.Lists.{zeros-are}
-use Rattle.holding.specs.Held.{at-skip, at-old, at-new}
-use Rattle.holding.specs.Held.{Held, held-start}
+use Rattle.holding.specs.Held.{at-skip, at-old, at-new, Held, held-start}
 use Rattle.numbering.specs.Given.{item, Block}
 use borrow.Author.Tests.{not-true, not-false}
 use lib.ListN.{getD}
@@ -24,41 +23,47 @@ abbrev μ-loop : tie.MeasureT-loop
 
 loop-holds : tie.Need-loop-holds Inv-loop μ-loop
 loop-holds c =
-    let args = c .before .before .args in
-    (omega arith, λ mask b. held-start (args .cl .now) (args .t7) (args .o) mask _ _ refl refl (λ l h. zeros-are 32 l) (λ l h. zeros-are 32 l))
+    let args = c .before .before .before .args in
+    (omega arith, λ mask b. held-start (args .cl .now) (args .codes .now) (args .o) mask _ _ refl refl (λ l h. zeros-are 32 l) (λ l h. zeros-are 32 l))
 
-array-read-c : tie.Need-array-read-c Inv-loop μ-loop
-array-read-c c = let h = c .loop-test .taken in let z = c .before .before .before .before .pre .2 in search needs
+shared-slice-read-c : tie.Need-shared-slice-read-c Inv-loop μ-loop
+shared-slice-read-c c =
+    let h = c .before .loop-test .taken in
+    let z = c .before .before .before .before .before .before .pre .2 in
+    let n = c .before .before .before .before .before .before .pre .5 in
+    search needs
 
 label-requires : tie.Need-label-requires Inv-loop μ-loop
 label-requires c κs =
-    let loop-test = c .before .loop-test in
-    let pre = c .before .before .before .before .before .pre in
-    let h = loop-test .taken in let z = pre .2 in let a = pre .4 in let b = pre .3 in (pre .0 .long, omega arith, omega arith)
+    let h = c .before .before .loop-test .taken in
+    let z = c .before .before .before .before .before .before .before .pre .2 in
+    let a = c .before .before .before .before .before .before .before .pre .4 in
+    let b = c .before .before .before .before .before .before .before .pre .3 in
+    (let e = c .before .before .before .before .before .before .before .pre .0 .long in omega arith, omega arith, omega arith)
 
 cast-l : tie.Need-cast-l Inv-loop μ-loop
 cast-l c =
-    let loop-test = c .before .before .loop-test in
-    let loop = c .before .before .before .loop in
-    let args = c .before .before .before .before .before .before .args in
-    let pre = c .before .before .before .before .before .before .pre in
+    let loop-test = c .before .before .before .loop-test in
+    let loop = c .before .before .before .before .loop in
+    let args = c .before .before .before .before .before .before .before .before .args in
+    let pre = c .before .before .before .before .before .before .before .before .pre in
     let q = pre .0 .low (args .o * 32 + loop .y) (let a = pre .4 in let b = pre .3 in let d = loop-test .taken in let f = pre .2 in omega arith) in let e = c .label .ensures in record
     { fits = omega arith }
 
 mul-in-set : tie.Need-mul-in-set Inv-loop μ-loop
 mul-in-set c =
-    let loop-test = c .before .before .loop-test in
-    let loop = c .before .before .before .loop in
-    let args = c .before .before .before .before .before .before .args in
-    let pre = c .before .before .before .before .before .before .pre in
+    let loop-test = c .before .before .before .loop-test in
+    let loop = c .before .before .before .before .loop in
+    let args = c .before .before .before .before .before .before .before .before .args in
+    let pre = c .before .before .before .before .before .before .before .before .pre in
     let q = pre .0 .low (args .o * 32 + loop .y) (let a = pre .4 in let b = pre .3 in let d = loop-test .taken in let f = pre .2 in omega arith) in let e = c .label .ensures in search needs
 
 array-read-in-set : tie.Need-array-read-in-set Inv-loop μ-loop
 array-read-in-set c =
-    let loop-test = c .before .before .loop-test in
-    let loop = c .before .before .before .loop in
-    let args = c .before .before .before .before .before .before .args in
-    let pre = c .before .before .before .before .before .before .pre in
+    let loop-test = c .before .before .before .loop-test in
+    let loop = c .before .before .before .before .loop in
+    let args = c .before .before .before .before .before .before .before .before .args in
+    let pre = c .before .before .before .before .before .before .before .before .pre in
     let q = pre .0 .low (args .o * 32 + loop .y) (let a = pre .4 in let b = pre .3 in let d = loop-test .taken in let f = pre .2 in omega arith) in let e = c .label .ensures in search needs
 
 in-set-requires : tie.Need-in-set-requires Inv-loop μ-loop
@@ -67,24 +72,24 @@ in-set-requires c κs = c .before .if1 .taken
 mul-own : tie.Need-mul-own Inv-loop μ-loop
 mul-own c =
     let label = c .before .before .label in
-    let loop-test = c .before .before .before .before .loop-test in
-    let loop = c .before .before .before .before .before .loop in
-    let args = c .before .before .before .before .before .before .before .before .args in
-    let pre = c .before .before .before .before .before .before .before .before .pre in
+    let loop-test = c .before .before .before .before .before .loop-test in
+    let loop = c .before .before .before .before .before .before .loop in
+    let args = c .before .before .before .before .before .before .before .before .before .before .args in
+    let pre = c .before .before .before .before .before .before .before .before .before .before .pre in
     let q = pre .0 .low (args .o * 32 + loop .y) (let a = pre .4 in let b = pre .3 in let d = loop-test .taken in let f = pre .2 in omega arith) in let e = label .ensures in search needs
 
 array-read-own : tie.Need-array-read-own Inv-loop μ-loop
 array-read-own c =
     let label = c .before .before .label in
-    let loop-test = c .before .before .before .before .loop-test in
-    let loop = c .before .before .before .before .before .loop in
-    let args = c .before .before .before .before .before .before .before .before .args in
-    let pre = c .before .before .before .before .before .before .before .before .pre in
+    let loop-test = c .before .before .before .before .before .loop-test in
+    let loop = c .before .before .before .before .before .before .loop in
+    let args = c .before .before .before .before .before .before .before .before .before .before .args in
+    let pre = c .before .before .before .before .before .before .before .before .before .before .pre in
     let q = pre .0 .low (args .o * 32 + loop .y) (let a = pre .4 in let b = pre .3 in let d = loop-test .taken in let f = pre .2 in omega arith) in let e = label .ensures in search needs
 
 mul-own-2 : tie.Need-mul-own-2 Inv-loop μ-loop
 mul-own-2 c =
-    let pre = c .before .before .before .before .before .before .before .before .pre in
+    let pre = c .before .before .before .before .before .before .before .before .before .before .pre in
     let a = pre .4 in let b = pre .3 in search needs
 
 cast-own : tie.Need-cast-own Inv-loop μ-loop
@@ -93,55 +98,55 @@ cast-own c = search needs
 add-own : tie.Need-add-own Inv-loop μ-loop
 add-own c =
     let if1 = c .before .before .before .if1 in
-    let pre = c .before .before .before .before .before .before .before .before .pre in
+    let pre = c .before .before .before .before .before .before .before .before .before .before .pre in
     let a = pre .4 in let b = pre .3 in let h = if1 .taken in search needs
 
 mul-own-3 : tie.Need-mul-own-3 Inv-loop μ-loop
 mul-own-3 c =
     let if1 = c .before .before .before .if1 in
-    let pre = c .before .before .before .before .before .before .before .before .pre in
+    let pre = c .before .before .before .before .before .before .before .before .before .before .pre in
     let a = pre .4 in let b = pre .3 in let h = if1 .taken in let z = pre .1 .long in search needs
 
 shared-slice-read-own : tie.Need-shared-slice-read-own Inv-loop μ-loop
 shared-slice-read-own c =
     let if1 = c .before .before .before .before .if1 in
-    let pre = c .before .before .before .before .before .before .before .before .before .pre in
+    let pre = c .before .before .before .before .before .before .before .before .before .before .before .pre in
     let a = pre .4 in let b = pre .3 in let h = if1 .taken in let z = pre .1 .long in search needs
 
 mul-own-4 : tie.Need-mul-own-4 Inv-loop μ-loop
 mul-own-4 c =
     let label = c .before .before .before .label in
-    let loop-test = c .before .before .before .before .before .loop-test in
-    let loop = c .before .before .before .before .before .before .loop in
-    let args = c .before .before .before .before .before .before .before .before .before .args in
-    let pre = c .before .before .before .before .before .before .before .before .before .pre in
+    let loop-test = c .before .before .before .before .before .before .loop-test in
+    let loop = c .before .before .before .before .before .before .before .loop in
+    let args = c .before .before .before .before .before .before .before .before .before .before .before .args in
+    let pre = c .before .before .before .before .before .before .before .before .before .before .before .pre in
     let q = pre .0 .low (args .o * 32 + loop .y) (let a = pre .4 in let b = pre .3 in let d = loop-test .taken in let f = pre .2 in omega arith) in let e = label .ensures in search needs
 
 array-write-own : tie.Need-array-write-own Inv-loop μ-loop
 array-write-own c =
     let label = c .before .before .before .label in
-    let loop-test = c .before .before .before .before .before .loop-test in
-    let loop = c .before .before .before .before .before .before .loop in
-    let args = c .before .before .before .before .before .before .before .before .before .args in
-    let pre = c .before .before .before .before .before .before .before .before .before .pre in
+    let loop-test = c .before .before .before .before .before .before .loop-test in
+    let loop = c .before .before .before .before .before .before .before .loop in
+    let args = c .before .before .before .before .before .before .before .before .before .before .before .args in
+    let pre = c .before .before .before .before .before .before .before .before .before .before .before .pre in
     let q = pre .0 .low (args .o * 32 + loop .y) (let a = pre .4 in let b = pre .3 in let d = loop-test .taken in let f = pre .2 in omega arith) in let e = label .ensures in search needs
 
 array-read-owns : tie.Need-array-read-owns Inv-loop μ-loop
 array-read-owns c =
     let label = c .before .before .before .label in
-    let loop-test = c .before .before .before .before .before .loop-test in
-    let loop = c .before .before .before .before .before .before .loop in
-    let args = c .before .before .before .before .before .before .before .before .before .args in
-    let pre = c .before .before .before .before .before .before .before .before .before .pre in
+    let loop-test = c .before .before .before .before .before .before .loop-test in
+    let loop = c .before .before .before .before .before .before .before .loop in
+    let args = c .before .before .before .before .before .before .before .before .before .before .before .args in
+    let pre = c .before .before .before .before .before .before .before .before .before .before .before .pre in
     let q = pre .0 .low (args .o * 32 + loop .y) (let a = pre .4 in let b = pre .3 in let d = loop-test .taken in let f = pre .2 in omega arith) in let e = label .ensures in search needs
 
 add-owns : tie.Need-add-owns Inv-loop μ-loop
 add-owns c =
     let label = c .before .before .before .label in
-    let loop-test = c .before .before .before .before .before .loop-test in
-    let loop = c .before .before .before .before .before .before .loop in
-    let args = c .before .before .before .before .before .before .before .before .before .args in
-    let pre = c .before .before .before .before .before .before .before .before .before .pre in
+    let loop-test = c .before .before .before .before .before .before .loop-test in
+    let loop = c .before .before .before .before .before .before .before .loop in
+    let args = c .before .before .before .before .before .before .before .before .before .before .before .args in
+    let pre = c .before .before .before .before .before .before .before .before .before .before .before .pre in
     let q = pre .0 .low (args .o * 32 + loop .y) (let a = pre .4 in let b = pre .3 in let d = loop-test .taken in let f = pre .2 in omega arith) in let e = label .ensures in
     let s = loop .inv .1 (item (args .ms) (args .o)) (λ k h. pre .1 .each (args .o) k (pre .4) h) in
     let w = s .less (label .result) (omega arith) in
@@ -151,10 +156,10 @@ add-owns c =
 array-write-owns : tie.Need-array-write-owns Inv-loop μ-loop
 array-write-owns c =
     let label = c .before .before .before .label in
-    let loop-test = c .before .before .before .before .before .loop-test in
-    let loop = c .before .before .before .before .before .before .loop in
-    let args = c .before .before .before .before .before .before .before .before .before .args in
-    let pre = c .before .before .before .before .before .before .before .before .before .pre in
+    let loop-test = c .before .before .before .before .before .before .loop-test in
+    let loop = c .before .before .before .before .before .before .before .loop in
+    let args = c .before .before .before .before .before .before .before .before .before .before .before .args in
+    let pre = c .before .before .before .before .before .before .before .before .before .before .before .pre in
     let q = pre .0 .low (args .o * 32 + loop .y) (let a = pre .4 in let b = pre .3 in let d = loop-test .taken in let f = pre .2 in omega arith) in let e = label .ensures in search needs
 
 add-y : tie.Need-add-y Inv-loop μ-loop
@@ -165,31 +170,31 @@ loop-less c = search needs
 
 loop-again : tie.Need-loop-again Inv-loop μ-loop
 loop-again c =
-    let loop-test = c .before .loop-test in
-    let loop = c .before .before .loop in
-    let args = c .before .before .before .before .before .args in
-    let pre = c .before .before .before .before .before .pre in
+    let loop-test = c .before .before .loop-test in
+    let loop = c .before .before .before .loop in
+    let args = c .before .before .before .before .before .before .before .args in
+    let pre = c .before .before .before .before .before .before .before .pre in
     let h = loop-test .taken in (
       omega arith,
       λ mask b.
           let low = pre .0 .low (args .o * 32 + loop .y) (let a = pre .4 in let g = pre .3 in let f = pre .2 in omega arith) in
           ⊎-elim
-          (λ w. at-new (args .cl .now) (args .t7) (args .o) mask (loop .y) (loop .own) (loop .owns) _ _ (w .1 .result) _ (w .1 .ensures) low (w .0 .taken)
-          (sym (not-true _ (w .3 .taken)) ∙ w .2 .ensures) (b (getD (args .t7) (loop .y) 0) (w .0 .taken)) (w .5) (w .6) (loop .inv .1 mask b))
+          (λ w. at-new (args .cl .now) (args .codes .now) (args .o) mask (loop .y) (loop .own) (loop .owns) _ _ (w .1 .result) _ (w .1 .ensures) low (w .0 .taken)
+          (sym (not-true _ (w .3 .taken)) ∙ w .2 .ensures) (b (getD (args .codes .now) (loop .y) 0) (w .0 .taken)) (w .5) (w .6) (loop .inv .1 mask b))
           (⊎-elim
-          (λ w. at-old (args .cl .now) (args .t7) (args .o) mask (loop .y) (loop .own) (loop .owns) _ _ (w .1 .result) (w .1 .ensures) low (w .0 .taken)
+          (λ w. at-old (args .cl .now) (args .codes .now) (args .o) mask (loop .y) (loop .own) (loop .owns) _ _ (w .1 .result) (w .1 .ensures) low (w .0 .taken)
           (sym (not-false _ (w .3 .left)) ∙ w .2 .ensures) (w .4) (w .5) (loop .inv .1 mask b))
-          (λ w. at-skip (args .cl .now) (args .t7) (args .o) mask (loop .y) (loop .own) (loop .owns) _ _ (w .0 .left) (w .1) (w .2) (loop .inv .1 mask b)))
+          (λ w. at-skip (args .cl .now) (args .codes .now) (args .o) mask (loop .y) (loop .own) (loop .owns) _ _ (w .0 .left) (w .1) (w .2) (loop .inv .1 mask b)))
           (c .if1 .came),
     )
 
 returns : tie.Need-returns Inv-loop μ-loop
 returns c =
     let loop = c .before .loop in
-    let args = c .before .before .before .before .args in
-    let pre = c .before .before .before .before .pre in
+    let args = c .before .before .before .before .before .args in
+    let pre = c .before .before .before .before .before .pre in
     let e : loop .y ≡ args .v = (let h = c .loop-test .left in let z = loop .inv .0 in omega arith) in
-    subst (λ (z : ℕ). Held (args .cl .now) (args .t7) (args .o) (item (args .ms) (args .o)) z (loop .own) (loop .owns)) e
+    subst (λ (z : ℕ). Held (args .cl .now) (args .codes .now) (args .o) (item (args .ms) (args .o)) z (loop .own) (loop .owns)) e
     (loop .inv .1 (item (args .ms) (args .o)) (λ k h. pre .1 .each (args .o) k (pre .4) h))
 
 pub held-spec : {M : Type 1} → statement M
@@ -199,7 +204,7 @@ held-spec =
     Inv-loop
     μ-loop
     loop-holds
-    array-read-c
+    shared-slice-read-c
     label-requires
     cast-l
     mul-in-set

@@ -1,3 +1,4 @@
+use Prim.Native.Nat.{_-_}
 use Rattle.bits.specs.DigitLaws.{on-ones}
 use Rattle.holding.specs.Blocks.{on-either}
 use borrow.Author.Needs.{needs}

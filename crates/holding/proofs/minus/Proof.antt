@@ -5,7 +5,6 @@ use Rattle.holding.proofs.minus.Tie as tie
 use Rattle.holding.proofs.minus.Reads as reads
 use Rattle.holding.proofs.minus.Lts as lts
 
--- src/lib.rt:84:1
 returns : tie.Need-returns
 returns c = minus-of (c .args .d) (c .args .b) (c .fits .b .fits)
 

@@ -1,78 +1,200 @@
-use mathlib.Core.Path.{_≡_, refl, sym, ap, _∙_, subst}
-use Prim.Native.Nat.{ℕ, _<_, _≤_, _+_, _-_, _*_}
-use native.Mathlib.Omega.{arith}
-use Rattle.numbering.specs.Given.{item}
+use Rattle.holding.specs.Reach.{settled-reach}
 use Rattle.holding.specs.Narrow.{settled-none, settled-tight, kept-start}
+use Rattle.holding.specs.Wants.{wanted-held}
+use Rattle.numbering.specs.Given.{item}
+use native.Mathlib.Omega.{arith}
+use Prim.Native.Nat.{_-_}
+use mathlib.Core.Path.{refl, sym, _∙_}
+use Rattle.bits.specs.LogicLaws.{true-false}
 use borrow.Author.Needs.{needs}
 use Rattle.holding.proofs.settle.Statement.{statement}
 use Rattle.holding.proofs.settle.Tie as tie
 use Rattle.holding.proofs.settle.Reads as reads
 use Rattle.holding.proofs.settle.Lts as lts
+use Rattle.holding.proofs.busiest.Reads as busiest-reads
 use Rattle.holding.proofs.held.Reads as held-reads
 use Rattle.holding.proofs.narrow.Reads as narrow-reads
-use Rattle.holding.proofs.total.Reads as total-reads
+use Rattle.holding.proofs.out_of_reach.Reads as out-of-reach-reads
 use Rattle.holding.proofs.wanted.Reads as wanted-reads
 
--- src/lib.rt:296:9
 held-requires : tie.Need-held-requires
-held-requires c κs = let p = c .before .before .before .pre in (p .0, p .2, p .3, p .4, p .5)
+held-requires c κs = search needs
 
--- src/lib.rt:299:34
-slice-aggregate-wanted : tie.Need-slice-aggregate-wanted
-slice-aggregate-wanted c = search needs
-
--- src/lib.rt:299:40
-slice-aggregate-wanted-2 : tie.Need-slice-aggregate-wanted-2
-slice-aggregate-wanted-2 c = search needs
-
--- src/lib.rt:299:9
 wanted-requires : tie.Need-wanted-requires
-wanted-requires c κs = let p = c .before .before .before .before .before .before .before .before .pre in let a = p .4 in let b = p .5 in (p .0, p .2 .long, p .3, omega arith, search needs, c .before .before .before .before .held .ensures .own-long, λ l h. let z = c .before .before .before .before .held .ensures .less l h in let w = p .3 in omega arith)
+wanted-requires c κs =
+    let p = c .before .before .before .before .before .before .before .before .before .before .before .pre in
+    let h = c .before .before .before .before .before .held .ensures in
+    let a = p .4 in
+    let b = p .5 in
+    (p .0, p .2 .long, p .3, omega arith, p .7, h .own-long, λ l k. let z = h .less l k in let w = p .3 in omega arith)
 
--- src/lib.rt:301:9
-total-requires : tie.Need-total-requires
-total-requires c κs = let p = c .before .before .before .before .before .before .before .before .before .before .pre in let a = p .4 in let b = p .5 in (p .1, omega arith)
-
--- src/lib.rt:302:16
 array-read-spot : tie.Need-array-read-spot
-array-read-spot c = let p = c .before .before .before .before .before .before .before .before .before .before .before .pre in let a = p .4 in let b = p .5 in search needs
+array-read-spot c =
+    let p = c .before .before .before .before .before .before .before .before .before .before .before .before .before .pre in
+    let a = p .4 in
+    let b = p .5 in
+    search needs
 
--- src/lib.rt:302:16
 cast-spot : tie.Need-cast-spot
-cast-spot c = search needs
+cast-spot c = let g = c .before .before .before .before .before .before .before .before .before .before .before .before .before .good .1 .1 .1 .1 .1 .0 in search needs
 
--- src/lib.rt:304:9
+slice-aggregate-busiest : tie.Need-slice-aggregate-busiest
+slice-aggregate-busiest c = search needs
+
+slice-aggregate-busiest-2 : tie.Need-slice-aggregate-busiest-2
+slice-aggregate-busiest-2 c = search needs
+
+busiest-requires : tie.Need-busiest-requires
+busiest-requires c κs =
+    let p = c .before .before .before .before .before .before .before .before .before .before .before .before .before .before .before .pre in
+    let a = c .before .before .before .before .before .before .before .before .before .before .before .before .before .before .before .args in
+    let b = p .4 in
+    let d = p .5 in
+    let w = c .before .before .before .wanted in
+    let i = w .ensures (item (a .ms) (a .o)) (λ k l. p .2 .each (a .o) k (p .5) l) in
+    let h = c .before .before .before .before .before .before .before .before .before .held .ensures in
+    (p .0, p .1, omega arith, wanted-held _ _ _ _ _ _ _ (w .result .wants) (w .result .meet) i, h .owns-long, i .long)
+
+cast-t : tie.Need-cast-t
+cast-t c = search needs
+
+same-length : tie.Need-same-length
+same-length c = search needs
+
 returns : tie.Need-returns
 returns c =
-    let p = c .before .before .before .before .before .before .before .before .before .before .before .before .pre in
-    settled-none (c .before .before .before .before .before .before .before .before .before .before .before .before .args .cl .now) (c .before .before .before .before .before .before .before .before .before .before .before .before .args .base .now) (c .before .before .before .before .before .before .before .before .before .before .before .before .args .ms) _ _ (c .before .before .before .before .before .before .before .before .before .before .before .before .args .v) (c .before .before .before .before .before .before .before .before .before .before .before .before .args .j) (c .before .before .before .before .before .before .before .before .before .before .before .before .args .o) _ _ _ _ (p .0) (p .3) (p .4) (p .5) (c .before .before .before .before .before .before .before .before .held .ensures) (c .before .before .before .wanted .result .wants) (c .before .before .before .wanted .result .meet) _ (c .before .before .before .wanted .ensures (item (c .before .before .before .before .before .before .before .before .before .before .before .before .args .ms) (c .before .before .before .before .before .before .before .before .before .before .before .before .args .o)) (λ k l. p .2 .each (c .before .before .before .before .before .before .before .before .before .before .before .before .args .o) k (p .5) l)) (let e = c .before .total .ensures in let h = c .if1 .taken in omega arith)
+    let p = c .before .before .before .before .before .before .before .before .before .before .before .before .before .before .before .before .before .before .pre in
+    let a = c .before .before .before .before .before .before .before .before .before .before .before .before .before .before .before .before .before .before .args in
+    let w = c .before .before .before .before .before .before .wanted in
+    let b = c .before .before .busiest in
+    let s = c .before .before .before .before .before .before .before .before .before .before .before .before .held .ensures in
+    let i = w .ensures (item (a .ms) (a .o)) (λ k l. p .2 .each (a .o) k (p .5) l) in
+    let e = b .ensures .0 .whole in
+    let h = c .if1 .taken in (
+      kept-start (a .cl .now) (a .base .now) (a .ms) _ _ (a .v) (a .j) _ _,
+      p .7,
+      λ q. settled-none (a .cl .now) (a .base .now) (a .ms) _ _ (a .v) (a .j) (a .o) _ _ _ _ (p .0) (p .3) (p .4)
+          (p .5) s (w .result .wants) (w .result .meet) (b .result .part) i (omega arith),
+    )
 
--- src/lib.rt:307:9
+array-read-out-of-reach : tie.Need-array-read-out-of-reach
+array-read-out-of-reach c =
+    let p = c .before .before .before .before .before .before .before .before .before .before .before .before .before .before .before .before .before .before .pre in
+    let a = p .4 in
+    let b = p .5 in
+    search needs
+
+slice-aggregate-out-of-reach : tie.Need-slice-aggregate-out-of-reach
+slice-aggregate-out-of-reach c = search needs
+
+slice-aggregate-out-of-reach-2 : tie.Need-slice-aggregate-out-of-reach-2
+slice-aggregate-out-of-reach-2 c = search needs
+
+out-of-reach-requires : tie.Need-out-of-reach-requires
+out-of-reach-requires c κs =
+    let far = c .before .before .before .before .before .before .before .before .before .before .before .before in
+    let a = far .before .before .before .before .before .before .before .before .before .before .before .before .args in
+    let p = far .before .before .before .before .before .before .before .before .before .before .before .before .pre in
+    let w = far .wanted .ensures (item (a .ms) (a .o)) (λ k l. p .2 .each (a .o) k (p .5) l) in
+    let h = far .before .before .before .before .before .before .held .ensures in
+    let m = p .4 in
+    let b = p .5 in
+    (p .0, p .1, p .2 .long, p .3, omega arith, p .7, h .own-long, p .6, h .owns-long, w .long)
+
+same-length-2 : tie.Need-same-length-2
+same-length-2 c = search needs
+
 returns-2 : tie.Need-returns-2
-returns-2 c = kept-start (c .before .before .before .before .before .before .before .before .before .before .before .before .before .args .cl .now) (c .before .before .before .before .before .before .before .before .before .before .before .before .before .args .base .now) (c .before .before .before .before .before .before .before .before .before .before .before .before .before .args .ms) _ _ (c .before .before .before .before .before .before .before .before .before .before .before .before .before .args .v) (c .before .before .before .before .before .before .before .before .before .before .before .before .before .args .j) _ _
+returns-2 c =
+    let far = c .before .before .before .before .before .before .before .before .before .before .before .before in
+    let p = far .before .before .before .before .before .before .before .before .before .before .before .before .before .before .pre in
+    let a = far .before .before .before .before .before .before .before .before .before .before .before .before .before .before .args in
+    let w = far .before .before .wanted in
+    let b = c .before .before .before .before .before .before .before .before .before .before .busiest in
+    let s = far .before .before .before .before .before .before .before .before .held .ensures in
+    let r = c .before .out-of-reach .ensures (c .if2 .taken) in
+    let i = w .ensures (item (a .ms) (a .o)) (λ k l. p .2 .each (a .o) k (p .5) l) in
+    let q = r .1 (item (a .ms) (a .o)) (λ k l. p .2 .each (a .o) k (p .5) l) in
+    let none = settled-reach (a .cl .now) (a .base .now) (a .ms) _ _ (a .v) (a .j) (a .o) _ _ _ _ (p .0) (p .3) (p .4) (p .5) s
+    (w .result .wants) (w .result .meet) (b .result .part) (b .result .total) (b .result .news) i (r .0) (b .ensures .0) q in
+    (kept-start (a .cl .now) (a .base .now) (a .ms) _ _ (a .v) (a .j) _ _, p .7, λ e. none)
 
--- src/lib.rt:310:5
-narrow-requires : tie.Need-narrow-requires
-narrow-requires c κs = let p = c .before .before .before .before .before .before .before .before .before .before .before .before .before .before .pre in let a = p .4 in let b = p .5 in (p .0, p .1, p .3, omega arith, λ l h. let z = c .before .before .before .before .before .before .before .before .before .before .held .ensures .less l h in let w = p .3 in omega arith)
+same-length-3 : tie.Need-same-length-3
+same-length-3 c = search needs
 
--- src/lib.rt:280:1
 returns-3 : tie.Need-returns-3
 returns-3 c =
-    let p = c .before .before .before .before .before .before .before .before .before .before .before .before .before .before .before .pre in
-    settled-tight (c .before .before .before .before .before .before .before .before .before .before .before .before .before .before .before .args .cl .now) (c .before .before .before .before .before .before .before .before .before .before .before .before .before .before .before .args .base .now) (c .before .before .before .before .before .before .before .before .before .before .before .before .before .before .before .args .ms) _ _ (c .before .before .before .before .before .before .before .before .before .before .before .before .before .before .before .args .v) (c .before .before .before .before .before .before .before .before .before .before .before .before .before .before .before .args .j) (c .before .before .before .before .before .before .before .before .before .before .before .before .before .before .before .args .o) _ _ _ _ (p .0) (p .3) (p .4) (p .5) (c .before .before .before .before .before .before .before .before .before .before .before .held .ensures) (c .before .before .before .before .before .before .wanted .result .wants) (c .before .before .before .before .before .before .wanted .result .meet) _ (c .before .before .before .before .before .before .wanted .ensures (item (c .before .before .before .before .before .before .before .before .before .before .before .before .before .before .before .args .ms) (c .before .before .before .before .before .before .before .before .before .before .before .before .before .before .before .args .o)) (λ k l. p .2 .each (c .before .before .before .before .before .before .before .before .before .before .before .before .before .before .before .args .o) k (p .5) l)) (let z = c .before .before .before .before .total .ensures in let a = c .before .before .before .if1 .left in let b = c .before .before .if2 .left in omega arith) (c .narrow .ensures)
+    let far = c .before .before .before .before .before .before .before .before .before .before .before .before .before .before .before .before .before .before .before .before .before .before in
+    let a = far .before .before .before .before .before .args in
+    (kept-start (a .cl .now) (a .base .now) (a .ms) _ _ (a .v) (a .j) _ _, far .before .before .before .before .before .pre .7, λ e. absurd (true-false e))
+
+slice-aggregate-narrow : tie.Need-slice-aggregate-narrow
+slice-aggregate-narrow c =
+    let far = c .before .before .before .before .before .before .before .before .before .before .before .before in
+    sym (far .before .before .before .before .before .before .before .before .before .before .before .before .before .before .before .before .held .ensures .owns-long)
+
+slice-aggregate-narrow-2 : tie.Need-slice-aggregate-narrow-2
+slice-aggregate-narrow-2 c =
+    let far = c .before .before .before .before .before .before .before .before .before .before .before .before .before .before .before .before .before .before .before .before .before .before in
+    let a = far .before .before .before .before .before .before .before .before .before .before .before .before .before .args in
+    let p = far .before .before .before .before .before .before .before .before .before .before .before .before .before .pre in
+    let w = far .before .wanted .ensures (item (a .ms) (a .o)) (λ k l. p .2 .each (a .o) k (p .5) l) in
+    sym (w .long)
+
+narrow-requires : tie.Need-narrow-requires
+narrow-requires c κs =
+    let far = c .before .before .before .before .before .before .before .before .before .before .before .before .before .before .before .before .before .before .before .before .before .before in
+    let p = far .before .before .before .before .before .before .before .before .before .before .before .before .before .before .pre in
+    let a = far .before .before .before .before .before .before .before .before .before .before .before .before .before .before .args in
+    let m = p .4 in
+    let b = p .5 in
+    let h = far .before .before .before .before .before .before .before .before .held .ensures in
+    let w = far .before .before .wanted .ensures (item (a .ms) (a .o)) (λ k l. p .2 .each (a .o) k (p .5) l) in
+    (p .0, p .1, p .3, omega arith, h .own-long, w .meet-long, λ l k. let z = h .less l k in let y = p .3 in omega arith, p .6, p .7, h .owns-long, w .long)
+
+same-length-4 : tie.Need-same-length-4
+same-length-4 c =
+    let far = c .before .before .before .before .before .before .before .before .before .before .before .before .before .before .before .before .before .before .before .before .before .before in
+    c .before .before .narrow .ensures .long ∙ sym (far .before .before .before .before .before .before .before .before .before .before .before .before .before .before .before .before .before .pre .7)
+
+returns-4 : tie.Need-returns-4
+returns-4 c =
+    let far = c .before .before .before .before .before .before .before .before .before .before .before .before .before .before .before .before .before .before .before .before .before .before in
+    let p = far .before .before .before .before .before .before .before .before .before .before .before .before .before .before .before .before .before .pre in
+    let a = far .before .before .before .before .before .before .before .before .before .before .before .before .before .before .before .before .before .args in
+    let w = far .before .before .before .before .before .wanted in
+    let b = far .before .busiest in
+    let s = far .before .before .before .before .before .before .before .before .before .before .before .held .ensures in
+    let i = w .ensures (item (a .ms) (a .o)) (λ k l. p .2 .each (a .o) k (p .5) l) in
+    let n = c .before .before .narrow .ensures in
+    let kept = settled-tight (a .cl .now) (a .base .now) (a .ms) _ _ (a .v) (a .j) (a .o) _ _ _ _ (p .0) (p .3) (p .4) (p .5) s
+    (w .result .wants) (w .result .meet) _ _ (b .result .tight) i (b .ensures .1) refl n in
+    (kept, n .long, λ e. absurd (true-false e))
 
 pub settle-spec : {M : Type 1} → statement M
 settle-spec =
     tie.close
     (tie.spec
     held-requires
-    slice-aggregate-wanted
-    slice-aggregate-wanted-2
     wanted-requires
-    total-requires
     array-read-spot
     cast-spot
+    slice-aggregate-busiest
+    slice-aggregate-busiest-2
+    busiest-requires
+    cast-t
+    same-length
     returns
+    array-read-out-of-reach
+    slice-aggregate-out-of-reach
+    slice-aggregate-out-of-reach-2
+    out-of-reach-requires
+    same-length-2
     returns-2
+    same-length-3
+    returns-3
+    slice-aggregate-narrow
+    slice-aggregate-narrow-2
     narrow-requires
-    returns-3)
+    same-length-4
+    returns-4)

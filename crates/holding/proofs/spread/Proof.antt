@@ -19,51 +19,46 @@ Inv-loop bs o d r₀ rest₀ r rest = (mask : ℕ) → ((c : ℕ) → c < 64 →
 abbrev μ-loop : tie.MeasureT-loop
 μ-loop bs o d r₀ rest₀ r rest = rest
 
--- src/lib.rt:97:5
 loop-holds : tie.Need-loop-holds Inv-loop μ-loop
 loop-holds c = λ mask b. spanning-start mask (c .before .args .d)
 
--- src/lib.rt:98:13
 lowest-requires : tie.Need-lowest-requires Inv-loop μ-loop
 lowest-requires c κs = c .loop-test .taken
 
--- src/lib.rt:99:20
 mul-b : tie.Need-mul-b Inv-loop μ-loop
 mul-b c = let z = c .before .before .before .before .pre .1 in search needs
 
--- src/lib.rt:99:29
 cast-b : tie.Need-cast-b Inv-loop μ-loop
 cast-b c = search needs
 
--- src/lib.rt:99:20
 add-b : tie.Need-add-b Inv-loop μ-loop
 add-b c = let z = c .before .before .before .before .pre .1 in let l = c .lowest .ensures .0 in search needs
 
--- src/lib.rt:99:17
 mul-b-2 : tie.Need-mul-b-2 Inv-loop μ-loop
 mul-b-2 c = let z = c .before .before .before .before .pre .1 in let l = c .lowest .ensures .0 in let e = c .before .before .before .before .pre .0 in search needs
 
--- src/lib.rt:99:17
 shared-slice-read-b : tie.Need-shared-slice-read-b Inv-loop μ-loop
 shared-slice-read-b c = let z = c .before .before .before .before .before .pre .1 in let l = c .before .lowest .ensures .0 in let e = c .before .before .before .before .before .pre .0 in search needs
 
--- src/lib.rt:101:22
 without-requires : tie.Need-without-requires Inv-loop μ-loop
 without-requires c κs = c .before .lowest .ensures .0
 
--- src/lib.rt:101:9
 minus-requires : tie.Need-minus-requires Inv-loop μ-loop
 minus-requires c κs = search needs
 
--- src/lib.rt:97:5
 loop-less : tie.Need-loop-less Inv-loop μ-loop
 loop-less c = let a = c .minus .ensures .less in let b = c .before .without .ensures .less (c .before .before .before .lowest .ensures .1) in omega arith
 
--- src/lib.rt:97:5
 loop-again : tie.Need-loop-again Inv-loop μ-loop
-loop-again c = λ mask b. spanning-more mask (c .before .before .before .before .before .before .before .args .d) (c .before .before .before .before .before .loop .rest) (c .before .before .before .before .before .loop .r) (c .before .before .before .lowest .result) _ (c .before .without .result) (c .minus .result) (c .before .before .before .lowest .ensures .0) (b (c .before .before .before .lowest .result) (c .before .before .before .lowest .ensures .0)) (c .before .without .ensures) (c .minus .ensures) (c .before .before .before .before .before .loop .inv mask b)
+loop-again c =
+    let minus = c .minus in
+    let without = c .before .without in
+    let lowest = c .before .before .before .lowest in
+    let loop = c .before .before .before .before .before .loop in
+    let args = c .before .before .before .before .before .before .before .args in
+    λ mask b. spanning-more mask (args .d) (loop .rest) (loop .r) (lowest .result) _ (without .result) (minus .result) (lowest .ensures .0) (b (lowest .result) (lowest .ensures .0))
+    (without .ensures) (minus .ensures) (loop .inv mask b)
 
--- src/lib.rt:91:1
 returns : tie.Need-returns Inv-loop μ-loop
 returns c = λ mask b. spanning-end mask (c .before .before .before .args .d) (c .before .loop .rest) (c .before .loop .r) (c .loop-test .left) (c .before .loop .inv mask b)
 

@@ -1,4 +1,4 @@
-use Rattle.numbering.specs.Number.{Finished, finished-start, finished-more, finished-all, written-whole, written-large, crowded}
+use Rattle.numbering.specs.Number.{Finished, finished-start, finished-more, finished-all, finished-fixed, written-whole, written-large, crowded}
 use lib.ListN.{length, getD}
 use native.Mathlib.Omega.{arith}
 use Prim.Native.Nat.{ℕ, _<_, _≤_, _+_, _-_}
@@ -17,54 +17,62 @@ Inv-loop cl j v codes ms ps caps r₀ o₀ r o = (o ≤ j) × Finished cl ms ps 
 abbrev μ-loop : tie.MeasureT-loop
 μ-loop cl j v codes ms ps caps r₀ o₀ r o = j - o
 
--- src/lib.rt:114:5
 loop-holds : tie.Need-loop-holds Inv-loop μ-loop
 loop-holds c = (omega arith, finished-start (c .before .args .cl .now) (c .before .args .t3) (c .before .args .t4) (c .before .args .v) (c .before .args .codes) (search needs))
 
--- src/lib.rt:115:35
 array-read-numbers : tie.Need-array-read-numbers Inv-loop μ-loop
 array-read-numbers c = let h = c .loop-test .taken in let z = c .before .before .before .pre .1 in search needs
 
--- src/lib.rt:115:13
 numbers-requires : tie.Need-numbers-requires Inv-loop μ-loop
 numbers-requires c κs = let h = c .loop-test .taken in let z = c .before .before .before .pre .1 in (c .before .before .before .pre .0, omega arith, c .before .before .before .pre .2)
 
--- src/lib.rt:116:29
 array-read-write : tie.Need-array-read-write Inv-loop μ-loop
 array-read-write c = let h = c .before .loop-test .taken in let z = c .before .before .before .before .pre .1 in search needs
 
--- src/lib.rt:116:38
 array-read-write-2 : tie.Need-array-read-write-2 Inv-loop μ-loop
 array-read-write-2 c = let h = c .before .loop-test .taken in let z = c .before .before .before .before .pre .1 in search needs
 
--- src/lib.rt:116:13
 write-requires : tie.Need-write-requires Inv-loop μ-loop
 write-requires c κs = c .before .before .before .before .pre .2
 
--- src/lib.rt:120:13
 returns : tie.Need-returns Inv-loop μ-loop
 returns c =
-    λ base spots dom.
-    let b = written-large _ _ _ _ _ _ _ (c .if1 .left) (c .before .write .ensures) in
-    crowded (c .before .before .before .before .before .before .args .cl .now) base (c .before .before .before .before .before .before .args .t3) (c .before .before .before .before .before .before .args .t5) spots (c .before .before .before .before .before .before .args .v) (c .before .before .before .before .before .before .args .j) (c .before .before .before .before .loop .o) (c .before .before .before .before .before .before .args .codes) dom (c .before .before .numbers .result) (b .0) (c .before .before .before .loop-test .taken) (b .1) (c .before .before .before .before .before .before .pre .4) (b .2) (c .before .before .numbers .ensures)
+    let numbers = c .before .before .numbers in
+    let loop-test = c .before .before .before .loop-test in
+    let loop = c .before .before .before .before .loop in
+    let args = c .before .before .before .before .before .before .args in
+    let pre = c .before .before .before .before .before .before .pre in
+    λ base spots dom kn val k. let b = written-large _ _ _ _ _ _ _ (c .if1 .left) (c .before .write .ensures) in let a = args in crowded (a .cl .now) base (a .t3) (a .t5) spots (a .v) (a .j)
+    (loop .o) kn val (a .codes) dom (numbers .result) (b .0) (loop-test .taken) (b .1) (pre .4) (b .2) (numbers .ensures)
 
--- src/lib.rt:125:9
 add-o : tie.Need-add-o Inv-loop μ-loop
 add-o c = search needs
 
--- src/lib.rt:114:5
 loop-less : tie.Need-loop-less Inv-loop μ-loop
 loop-less c = search needs
 
--- src/lib.rt:114:5
 loop-again : tie.Need-loop-again Inv-loop μ-loop
 loop-again c =
-    let h = c .before .before .before .before .loop-test .taken in
-    (omega arith, finished-more (c .before .before .before .before .before .before .before .args .cl .now) (c .before .before .before .before .before .before .before .args .t3) (c .before .before .before .before .before .before .before .args .t4) (c .before .before .before .before .before .before .before .args .t5) (c .before .before .before .before .before .before .before .args .v) (c .before .before .before .before .before .before .before .args .j) (c .before .before .before .before .before .before .before .pre .3) (c .before .before .before .before .before .loop .o) (c .before .before .before .before .before .before .before .args .codes) (c .before .before .before .numbers .result) (c .before .before .before .before .before .loop .r) _ h (c .before .before .before .numbers .ensures) (written-whole _ _ _ _ _ _ _ (c .before .if1 .taken) (c .before .before .write .ensures)) (c .before .before .before .before .before .loop .inv .1))
+    let write = c .before .before .write in
+    let numbers = c .before .before .before .numbers in
+    let loop-test = c .before .before .before .before .loop-test in
+    let loop = c .before .before .before .before .before .loop in
+    let args = c .before .before .before .before .before .before .before .args in
+    let pre = c .before .before .before .before .before .before .before .pre in
+    let h = loop-test .taken in (
+      omega arith,
+      finished-more (args .cl .now) (args .t3) (args .t4) (args .t5) (args .v) (args .j) (pre .3) (loop .o) (args .codes) (numbers .result) (loop .r) _ h (numbers .ensures)
+          (written-whole _ _ _ _ _ _ _ (c .before .if1 .taken) (write .ensures)) (loop .inv .1),
+    )
 
--- src/lib.rt:108:1
 returns-2 : tie.Need-returns-2 Inv-loop μ-loop
-returns-2 c = λ base spots dom. finished-all (c .before .before .before .args .cl .now) (c .before .before .before .args .t3) (c .before .before .before .args .t4) (c .before .before .before .args .t5) (c .before .before .before .args .v) (c .before .before .before .args .j) (c .before .before .before .pre .3) (c .before .loop .o) (c .before .before .before .args .codes) (c .before .loop .r) (c .loop-test .left) (c .before .loop .inv .1)
+returns-2 c = λ base spots dom kn val k.
+    let a = c .before .before .before .args in
+    let p = c .before .before .before .pre in
+    let i = c .before .loop .inv in (
+      finished-all (a .cl .now) (a .t3) (a .t4) (a .t5) (a .v) (a .j) (p .3) (c .before .loop .o) (a .codes) (c .before .loop .r) (c .loop-test .left) (i .1),
+      finished-fixed (a .cl .now) (a .t3) (a .t4) (a .t5) (a .v) (a .j) (p .3) (c .before .loop .o) kn val (a .codes) (c .before .loop .r) (i .0) (p .4) k (i .1),
+    )
 
 pub finish-spec : {M : Type 1} → statement M
 finish-spec =

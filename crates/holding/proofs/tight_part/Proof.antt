@@ -1,0 +1,27 @@
+use Rattle.cells.specs.Lists.{never-both}
+use Rattle.bits.specs.DigitLaws.{on-zero}
+use Rattle.bits.specs.Logic.{orb}
+use borrow.Author.Tests.{eqb-true}
+use lib.Dec.{eqb}
+use native.Mathlib.Omega.{arith}
+use Prim.Native.Nat.{_-_}
+use mathlib.Core.Bool.{Bool}
+use mathlib.Core.Path.{sym, ap, _∙_}
+use borrow.Author.Needs.{needs}
+use Rattle.holding.proofs.tight_part.Statement.{statement}
+use Rattle.holding.proofs.tight_part.Tie as tie
+use Rattle.holding.proofs.tight_part.Reads as reads
+use Rattle.holding.proofs.tight_part.Lts as lts
+use Rattle.cells.proofs.with.Reads as with-reads
+
+with-requires : tie.Need-with-requires
+with-requires c κs = let h = c .before .pre in omega arith
+
+returns : tie.Need-returns
+returns c = λ q e. (eqb-true q (c .before .before .args .p) (sym (ap (λ (b : Bool). orb b (eqb q (c .before .before .args .p))) (on-zero q)) ∙ sym (c .with .ensures q) ∙ e), c .before .if1 .taken)
+
+returns-2 : tie.Need-returns-2
+returns-2 c = λ q e. absurd (never-both e (on-zero q))
+
+pub tight-part-spec : {M : Type 1} → statement M
+tight-part-spec = tie.close (tie.spec with-requires returns returns-2)
