@@ -19,7 +19,7 @@ use Rattle.bits.specs.DigitLaws.{on-and, on-or, on-zero, on-above, on-complemen
 use Rattle.cells.specs.Lists.{All, Pairs, all-map, pairs-map, never-both, and-off, and-on, or-off}
 use Rattle.cells.specs.Pigeon.{agree-and, and-agree}
 use Rattle.cells.specs.Shared.{block}
-use Rattle.numbering.specs.Given.{labelAt, item, Solves}
+use Rattle.numbering.specs.Given.{labelAt, partOf, item, Solves}
 
 -- ======== definitions
 -- an output that reads the cells of m reads all cells of g or none
@@ -176,19 +176,21 @@ solves-alike cl base ms caps spots v j g h s small f = record {
   small = small;
 }
   where
-    crowd : (o b : ℕ) (xs : List ℕ) → o < j → All (λ (x : ℕ). (x < v) × (block (item ms) h o x ≡ b)) xs → Pairs (λ (x y : ℕ). labelAt cl o x ≡ labelAt cl o y → ⊥) xs → length xs ≤ item caps o
-    crowd o b [] k a p = omega arith
-    crowd o b (x ∷ xs) k a p = f .fits .crowd o (block (item ms) g o x) (x ∷ xs) k (
-      (a .0 .0, refl),
-      all-map (λ (x : ℕ). (x < v) × (block (item ms) h o x ≡ b)) (λ (y : ℕ). (y < v) × (block (item ms) g o y ≡ block (item ms) g o x)) xs
-          (λ y q. (q .0, s .back o y x k (q .0) (a .0 .0) (q .1 ∙ sym (a .0 .1)))) (a .1),
-    ) p
+    crowd : (o t b : ℕ) (xs : List ℕ) → o < j → All (λ (x : ℕ). (x < v) × (partOf cl o x ≡ t) × (block (item ms) h o x ≡ b)) xs → Pairs (λ (x y : ℕ). labelAt cl o x ≡ labelAt cl o y → ⊥) xs
+        → length xs ≤ item caps o
+    crowd o t b [] k a p = omega arith
+    crowd o t b (x ∷ xs) k a p = f .fits .crowd o t (block (item ms) g o x) (x ∷ xs) k (
+      (a .0 .0, a .0 .1, refl),
+      all-map (λ (x : ℕ). (x < v) × (partOf cl o x ≡ t) × (block (item ms) h o x ≡ b))
+          (λ (y : ℕ). (y < v) × (partOf cl o y ≡ t) × (block (item ms) g o y ≡ block (item ms) g o x)) xs (λ y q. (q .0, q .1, s .back o y x k (q .0) (a .0 .0) (q .2 ∙ sym (a .0 .2)))) (a .1),
+    )
+        p
 
-    places : (o : ℕ) (xs : List ℕ) → o < j → All (λ (x : ℕ). x < v) xs
-        → Pairs (λ (x y : ℕ). labelAt cl o x ≡ labelAt cl o y → block (item ms) h o x ≡ block (item ms) h o y → ⊥) xs
-        → length xs ≤ item spots o
-    places o xs k a p = f .fits .places o xs k a (pairs-map (λ (x : ℕ). x < v) (λ (x y : ℕ). labelAt cl o x ≡ labelAt cl o y → block (item ms) h o x ≡ block (item ms) h o y → ⊥)
-        (λ (x y : ℕ). labelAt cl o x ≡ labelAt cl o y → block (item ms) g o x ≡ block (item ms) g o y → ⊥) xs (λ x y q r d e b. d e (s .there o x y k q r b)) a p)
+    places : (o t : ℕ) (xs : List ℕ) → o < j → All (λ (x : ℕ). (x < v) × (partOf cl o x ≡ t)) xs
+        → Pairs (λ (x y : ℕ). labelAt cl o x ≡ labelAt cl o y → block (item ms) h o x ≡ block (item ms) h o y → ⊥) xs → length xs ≤ item spots o
+    places o t xs k a p = f .fits .places o t xs k a (pairs-map (λ (x : ℕ). (x < v) × (partOf cl o x ≡ t))
+        (λ (x y : ℕ). labelAt cl o x ≡ labelAt cl o y → block (item ms) h o x ≡ block (item ms) h o y → ⊥)
+        (λ (x y : ℕ). labelAt cl o x ≡ labelAt cl o y → block (item ms) g o x ≡ block (item ms) g o y → ⊥) xs (λ x y q r d e b. d e (s .there o x y k (q .0) (r .0) b)) a p)
 
     needs-of : (o l : ℕ) → o < j → l < 32
         → (xs : List ℕ) × All (λ (x : ℕ). (x < v) × (labelAt cl o x ≡ l)) xs × Pairs (λ (x y : ℕ). block (item ms) h o x ≡ block (item ms) h o y → ⊥) xs × (labelAt base o l ≤ length xs)

@@ -20,7 +20,7 @@ use Rattle.bits.specs.Digit.{on}
 use Rattle.bits.specs.DigitLaws.{on-and, on-or, on-zero, on-above, on-complement, equal-digits}
 use Rattle.cells.specs.Lists.{less-or-equal, never-both, false-where, and-off, and-on}
 use Rattle.cells.specs.Pigeon.{agree-and}
-use Rattle.numbering.specs.Given.{noCode, item, Block, Blocks, Solves}
+use Rattle.numbering.specs.Given.{noCode, item, Block, Blocks, Solves, Knows}
 use Rattle.holding.specs.Blocks.{on-both}
 use Rattle.coding.specs.Exchange.{Uniform, swap, swap-blocks, swap-small, swap-stays, swap-first, swap-outside, solves-alike}
 
@@ -60,15 +60,21 @@ pub record Used (gs codes : List ℕ) (v : ℕ) (used : List ℕ) : Type 0 where
   pub marks : Marks gs used
   pub has : (k y : ℕ) → k < groupCount → y < v → item codes y < noCode → on (item used k) (item codes y) ≡ true
 
+-- cell 0 is one of the cells of sh, and in no group
+pub record Alone (gs : List ℕ) (sh : ℕ) : Type 0 where
+  pub shared : on sh 0 ≡ true
+  pub outside : (k : ℕ) → k < groupCount → on (item gs k) 0 ≡ false
+
 -- all has the codes over the cells that two outputs read, gb the blocks of groups of these cells, and used their values
--- in use
-pub record Valued (ms gb : List ℕ) (all j : ℕ) (codes : List ℕ) (v : ℕ) (used : List ℕ) : Type 0 where
+-- in use; cell 0 is in no group where some of its digits are known, at the vertices of kn
+pub record Valued (ms gb : List ℕ) (all j kn : ℕ) (codes : List ℕ) (v : ℕ) (used : List ℕ) : Type 0 where
   pub gs : List ℕ
   pub sh : ℕ
   pub over : Over sh all
   pub blocks : Blocks gs gb groupCount
   pub groups : Groups gs sh
   pub alike : Alike ms gs sh j
+  pub alone : (x : ℕ) → x < v → on kn x ≡ true → Alone gs sh
   pub values : Used gs codes v used
 
 -- b is the codes with the value of a code that is not in a, unless a has every code
@@ -79,13 +85,13 @@ Fresh g a b = ((c : ℕ) × (c < maxCodes) × (on a c ≡ false) × Block g c b)
 abbrev pub Agrees : List ℕ → ℕ → (ℕ → ℕ) → Type 0
 Agrees codes v g = (x : ℕ) → x < v → item codes x < noCode → g x ≡ item codes x
 
--- where a solution goes on from the codes given, there is one whose code at a vertex without a code is in can; the first n
--- groups have narrowed it, and it does not look at the others
+-- where a solution goes on from the codes given, there is one whose code at a vertex without a code is in can, with the same
+-- digits of cell 0 where that is in no group; the first n groups have narrowed can, and it does not look at the others
 pub record Canon (gs used : List ℕ) (sh n can : ℕ) : Type 0 where
   pub reach : (cl base ms caps spots codes : List ℕ) (v j x : ℕ) → noCode ≤ item codes x → Alike ms gs sh j
       → ((k y : ℕ) → k < groupCount → y < v → item codes y < noCode → on (item used k) (item codes y) ≡ true)
       → (g : ℕ → ℕ) → Solves cl base ms caps spots v j g → Agrees codes v g → x < v
-      → (g' : ℕ → ℕ) × Solves cl base ms caps spots v j g' × Agrees codes v g' × (on can (g' x) ≡ true)
+      → (g' : ℕ → ℕ) × Solves cl base ms caps spots v j g' × Agrees codes v g' × (on can (g' x) ≡ true) × (Alone gs sh → (y : ℕ) → y < v → on (g' y) 0 ≡ on (g y) 0)
   pub blind : (k c d : ℕ) → n ≤ k → k < groupCount → c < maxCodes → d < maxCodes → ((i : ℕ) → i < maxCells → on (item gs k) i ≡ false → on c i ≡ on d i) → on can c ≡ true → on can d ≡ true
 
 -- the sets with the value of c in each of the first n groups
@@ -169,13 +175,14 @@ module _ (gs used : List ℕ) (sh all : ℕ) (o : Over sh all) where
       reach : (cl base ms caps spots codes : List ℕ) (v j x : ℕ) → 64 ≤ item codes x → Alike ms gs sh j
           → ((k y : ℕ) → k < 3 → y < v → item codes y < 64 → on (item used k) (item codes y) ≡ true) → (g : ℕ → ℕ)
           → Solves cl base ms caps spots v j g → Agrees codes v g → x < v
-          → (g' : ℕ → ℕ) × Solves cl base ms caps spots v j g' × Agrees codes v g' × (on all (g' x) ≡ true)
+          → (g' : ℕ → ℕ) × Solves cl base ms caps spots v j g' × Agrees codes v g' × (on all (g' x) ≡ true) × (Alone gs sh → (y : ℕ) → y < v → on (g' y) 0 ≡ on (g y) 0)
       reach cl base ms caps spots codes v j x u a has g f e h = (
         G,
         solves-alike cl base ms caps spots v j g G (record { there = λ q y z l b c r. same q y l ∙ r ∙ sym (same q z l); back = λ q y z l b c r. sym (same q y l) ∙ r ∙ same q z l }) small f,
         (λ y l t. at-other y (λ q. let z = subst (λ (n : ℕ). item codes n < 64) q t in omega arith) ∙ e y l t),
         ap (on all) at-x ∙ over-of (bitAnd (g x) sh) (let w = and-le-l (g x) sh in let z = f .small x h in omega arith)
             (λ i l z. on-and (g x) sh i ∙ ap (λ (b : Bool). andb (on (g x) i) b) z ∙ and-off (on (g x) i)),
+        (λ w y l. digit w y (ℕ-discrete y x)),
       )
         where
           G : ℕ → ℕ
@@ -186,6 +193,11 @@ module _ (gs used : List ℕ) (sh all : ℕ) (o : Over sh all) where
 
           at-other : (y : ℕ) → (y ≡ x → ⊥) → G y ≡ g y
           at-other y ne = ap (λ (b : Bool). pick b (bitAnd (g x) sh) (g y)) (ne-eqb y x ne)
+
+          digit : Alone gs sh → (y : ℕ) → Dec (y ≡ x) → on (G y) 0 ≡ on (g y) 0
+          digit w y (no ne) = ap (λ (n : ℕ). on n 0) (at-other y ne)
+          digit w y (yes r) = ap (λ (n : ℕ). on (G n) 0) r ∙ ap (λ (n : ℕ). on n 0) at-x ∙ on-and (g x) sh 0 ∙ ap (λ (b : Bool). andb (on (g x) 0) b) (w .shared) ∙ and-on (on (g x) 0) ∙ ap
+              (λ (n : ℕ). on (g n) 0) (sym r)
 
           same : (q y : ℕ) → q < j → bitAnd (G y) (item ms q) ≡ bitAnd (g y) (item ms q)
           same q y l = go (ℕ-discrete y x)
@@ -232,14 +244,14 @@ module _ (gs used : List ℕ) (sh n can b : ℕ) (h : n < 3) (groups : Groups gs
       reach : (cl base ms caps spots codes : List ℕ) (v j x : ℕ) → 64 ≤ item codes x → Alike ms gs sh j
           → ((k y : ℕ) → k < 3 → y < v → item codes y < 64 → on (item used k) (item codes y) ≡ true) → (g : ℕ → ℕ)
           → Solves cl base ms caps spots v j g → Agrees codes v g → x < v
-          → (g' : ℕ → ℕ) × Solves cl base ms caps spots v j g' × Agrees codes v g' × (on (bitAnd can (bitOr a₀ b)) (g' x) ≡ true)
+          → (g' : ℕ → ℕ) × Solves cl base ms caps spots v j g' × Agrees codes v g' × (on (bitAnd can (bitOr a₀ b)) (g' x) ≡ true) × (Alone gs sh → (y : ℕ) → y < v → on (g' y) 0 ≡ on (g y) 0)
       reach cl base ms caps spots codes v j x u alike has g f e l = go (s .reach cl base ms caps spots codes v j x u alike has g f e l)
         where
           Out : Type 0
-          Out = (g' : ℕ → ℕ) × Solves cl base ms caps spots v j g' × Agrees codes v g' × (on (bitAnd can (bitOr a₀ b)) (g' x) ≡ true)
+          Out = (g' : ℕ → ℕ) × Solves cl base ms caps spots v j g' × Agrees codes v g' × (on (bitAnd can (bitOr a₀ b)) (g' x) ≡ true) × (Alone gs sh → (y : ℕ) → y < v → on (g' y) 0 ≡ on (g y) 0)
 
           In : Type 0
-          In = (g' : ℕ → ℕ) × Solves cl base ms caps spots v j g' × Agrees codes v g' × (on can (g' x) ≡ true)
+          In = (g' : ℕ → ℕ) × Solves cl base ms caps spots v j g' × Agrees codes v g' × (on can (g' x) ≡ true) × (Alone gs sh → (y : ℕ) → y < v → on (g' y) 0 ≡ on (g y) 0)
 
           -- the value at x and a free one exchanged, which no vertex with a code has
           exchange : (i : In) (c : ℕ) → c < 64 → on a₀ c ≡ false → Block g₀ c b → on a₀ (i .0 x) ≡ false → Out
@@ -251,6 +263,7 @@ module _ (gs used : List ℕ) (sh n can b : ℕ) (h : n < 3) (groups : Groups gs
             on-both can (bitOr a₀ b) (F x)
                 (s .blind n (i .0 x) (F x) (omega arith) h (i .1 .small x l) small (λ d z t. sym (swap-outside g₀ low (i .0 x) c (i .0 x) d z t)) (i .3))
                 (in-r a₀ b (F x) (is (F x) small ∙ eq-eqb _ _ (swap-first g₀ low (i .0 x) c))),
+            (λ w y k. swap-outside g₀ low (i .0 x) c (i .0 y) 0 (omega arith) (w .outside n h) ∙ i .4 w y k),
           )
             where
               low : g₀ < 64
@@ -278,7 +291,7 @@ module _ (gs used : List ℕ) (sh n can b : ℕ) (h : n < 3) (groups : Groups gs
           go i = case (on a₀ (i .0 x)) refl
             where
               case : (t : Bool) → on a₀ (i .0 x) ≡ t → Out
-              case true q = (i .0, i .1, i .2, on-both can (bitOr a₀ b) (i .0 x) (i .3) (in-l a₀ b (i .0 x) q))
+              case true q = (i .0, i .1, i .2, on-both can (bitOr a₀ b) (i .0 x) (i .3) (in-l a₀ b (i .0 x) q), i .4)
               case false q = free i fresh q
 
 -- ---- a vertex takes a code
@@ -318,18 +331,27 @@ module _ (codes : List ℕ) (v x c : ℕ) (long : length codes ≡ 32) (few : v 
           (q .1 c l ∙ eq-eqb (bitAnd c (item gs k)) (bitAnd c (item gs k)) refl)
       has k y a b t (no ne) = let q = m .done k a in ap₂ on (q .2) (there y ne) ∙ in-l (item used k) (q .0) (item codes y) (u .has k y a b (subst (λ (z : ℕ). z < 64) (there y ne) t))
 
-  pub valued-more : (ms gb : List ℕ) (all j : ℕ) (used r : List ℕ) → c < 64
-      → ((gs : List ℕ) → Blocks gs gb 3 → Marked gs used c 3 r) → Valued ms gb all j codes v used
-      → Valued ms gb all j (set codes x c) v r
-  valued-more ms gb all j used r l m w = record {
+  pub valued-more : (ms gb : List ℕ) (all j kn : ℕ) (used r : List ℕ) → c < 64
+      → ((gs : List ℕ) → Blocks gs gb 3 → Marked gs used c 3 r) → Valued ms gb all j kn codes v used
+      → Valued ms gb all j kn (set codes x c) v r
+  valued-more ms gb all j kn used r l m w = record {
     gs = w .gs;
     sh = w .sh;
     over = w .over;
     blocks = w .blocks;
     groups = w .groups;
     alike = w .alike;
+    alone = w .alone;
     values = used-more (w .gs) used r l (m (w .gs) (w .blocks)) (w .values);
   }
+
+  -- c has the known digit
+  pub knows-more : (kn val : ℕ) (ps : List ℕ) (j : ℕ) → (on kn x ≡ true → on c 0 ≡ on val x) → Knows kn val ps codes v j → Knows kn val ps (set codes x c) v j
+  knows-more kn val ps j e k = record { public = k .public; given = λ y b t l. go y b t l (ℕ-discrete y x) }
+    where
+      go : (y : ℕ) → y < v → on kn y ≡ true → item (set codes x c) y < 64 → Dec (y ≡ x) → on (item (set codes x c) y) 0 ≡ on val y
+      go y b t l (yes q) = ap (λ (n : ℕ). on n 0) (ap (item (set codes x c)) q ∙ here) ∙ e (ap (on kn) (sym q) ∙ t) ∙ ap (on val) (sym q)
+      go y b t l (no ne) = ap (λ (n : ℕ). on n 0) (there y ne) ∙ k .given y b t (subst (λ (z : ℕ). z < 64) (there y ne) l)
 
   -- a solution with the new code has the old ones
   pub agrees-less : (g : ℕ → ℕ) → 64 ≤ item codes x → Agrees (set codes x c) v g → Agrees codes v g

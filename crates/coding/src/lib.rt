@@ -8,10 +8,12 @@ ghost use mathlib.Core.List.{List};
 ghost use Prim.Native.Nat.{ℕ, _+_, _*_, _<_, _≤_};
 ghost use lib.ListN.{length, getD};
 ghost use Rattle.limits.specs.Limits.{searchOutputs, maxVertices, labelCount, blockCount, maxCodes};
-ghost use Rattle.numbering.specs.Given.{noVertex, Labels, Blocks, Plan, Kept, Told, item};
+ghost use Rattle.numbering.specs.Given.{noVertex, Labels, Blocks, Plan, Kept, Hopeless, Knows, Told, item};
 ghost use Rattle.holding.specs.Search.{Seeking, Empty};
 ghost use Rattle.coding.specs.Values.{groupCount, Groups, Marks, Over, Fresh, Canon, Marked, Valued};
+ghost use Rattle.coding.specs.Known.{Fitting};
 ghost use Rattle.coding.specs.Tried.{Covers};
+ghost use Rattle.coding.specs.Limit.{noLimit, Sure};
 use limits::MAX_CELLS;
 use limits::MAX_CODES;
 use limits::MAX_VERTICES;
@@ -20,10 +22,18 @@ use limits::SEARCH_OUTPUTS;
 // Groups of cells with the same readers that are looked at: more groups of two or more cells there are not.
 pub const GROUPS: usize = MAX_CELLS / 2;
 
+// The limit of a search that is not given up.
+pub const NO_LIMIT: u64 = 0xffff_ffff_ffff_ffff;
+
+// The codes with the digit of cell 0 on, and those with it off.
+const ODD_CODES: u64 = EVEN_CODES * 2;
+
+const EVEN_CODES: u64 = cells::ALL_CODES / 3;
+
 // Whether some vertex has no code left.
-pub fn empty(dom: [u64; MAX_VERTICES], v: usize) -> bool
-    requires { ⌜ v ≤ maxVertices ⌝ }
-    ensures { λ r. ⌜ (r ≡ true → Empty dom v) ⌝ }
+fn empty(dom: &[u64], v: usize) -> bool
+    requires { ⌜ (v ≤ maxVertices) × (length (now dom) ≡ maxVertices) ⌝ }
+    ensures { λ r. ⌜ (r ≡ true → Empty (now (dom .entry)) v) ⌝ }
 {
     let mut y = 0;
     while y < v {
@@ -35,36 +45,37 @@ pub fn empty(dom: [u64; MAX_VERTICES], v: usize) -> bool
     false
 }
 
-// The sets without full blocks, output by output, after some vertex took code c.
-pub fn bar_all(
+// The sets lose full blocks, output by output, after vertex x took code c.
+fn bar_all(
     cl: &[u8],
     bs: &[u64],
     caps: [u8; SEARCH_OUTPUTS],
     v: usize,
     j: usize,
-    codes: [u8; MAX_VERTICES],
-    dom: [u64; MAX_VERTICES],
+    codes: &[u8],
+    dom: &mut [u64],
     c: u8,
-) -> [u64; MAX_VERTICES]
-    requires { ⌜ Labels (now cl) × (length (now bs) ≡ blockCount) × (v ≤ maxVertices) × (j ≤ searchOutputs) × (c < maxCodes) ⌝ }
-    ensures { λ r. ⌜ ((base ms spots : List ℕ) → Blocks ms (now (bs .entry)) j → Kept (now (cl .entry)) base ms caps spots v j codes dom r) ⌝ }
+    x: usize,
+)
+    requires { ⌜ Labels (now cl) × (length (now bs) ≡ blockCount) × (v ≤ maxVertices) × (j ≤ searchOutputs) × (c < maxCodes) × (x < maxVertices)
+        × (length (now codes) ≡ maxVertices) × (length (now dom) ≡ maxVertices) ⌝ }
+    ensures { λ r. ⌜ ((base ms spots : List ℕ) → Blocks ms (now (bs .entry)) j → Kept (now (cl .entry)) base ms caps spots v j (now (codes .entry)) (now (dom .entry)) (now (dom .exit)))
+        × (length (now (dom .exit)) ≡ maxVertices) ⌝ }
 {
-    let mut r = dom;
     let mut o = 0;
     while o < j {
         let b = bs[o * MAX_CODES + c as usize];
-        let k = holding::crowd(cl, v, o, codes, b);
+        let p = numbering::part(cl, o, x);
+        let k = holding::crowd(cl, v, o, p, codes, b);
         if caps[o] <= k.count {
-            let s = holding::shut(cl, v, o, k.seen, codes, r, b);
-            r = s;
+            holding::shut(cl, v, o, k.seen, codes, dom, b);
         }
         o += 1;
     }
-    r
 }
 
-// The sets narrowed by each output after some vertex took code c: full blocks first, since what a class can still take says
-// what it needs. Where a set is empty the other outputs are left out.
+// The sets are narrowed by each output after vertex x took code c: full blocks first, since what a class can still take says
+// what it needs. False where no solution keeps to them; where that is seen the other outputs are left out.
 pub fn settle_all(
     cl: &[u8],
     base: &[u8],
@@ -74,28 +85,67 @@ pub fn settle_all(
     spots: [u8; SEARCH_OUTPUTS],
     v: usize,
     j: usize,
-    codes: [u8; MAX_VERTICES],
-    dom: [u64; MAX_VERTICES],
+    codes: &[u8],
+    dom: &mut [u64],
     c: u8,
-) -> [u64; MAX_VERTICES]
-    requires { ⌜ Labels (now cl) × (length (now base) ≡ labelCount) × Blocks ms (now bs) j × (v ≤ maxVertices) × (j ≤ searchOutputs) × (c < maxCodes) ⌝ }
-    ensures { λ r. ⌜ Kept (now (cl .entry)) (now (base .entry)) ms caps spots v j codes dom r ⌝ }
+    x: usize,
+) -> bool
+    requires { ⌜ Labels (now cl) × (length (now base) ≡ labelCount) × Blocks ms (now bs) j × (v ≤ maxVertices) × (j ≤ searchOutputs) × (c < maxCodes) × (x < maxVertices)
+        × (length (now codes) ≡ maxVertices) × (length (now dom) ≡ maxVertices) ⌝ }
+    ensures { λ r. ⌜ Kept (now (cl .entry)) (now (base .entry)) ms caps spots v j (now (codes .entry)) (now (dom .entry)) (now (dom .exit)) × (length (now (dom .exit)) ≡ maxVertices)
+        × (r ≡ false → (kn val : ℕ) → Hopeless (now (cl .entry)) (now (base .entry)) ms caps spots v j kn val (now (codes .entry)) (now (dom .entry))) ⌝ }
 {
-    let mut r = bar_all(cl, bs, caps, v, j, codes, dom, c);
+    bar_all(cl, bs, caps, v, j, codes, dom, c, x);
     let mut o = 0;
     while o < j {
-        if empty(r, v) {
-            return r;
+        if empty(dom, v) {
+            return false;
         }
-        let s = holding::settle(cl, base, bs, ms, caps, spots, v, j, o, codes, r);
-        r = s;
+        if !holding::settle(cl, base, bs, ms, caps, spots, v, j, o, codes, dom) {
+            return false;
+        }
+        o += 1;
+    }
+    !empty(dom, v)
+}
+
+// The classes that vertices with codes have, output by output, once x has one.
+pub fn meet(cl: &[u8], j: usize, met: [u64; SEARCH_OUTPUTS], x: usize) -> [u64; SEARCH_OUTPUTS]
+    requires { ⌜ Labels (now cl) × (j ≤ searchOutputs) × (x < maxVertices) ⌝ }
+{
+    let mut r = met;
+    let mut o = 0;
+    while o < j {
+        let l = numbering::label(cl, o, x);
+        r[o] = cells::with(r[o], l);
         o += 1;
     }
     r
 }
 
-// Whether a vertex with n codes left is to be preferred to the best so far; none so far is no vertex.
-pub fn better(best: usize, least: u32, n: u32) -> bool
+// How many of the first j outputs have a class at x that met has not.
+fn unmet(cl: &[u8], j: usize, met: &[u64], x: usize) -> u32
+    requires { ⌜ Labels (now cl) × (j ≤ searchOutputs) × (x < maxVertices) × (length (now met) ≡ searchOutputs) ⌝ }
+{
+    let mut n: u32 = 0;
+    let mut o = 0;
+    while o < j {
+        let l = numbering::label(cl, o, x);
+        if !cells::in_set(met[o], l) {
+            n += 1;
+        }
+        o += 1;
+    }
+    n
+}
+
+// The rank of a vertex with so many codes left and so many outputs whose class at it no vertex with a code has.
+fn rank(left: u32, classes: u32) -> u64 {
+    left as u64 * (2 * SEARCH_OUTPUTS as u64) + classes as u64
+}
+
+// Whether a vertex of rank n is to be preferred to the best so far; none so far is no vertex.
+fn better(best: usize, least: u64, n: u64) -> bool
     ensures { λ r. ⌜ (r ≡ false → best ≡ noVertex → ⊥) ⌝ }
 {
     if best == numbering::NO_VERTEX {
@@ -105,17 +155,19 @@ pub fn better(best: usize, least: u32, n: u32) -> bool
     }
 }
 
-// A vertex without a code that has the fewest codes left in can, or no vertex where all have a code.
-pub fn pick(dom: [u64; MAX_VERTICES], codes: [u8; MAX_VERTICES], v: usize, can: u64) -> usize
-    requires { ⌜ v ≤ maxVertices ⌝ }
-    ensures { λ r. ⌜ Seeking codes v r ⌝ }
+// A vertex without a code that has the fewest codes left in can, or no vertex where all have a code. Of those with equally
+// few it is one with the fewest classes that met has not: such a vertex starts the fewest blocks.
+fn pick(cl: &[u8], j: usize, met: &[u64], dom: &[u64], codes: &[u8], v: usize, can: u64) -> usize
+    requires { ⌜ Labels (now cl) × (j ≤ searchOutputs) × (v ≤ maxVertices) × (length (now dom) ≡ maxVertices) × (length (now codes) ≡ maxVertices)
+        × (length (now met) ≡ searchOutputs) ⌝ }
+    ensures { λ r. ⌜ Seeking (now (codes .entry)) v r ⌝ }
 {
     let mut best: usize = numbering::NO_VERTEX;
-    let mut least: u32 = 0;
+    let mut least: u64 = 0;
     let mut y = 0;
     while y < v {
         if codes[y] >= numbering::NO_CODE {
-            let n = u64::count_ones(dom[y] & can);
+            let n = rank(u64::count_ones(dom[y] & can), unmet(cl, j, met, y));
             if better(best, least, n) {
                 best = y;
                 least = n;
@@ -127,7 +179,7 @@ pub fn pick(dom: [u64; MAX_VERTICES], codes: [u8; MAX_VERTICES], v: usize, can: 
 }
 
 // The codes with one value of group k that a does not have, for the groups whose blocks gb has.
-pub fn fresh(gb: &[u64], k: usize, a: u64) -> u64
+fn fresh(gb: &[u64], k: usize, a: u64) -> u64
     requires { ⌜ (length (now gb) ≡ blockCount) × (k < groupCount) ⌝ }
     ensures { λ r. ⌜ ((gs : List ℕ) → Blocks gs (now (gb .entry)) groupCount → Fresh (item gs k) a r) ⌝ }
 {
@@ -140,7 +192,7 @@ pub fn fresh(gb: &[u64], k: usize, a: u64) -> u64
 }
 
 // The codes of all that the next vertex may be asked to take: of each group a value in use, or one new one.
-pub fn allowed(gb: &[u64], all: u64, used: [u64; GROUPS]) -> u64
+fn allowed(gb: &[u64], all: u64, used: [u64; GROUPS]) -> u64
     requires { ⌜ length (now gb) ≡ blockCount ⌝ }
     ensures { λ r. ⌜ ((gs : List ℕ) (sh : ℕ) → Over sh all → Blocks gs (now (gb .entry)) groupCount → Groups gs sh → Marks gs used → Canon gs used sh groupCount r) ⌝ }
 {
@@ -169,15 +221,45 @@ pub fn mark(gb: &[u64], used: [u64; GROUPS], c: u8) -> [u64; GROUPS]
     r
 }
 
-// Codes of the vertices, whether they are right, and how often a vertex was given a code to find out.
+// The codes with the known digit of cell 0 at vertex x, or all where none is known there: it is known at the vertices of kn,
+// and val has its digits.
+pub fn fitting(kn: u32, val: u32, x: usize) -> u64
+    requires { ⌜ x < maxVertices ⌝ }
+    ensures { λ r. ⌜ Fitting kn val x r ⌝ }
+{
+    if !cells::in_set(kn as u64, x as u8) {
+        return cells::ALL_CODES;
+    }
+    if cells::in_set(val as u64, x as u8) {
+        ODD_CODES
+    } else {
+        EVEN_CODES
+    }
+}
+
+// Whether a search is given up after so many nodes.
+fn spent(limit: u64, nodes: u64) -> bool
+    ensures { λ r. ⌜ (limit ≡ noLimit → r ≡ false) ⌝ }
+{
+    if limit == NO_LIMIT {
+        false
+    } else {
+        limit <= nodes
+    }
+}
+
+// Codes of the vertices, whether they are right, whether the search was given up, and how often a vertex was given a code.
 pub struct Search {
     pub ok: bool,
+    pub unsure: bool,
     pub codes: [u8; MAX_VERTICES],
     pub nodes: u64,
 }
 
 // Codes for all v vertices that go on from those given. dom has room for every solution that does; all has the codes over the
-// cells that two outputs read, gb the blocks of some groups of these, and used their values in use.
+// cells that two outputs read, gb the blocks of some groups of these, and used their values in use. met has the classes of the
+// vertices with codes, for the order in which the others are given theirs. The nodes so far count towards the limit. Cell 0
+// is known at the vertices of kn, where it has the digits of val.
 pub fn find(
     cl: &[u8],
     base: &[u8],
@@ -190,50 +272,86 @@ pub fn find(
     spots: [u8; SEARCH_OUTPUTS],
     v: usize,
     j: usize,
+    kn: u32,
+    val: u32,
     codes: [u8; MAX_VERTICES],
     dom: [u64; MAX_VERTICES],
     used: [u64; GROUPS],
+    met: [u64; SEARCH_OUTPUTS],
+    limit: u64,
+    nodes: u64,
 ) -> Search
-    requires { ⌜ Labels (now cl) × (length (now base) ≡ labelCount) × Blocks ms (now bs) j × (v ≤ maxVertices) × (j ≤ searchOutputs) × Plan ms ps caps j × Valued ms (now gb) all j codes v used × Covers (now cl) (now base) ms caps spots v j codes dom ⌝ }
-    ensures { λ r. ⌜ Told (now (cl .entry)) (now (base .entry)) ms ps caps spots v j codes dom (r .ok) (r .codes) ⌝ }
+    requires { ⌜ Labels (now cl) × (length (now base) ≡ labelCount) × Blocks ms (now bs) j × (v ≤ maxVertices) × (j ≤ searchOutputs) × Plan ms ps caps j
+        × Valued ms (now gb) all j kn codes v used × Covers (now cl) (now base) ms caps spots v j kn val codes dom × Knows kn val ps codes v j ⌝ }
+    ensures { λ r. ⌜ Sure limit (r .unsure) (Told (now (cl .entry)) (now (base .entry)) ms ps caps spots v j kn val codes dom (r .ok) (r .codes)) ⌝ }
 {
     let can = allowed(gb, all, used);
-    let x = pick(dom, codes, v, can);
+    let x = pick(cl, j, &met, &dom, &codes, v, can);
     if x == numbering::NO_VERTEX {
         let f = numbering::finish(cl, j, ms, ps, caps, v, codes);
         let all_codes = f.codes;
         return Search {
             ok: f.ok,
+            unsure: false,
             codes: all_codes,
-            nodes: 0,
+            nodes,
         };
     }
-    let mut nodes: u64 = 0;
-    let mut left = dom[x] & can;
+    let mut total = nodes;
+    let fit = fitting(kn, val, x);
+    let mut left = dom[x] & can & fit;
     while left != 0 {
+        if spent(limit, total) {
+            return Search {
+                ok: false,
+                unsure: true,
+                codes,
+                nodes: total,
+            };
+        }
         let c = cells::lowest(left);
         left = cells::without(left, c);
-        nodes = std::num::wrapping_add_u64(nodes, 1);
+        total = std::num::wrapping_add_u64(total, 1);
         let mut next = codes;
         next[x] = c;
-        let d = settle_all(cl, base, bs, ms, caps, spots, v, j, next, dom, c);
-        if !empty(d, v) {
+        let mut d = dom;
+        if settle_all(cl, base, bs, ms, caps, spots, v, j, &next, &mut d, c, x) {
             let m = mark(gb, used, c);
-            let r = find(cl, base, bs, gb, all, ms, ps, caps, spots, v, j, next, d, m);
-            nodes = std::num::wrapping_add_u64(nodes, r.nodes);
+            let known = meet(cl, j, met, x);
+            let r = find(
+                cl,
+                base,
+                bs,
+                gb,
+                all,
+                ms,
+                ps,
+                caps,
+                spots,
+                v,
+                j,
+                kn,
+                val,
+                next,
+                d,
+                m,
+                known,
+                limit,
+                total,
+            );
             if r.ok {
-                let found = r.codes;
-                return Search {
-                    ok: r.ok,
-                    codes: found,
-                    nodes,
-                };
+                return r;
             }
+            if r.unsure {
+                return r;
+            }
+            total = r.nodes;
         }
     }
     Search {
         ok: false,
+        unsure: false,
         codes,
-        nodes,
+        nodes: total,
     }
 }

@@ -1,7 +1,7 @@
 -- One vertex for each joint class. Vertices with equal labels for every output in question need no different codes: codes for
 -- one vertex of each joint class, given to the whole class, tell apart what they told apart, and codes for all vertices give
--- codes for these. So the search runs on one vertex of each class. That two vertices are found alike may fail; then they are
--- only not merged. Assumes nothing.
+-- codes for these. So the search runs on one vertex of each class. Where digits of cell 0 are known, vertices of one class have
+-- the same. That two vertices are found alike may fail; then they are only not merged. Assumes nothing.
 use mathlib.Core.Path.{_≡_, refl, sym, ap, _∙_, subst}
 use mathlib.Core.Bool.{Bool, true, false}
 use mathlib.Core.List.{List}
@@ -16,14 +16,13 @@ use Rattle.limits.specs.Limits.{maxVertices, labelCount}
 use Rattle.limits.specs.declared.Vertex.{Vertex}
 use Rattle.joint.specs.declared.JointClass.{JointClass}
 use Rattle.cells.specs.Lists.{less-or-equal}
-use Rattle.numbering.specs.Given.{labelAt, item, Labels}
+use Rattle.numbering.specs.Given.{labelAt, partAt, partOf, item, Labels}
+use Rattle.bits.specs.Digit.{on}
 use Rattle.readers.specs.Masks.{Decided}
+use Rattle.joint.specs.Digits.{vertexAt, knownAt, Drawn, known-same, digit-same}
 
 -- ======== definitions
--- the vertex, and the joint class, at a place of an array
-abbrev pub vertexAt : List Vertex → ℕ → ℕ
-vertexAt l i = getD l i (record { 0 = 0 }) .0
-
+-- the joint class at a place of an array
 abbrev pub jointAt : List JointClass → ℕ → ℕ
 jointAt l x = getD l x (record { 0 = 0 }) .0
 
@@ -31,8 +30,12 @@ jointAt l x = getD l x (record { 0 = 0 }) .0
 abbrev pub Alike : List ℕ → ℕ → ℕ → ℕ → Type 0
 Alike cl n x y = (o : ℕ) → o < n → labelAt cl o x ≡ labelAt cl o y
 
+-- x and y may be merged: they have the same classes, and the same is known of cell 0
+abbrev pub Mergeable : List ℕ → ℕ → ℕ → ℕ → ℕ → ℕ → Type 0
+Mergeable cl j kn val x y = Alike cl j x y × (knownAt kn val x ≡ knownAt kn val y)
+
 -- the first x vertices belong to n joint classes: vertex y to class place y, whose first vertex is first of it
-pub record Merged (cl : List ℕ) (j x n : ℕ) (first : List Vertex) (place : List JointClass) : Type 0 where
+pub record Merged (cl : List ℕ) (j kn val x n : ℕ) (first : List Vertex) (place : List JointClass) : Type 0 where
   pub first-long : length first ≡ maxVertices
   pub place-long : length place ≡ maxVertices
   pub few : n ≤ x
@@ -40,13 +43,18 @@ pub record Merged (cl : List ℕ) (j x n : ℕ) (first : List Vertex) (place : L
   pub small : (i : ℕ) → i < maxVertices → vertexAt first i < maxVertices
   pub start : vertexAt first 0 ≡ 0
   pub within : (y : ℕ) → y < x → jointAt place y < n
-  pub same : (y : ℕ) → y < x → Alike cl j y (vertexAt first (jointAt place y))
+  pub same : (y : ℕ) → y < x → Mergeable cl j kn val y (vertexAt first (jointAt place y))
 
--- labels of the classes, the first n of them: class i has the labels of its first vertex
+-- the first n entries copied
+pub record Copied (cl : List ℕ) (n : ℕ) (r : List ℕ) : Type 0 where
+  pub long : length r ≡ 2 * labelCount
+  pub same : (i : ℕ) → i < n → getD r i 0 ≡ getD cl i 0
+
+-- labels of the joint classes, the first n of them: joint class i has the labels of its first vertex; the rest stays
 pub record Picked (cl : List ℕ) (first : List Vertex) (n : ℕ) (r : List ℕ) : Type 0 where
-  pub long : length r ≡ labelCount
+  pub long : length r ≡ 2 * labelCount
   pub done : (i : ℕ) → i < n → getD r i 0 ≡ labelAt cl (i / maxVertices) (vertexAt first (i % maxVertices))
-  pub rest : (i : ℕ) → n ≤ i → getD r i 0 ≡ 0
+  pub rest : (i : ℕ) → n ≤ i → i < 2 * labelCount → getD r i 0 ≡ getD cl i 0
 
 -- each vertex with the code of its class
 pub record Spread (place : List JointClass) (codes : List ℕ) (n : ℕ) (r : List ℕ) : Type 0 where
@@ -62,9 +70,9 @@ vertices-zero zero i = refl
 vertices-zero (suc n) zero = refl
 vertices-zero (suc n) (suc i) = vertices-zero n i
 
-pub merged-start : (cl : List ℕ) (j : ℕ) (first : List Vertex) (place : List JointClass)
-    → length first ≡ 32 → length place ≡ 32 → ((i : ℕ) → vertexAt first i ≡ 0) → Merged cl j 0 0 first place
-merged-start cl j first place a b z = record {
+pub merged-start : (cl : List ℕ) (j kn val : ℕ) (first : List Vertex) (place : List JointClass)
+    → length first ≡ 32 → length place ≡ 32 → ((i : ℕ) → vertexAt first i ≡ 0) → Merged cl j kn val 0 0 first place
+merged-start cl j kn val first place a b z = record {
   first-long = a;
   place-long = b;
   few = omega arith;
@@ -76,7 +84,7 @@ merged-start cl j first place a b z = record {
 }
 
 -- x gets class q
-module _ (cl : List ℕ) (j x n : ℕ) (first : List Vertex) (place : List JointClass) (q : JointClass) (h : x < 32) (s : Merged cl j x n first place) where
+module _ (cl : List ℕ) (j kn val x n : ℕ) (first : List Vertex) (place : List JointClass) (q : JointClass) (h : x < 32) (s : Merged cl j kn val x n first place) where
   new : jointAt (set place x q) x ≡ q .0
   new = ap (λ (z : JointClass). z .0) (getD-set-same place x q (record { 0 = 0 }) (let z = s .place-long in omega arith))
 
@@ -84,7 +92,7 @@ module _ (cl : List ℕ) (j x n : ℕ) (first : List Vertex) (place : List Joint
   old y k = ap (λ (z : JointClass). z .0) (getD-set-other place x y q (record { 0 = 0 }) (λ e. let z : y ≡ x = e in omega arith))
 
   -- q has vertices already
-  pub merged-old : q .0 < n → Alike cl j x (vertexAt first (q .0)) → Merged cl j (x + 1) n first (set place x q)
+  pub merged-old : q .0 < n → Mergeable cl j kn val x (vertexAt first (q .0)) → Merged cl j kn val (x + 1) n first (set place x q)
   merged-old l a = record {
     first-long = s .first-long;
     place-long = length-set place x q ∙ s .place-long;
@@ -97,14 +105,14 @@ module _ (cl : List ℕ) (j x n : ℕ) (first : List Vertex) (place : List Joint
         (λ e. subst (λ (y : ℕ). jointAt (set place x q) y < n) (sym e) (subst (λ (z : ℕ). z < n) (sym new) l))
         (less-or-equal y x (omega arith));
     same = λ y b. ⊎-elim
-        (λ k. subst (λ (z : ℕ). Alike cl j y (vertexAt first z)) (sym (old y k)) (s .same y k))
-        (λ e. subst (λ (y : ℕ). Alike cl j y (vertexAt first (jointAt (set place x q) y))) (sym e)
-        (subst (λ (z : ℕ). Alike cl j x (vertexAt first z)) (sym new) a))
+        (λ k. subst (λ (z : ℕ). Mergeable cl j kn val y (vertexAt first z)) (sym (old y k)) (s .same y k))
+        (λ e. subst (λ (y : ℕ). Mergeable cl j kn val y (vertexAt first (jointAt (set place x q) y))) (sym e)
+        (subst (λ (z : ℕ). Mergeable cl j kn val x (vertexAt first z)) (sym new) a))
         (less-or-equal y x (omega arith));
   }
 
   -- x is the first of a new class
-  pub merged-new : q .0 ≡ n → Merged cl j (x + 1) (n + 1) (set first n (record { 0 = x })) (set place x q)
+  pub merged-new : q .0 ≡ n → Merged cl j kn val (x + 1) (n + 1) (set first n (record { 0 = x })) (set place x q)
   merged-new f = record {
     first-long = length-set first n (record { 0 = x }) ∙ s .first-long;
     place-long = length-set place x q ∙ s .place-long;
@@ -120,10 +128,10 @@ module _ (cl : List ℕ) (j x n : ℕ) (first : List Vertex) (place : List Joint
         (λ e. subst (λ (y : ℕ). jointAt (set place x q) y < n + 1) (sym e) (let w = new in omega arith))
         (less-or-equal y x (omega arith));
     same = λ y b. ⊎-elim
-        (λ k. subst (λ (z : ℕ). Alike cl j y (vertexAt first' z)) (sym (old y k))
-        (subst (λ (z : ℕ). Alike cl j y z) (sym (kept (jointAt place y) (s .within y k))) (s .same y k)))
-        (λ e. subst (λ (y : ℕ). Alike cl j y (vertexAt first' (jointAt (set place x q) y))) (sym e)
-        (subst (λ (z : ℕ). Alike cl j x (vertexAt first' z)) (sym (new ∙ f)) (subst (λ (z : ℕ). Alike cl j x z) (sym here) (λ o l. refl))))
+        (λ k. subst (λ (z : ℕ). Mergeable cl j kn val y (vertexAt first' z)) (sym (old y k))
+        (subst (λ (z : ℕ). Mergeable cl j kn val y z) (sym (kept (jointAt place y) (s .within y k))) (s .same y k)))
+        (λ e. subst (λ (y : ℕ). Mergeable cl j kn val y (vertexAt first' (jointAt (set place x q) y))) (sym e)
+        (subst (λ (z : ℕ). Mergeable cl j kn val x (vertexAt first' z)) (sym (new ∙ f)) (subst (λ (z : ℕ). Mergeable cl j kn val x z) (sym here) ((λ o l. refl), refl))))
         (less-or-equal y x (omega arith));
   }
     where
@@ -152,18 +160,29 @@ module _ (cl : List ℕ) (j x n : ℕ) (first : List Vertex) (place : List Joint
       start-of (no e) = other 0 e ∙ s .start
 
 -- the same as the code says it
-module _ (cl : List ℕ) (j x n : ℕ) (first first' : List Vertex) (place : List JointClass) (n' : ℕ) (q : JointClass) (h : x < 32) (s : Merged cl j x n first place) where
-  pub at-new : q .0 ≡ n → first' ≡ set first n (record { 0 = x }) → n' ≡ n + 1 → Merged cl j (x + 1) n' first' (set place x q)
+module _ (cl : List ℕ) (j kn val x n : ℕ) (first first' : List Vertex) (place : List JointClass) (n' : ℕ) (q : JointClass) (h : x < 32) (s : Merged cl j kn val x n first place) where
+  pub at-new : q .0 ≡ n → first' ≡ set first n (record { 0 = x }) → n' ≡ n + 1 → Merged cl j kn val (x + 1) n' first' (set place x q)
   at-new e a c =
-      subst (λ (z : ℕ). Merged cl j (x + 1) z first' (set place x q)) (sym c)
-      (subst (λ (z : List Vertex). Merged cl j (x + 1) (n + 1) z (set place x q)) (sym a) (merged-new cl j x n first place q h s e))
+      subst (λ (z : ℕ). Merged cl j kn val (x + 1) z first' (set place x q)) (sym c)
+      (subst (λ (z : List Vertex). Merged cl j kn val (x + 1) (n + 1) z (set place x q)) (sym a) (merged-new cl j kn val x n first place q h s e))
 
-  pub at-old : (q .0 ≤ n) × (q .0 < n → Alike cl j x (vertexAt first (q .0))) → (q .0 ≡ n → ⊥) → first' ≡ first → n' ≡ n
-      → Merged cl j (x + 1) n' first' (set place x q)
+  pub at-old : (q .0 ≤ n) × (q .0 < n → Mergeable cl j kn val x (vertexAt first (q .0))) → (q .0 ≡ n → ⊥) → first' ≡ first → n' ≡ n
+      → Merged cl j kn val (x + 1) n' first' (set place x q)
   at-old r ne a c =
       let l : q .0 < n = (let z = r .0 in omega arith) in
-      subst (λ (z : ℕ). Merged cl j (x + 1) z first' (set place x q)) (sym c)
-      (subst (λ (z : List Vertex). Merged cl j (x + 1) n z (set place x q)) (sym a) (merged-old cl j x n first place q h s l (r .1 l)))
+      subst (λ (z : ℕ). Merged cl j kn val (x + 1) z first' (set place x q)) (sym c)
+      (subst (λ (z : List Vertex). Merged cl j kn val (x + 1) n z (set place x q)) (sym a) (merged-old cl j kn val x n first place q h s l (r .1 l)))
+
+pub copied-more : (cl : List ℕ) (i x : ℕ) (r : List ℕ) → i < 512 → x ≡ getD cl i 0 → Copied cl i r → Copied cl (i + 1) (set r i x)
+copied-more cl i x r h e s = record {
+  long = length-set r i x ∙ s .long;
+  same = λ k b. ⊎-elim (λ a. getD-set-other r i k x 0 (λ q. let z : k ≡ i = q in omega arith) ∙ s .same k a)
+      (λ q. subst (λ (k : ℕ). getD (set r i x) k 0 ≡ getD cl k 0) (sym q) (getD-set-same r i x 0 (let z = s .long in omega arith) ∙ e))
+      (less-or-equal k i (omega arith));
+}
+
+pub picked-start : (cl : List ℕ) (first : List Vertex) (r : List ℕ) → Copied cl 512 r → Picked cl first 0 r
+picked-start cl first r s = record { long = s .long; done = λ i h. absurd (omega arith); rest = λ i h k. s .same i k }
 
 pub picked-more : (cl : List ℕ) (first : List Vertex) (i x : ℕ) (r : List ℕ) → i < 256 → x ≡ labelAt cl (i / 32) (vertexAt first (i % 32)) → Picked cl first i r → Picked cl first (i + 1) (set r i x)
 picked-more cl first i x r h e s = record {
@@ -171,7 +190,7 @@ picked-more cl first i x r h e s = record {
   done = λ k b. ⊎-elim (λ a. getD-set-other r i k x 0 (λ q. let z : k ≡ i = q in omega arith) ∙ s .done k a)
       (λ q. subst (λ (k : ℕ). getD (set r i x) k 0 ≡ labelAt cl (k / 32) (vertexAt first (k % 32))) (sym q) (getD-set-same r i x 0 (let z = s .long in omega arith) ∙ e))
       (less-or-equal k i (omega arith));
-  rest = λ k b. getD-set-other r i k x 0 (λ q. let z : k ≡ i = q in omega arith) ∙ s .rest k (omega arith);
+  rest = λ k b c. getD-set-other r i k x 0 (λ q. let z : k ≡ i = q in omega arith) ∙ s .rest k (omega arith) c;
 }
 
 pub spread-more : (place : List JointClass) (codes : List ℕ) (n x : ℕ) (r : List ℕ) → n < 32 → x ≡ item codes (jointAt place n) → Spread place codes n r → Spread place codes (n + 1) (set r n x)
@@ -186,9 +205,9 @@ module _ (cl : List ℕ) (first : List Vertex) (r : List ℕ) (j : ℕ) (outs : 
   pub picked-labels : Labels r
   picked-labels = record { long = p .long; low = λ k h. low k h (decLt k (j * 32)) }
     where
-      low : (k : ℕ) → k < 256 → Dec (k < j * 32) → getD r k 0 < 32
+      low : (k : ℕ) → k < 512 → Dec (k < j * 32) → getD r k 0 < 32
       low k h (yes l) = subst (λ (z : ℕ). z < 32) (sym (p .done k l)) (labels .low (k / 32 * 32 + vertexAt first (k % 32)) (let z = small (k % 32) (omega arith) in omega arith))
-      low k h (no l) = let z = p .rest k (omega arith) in omega arith
+      low k h (no l) = subst (λ (z : ℕ). z < 32) (sym (p .rest k (omega arith) h)) (labels .low k h)
 
   pub picked-at : (o i : ℕ) → o < j → i < 32 → labelAt r o i ≡ labelAt cl o (vertexAt first i)
   picked-at o i h k = p .done (o * 32 + i) (omega arith) ∙ ap (λ (z : ℕ). labelAt cl z (vertexAt first ((o * 32 + i) % 32))) (let e : (o * 32 + i) / 32 ≡ o = omega arith in e) ∙ ap
@@ -196,20 +215,43 @@ module _ (cl : List ℕ) (first : List Vertex) (r : List ℕ) (j : ℕ) (outs : 
 
 -- the answer for the classes is the answer for the vertices
 module _ (cl : List ℕ) (v j n : ℕ) (rows : List ℕ) (first : List Vertex) (place : List JointClass) (r codes codes' : List ℕ) (labels : Labels cl) (few : v ≤ 32) (outs : j ≤ 8)
-    (m : Merged cl j v n first place) (p : Picked cl first (j * 32) r) (s : Spread place codes v codes') where
+    (kn val kn' val' : ℕ) (m : Merged cl j kn val v n first place) (p : Picked cl first (j * 32) r) (dk : Drawn kn first n kn') (dv : Drawn val first n val') (s : Spread place codes v codes') where
   -- the label of class i
   class-label : (o i : ℕ) → o < j → i < n → labelAt r o i ≡ labelAt cl o (vertexAt first i)
   class-label o i h k = picked-at cl first r j outs labels (m .small) p o i h (let z = m .few in omega arith)
 
   vertex-label : (o x : ℕ) → o < j → x < v → labelAt cl o x ≡ labelAt r o (jointAt place x)
-  vertex-label o x h a = m .same x a o h ∙ sym (class-label o (jointAt place x) h (m .within x a))
+  vertex-label o x h a = m .same x a .0 o h ∙ sym (class-label o (jointAt place x) h (m .within x a))
 
-  pub decided-merged : (ok : Bool) → Decided r n j rows ok codes → Decided cl v j rows ok codes'
-  decided-merged true d = record {
-    tells = λ o x y h a b c e. d .tells o (jointAt place x) (jointAt place y) h (m .within x a) (m .within y b)
-        (λ q. c (vertex-label o x h a ∙ q ∙ sym (vertex-label o y h b)))
-        (sym (ap (λ (z : ℕ). bitAnd z (item rows o)) (s .done x a)) ∙ e ∙ ap (λ (z : ℕ). bitAnd z (item rows o)) (s .done y b));
-  }
-  decided-merged false d = λ f c z. d (λ (i : ℕ). f (vertexAt first i))
-      (record { tells = λ o x y h a b k e. c .tells o (vertexAt first x) (vertexAt first y) h (m .low x a) (m .low y b) (λ q. k (class-label o x h a ∙ q ∙ sym (class-label o y h b))) e })
+  -- a class is in the part of its first vertex
+  class-part : (o i : ℕ) → o < j → i < n → partOf r o i ≡ partOf cl o (vertexAt first i)
+  class-part o i h k = p .rest (256 + (o * 32 + labelAt r o i)) (omega arith)
+      (let z = picked-labels cl first r j outs labels (m .small) p .low (o * 32 + i) (let w = m .few in omega arith) in omega arith) ∙ ap (partAt cl o) (class-label o i h k)
+
+  vertex-part : (o x : ℕ) → o < j → x < v → partOf cl o x ≡ partOf r o (jointAt place x)
+  vertex-part o x h a = ap (partAt cl o) (m .same x a .0 o h) ∙ sym (class-part o (jointAt place x) h (m .within x a))
+
+  pub decided-merged : (ok : Bool) → Decided r n j rows kn' val' ok codes → Decided cl v j rows kn val ok codes'
+  decided-merged true d = (
+    record {
+      tells = λ o x y h a b c e. d .0 .tells o (jointAt place x) (jointAt place y) h (m .within x a) (m .within y b)
+          (sym (vertex-part o x h a) ∙ c .0 ∙ vertex-part o y h b, λ q. c .1 (vertex-label o x h a ∙ q ∙ sym (vertex-label o y h b)))
+          (sym (ap (λ (z : ℕ). bitAnd z (item rows o)) (s .done x a)) ∙ e ∙ ap (λ (z : ℕ). bitAnd z (item rows o)) (s .done y b));
+    },
+    fixed,
+  )
+    where
+      fixed : (x : ℕ) → x < v → on kn x ≡ true → on (item codes' x) 0 ≡ on val x
+      fixed x a t =
+          let i = jointAt place x in
+          let l = m .within x a in
+          let e = m .same x a .1 in
+          let k = dk .below i l ∙ sym (known-same kn val x (vertexAt first i) e) ∙ t in
+          ap (λ (z : ℕ). on z 0) (s .done x a) ∙ d .1 i l k ∙ dv .below i l ∙ sym (digit-same kn val x (vertexAt first i) e t)
+  decided-merged false d = λ f c b z. d (λ (i : ℕ). f (vertexAt first i))
+      (record {
+        tells = λ o x y h a b k e. c .tells o (vertexAt first x) (vertexAt first y) h (m .low x a) (m .low y b)
+            (sym (class-part o x h a) ∙ k .0 ∙ class-part o y h b, λ q. k .1 (class-label o x h a ∙ q ∙ sym (class-label o y h b))) e;
+      })
+      (λ i l t. b (vertexAt first i) (m .low i l) (sym (dk .below i l) ∙ t) ∙ sym (dv .below i l))
       (ap f (m .start) ∙ z)

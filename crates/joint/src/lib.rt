@@ -7,22 +7,43 @@ ghost use mathlib.Core.Bool.{Bool, true, false};
 ghost use mathlib.Core.List.{List};
 ghost use Prim.Native.Nat.{ℕ, _+_, _*_, _<_, _≤_};
 ghost use lib.ListN.{length, getD};
-ghost use Rattle.limits.specs.Limits.{searchOutputs, maxVertices};
+ghost use Rattle.limits.specs.Limits.{searchOutputs, maxVertices, labelCount};
 ghost use Rattle.numbering.specs.Given.{Labels, item};
+ghost use Rattle.coding.specs.Limit.{Sure};
 ghost use Rattle.readers.specs.Masks.{Short, Decided};
-ghost use Rattle.joint.specs.Merge.{Alike, Merged, Picked, Spread, vertexAt, jointAt};
-use limits::LABELS;
+ghost use Rattle.joint.specs.Digits.{vertexAt, knownAt, Drawn};
+ghost use Rattle.joint.specs.Merge.{Mergeable, Merged, Copied, Picked, Spread, jointAt};
 use limits::MAX_VERTICES;
 use limits::SEARCH_OUTPUTS;
 use limits::Vertex;
+use numbering::LABELS_AND_PARTS;
 
-// The number of a joint class of the outputs in question: vertices that have the same class for each of them.
+// The number of a joint class of the outputs in question: vertices that have the same class for each of them, and of which the
+// same is known of cell 0.
 pub struct JointClass(pub usize);
 
-// Whether x and y have the same classes for the first j outputs.
-pub fn alike(cl: &[u8], j: usize, x: Vertex, y: Vertex) -> bool
+// What stands for a digit of cell 0 that is not known.
+const UNKNOWN: u8 = 2;
+
+// What is known of cell 0 at x: its digit of val where kn has x.
+fn known_at(kn: u32, val: u32, x: Vertex) -> u8
+    requires { ⌜ x .0 < maxVertices ⌝ }
+    ensures { λ r. ⌜ r ≡ knownAt kn val (x .0) ⌝ }
+{
+    if !cells::in_set(kn as u64, x.0 as u8) {
+        return UNKNOWN;
+    }
+    if cells::in_set(val as u64, x.0 as u8) {
+        1
+    } else {
+        0
+    }
+}
+
+// Whether x and y have the same classes for the first j outputs, and the same is known of cell 0.
+fn alike(cl: &[u8], j: usize, kn: u32, val: u32, x: Vertex, y: Vertex) -> bool
     requires { ⌜ Labels (now cl) × (j ≤ searchOutputs) × (x .0 < maxVertices) × (y .0 < maxVertices) ⌝ }
-    ensures { λ r. ⌜ (r ≡ true → Alike (now (cl .entry)) j (x .0) (y .0)) ⌝ }
+    ensures { λ r. ⌜ (r ≡ true → Mergeable (now (cl .entry)) j kn val (x .0) (y .0)) ⌝ }
 {
     let mut o = 0;
     while o < j {
@@ -33,24 +54,26 @@ pub fn alike(cl: &[u8], j: usize, x: Vertex, y: Vertex) -> bool
         }
         o += 1;
     }
-    true
+    known_at(kn, val, x) == known_at(kn, val, y)
 }
 
 // The class of x: one of the first n, each of which has a first vertex, or the next where it is in none of them.
-pub fn class_of(
+fn class_of(
     cl: &[u8],
     j: usize,
+    kn: u32,
+    val: u32,
     first: [Vertex; MAX_VERTICES],
     n: usize,
     x: Vertex,
 ) -> JointClass
     requires { ⌜ Labels (now cl) × (j ≤ searchOutputs) × (x .0 < maxVertices) × (n ≤ maxVertices) × ((i : ℕ) → i < maxVertices → vertexAt first i < maxVertices) ⌝ }
-    ensures { λ r. ⌜ (r .0 ≤ n) × (r .0 < n → Alike (now (cl .entry)) j (x .0) (vertexAt first (r .0))) ⌝ }
+    ensures { λ r. ⌜ (r .0 ≤ n) × (r .0 < n → Mergeable (now (cl .entry)) j kn val (x .0) (vertexAt first (r .0))) ⌝ }
 {
     let mut i = 0;
     while i < n {
         let y = first[i];
-        if alike(cl, j, x, y) {
+        if alike(cl, j, kn, val, x, y) {
             return JointClass(i);
         }
         i += 1;
@@ -65,16 +88,16 @@ pub struct Classes {
     pub place: [JointClass; MAX_VERTICES],
 }
 
-pub fn merge(cl: &[u8], v: usize, j: usize) -> Classes
+fn merge(cl: &[u8], v: usize, j: usize, kn: u32, val: u32) -> Classes
     requires { ⌜ Labels (now cl) × (v ≤ maxVertices) × (j ≤ searchOutputs) ⌝ }
-    ensures { λ r. ⌜ Merged (now (cl .entry)) j v (r .count) (r .first) (r .place) ⌝ }
+    ensures { λ r. ⌜ Merged (now (cl .entry)) j kn val v (r .count) (r .first) (r .place) ⌝ }
 {
     let mut first = [Vertex(0); MAX_VERTICES];
     let mut place = [JointClass(0); MAX_VERTICES];
     let mut n: usize = 0;
     let mut x: usize = 0;
     while x < v {
-        let q = class_of(cl, j, first, n, Vertex(x));
+        let q = class_of(cl, j, kn, val, first, n, Vertex(x));
         place[x] = q;
         if q.0 == n {
             first[n] = Vertex(x);
@@ -89,12 +112,26 @@ pub fn merge(cl: &[u8], v: usize, j: usize) -> Classes
     }
 }
 
-// The labels of the classes, for the first j outputs.
-pub fn relabel(cl: &[u8], first: [Vertex; MAX_VERTICES], j: usize) -> [u8; LABELS]
+// The labels and parts as they are.
+fn copied(cl: &[u8]) -> [u8; LABELS_AND_PARTS]
+    requires { ⌜ Labels (now cl) ⌝ }
+    ensures { λ r. ⌜ Copied (now (cl .entry)) (2 * labelCount) r ⌝ }
+{
+    let mut r = [0u8; LABELS_AND_PARTS];
+    let mut i = 0;
+    while i < LABELS_AND_PARTS {
+        r[i] = cl[i];
+        i += 1;
+    }
+    r
+}
+
+// The labels of the classes, for the first j outputs, and the parts as they are.
+fn relabel(cl: &[u8], first: [Vertex; MAX_VERTICES], j: usize) -> [u8; LABELS_AND_PARTS]
     requires { ⌜ Labels (now cl) × (j ≤ searchOutputs) × ((i : ℕ) → i < maxVertices → vertexAt first i < maxVertices) ⌝ }
     ensures { λ r. ⌜ Picked (now (cl .entry)) first (j * maxVertices) r ⌝ }
 {
-    let mut r = [0u8; LABELS];
+    let mut r = copied(cl);
     let end = j * MAX_VERTICES;
     let mut i = 0;
     while i < end {
@@ -105,8 +142,28 @@ pub fn relabel(cl: &[u8], first: [Vertex; MAX_VERTICES], j: usize) -> [u8; LABEL
     r
 }
 
+// The digits of s at the first vertices of the first n classes.
+fn drawn(s: u32, first: [Vertex; MAX_VERTICES], n: usize) -> u32
+    requires { ⌜ (n ≤ maxVertices) × ((i : ℕ) → i < maxVertices → vertexAt first i < maxVertices) ⌝ }
+    ensures { λ r. ⌜ Drawn s first n r ⌝ }
+{
+    if s == 0 {
+        return 0;
+    }
+    let mut r: u64 = 0;
+    let mut i = 0;
+    while i < n {
+        let x = first[i];
+        if cells::in_set(s as u64, x.0 as u8) {
+            r = cells::with(r, i as u8);
+        }
+        i += 1;
+    }
+    r as u32
+}
+
 // Each vertex with the code of its class.
-pub fn expand(
+fn expand(
     codes: [u8; MAX_VERTICES],
     place: [JointClass; MAX_VERTICES],
     v: usize,
@@ -125,21 +182,33 @@ pub fn expand(
     r
 }
 
-// Codes for v vertices that tell the classes of the first j outputs apart, each reading its row of cells.
-pub fn codes_for(cl: &[u8], v: usize, j: usize, rows: [u8; SEARCH_OUTPUTS]) -> coding::Search
+// Codes for v vertices that tell the classes of each part of the first j outputs apart, each reading its row of cells, and that
+// have the known digits of cell 0: it is known at the vertices of kn, and val has its digits there.
+pub fn codes_for(
+    cl: &[u8],
+    v: usize,
+    j: usize,
+    rows: [u8; SEARCH_OUTPUTS],
+    kn: u32,
+    val: u32,
+    limit: u64,
+) -> coding::Search
     requires { ⌜ Labels (now cl) × (v ≤ maxVertices) × (j ≤ searchOutputs) × Short rows j ⌝ }
-    ensures { λ r. ⌜ Decided (now (cl .entry)) v j rows (r .ok) (r .codes) ⌝ }
+    ensures { λ r. ⌜ Sure limit (r .unsure) (Decided (now (cl .entry)) v j rows kn val (r .ok) (r .codes)) ⌝ }
 {
-    let m = merge(cl, v, j);
+    let m = merge(cl, v, j, kn, val);
     let n = m.count;
     let first = m.first;
     let place = m.place;
     let labels = relabel(cl, first, j);
-    let c = readers::codes_for(&labels, n, j, rows);
+    let known = drawn(kn, first, n);
+    let digits = drawn(val, first, n);
+    let c = readers::codes_for(&labels, n, j, rows, known, digits, limit);
     let small = c.codes;
     let codes = expand(small, place, v);
     coding::Search {
         ok: c.ok,
+        unsure: c.unsure,
         codes,
         nodes: c.nodes,
     }

@@ -20,7 +20,7 @@ use Rattle.bits.specs.DigitLaws.{on-and, on-or, on-zero}
 use Rattle.cells.specs.Lists.{zeros, zeros-are, less-or-equal, never-both, false-where}
 use Rattle.numbering.specs.Given.{item, Blocks}
 use Rattle.coding.specs.Exchange.{Uniform}
-use Rattle.coding.specs.Values.{Groups, Over, Marked, Valued}
+use Rattle.coding.specs.Values.{Groups, Over, Alone, Marked, Valued}
 use Rattle.readers.specs.Masks.{Start}
 
 -- ======== definitions
@@ -114,17 +114,18 @@ module _ (rows gs : List ℕ) (sh j done n g c : ℕ) (h : n < 3) (low : sh < 64
           ap (λ (z : ℕ). on z i) (there l b) ∙ s .groups .disjoint k l i p q ne (sym (ap (λ (z : ℕ). on z i) (there k a)) ∙ t)
 
 -- vertex 0 has code 0: its values are in use
-pub start-valued : (ms gs gb used codes dom : List ℕ) (sh all j v done : ℕ) → v ≤ 32
+pub start-valued : (ms gs gb used codes dom : List ℕ) (sh all j v kn val done : ℕ) → v ≤ 32
     → ((o : ℕ) → o < j → item ms o < 64) → ((o i : ℕ) → o < j → on (item ms o) i ≡ true → on sh i ≡ true) → Over sh all
-    → Blocks gs gb 3 → Grouping ms gs sh j done → Start codes dom → Marked gs (0 ∷ 0 ∷ 0 ∷ []) 0 3 used
-    → Valued ms gb all j codes v used
-start-valued ms gs gb used codes dom sh all j v done few short masked over b g s m = record {
+    → Blocks gs gb 3 → Grouping ms gs sh j done → ((x : ℕ) → on kn x ≡ true → Alone gs sh) → Start kn val codes dom → Marked gs (0 ∷ 0 ∷ 0 ∷ []) 0 3 used
+    → Valued ms gb all j kn codes v used
+start-valued ms gs gb used codes dom sh all j v kn val done few short masked over b g alone s m = record {
   gs = gs;
   sh = sh;
   over = over;
   blocks = b;
   groups = g .groups;
   alike = record { short = short; masked = masked; uniform = g .uniform };
+  alone = λ x h. alone x;
   values = record {
     marks = record { long = m .long; closed = λ k h. closed k h };
     has = λ k y h l t. has k y h l t (ℕ-discrete y 0);

@@ -1,7 +1,7 @@
 -- The cells that two outputs read, and each output's cells split by them: the facts that the search for codes and the
 -- writing of private cells ask for. Assumes nothing.
 use Rattle.limits.specs.Limits.{searchOutputs, maxVertices, maxCodes, maxCells}
-use Rattle.cells.specs.Lists.{zeros, and-off}
+use Rattle.cells.specs.Lists.{zeros, and-off, All, Pairs, count, less-or-equal, never-both, false-where}
 use mathlib.Core.Path.{_≡_, refl, sym, ap, ap₂, _∙_, subst}
 use mathlib.Core.Bool.{Bool, true, false, not}
 use mathlib.Core.List.{List, _∷_}
@@ -16,15 +16,15 @@ use Rattle.bits.specs.Logic.{andb, orb}
 use Rattle.bits.specs.LogicLaws.{true-false, and-left, and-right}
 use Rattle.bits.specs.Digit.{on}
 use Rattle.bits.specs.DigitLaws.{on-and, on-or, on-ones, on-above, on-complement}
-use Rattle.cells.specs.Core.{Differ}
-use Rattle.cells.specs.Lists.{All, Pairs, count, less-or-equal, never-both, false-where}
+use Rattle.cells.specs.Cut.{Within}
 use Rattle.cells.specs.Pigeon.{agree-and, and-agree}
 use Rattle.cells.specs.Codes.{Coded}
 use Rattle.cells.specs.Shared.{Split, sharedCode, crowd-bound, places-bound}
-use Rattle.numbering.specs.Given.{noCode, labelAt, item, Block, Blocks, Plan, Solves, Kept, Parted}
+use Rattle.numbering.specs.Given.{noCode, labelAt, partAt, item, Block, Blocks, Plan, Solves, Kept, Parted, Fixed}
+use Rattle.coding.specs.Known.{Fitting}
 use Rattle.coding.specs.Values.{Agrees}
 use Rattle.coding.specs.Tried.{Covers}
-use Rattle.holding.specs.Blocks.{Table, copies, copies-are, all-ones}
+use Rattle.holding.specs.Blocks.{Table, copies, copies-are}
 
 -- ======== definitions
 -- each output reads cells below 6
@@ -139,7 +139,7 @@ module _ (rows : List ℕ) (sh j : ℕ) (ms ps caps spots : List ℕ) (short : S
   shared-low o h = let e = p .shared o h in let w = and-le-l (item rows o) sh in let z = short o h in omega arith
 
   -- a private cell is read by its output and is not shared
-  private-read : (o i : ℕ) → o < j → on (item ps o) i ≡ true → (on (item rows o) i ≡ true) × (on sh i ≡ false)
+  pub private-read : (o i : ℕ) → o < j → on (item ps o) i ≡ true → (on (item rows o) i ≡ true) × (on sh i ≡ false)
   private-read o i h e = go (on (item rows o) i) (on sh i) (sym (private-on o i h (digit-low (item ps o) i (private-low o h) e)) ∙ e)
     where
       go : (a b : Bool) → andb a (not b) ≡ true → (a ≡ true) × (b ≡ false)
@@ -180,57 +180,57 @@ module _ (rows : List ℕ) (sh j : ℕ) (ms ps caps spots : List ℕ) (short : S
           (ap₂ orb (on-above 6 (item ms o) i (shared-low o h) (omega arith)) (on-above 6 (item ps o) i (private-low o h) (omega arith)))
 
   -- codes that part by shared and private cells part by what is read
-  pub coded-of : (cl : List ℕ) (v : ℕ) (r : List ℕ) → Parted cl ms ps v j r → Coded v j (Differ (labelAt cl)) (item rows) (item r)
+  pub coded-of : (cl : List ℕ) (v : ℕ) (r : List ℕ) → Parted cl ms ps v j r → Coded v j (Within (partAt cl) (labelAt cl)) (item rows) (item r)
   coded-of cl v r t = record {
-    tells = λ o x y h a b d e. d (t .parted o x y h a b
-        (agree-and 6 (item ms o) (item r x) (item r y) (shared-low o h)
-        (λ i l m. and-agree 6 (item rows o) (item r x) (item r y) e i l (and-left (on (item rows o) i) (on sh i) (sym (shared-on o i h) ∙ m))))
+    tells = λ o x y h a b d e. d .1 (t .parted o x y h a b (d .0)
+        (agree-and 6 (item ms o) (item r x) (item r y) (shared-low o h) (λ i l m. and-agree 6 (item rows o) (item r x) (item r y) e i l
+        (and-left (on (item rows o) i) (on sh i) (sym (shared-on o i h) ∙ m))))
         (agree-and 6 (item ps o) (item r x) (item r y) (private-low o h) (λ i l m. and-agree 6 (item rows o) (item r x) (item r y) e i l (private-read o i h m .0))));
   }
 
   -- a core gives codes over the shared cells; what base promises is asked
-  pub solves-of : (cl base : List ℕ) (v : ℕ) (f : ℕ → ℕ) → Coded v j (Differ (labelAt cl)) (item rows) f
+  pub solves-of : (cl base : List ℕ) (v : ℕ) (f : ℕ → ℕ) → Coded v j (Within (partAt cl) (labelAt cl)) (item rows) f
       → ((o l : ℕ) → o < j → l < 32 → (xs : List ℕ) × All (λ (x : ℕ). (x < v) × (labelAt cl o x ≡ l)) xs × Pairs
-      (λ (x y : ℕ). bitAnd (sharedCode sh f x) (item ms o) ≡ bitAnd (sharedCode sh f y) (item ms o) → ⊥) xs × (labelAt base o l ≤ length xs))
-      → Solves cl base ms caps spots v j (sharedCode sh f)
+      (λ (x y : ℕ). bitAnd (sharedCode sh f x) (item ms o) ≡ bitAnd (sharedCode sh f y) (item ms o) → ⊥) xs × (labelAt base o l ≤ length xs)) → Solves cl base ms caps spots v j (sharedCode sh f)
   solves-of cl base v f k need = record {
     fits = record {
-      crowd = λ o b xs h a q. subst (λ (z : ℕ). length xs ≤ z) (sym (p .caps-are o h)) (crowd-bound v j 6 (labelAt cl) (item rows) (item ms) (item ps) sh split-of f k o b xs h a q);
-      places = λ o xs h a q. subst (λ (z : ℕ). length xs ≤ z) (sym (p .spots-are o h)) (places-bound v j 6 (labelAt cl) (item rows) (item ms) (item ps) sh split-of f k o xs h a q);
+      crowd = λ o t b xs h a q. subst (λ (z : ℕ). length xs ≤ z) (sym (p .caps-are o h)) (crowd-bound v j 6 (partAt cl) (labelAt cl) (item rows) (item ms) (item ps) sh split-of f k o t b xs h a q);
+      places = λ o t xs h a q. subst (λ (z : ℕ). length xs ≤ z) (sym (p .spots-are o h)) (places-bound v j 6 (partAt cl) (labelAt cl) (item rows) (item ms) (item ps) sh split-of f k o t xs h a q);
       needs = need;
     };
     small = λ x h. let z = and-le-r (f x) sh in let w = c .low in omega arith;
   }
 
 -- ======== where the search starts
--- vertex 0 has code 0, no other has a code, and any code may be taken
-pub record Start (codes dom : List ℕ) : Type 0 where
+-- vertex 0 has code 0, no other has a code, and any code with the known digit of cell 0 may be taken
+pub record Start (kn val : ℕ) (codes dom : List ℕ) : Type 0 where
   pub first : item codes 0 ≡ 0
   pub others : (x : ℕ) → x < maxVertices → (x ≡ 0 → ⊥) → item codes x ≡ noCode
-  pub any : (x : ℕ) → x < maxVertices → item dom x ≡ 2 ^ 64 - 1
+  pub any : (x : ℕ) → x < maxVertices → Fitting kn val x (item dom x)
 
-pub start-of : Start (0 ∷ copies 31 64) (copies 32 (2 ^ 64 - 1))
-start-of = record { first = refl; others = others; any = λ x h. all-ones 32 x h }
+pub start-of : (kn val : ℕ) (dom : List ℕ) → ((x : ℕ) → x < 32 → Fitting kn val x (item dom x)) → Start kn val (0 ∷ copies 31 64) dom
+start-of kn val dom any = record { first = refl; others = others; any = any }
   where
     others : (x : ℕ) → x < 32 → (x ≡ 0 → ⊥) → item (0 ∷ copies 31 64) x ≡ 64
     others zero h ne = absurd (ne refl)
     others (suc x) h ne = copies-are 31 64 x (omega arith)
 
-pub start-agrees : (sh : ℕ) (codes dom : List ℕ) (v : ℕ) (f : ℕ → ℕ) → v ≤ 32 → f 0 ≡ 0 → Start codes dom → Agrees codes v (sharedCode sh f)
-start-agrees sh codes dom v f few z s x h l = go (ℕ-discrete x 0)
+pub start-agrees : (sh kn val : ℕ) (codes dom : List ℕ) (v : ℕ) (f : ℕ → ℕ) → v ≤ 32 → f 0 ≡ 0 → Start kn val codes dom → Agrees codes v (sharedCode sh f)
+start-agrees sh kn val codes dom v f few z s x h l = go (ℕ-discrete x 0)
   where
     go : Dec (x ≡ 0) → sharedCode sh f x ≡ item codes x
     go (yes e) = ap (λ (y : ℕ). bitAnd (f y) sh) e ∙ ap (λ (y : ℕ). bitAnd y sh) z ∙ (let w = and-le-l 0 sh in let r : bitAnd 0 sh ≡ 0 = omega arith in r) ∙ sym (s .first) ∙ ap (item codes) (sym e)
     go (no ne) = absurd (let e = s .others x (omega arith) ne in omega arith)
 
-pub start-covers : (cl base ms caps spots : List ℕ) (v j : ℕ) (codes dom d : List ℕ) → v ≤ 32 → Start codes dom → Kept cl base ms caps spots v j codes dom d → Covers cl base ms caps spots v j codes d
-start-covers cl base ms caps spots v j codes dom d few s k = record
-    { covers = λ g f a. k .keeps g f (record { coded = a; within = λ x h. ap (λ (z : ℕ). on z (g x)) (s .any x (omega arith)) ∙ on-ones 64 (g x) (f .small x h) }) .within }
+pub start-covers : (cl base ms caps spots : List ℕ) (v j kn val : ℕ) (codes dom d : List ℕ) → v ≤ 32 → Start kn val codes dom → Kept cl base ms caps spots v j codes dom d
+    → Covers cl base ms caps spots v j kn val codes d
+start-covers cl base ms caps spots v j kn val codes dom d few s k = record
+    { covers = λ g f a b. k .keeps g f (record { coded = a; within = λ x h. s .any x (omega arith) .all (g x) (f .small x h) (b x h) }) .within }
 
--- the answer: codes that tell the classes apart, or none with code 0 at vertex 0
-abbrev pub Decided : List ℕ → ℕ → ℕ → List ℕ → Bool → List ℕ → Type 0
-Decided cl v j rows true r = Coded v j (Differ (labelAt cl)) (item rows) (item r)
-Decided cl v j rows false r = (f : ℕ → ℕ) → Coded v j (Differ (labelAt cl)) (item rows) f → f 0 ≡ 0 → ⊥
+-- the answer: codes that tell the classes apart and have the known digits of cell 0, or there are none with code 0 at vertex 0
+abbrev pub Decided : List ℕ → ℕ → ℕ → List ℕ → ℕ → ℕ → Bool → List ℕ → Type 0
+Decided cl v j rows kn val true r = Coded v j (Within (partAt cl) (labelAt cl)) (item rows) (item r) × Fixed kn val v (item r)
+Decided cl v j rows kn val false r = (f : ℕ → ℕ) → Coded v j (Within (partAt cl) (labelAt cl)) (item rows) f → Fixed kn val v f → f 0 ≡ 0 → ⊥
 
 pub blocks-of : (ms bs : List ℕ) (j : ℕ) → Table ms (j * 64) bs → Blocks ms bs j
 blocks-of ms bs j t = record {
@@ -241,6 +241,6 @@ blocks-of ms bs j t = record {
 
 -- what base promises of every core
 pub record Bounds (cl base : List ℕ) (rows : List ℕ) (sh : ℕ) (ms : List ℕ) (v j : ℕ) : Type 0 where
-  pub needs : (f : ℕ → ℕ) → Coded v j (Differ (labelAt cl)) (item rows) f → (o l : ℕ) → o < j → l < maxVertices
+  pub needs : (f : ℕ → ℕ) → Coded v j (Within (partAt cl) (labelAt cl)) (item rows) f → (o l : ℕ) → o < j → l < 32
       → (xs : List ℕ) × All (λ (x : ℕ). (x < v) × (labelAt cl o x ≡ l)) xs × Pairs (λ (x y : ℕ). bitAnd (sharedCode sh f x) (item ms o) ≡ bitAnd (sharedCode sh f y) (item ms o) → ⊥) xs ×
       (labelAt base o l ≤ length xs)

@@ -1,4 +1,4 @@
--- The reasons of the crate bounds hold for every core that tells apart: vertices of class l of o in different classes of q
+-- The reasons of the crate bounds hold for every core that tells apart: vertices of class l of o in different classes of one part of q
 -- have different codes in what q reads; those with one block of o differ in the cells that q reads and o does not, and are
 -- at most 2 to the number of these. So the blocks are at least the classes of q divided by that. Assumes nothing.
 use mathlib.Core.Path.{_≡_, refl, sym, ap, ap₂, _∙_, subst}
@@ -16,12 +16,12 @@ use Rattle.bits.specs.Logic.{andb}
 use Rattle.bits.specs.LogicLaws.{and-left, and-right}
 use Rattle.bits.specs.Digit.{on}
 use Rattle.bits.specs.DigitLaws.{on-and, on-complement}
-use Rattle.cells.specs.Core.{Differ}
-use Rattle.cells.specs.Lists.{All, Pairs, count, pairs-map, and-on}
+use Rattle.cells.specs.Cut.{Within}
+use Rattle.cells.specs.Lists.{All, Pairs, count, all-map, pairs-map, and-on}
 use Rattle.cells.specs.Pigeon.{Agree, agree-and, and-agree, pigeon, buckets}
 use Rattle.cells.specs.Codes.{Coded}
 use Rattle.cells.specs.Shared.{sharedCode}
-use Rattle.numbering.specs.Given.{labelAt, item}
+use Rattle.numbering.specs.Given.{labelAt, partAt, partOf, item}
 use Rattle.bounds.specs.Reasons.{Kinds, apart, Reason, Based}
 use Rattle.readers.specs.Masks.{Short, Common, Planned, Bounds}
 
@@ -34,7 +34,7 @@ enough n p g z a b = elim (decLt (n - 1) z) as (λ _. n ≤ z) [
 ]
 
 module _ (cl rows : List ℕ) (sh v j : ℕ) (ms ps caps spots : List ℕ) (short : Short rows j) (c : Common rows j sh) (p : Planned rows sh j ms ps caps spots) (f : ℕ → ℕ)
-    (k : Coded v j (Differ (labelAt cl)) (item rows) f) where
+    (k : Coded v j (Within (partAt cl) (labelAt cl)) (item rows) f) where
   -- cells that both read, and cells that only q reads
   abbrev common : ℕ → ℕ → ℕ
   common o q = bitAnd (item rows q) (item rows o)
@@ -49,8 +49,9 @@ module _ (cl rows : List ℕ) (sh v j : ℕ) (ms ps caps spots : List ℕ) (shor
   Blocks o x y = bitAnd (sharedCode sh f x) (item ms o) ≡ bitAnd (sharedCode sh f y) (item ms o) → ⊥
 
   -- the same block of o and the same digits in what only q reads: the same class of q
-  class-same : (o q x y : ℕ) → o < j → q < j → x < v → y < v → bitAnd (f x) (common o q) ≡ bitAnd (f y) (common o q) → Agree 6 (only o q) (f x) (f y) → labelAt cl q x ≡ labelAt cl q y
-  class-same o q x y h i a b e g = go (ℕ-discrete (labelAt cl q x) (labelAt cl q y))
+  class-same : (o q x y : ℕ) → o < j → q < j → x < v → y < v → partOf cl q x ≡ partOf cl q y → bitAnd (f x) (common o q) ≡ bitAnd (f y) (common o q) → Agree 6 (only o q) (f x) (f y)
+      → labelAt cl q x ≡ labelAt cl q y
+  class-same o q x y h i a b t e g = go (ℕ-discrete (labelAt cl q x) (labelAt cl q y))
     where
       digit : (i : ℕ) → i < 6 → on (item rows q) i ≡ true → on (f x) i ≡ on (f y) i
       digit i l m = case (on (item rows o) i) refl
@@ -61,7 +62,7 @@ module _ (cl rows : List ℕ) (sh v j : ℕ) (ms ps caps spots : List ℕ) (shor
 
       go : Dec (labelAt cl q x ≡ labelAt cl q y) → labelAt cl q x ≡ labelAt cl q y
       go (yes d) = d
-      go (no d) = absurd (k .tells q x y i a b d (agree-and 6 (item rows q) (f x) (f y) (short q i) digit))
+      go (no d) = absurd (k .tells q x y i a b (t, d) (agree-and 6 (item rows q) (f x) (f y) (short q i) digit))
 
   -- the same block of o is the same in what both read
   block-same : (o q x y : ℕ) → o < j → q < j → (o ≡ q → ⊥) → bitAnd (sharedCode sh f x) (item ms o) ≡ bitAnd (sharedCode sh f y) (item ms o) → bitAnd (f x) (common o q) ≡ bitAnd (f y) (common o q)
@@ -83,8 +84,17 @@ module _ (cl rows : List ℕ) (sh v j : ℕ) (ms ps caps spots : List ℕ) (shor
       g : ℕ
       g = r .1
 
+      At : ℕ → ℕ → Type 0
+      At p x = (x < v) × (labelAt cl o x ≡ l) × (partOf cl q x ≡ p)
+
       go : Dec (o ≡ q) → Kinds cl v o l q g → (xs : List ℕ) × All (In o l) xs × Pairs (Blocks o) xs × (n ≤ length xs)
-      go (yes e) y = (
+      go (yes e) u = let y : (ys : List ℕ) × All (In o l) ys × Pairs (λ (a b : ℕ). labelAt cl q a ≡ labelAt cl q b → ⊥) ys × (length ys ≡ g) = (
+        u .1,
+        all-map (At (u .0)) (In o l) (u .1)
+            (λ x i. (i .0, i .1)) (u .2),
+        u .3,
+        u .4,
+      ) in (
         y .0,
         y .1,
         pairs-map (In o l) (λ (a b : ℕ). labelAt cl q a ≡ labelAt cl q b → ⊥) (Blocks o) (y .0)
@@ -92,15 +102,15 @@ module _ (cl rows : List ℕ) (sh v j : ℕ) (ms ps caps spots : List ℕ) (shor
         enough n (apart rows o q) g (length (y .0)) (r .4) (let z : length (y .0) * 1 ≤ length (y .0) * apart rows o q = mul-le-mul-left (length (y .0)) (pow-pos (count (on (only o q)) 6)) in
             let w = mul-one (length (y .0)) in let d = y .3 in omega arith),
       )
-      go (no ne) y =
-          let b = buckets (In o l) (λ (a b : ℕ). labelAt cl q a ≡ labelAt cl q b → ⊥) (λ (x : ℕ). bitAnd (f x) (common o q)) (apart rows o q)
-          (λ key xs a s. pigeon f (only o q) 6 xs (pairs-map (λ (x : ℕ). In o l x × (bitAnd (f x) (common o q) ≡ key)) (λ (a b : ℕ). labelAt cl q a ≡ labelAt cl q b → ⊥)
+      go (no ne) u =
+          let b = buckets (At (u .0)) (λ (a b : ℕ). labelAt cl q a ≡ labelAt cl q b → ⊥) (λ (x : ℕ). bitAnd (f x) (common o q)) (apart rows o q)
+          (λ key xs a s. pigeon f (only o q) 6 xs (pairs-map (λ (x : ℕ). At (u .0) x × (bitAnd (f x) (common o q) ≡ key)) (λ (a b : ℕ). labelAt cl q a ≡ labelAt cl q b → ⊥)
           (λ (x y : ℕ). Agree 6 (only o q) (f x) (f y) → ⊥) xs
-          (λ x y m t d w. d (class-same o q x y h (r .2) (m .0 .0) (t .0 .0) (m .1 ∙ sym (t .1)) w)) a s)) (y .0) (y .1) (y .2) in (
+          (λ x y m t d w. d (class-same o q x y h (r .2) (m .0 .0) (t .0 .0) (m .0 .2 ∙ sym (t .0 .2)) (m .1 ∙ sym (t .1)) w)) a s)) (u .1) (u .2) (u .3) in (
             b .0,
-            b .1,
-            pairs-map (In o l) (λ (x y : ℕ). bitAnd (f x) (common o q) ≡ bitAnd (f y) (common o q) → ⊥) (Blocks o) (b .0) (λ x y m t d w. d (block-same o q x y h (r .2) ne w)) (b .1) (b .2),
-            enough n (apart rows o q) g (length (b .0)) (r .4) (let z = b .3 in let w = y .3 in omega arith),
+            all-map (At (u .0)) (In o l) (b .0) (λ x i. (i .0, i .1)) (b .1),
+            pairs-map (At (u .0)) (λ (x y : ℕ). bitAnd (f x) (common o q) ≡ bitAnd (f y) (common o q) → ⊥) (Blocks o) (b .0) (λ x y m t d w. d (block-same o q x y h (r .2) ne w)) (b .1) (b .2),
+            enough n (apart rows o q) g (length (b .0)) (r .4) (let z = b .3 in let w = u .4 in omega arith),
           )
 
 pub bounds-of : (cl rows : List ℕ) (sh v j : ℕ) (ms ps caps spots base : List ℕ) → Short rows j → Common rows j sh

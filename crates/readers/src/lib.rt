@@ -1,6 +1,6 @@
 // Codes for given reading sets: the cells are split into shared and private ones, cells with the same readers are put into
-// groups, and the search for codes is started with code 0 at vertex 0. The answer is right: codes that tell the classes apart,
-// or there are none with code 0 at vertex 0.
+// groups, and the search for codes is started with code 0 at vertex 0. Digits of cell 0 may be known. The answer is right: codes
+// that tell the classes apart and have the known digits, or there are none with code 0 at vertex 0.
 ghost use mathlib.Core.Path.{_≡_};
 ghost use mathlib.Core.Bool.{Bool, true, false};
 ghost use mathlib.Core.List.{List};
@@ -11,15 +11,17 @@ ghost use Rattle.bits.specs.Digit.{on};
 ghost use Rattle.cells.specs.Lists.{count};
 ghost use Rattle.numbering.specs.Given.{Labels, item};
 ghost use Rattle.coding.specs.Exchange.{Uniform};
+ghost use Rattle.coding.specs.Limit.{Sure};
 ghost use lib.Bits.{bitAnd};
 ghost use Rattle.readers.specs.Masks.{Short, Common, Planned, Start, Decided};
 ghost use Rattle.readers.specs.Groups.{Grouping};
+ghost use Rattle.readers.specs.Known.{Public, Zero, Asked, Groupable, Fitted, Digit, Wrote};
 use coding::GROUPS;
 use limits::MAX_VERTICES;
 use limits::SEARCH_OUTPUTS;
 
 // The cells that two of the first j outputs read.
-pub fn shared(rows: [u8; SEARCH_OUTPUTS], j: usize) -> u8
+fn shared(rows: [u8; SEARCH_OUTPUTS], j: usize) -> u8
     requires { ⌜ (j ≤ searchOutputs) × Short rows j ⌝ }
     ensures { λ r. ⌜ Common rows j r ⌝ }
 {
@@ -35,6 +37,83 @@ pub fn shared(rows: [u8; SEARCH_OUTPUTS], j: usize) -> u8
     many & cells::ALL_CELLS
 }
 
+// Cell 0 as a set.
+const CELL_0: u8 = 1;
+
+// The shared cells: those that two of the first j outputs read, and cell 0 where digits of it are known.
+fn searched(rows: [u8; SEARCH_OUTPUTS], j: usize, kn: u32) -> u8
+    requires { ⌜ (j ≤ searchOutputs) × Short rows j ⌝ }
+    ensures { λ r. ⌜ Common rows j r × Public kn r ⌝ }
+{
+    let sh = shared(rows, j);
+    if kn == 0 { sh } else { sh | CELL_0 }
+}
+
+// The cells of sh that may be in a group: cell 0 may not where digits of it are known.
+fn groupable(sh: u8, kn: u32) -> u8
+    requires { ⌜ sh < maxCodes ⌝ }
+    ensures { λ r. ⌜ Groupable sh kn r ⌝ }
+{
+    if kn == 0 { sh } else { sh & !CELL_0 }
+}
+
+// The vertices of kn where some of the first j outputs reads cell 0, else none: digits that no output reads need no search.
+fn asked(rows: [u8; SEARCH_OUTPUTS], j: usize, kn: u32) -> u32
+    requires { ⌜ j ≤ searchOutputs ⌝ }
+    ensures { λ r. ⌜ Asked rows j kn r ⌝ }
+{
+    if kn == 0 {
+        return kn;
+    }
+    let mut o = 0;
+    while o < j {
+        if cells::in_set(rows[o] as u64, 0) {
+            return kn;
+        }
+        o += 1;
+    }
+    0
+}
+
+// Whether vertex 0 is one of the v vertices and its digit of cell 0 is known to be 1.
+fn contrary(v: usize, kn: u32, val: u32) -> bool
+    ensures { λ r. ⌜ (r ≡ true → (0 < v) × (on kn 0 ≡ true) × (on val 0 ≡ true)) × (r ≡ false → Zero kn val v) ⌝ }
+{
+    if v == 0 {
+        return false;
+    }
+    if !cells::in_set(kn as u64, 0) {
+        return false;
+    }
+    cells::in_set(val as u64, 0)
+}
+
+// The code c with the digit d of cell 0 where that is known.
+fn with_digit(c: u8, known: bool, d: bool) -> u8
+    ensures { λ r. ⌜ Digit c known d r ⌝ }
+{
+    if !known {
+        return c;
+    }
+    if d { c | CELL_0 } else { c & !CELL_0 }
+}
+
+// The codes of the first v vertices with the known digits of cell 0.
+fn written(kn: u32, val: u32, v: usize, codes: [u8; MAX_VERTICES]) -> [u8; MAX_VERTICES]
+    requires { ⌜ v ≤ maxVertices ⌝ }
+    ensures { λ r. ⌜ Wrote kn val codes v r ⌝ }
+{
+    let mut r = codes;
+    let mut x = 0;
+    while x < v {
+        let known = cells::in_set(kn as u64, x as u8);
+        let d = cells::in_set(val as u64, x as u8);
+        r[x] = with_digit(r[x], known, d);
+        x += 1;
+    }
+    r
+}
+
 // For each output its shared and its private cells, and 2 to the number of the private ones and of all that it reads.
 pub struct Sets {
     pub ms: [u8; SEARCH_OUTPUTS],
@@ -43,7 +122,7 @@ pub struct Sets {
     pub spots: [u8; SEARCH_OUTPUTS],
 }
 
-pub fn plan(rows: [u8; SEARCH_OUTPUTS], j: usize, sh: u8) -> Sets
+fn plan(rows: [u8; SEARCH_OUTPUTS], j: usize, sh: u8) -> Sets
     requires { ⌜ j ≤ searchOutputs ⌝ }
     ensures { λ r. ⌜ Planned rows sh j (r .ms) (r .ps) (r .caps) (r .spots) ⌝ }
 {
@@ -78,7 +157,7 @@ const LAST_OUTPUT: u8 = 1 << (SEARCH_OUTPUTS - 1);
 const LAST_CELL: u8 = 1 << (limits::MAX_CELLS - 1);
 
 // Which of the first j outputs read cell i, as a set.
-pub fn read_by(rows: [u8; SEARCH_OUTPUTS], j: usize, i: u8) -> u8
+fn read_by(rows: [u8; SEARCH_OUTPUTS], j: usize, i: u8) -> u8
     requires { ⌜ (j ≤ searchOutputs) × (i < maxCells) ⌝ }
 {
     let mut r: u8 = 0;
@@ -94,7 +173,7 @@ pub fn read_by(rows: [u8; SEARCH_OUTPUTS], j: usize, i: u8) -> u8
 }
 
 // The cells with the same readers as cell i.
-pub fn twins(rows: [u8; SEARCH_OUTPUTS], j: usize, i: u8) -> u8
+fn twins(rows: [u8; SEARCH_OUTPUTS], j: usize, i: u8) -> u8
     requires { ⌜ (j ≤ searchOutputs) × (i < maxCells) ⌝ }
 {
     let own = read_by(rows, j, i);
@@ -111,7 +190,7 @@ pub fn twins(rows: [u8; SEARCH_OUTPUTS], j: usize, i: u8) -> u8
 }
 
 // Whether each of the first j outputs reads all cells of g or none.
-pub fn uniform(rows: [u8; SEARCH_OUTPUTS], j: usize, g: u8) -> bool
+fn uniform(rows: [u8; SEARCH_OUTPUTS], j: usize, g: u8) -> bool
     requires { ⌜ j ≤ searchOutputs ⌝ }
     ensures { λ r. ⌜ (r ≡ true → (o : ℕ) → o < j → Uniform (item rows o) g) ⌝ }
 {
@@ -129,7 +208,7 @@ pub fn uniform(rows: [u8; SEARCH_OUTPUTS], j: usize, g: u8) -> bool
 }
 
 // Whether g is a group of two cells or more of which none is in done.
-pub fn useful(rows: [u8; SEARCH_OUTPUTS], j: usize, g: u8, done: u8) -> bool
+fn useful(rows: [u8; SEARCH_OUTPUTS], j: usize, g: u8, done: u8) -> bool
     requires { ⌜ j ≤ searchOutputs ⌝ }
     ensures { λ r. ⌜ (r ≡ true → (bitAnd g done ≡ 0) × ((o : ℕ) → o < j → Uniform (item rows o) g)) ⌝ }
 {
@@ -143,7 +222,7 @@ pub fn useful(rows: [u8; SEARCH_OUTPUTS], j: usize, g: u8, done: u8) -> bool
 }
 
 // The groups of two or more cells of sh with the same readers; the others are empty.
-pub fn groups(rows: [u8; SEARCH_OUTPUTS], j: usize, sh: u8) -> [u8; SEARCH_OUTPUTS]
+fn groups(rows: [u8; SEARCH_OUTPUTS], j: usize, sh: u8) -> [u8; SEARCH_OUTPUTS]
     requires { ⌜ (j ≤ searchOutputs) × (sh < maxCodes) ⌝ }
     ensures { λ r. ⌜ ((done : ℕ) × Grouping rows r sh j done) ⌝ }
 {
@@ -165,28 +244,42 @@ pub fn groups(rows: [u8; SEARCH_OUTPUTS], j: usize, sh: u8) -> [u8; SEARCH_OUTPU
     gs
 }
 
-// Where the search starts: vertex 0 has code 0, and any code may be taken.
+// For each vertex the codes with the known digit of cell 0.
+fn fitting_sets(kn: u32, val: u32) -> [u64; MAX_VERTICES]
+    ensures { λ r. ⌜ Fitted kn val maxVertices r ⌝ }
+{
+    let mut r = [cells::ALL_CODES; MAX_VERTICES];
+    if kn == 0 {
+        return r;
+    }
+    let mut x = 0;
+    while x < MAX_VERTICES {
+        r[x] = coding::fitting(kn, val, x);
+        x += 1;
+    }
+    r
+}
+
+// Where the search starts: vertex 0 has code 0, and any code with the known digit may be taken.
 pub struct State {
     pub codes: [u8; MAX_VERTICES],
     pub dom: [u64; MAX_VERTICES],
 }
 
-pub fn begin() -> State
-    ensures { λ r. ⌜ Start (r .codes) (r .dom) ⌝ }
+fn begin(kn: u32, val: u32) -> State
+    ensures { λ r. ⌜ Start kn val (r .codes) (r .dom) ⌝ }
 {
     let mut codes = [numbering::NO_CODE; MAX_VERTICES];
     codes[0] = 0;
-    State {
-        codes,
-        dom: [cells::ALL_CODES; MAX_VERTICES],
-    }
+    let dom = fitting_sets(kn, val);
+    State { codes, dom }
 }
 
 // Whether each of the first j outputs has as many blocks as its classes cannot do without. Where one has not, there are no
 // codes; where all have, that is still open.
 pub fn possible(cl: &[u8], v: usize, j: usize, rows: [u8; SEARCH_OUTPUTS]) -> bool
     requires { ⌜ Labels (now cl) × (v ≤ maxVertices) × (j ≤ searchOutputs) × Short rows j ⌝ }
-    ensures { λ r. ⌜ (r ≡ false → Decided (now (cl .entry)) v j rows false rows) ⌝ }
+    ensures { λ r. ⌜ (r ≡ false → (kn val : ℕ) → Decided (now (cl .entry)) v j rows kn val false rows) ⌝ }
 {
     let sh = shared(rows, j);
     let p = plan(rows, j, sh);
@@ -194,7 +287,7 @@ pub fn possible(cl: &[u8], v: usize, j: usize, rows: [u8; SEARCH_OUTPUTS]) -> bo
     let base = bounds::bases(cl, v, j, rows);
     let mut o = 0;
     while o < j {
-        let t = holding::total(&base, o, [0u8; MAX_VERTICES]);
+        let t = holding::total(cl, &base, o, &[0u8; MAX_VERTICES]);
         if (spots[o] as usize) < t {
             return false;
         }
@@ -203,12 +296,20 @@ pub fn possible(cl: &[u8], v: usize, j: usize, rows: [u8; SEARCH_OUTPUTS]) -> bo
     true
 }
 
-// Codes for v vertices that tell the classes of the first j outputs apart, each reading its row of cells.
-pub fn codes_for(cl: &[u8], v: usize, j: usize, rows: [u8; SEARCH_OUTPUTS]) -> coding::Search
-    requires { ⌜ Labels (now cl) × (v ≤ maxVertices) × (j ≤ searchOutputs) × Short rows j ⌝ }
-    ensures { λ r. ⌜ Decided (now (cl .entry)) v j rows (r .ok) (r .codes) ⌝ }
+// The codes asked for, where code 0 has the known digit of vertex 0. Cell 0 is shared where digits of it are known.
+fn search(
+    cl: &[u8],
+    v: usize,
+    j: usize,
+    rows: [u8; SEARCH_OUTPUTS],
+    kn: u32,
+    val: u32,
+    limit: u64,
+) -> coding::Search
+    requires { ⌜ Labels (now cl) × (v ≤ maxVertices) × (j ≤ searchOutputs) × Short rows j × Zero kn val v ⌝ }
+    ensures { λ r. ⌜ Sure limit (r .unsure) (Decided (now (cl .entry)) v j rows kn val (r .ok) (r .codes)) ⌝ }
 {
-    let sh = shared(rows, j);
+    let sh = searched(rows, j, kn);
     let p = plan(rows, j, sh);
     let ms = p.ms;
     let ps = p.ps;
@@ -216,13 +317,13 @@ pub fn codes_for(cl: &[u8], v: usize, j: usize, rows: [u8; SEARCH_OUTPUTS]) -> c
     let spots = p.spots;
     let bs = holding::blocks(ms, j);
     let base = bounds::bases(cl, v, j, rows);
-    let b = begin();
+    let b = begin(kn, val);
     let codes = b.codes;
-    let dom = b.dom;
-    let d = coding::settle_all(cl, &base, &bs, ms, caps, spots, v, j, codes, dom, 0);
-    if coding::empty(d, v) {
+    let mut d = b.dom;
+    if !coding::settle_all(cl, &base, &bs, ms, caps, spots, v, j, &codes, &mut d, 0, 0) {
         return coding::Search {
             ok: false,
+            unsure: false,
             codes,
             nodes: 0,
         };
@@ -233,14 +334,17 @@ pub fn codes_for(cl: &[u8], v: usize, j: usize, rows: [u8; SEARCH_OUTPUTS]) -> c
             let written = f.codes;
             return coding::Search {
                 ok: f.ok,
+                unsure: false,
                 codes: written,
                 nodes: 0,
             };
         }
     }
-    let gb = holding::blocks(groups(ms, j, sh), GROUPS);
+    let rest = groupable(sh, kn);
+    let gb = holding::blocks(groups(ms, j, rest), GROUPS);
     let used = coding::mark(&gb, [0u64; GROUPS], 0);
     let all = holding::block(!sh, 0);
+    let met = coding::meet(cl, j, [0u64; SEARCH_OUTPUTS], 0);
     coding::find(
         cl,
         &base,
@@ -253,8 +357,50 @@ pub fn codes_for(cl: &[u8], v: usize, j: usize, rows: [u8; SEARCH_OUTPUTS]) -> c
         spots,
         v,
         j,
+        kn,
+        val,
         codes,
         d,
         used,
+        met,
+        limit,
+        0,
     )
+}
+
+// Codes for v vertices that tell the classes of each part of the first j outputs apart, each reading its row of cells, and that
+// have the known digits of cell 0: it is known at the vertices of kn, and val has its digits there.
+pub fn codes_for(
+    cl: &[u8],
+    v: usize,
+    j: usize,
+    rows: [u8; SEARCH_OUTPUTS],
+    kn: u32,
+    val: u32,
+    limit: u64,
+) -> coding::Search
+    requires { ⌜ Labels (now cl) × (v ≤ maxVertices) × (j ≤ searchOutputs) × Short rows j ⌝ }
+    ensures { λ r. ⌜ Sure limit (r .unsure) (Decided (now (cl .entry)) v j rows kn val (r .ok) (r .codes)) ⌝ }
+{
+    let k = asked(rows, j, kn);
+    if contrary(v, k, val) {
+        return coding::Search {
+            ok: false,
+            unsure: false,
+            codes: [0u8; MAX_VERTICES],
+            nodes: 0,
+        };
+    }
+    let s = search(cl, v, j, rows, k, val, limit);
+    if k == kn {
+        return s;
+    }
+    let found = s.codes;
+    let codes = written(kn, val, v, found);
+    coding::Search {
+        ok: s.ok,
+        unsure: s.unsure,
+        codes,
+        nodes: s.nodes,
+    }
 }

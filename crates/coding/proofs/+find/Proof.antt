@@ -1,13 +1,15 @@
-use mathlib.Core.Path.{_≡_, refl, sym, ap, _∙_, subst}
-use mathlib.Core.Bool.{Bool, true, false}
-use Prim.Native.Nat.{ℕ, _<_, _≤_, _+_, _-_, _*_}
-use native.Mathlib.Omega.{arith}
-use lib.ListN.{length, getD, set}
-use borrow.Author.Tests.{not-true, not-false}
-use Rattle.numbering.specs.Given.{item}
-use Rattle.holding.specs.Search.{uncoded, uncoded-less, told-found, told-lost, empty-hopeless}
-use Rattle.coding.specs.Values.{Valued, valued-more}
 use Rattle.coding.specs.Tried.{Covers, Trying, covers-more, trying-start, trying-more, trying-end}
+use Rattle.coding.specs.Values.{Valued, valued-more, knows-more}
+use Rattle.holding.specs.Search.{uncoded, uncoded-less, told-found, told-lost}
+use Rattle.holding.specs.Narrow.{kept-start}
+use Rattle.numbering.specs.Given.{item}
+use Rattle.bits.specs.LogicLaws.{true-false}
+use borrow.Author.Tests.{not-true, not-false}
+use lib.ListN.{length, getD, set, length-set}
+use native.Mathlib.Omega.{arith}
+use Prim.Native.Nat.{ℕ, _<_, _≤_, _+_, _-_, _*_}
+use mathlib.Core.Bool.{Bool, true, false}
+use mathlib.Core.Path.{_≡_, refl, sym, _∙_}
 use borrow.Author.Needs.{needs}
 use Prim.Native.Nat.{ℕ, _<_}
 use borrow.Fn.Kinds.{In}
@@ -18,17 +20,19 @@ use Rattle.coding.proofs.+find.Lts-find as find-lts
 use Rattle.cells.proofs.lowest.Reads as lowest-reads
 use Rattle.cells.proofs.without.Reads as without-reads
 use Rattle.coding.proofs.allowed.Reads as allowed-reads
-use Rattle.coding.proofs.empty.Reads as empty-reads
+use Rattle.coding.proofs.fitting.Reads as fitting-reads
 use Rattle.coding.proofs.mark.Reads as mark-reads
+use Rattle.coding.proofs.meet.Reads as meet-reads
 use Rattle.coding.proofs.pick.Reads as pick-reads
 use Rattle.coding.proofs.settle_all.Reads as settle-all-reads
+use Rattle.coding.proofs.spent.Reads as spent-reads
 use Rattle.numbering.proofs.finish.Reads as finish-reads
 use Rattle.std.proofs.num.wrapping_add_u64.Reads as wrapping-add-u64-reads
 use Rattle.coding.proofs.+find.{statement}
 use Rattle.coding.proofs.+find.Tie.{close}
 
 abbrev μ-find : Measures 4 find-kinds.ps ℕ
-μ-find κs a = uncoded (a .1 .1 .1 .1 .1 .1 .1 .1 .1 .1 .1 .0) (a .1 .1 .1 .1 .1 .1 .1 .1 .1 .0)
+μ-find κs a = uncoded (a .1 .1 .1 .1 .1 .1 .1 .1 .1 .1 .1 .1 .1 .0) (a .1 .1 .1 .1 .1 .1 .1 .1 .1 .0)
 
 abbrev find-at : ℕ → In 4 find-kinds.ps
 find-at t = and 4 find-kinds.ps (is 4 find-kinds.ps μ-find t) find.Pre
@@ -37,13 +41,13 @@ abbrev find-below : ℕ → In 4 find-kinds.ps
 find-below t = and 4 find-kinds.ps (falls 4 find-kinds.ps _<_ μ-find t) find.Pre
 
 abbrev find-Inv-loop : find-lts.InvT-loop
-find-Inv-loop cl base bs gb all ms ps caps spots v j codes used dom can x nodes₀ left₀ nodes left =
-    (length codes ≡ 32) × (x < v) × (64 ≤ item codes x) × Trying cl base ms caps spots v j codes dom x can left
+find-Inv-loop cl base bs gb all ms ps caps spots v j kn val used limit nodes codes dom met can x fit total₀ left₀ total left =
+    (length codes ≡ 32) × (x < v) × (64 ≤ item codes x) × Trying cl base ms caps spots v j kn val codes dom x can left
 
 abbrev find-μ-loop : find-lts.MeasureT-loop
-find-μ-loop cl base bs gb all ms ps caps spots v j codes used dom can x nodes₀ left₀ nodes left = left
+find-μ-loop cl base bs gb all ms ps caps spots v j kn val used limit nodes codes dom met can x fit total₀ left₀ total left =
+    left
 
--- src/lib.rt:158:9
 find-allowed-requires : (t : ℕ) → find-lts.Need-allowed-requires (
   allowed-reads.Asked,
   allowed-reads.Learnt,
@@ -51,6 +55,10 @@ find-allowed-requires : (t : ℕ) → find-lts.Need-allowed-requires (
   pick-reads.Learnt,
   finish-reads.Asked,
   finish-reads.Learnt,
+  fitting-reads.Asked,
+  fitting-reads.Learnt,
+  spent-reads.Asked,
+  spent-reads.Learnt,
   lowest-reads.Asked,
   lowest-reads.Learnt,
   without-reads.Asked,
@@ -59,16 +67,99 @@ find-allowed-requires : (t : ℕ) → find-lts.Need-allowed-requires (
   wrapping-add-u64-reads.Learnt,
   settle-all-reads.Asked,
   settle-all-reads.Learnt,
-  empty-reads.Asked,
-  empty-reads.Learnt,
   mark-reads.Asked,
   mark-reads.Learnt,
+  meet-reads.Asked,
+  meet-reads.Learnt,
   find-below t,
   find.Post,
 ) (find-at t) find.Post find-Inv-loop find-μ-loop
 find-allowed-requires t c κs = c .before .before .before .before .pre .1 .6 .blocks .long
 
--- src/lib.rt:159:9
+find-slice-aggregate-pick : (t : ℕ) → find-lts.Need-slice-aggregate-pick (
+  allowed-reads.Asked,
+  allowed-reads.Learnt,
+  pick-reads.Asked,
+  pick-reads.Learnt,
+  finish-reads.Asked,
+  finish-reads.Learnt,
+  fitting-reads.Asked,
+  fitting-reads.Learnt,
+  spent-reads.Asked,
+  spent-reads.Learnt,
+  lowest-reads.Asked,
+  lowest-reads.Learnt,
+  without-reads.Asked,
+  without-reads.Learnt,
+  wrapping-add-u64-reads.Asked,
+  wrapping-add-u64-reads.Learnt,
+  settle-all-reads.Asked,
+  settle-all-reads.Learnt,
+  mark-reads.Asked,
+  mark-reads.Learnt,
+  meet-reads.Asked,
+  meet-reads.Learnt,
+  find-below t,
+  find.Post,
+) (find-at t) find.Post find-Inv-loop find-μ-loop
+find-slice-aggregate-pick t c = search needs
+
+find-slice-aggregate-pick-2 : (t : ℕ) → find-lts.Need-slice-aggregate-pick-2 (
+  allowed-reads.Asked,
+  allowed-reads.Learnt,
+  pick-reads.Asked,
+  pick-reads.Learnt,
+  finish-reads.Asked,
+  finish-reads.Learnt,
+  fitting-reads.Asked,
+  fitting-reads.Learnt,
+  spent-reads.Asked,
+  spent-reads.Learnt,
+  lowest-reads.Asked,
+  lowest-reads.Learnt,
+  without-reads.Asked,
+  without-reads.Learnt,
+  wrapping-add-u64-reads.Asked,
+  wrapping-add-u64-reads.Learnt,
+  settle-all-reads.Asked,
+  settle-all-reads.Learnt,
+  mark-reads.Asked,
+  mark-reads.Learnt,
+  meet-reads.Asked,
+  meet-reads.Learnt,
+  find-below t,
+  find.Post,
+) (find-at t) find.Post find-Inv-loop find-μ-loop
+find-slice-aggregate-pick-2 t c = search needs
+
+find-slice-aggregate-pick-3 : (t : ℕ) → find-lts.Need-slice-aggregate-pick-3 (
+  allowed-reads.Asked,
+  allowed-reads.Learnt,
+  pick-reads.Asked,
+  pick-reads.Learnt,
+  finish-reads.Asked,
+  finish-reads.Learnt,
+  fitting-reads.Asked,
+  fitting-reads.Learnt,
+  spent-reads.Asked,
+  spent-reads.Learnt,
+  lowest-reads.Asked,
+  lowest-reads.Learnt,
+  without-reads.Asked,
+  without-reads.Learnt,
+  wrapping-add-u64-reads.Asked,
+  wrapping-add-u64-reads.Learnt,
+  settle-all-reads.Asked,
+  settle-all-reads.Learnt,
+  mark-reads.Asked,
+  mark-reads.Learnt,
+  meet-reads.Asked,
+  meet-reads.Learnt,
+  find-below t,
+  find.Post,
+) (find-at t) find.Post find-Inv-loop find-μ-loop
+find-slice-aggregate-pick-3 t c = search needs
+
 find-pick-requires : (t : ℕ) → find-lts.Need-pick-requires (
   allowed-reads.Asked,
   allowed-reads.Learnt,
@@ -76,6 +167,10 @@ find-pick-requires : (t : ℕ) → find-lts.Need-pick-requires (
   pick-reads.Learnt,
   finish-reads.Asked,
   finish-reads.Learnt,
+  fitting-reads.Asked,
+  fitting-reads.Learnt,
+  spent-reads.Asked,
+  spent-reads.Learnt,
   lowest-reads.Asked,
   lowest-reads.Learnt,
   without-reads.Asked,
@@ -84,16 +179,20 @@ find-pick-requires : (t : ℕ) → find-lts.Need-pick-requires (
   wrapping-add-u64-reads.Learnt,
   settle-all-reads.Asked,
   settle-all-reads.Learnt,
-  empty-reads.Asked,
-  empty-reads.Learnt,
   mark-reads.Asked,
   mark-reads.Learnt,
+  meet-reads.Asked,
+  meet-reads.Learnt,
   find-below t,
   find.Post,
 ) (find-at t) find.Post find-Inv-loop find-μ-loop
-find-pick-requires t c κs = c .before .before .before .before .before .pre .1 .3
+find-pick-requires t c κs =
+    let p = c .before .before .before .before .before .before .before .before .pre .1 in
+    let d = c .before .before .before .before .before .before .before .before .good .1 .1 .1 .1 .1 .1 .1 .1 .1 .1 .1 .1 .1 .1 .0 in
+    let k = c .before .before .before .before .before .before .before .before .good .1 .1 .1 .1 .1 .1 .1 .1 .1 .1 .1 .1 .1 .0 in
+    let m = c .before .before .before .before .before .before .before .before .good .1 .1 .1 .1 .1 .1 .1 .1 .1 .1 .1 .1 .1 .1 .1 .1 .0 in
+    (p .0, p .4, p .3, search needs, search needs, search needs)
 
--- src/lib.rt:161:13
 find-finish-requires : (t : ℕ) → find-lts.Need-finish-requires (
   allowed-reads.Asked,
   allowed-reads.Learnt,
@@ -101,6 +200,10 @@ find-finish-requires : (t : ℕ) → find-lts.Need-finish-requires (
   pick-reads.Learnt,
   finish-reads.Asked,
   finish-reads.Learnt,
+  fitting-reads.Asked,
+  fitting-reads.Learnt,
+  spent-reads.Asked,
+  spent-reads.Learnt,
   lowest-reads.Asked,
   lowest-reads.Learnt,
   without-reads.Asked,
@@ -109,16 +212,17 @@ find-finish-requires : (t : ℕ) → find-lts.Need-finish-requires (
   wrapping-add-u64-reads.Learnt,
   settle-all-reads.Asked,
   settle-all-reads.Learnt,
-  empty-reads.Asked,
-  empty-reads.Learnt,
   mark-reads.Asked,
   mark-reads.Learnt,
+  meet-reads.Asked,
+  meet-reads.Learnt,
   find-below t,
   find.Post,
 ) (find-at t) find.Post find-Inv-loop find-μ-loop
-find-finish-requires t c κs = let p = c .before .before .before .before .before .before .before .pre .1 in (p .0 .long, p .4, p .3, p .5, λ x h. c .before .pick .ensures .none (c .if1 .taken) x h)
+find-finish-requires t c κs =
+    let p = c .before .before .before .before .before .before .before .before .before .before .pre .1 in
+    (p .0, p .4, p .3, p .5, λ x h. c .before .pick .ensures .none (c .if1 .taken) x h)
 
--- src/lib.rt:163:9
 find-returns : (t : ℕ) → find-lts.Need-returns (
   allowed-reads.Asked,
   allowed-reads.Learnt,
@@ -126,6 +230,10 @@ find-returns : (t : ℕ) → find-lts.Need-returns (
   pick-reads.Learnt,
   finish-reads.Asked,
   finish-reads.Learnt,
+  fitting-reads.Asked,
+  fitting-reads.Learnt,
+  spent-reads.Asked,
+  spent-reads.Learnt,
   lowest-reads.Asked,
   lowest-reads.Learnt,
   without-reads.Asked,
@@ -134,16 +242,49 @@ find-returns : (t : ℕ) → find-lts.Need-returns (
   wrapping-add-u64-reads.Learnt,
   settle-all-reads.Asked,
   settle-all-reads.Learnt,
-  empty-reads.Asked,
-  empty-reads.Learnt,
   mark-reads.Asked,
   mark-reads.Learnt,
+  meet-reads.Asked,
+  meet-reads.Learnt,
   find-below t,
   find.Post,
 ) (find-at t) find.Post find-Inv-loop find-μ-loop
-find-returns t c = c .before .finish .ensures (c .before .before .before .before .before .before .before .before .before .args .base .now) (c .before .before .before .before .before .before .before .before .before .args .spots) (c .before .before .before .before .before .before .before .before .before .args .t13)
+find-returns t c =
+    let a = c .before .before .before .before .before .before .before .before .before .before .before .before .args in
+    let p = c .before .before .before .before .before .before .before .before .before .before .before .before .pre .1 in
+    record { sure = λ e. c .before .finish .ensures (a .base .now) (a .spots) (a .t15) (a .kn) (a .val) (p .8); never = λ e. refl }
 
--- src/lib.rt:170:20
+find-fitting-requires : (t : ℕ) → find-lts.Need-fitting-requires (
+  allowed-reads.Asked,
+  allowed-reads.Learnt,
+  pick-reads.Asked,
+  pick-reads.Learnt,
+  finish-reads.Asked,
+  finish-reads.Learnt,
+  fitting-reads.Asked,
+  fitting-reads.Learnt,
+  spent-reads.Asked,
+  spent-reads.Learnt,
+  lowest-reads.Asked,
+  lowest-reads.Learnt,
+  without-reads.Asked,
+  without-reads.Learnt,
+  wrapping-add-u64-reads.Asked,
+  wrapping-add-u64-reads.Learnt,
+  settle-all-reads.Asked,
+  settle-all-reads.Learnt,
+  mark-reads.Asked,
+  mark-reads.Learnt,
+  meet-reads.Asked,
+  meet-reads.Learnt,
+  find-below t,
+  find.Post,
+) (find-at t) find.Post find-Inv-loop find-μ-loop
+find-fitting-requires t c κs =
+    let p = c .before .pick .ensures .some (c .if1 .left) .0 in
+    let b = c .before .before .before .before .before .before .before .before .before .before .pre .1 .3 in
+    omega arith
+
 find-mul-left : (t : ℕ) → find-lts.Need-mul-left (
   allowed-reads.Asked,
   allowed-reads.Learnt,
@@ -151,6 +292,10 @@ find-mul-left : (t : ℕ) → find-lts.Need-mul-left (
   pick-reads.Learnt,
   finish-reads.Asked,
   finish-reads.Learnt,
+  fitting-reads.Asked,
+  fitting-reads.Learnt,
+  spent-reads.Asked,
+  spent-reads.Learnt,
   lowest-reads.Asked,
   lowest-reads.Learnt,
   without-reads.Asked,
@@ -159,16 +304,18 @@ find-mul-left : (t : ℕ) → find-lts.Need-mul-left (
   wrapping-add-u64-reads.Learnt,
   settle-all-reads.Asked,
   settle-all-reads.Learnt,
-  empty-reads.Asked,
-  empty-reads.Learnt,
   mark-reads.Asked,
   mark-reads.Learnt,
+  meet-reads.Asked,
+  meet-reads.Learnt,
   find-below t,
   find.Post,
 ) (find-at t) find.Post find-Inv-loop find-μ-loop
-find-mul-left t c = let p = c .before .pick .ensures .some (c .if1 .left) in let a = p .0 in let b = c .before .before .before .before .before .before .before .pre .1 .3 in search needs
+find-mul-left t c =
+    let a = c .before .before .pick .ensures .some (c .before .if1 .left) .0 in
+    let b = c .before .before .before .before .before .before .before .before .before .before .before .pre .1 .3 in
+    search needs
 
--- src/lib.rt:170:20
 find-array-read-left : (t : ℕ) → find-lts.Need-array-read-left (
   allowed-reads.Asked,
   allowed-reads.Learnt,
@@ -176,6 +323,10 @@ find-array-read-left : (t : ℕ) → find-lts.Need-array-read-left (
   pick-reads.Learnt,
   finish-reads.Asked,
   finish-reads.Learnt,
+  fitting-reads.Asked,
+  fitting-reads.Learnt,
+  spent-reads.Asked,
+  spent-reads.Learnt,
   lowest-reads.Asked,
   lowest-reads.Learnt,
   without-reads.Asked,
@@ -184,16 +335,18 @@ find-array-read-left : (t : ℕ) → find-lts.Need-array-read-left (
   wrapping-add-u64-reads.Learnt,
   settle-all-reads.Asked,
   settle-all-reads.Learnt,
-  empty-reads.Asked,
-  empty-reads.Learnt,
   mark-reads.Asked,
   mark-reads.Learnt,
+  meet-reads.Asked,
+  meet-reads.Learnt,
   find-below t,
   find.Post,
 ) (find-at t) find.Post find-Inv-loop find-μ-loop
-find-array-read-left t c = let p = c .before .pick .ensures .some (c .if1 .left) in let a = p .0 in let b = c .before .before .before .before .before .before .before .pre .1 .3 in search needs
+find-array-read-left t c =
+    let a = c .before .before .pick .ensures .some (c .before .if1 .left) .0 in
+    let b = c .before .before .before .before .before .before .before .before .before .before .before .pre .1 .3 in
+    search needs
 
--- src/lib.rt:171:5
 find-loop-holds : (t : ℕ) → find-lts.Need-loop-holds (
   allowed-reads.Asked,
   allowed-reads.Learnt,
@@ -201,6 +354,10 @@ find-loop-holds : (t : ℕ) → find-lts.Need-loop-holds (
   pick-reads.Learnt,
   finish-reads.Asked,
   finish-reads.Learnt,
+  fitting-reads.Asked,
+  fitting-reads.Learnt,
+  spent-reads.Asked,
+  spent-reads.Learnt,
   lowest-reads.Asked,
   lowest-reads.Learnt,
   without-reads.Asked,
@@ -209,23 +366,31 @@ find-loop-holds : (t : ℕ) → find-lts.Need-loop-holds (
   wrapping-add-u64-reads.Learnt,
   settle-all-reads.Asked,
   settle-all-reads.Learnt,
-  empty-reads.Asked,
-  empty-reads.Learnt,
   mark-reads.Asked,
   mark-reads.Learnt,
+  meet-reads.Asked,
+  meet-reads.Learnt,
   find-below t,
   find.Post,
 ) (find-at t) find.Post find-Inv-loop find-μ-loop
-find-loop-holds t c = let p = c .before .pick .ensures .some (c .if1 .left) in (search needs, p .0, p .1, trying-start (c .before .before .before .before .before .before .before .args .cl .now) (c .before .before .before .before .before .before .before .args .base .now) (c .before .before .before .before .before .before .before .args .ms) (c .before .before .before .before .before .before .before .args .caps) (c .before .before .before .before .before .before .before .args .spots) (c .before .before .before .before .before .before .before .args .v) (c .before .before .before .before .before .before .before .args .j) (c .before .before .before .before .before .before .before .args .codes) (c .before .before .before .before .before .before .before .args .t13) (c .before .pick .result) (c .before .before .allowed .result) (p .0))
+find-loop-holds t c =
+    let p = c .before .before .pick .ensures .some (c .before .if1 .left) in
+    let a = c .before .before .before .before .before .before .before .before .before .before .before .args in
+    let good = c .before .before .before .before .before .before .before .before .before .before .before .good .1 .1 .1 .1 .1 .1 .1 .1 .1 .1 .1 .1 .1 .0 in
+    let start = trying-start (a .cl .now) (a .base .now) (a .ms) (a .caps) (a .spots) (a .v) (a .j) (a .kn) (a .val) (a .t14) (a .t15) in
+    (search needs, p .0, p .1, start (c .before .before .pick .result) (c .before .before .before .before .before .before .allowed .result) (p .0) (c .fitting .result) (c .fitting .ensures))
 
--- src/lib.rt:172:13
-find-lowest-requires : (t : ℕ) → find-lts.Need-lowest-requires (
+find-spent-requires : (t : ℕ) → find-lts.Need-spent-requires (
   allowed-reads.Asked,
   allowed-reads.Learnt,
   pick-reads.Asked,
   pick-reads.Learnt,
   finish-reads.Asked,
   finish-reads.Learnt,
+  fitting-reads.Asked,
+  fitting-reads.Learnt,
+  spent-reads.Asked,
+  spent-reads.Learnt,
   lowest-reads.Asked,
   lowest-reads.Learnt,
   without-reads.Asked,
@@ -234,224 +399,15 @@ find-lowest-requires : (t : ℕ) → find-lts.Need-lowest-requires (
   wrapping-add-u64-reads.Learnt,
   settle-all-reads.Asked,
   settle-all-reads.Learnt,
-  empty-reads.Asked,
-  empty-reads.Learnt,
   mark-reads.Asked,
   mark-reads.Learnt,
+  meet-reads.Asked,
+  meet-reads.Learnt,
   find-below t,
   find.Post,
 ) (find-at t) find.Post find-Inv-loop find-μ-loop
-find-lowest-requires t c κs = c .loop-test .taken
+find-spent-requires t c κs = search needs
 
--- src/lib.rt:173:9
-find-without-requires : (t : ℕ) → find-lts.Need-without-requires (
-  allowed-reads.Asked,
-  allowed-reads.Learnt,
-  pick-reads.Asked,
-  pick-reads.Learnt,
-  finish-reads.Asked,
-  finish-reads.Learnt,
-  lowest-reads.Asked,
-  lowest-reads.Learnt,
-  without-reads.Asked,
-  without-reads.Learnt,
-  wrapping-add-u64-reads.Asked,
-  wrapping-add-u64-reads.Learnt,
-  settle-all-reads.Asked,
-  settle-all-reads.Learnt,
-  empty-reads.Asked,
-  empty-reads.Learnt,
-  mark-reads.Asked,
-  mark-reads.Learnt,
-  find-below t,
-  find.Post,
-) (find-at t) find.Post find-Inv-loop find-μ-loop
-find-without-requires t c κs = c .lowest .ensures .0
-
--- src/lib.rt:174:9
-find-wrapping-add-u64-requires : (t : ℕ) → find-lts.Need-wrapping-add-u64-requires (
-  allowed-reads.Asked,
-  allowed-reads.Learnt,
-  pick-reads.Asked,
-  pick-reads.Learnt,
-  finish-reads.Asked,
-  finish-reads.Learnt,
-  lowest-reads.Asked,
-  lowest-reads.Learnt,
-  without-reads.Asked,
-  without-reads.Learnt,
-  wrapping-add-u64-reads.Asked,
-  wrapping-add-u64-reads.Learnt,
-  settle-all-reads.Asked,
-  settle-all-reads.Learnt,
-  empty-reads.Asked,
-  empty-reads.Learnt,
-  mark-reads.Asked,
-  mark-reads.Learnt,
-  find-below t,
-  find.Post,
-) (find-at t) find.Post find-Inv-loop find-μ-loop
-find-wrapping-add-u64-requires t c κs = search needs
-
--- src/lib.rt:176:9
-find-array-write-next : (t : ℕ) → find-lts.Need-array-write-next (
-  allowed-reads.Asked,
-  allowed-reads.Learnt,
-  pick-reads.Asked,
-  pick-reads.Learnt,
-  finish-reads.Asked,
-  finish-reads.Learnt,
-  lowest-reads.Asked,
-  lowest-reads.Learnt,
-  without-reads.Asked,
-  without-reads.Learnt,
-  wrapping-add-u64-reads.Asked,
-  wrapping-add-u64-reads.Learnt,
-  settle-all-reads.Asked,
-  settle-all-reads.Learnt,
-  empty-reads.Asked,
-  empty-reads.Learnt,
-  mark-reads.Asked,
-  mark-reads.Learnt,
-  find-below t,
-  find.Post,
-) (find-at t) find.Post find-Inv-loop find-μ-loop
-find-array-write-next t c = let a = c .before .before .before .before .loop .inv .1 in let b = c .before .before .before .before .before .before .before .before .before .before .before .before .pre .1 .3 in search needs
-
--- src/lib.rt:177:13
-find-settle-all-requires : (t : ℕ) → find-lts.Need-settle-all-requires (
-  allowed-reads.Asked,
-  allowed-reads.Learnt,
-  pick-reads.Asked,
-  pick-reads.Learnt,
-  finish-reads.Asked,
-  finish-reads.Learnt,
-  lowest-reads.Asked,
-  lowest-reads.Learnt,
-  without-reads.Asked,
-  without-reads.Learnt,
-  wrapping-add-u64-reads.Asked,
-  wrapping-add-u64-reads.Learnt,
-  settle-all-reads.Asked,
-  settle-all-reads.Learnt,
-  empty-reads.Asked,
-  empty-reads.Learnt,
-  mark-reads.Asked,
-  mark-reads.Learnt,
-  find-below t,
-  find.Post,
-) (find-at t) find.Post find-Inv-loop find-μ-loop
-find-settle-all-requires t c κs = let p = c .before .before .before .before .before .before .before .before .before .before .before .before .pre .1 in (p .0, p .1, p .2, p .3, p .4, c .before .before .lowest .ensures .0)
-
--- src/lib.rt:178:13
-find-empty-requires : (t : ℕ) → find-lts.Need-empty-requires (
-  allowed-reads.Asked,
-  allowed-reads.Learnt,
-  pick-reads.Asked,
-  pick-reads.Learnt,
-  finish-reads.Asked,
-  finish-reads.Learnt,
-  lowest-reads.Asked,
-  lowest-reads.Learnt,
-  without-reads.Asked,
-  without-reads.Learnt,
-  wrapping-add-u64-reads.Asked,
-  wrapping-add-u64-reads.Learnt,
-  settle-all-reads.Asked,
-  settle-all-reads.Learnt,
-  empty-reads.Asked,
-  empty-reads.Learnt,
-  mark-reads.Asked,
-  mark-reads.Learnt,
-  find-below t,
-  find.Post,
-) (find-at t) find.Post find-Inv-loop find-μ-loop
-find-empty-requires t c κs = c .before .before .before .before .before .before .before .before .before .before .before .before .before .pre .1 .3
-
--- src/lib.rt:179:17
-find-mark-requires : (t : ℕ) → find-lts.Need-mark-requires (
-  allowed-reads.Asked,
-  allowed-reads.Learnt,
-  pick-reads.Asked,
-  pick-reads.Learnt,
-  finish-reads.Asked,
-  finish-reads.Learnt,
-  lowest-reads.Asked,
-  lowest-reads.Learnt,
-  without-reads.Asked,
-  without-reads.Learnt,
-  wrapping-add-u64-reads.Asked,
-  wrapping-add-u64-reads.Learnt,
-  settle-all-reads.Asked,
-  settle-all-reads.Learnt,
-  empty-reads.Asked,
-  empty-reads.Learnt,
-  mark-reads.Asked,
-  mark-reads.Learnt,
-  find-below t,
-  find.Post,
-) (find-at t) find.Post find-Inv-loop find-μ-loop
-find-mark-requires t c κs = (c .before .before .before .before .before .before .before .before .before .before .before .before .before .before .before .pre .1 .6 .blocks .long, c .before .before .before .before .before .lowest .ensures .0)
-
--- src/lib.rt:180:17
-find-find-requires : (t : ℕ) → find-lts.Need-find-requires (
-  allowed-reads.Asked,
-  allowed-reads.Learnt,
-  pick-reads.Asked,
-  pick-reads.Learnt,
-  finish-reads.Asked,
-  finish-reads.Learnt,
-  lowest-reads.Asked,
-  lowest-reads.Learnt,
-  without-reads.Asked,
-  without-reads.Learnt,
-  wrapping-add-u64-reads.Asked,
-  wrapping-add-u64-reads.Learnt,
-  settle-all-reads.Asked,
-  settle-all-reads.Learnt,
-  empty-reads.Asked,
-  empty-reads.Learnt,
-  mark-reads.Asked,
-  mark-reads.Learnt,
-  find-below t,
-  find.Post,
-) (find-at t) find.Post find-Inv-loop find-μ-loop
-find-find-requires t c κs =
-    let p = c .before .before .before .before .before .before .before .before .before .before .before .before .before .before .before .before .pre .1 in
-    let m = c .before .before .before .before .before .before .before .before .before .before .before .before .before .before .before .before .pre .0 in
-    let i = c .before .before .before .before .before .before .before .before .loop .inv in
-    let l = c .before .before .before .before .before .before .lowest .ensures .0 in
-    let w = uncoded-less (c .before .before .before .before .before .before .before .before .before .before .before .before .before .before .before .before .args .codes) (c .before .before .before .before .before .before .before .before .before .before .before .before .before .before .before .before .args .v) (c .before .before .before .before .before .before .before .before .before .before .pick .result) (c .before .before .before .before .before .before .lowest .result) (i .0) (p .3) (i .1) (i .2) l in
-    let q = valued-more (c .before .before .before .before .before .before .before .before .before .before .before .before .before .before .before .before .args .codes) (c .before .before .before .before .before .before .before .before .before .before .before .before .before .before .before .before .args .v) (c .before .before .before .before .before .before .before .before .before .before .pick .result) (c .before .before .before .before .before .before .lowest .result) (i .0) (p .3) (i .1) (c .before .before .before .before .before .before .before .before .before .before .before .before .before .before .before .before .args .ms) (c .before .before .before .before .before .before .before .before .before .before .before .before .before .before .before .before .args .gb .now) (c .before .before .before .before .before .before .before .before .before .before .before .before .before .before .before .before .args .all) (c .before .before .before .before .before .before .before .before .before .before .before .before .before .before .before .before .args .j) (c .before .before .before .before .before .before .before .before .before .before .before .before .before .before .before .before .args .used) (c .mark .result) l (c .mark .ensures) (p .6) in
-    let k = covers-more (c .before .before .before .before .before .before .before .before .before .before .before .before .before .before .before .before .args .codes) (c .before .before .before .before .before .before .before .before .before .before .before .before .before .before .before .before .args .v) (c .before .before .before .before .before .before .before .before .before .before .pick .result) (c .before .before .before .before .before .before .lowest .result) (i .0) (p .3) (i .1) (c .before .before .before .before .before .before .before .before .before .before .before .before .before .before .before .before .args .cl .now) (c .before .before .before .before .before .before .before .before .before .before .before .before .before .before .before .before .args .base .now) (c .before .before .before .before .before .before .before .before .before .before .before .before .before .before .before .before .args .ms) (c .before .before .before .before .before .before .before .before .before .before .before .before .before .before .before .before .args .caps) (c .before .before .before .before .before .before .before .before .before .before .before .before .before .before .before .before .args .spots) (c .before .before .before .before .before .before .before .before .before .before .before .before .before .before .before .before .args .j) (c .before .before .before .before .before .before .before .before .before .before .before .before .before .before .before .before .args .t13) (c .before .before .before .settle-all .result) (i .2) (c .before .before .before .settle-all .ensures) (p .7) in
-    (omega arith, (p .0, p .1, p .2, p .3, p .4, p .5, q, k))
-
--- src/lib.rt:181:13
-find-wrapping-add-u64-requires-2 : (t : ℕ) → find-lts.Need-wrapping-add-u64-requires-2 (
-  allowed-reads.Asked,
-  allowed-reads.Learnt,
-  pick-reads.Asked,
-  pick-reads.Learnt,
-  finish-reads.Asked,
-  finish-reads.Learnt,
-  lowest-reads.Asked,
-  lowest-reads.Learnt,
-  without-reads.Asked,
-  without-reads.Learnt,
-  wrapping-add-u64-reads.Asked,
-  wrapping-add-u64-reads.Learnt,
-  settle-all-reads.Asked,
-  settle-all-reads.Learnt,
-  empty-reads.Asked,
-  empty-reads.Learnt,
-  mark-reads.Asked,
-  mark-reads.Learnt,
-  find-below t,
-  find.Post,
-) (find-at t) find.Post find-Inv-loop find-μ-loop
-find-wrapping-add-u64-requires-2 t c κs = search needs
-
--- src/lib.rt:184:17
 find-returns-2 : (t : ℕ) → find-lts.Need-returns-2 (
   allowed-reads.Asked,
   allowed-reads.Learnt,
@@ -459,6 +415,10 @@ find-returns-2 : (t : ℕ) → find-lts.Need-returns-2 (
   pick-reads.Learnt,
   finish-reads.Asked,
   finish-reads.Learnt,
+  fitting-reads.Asked,
+  fitting-reads.Learnt,
+  spent-reads.Asked,
+  spent-reads.Learnt,
   lowest-reads.Asked,
   lowest-reads.Learnt,
   without-reads.Asked,
@@ -467,23 +427,26 @@ find-returns-2 : (t : ℕ) → find-lts.Need-returns-2 (
   wrapping-add-u64-reads.Learnt,
   settle-all-reads.Asked,
   settle-all-reads.Learnt,
-  empty-reads.Asked,
-  empty-reads.Learnt,
   mark-reads.Asked,
   mark-reads.Learnt,
+  meet-reads.Asked,
+  meet-reads.Learnt,
   find-below t,
   find.Post,
 ) (find-at t) find.Post find-Inv-loop find-μ-loop
-find-returns-2 t c = told-found (c .before .before .before .before .before .before .before .before .before .before .before .before .before .before .before .before .before .before .before .before .args .cl .now) (c .before .before .before .before .before .before .before .before .before .before .before .before .before .before .before .before .before .before .before .before .args .base .now) (c .before .before .before .before .before .before .before .before .before .before .before .before .before .before .before .before .before .before .before .before .args .ms) (c .before .before .before .before .before .before .before .before .before .before .before .before .before .before .before .before .before .before .before .before .args .ps) (c .before .before .before .before .before .before .before .before .before .before .before .before .before .before .before .before .before .before .before .before .args .caps) (c .before .before .before .before .before .before .before .before .before .before .before .before .before .before .before .before .before .before .before .before .args .spots) (c .before .before .before .before .before .before .before .before .before .before .before .before .before .before .before .before .before .before .before .before .args .v) (c .before .before .before .before .before .before .before .before .before .before .before .before .before .before .before .before .before .before .before .before .args .j) (c .before .before .before .before .before .before .before .before .before .before .before .before .before .before .before .before .before .before .before .before .args .codes) (c .before .before .before .before .before .before .before .before .before .before .before .before .before .before .before .before .before .before .before .before .args .t13) (set (c .before .before .before .before .before .before .before .before .before .before .before .before .before .before .before .before .before .before .before .before .args .codes) (c .before .before .before .before .before .before .before .before .before .before .before .before .before .before .pick .result) (c .before .before .before .before .before .before .before .before .before .before .lowest .result)) (c .before .before .before .before .before .before .before .settle-all .result) _ _ (c .before .if3 .taken) (c .before .before .before .find .ensures)
+find-returns-2 t c = record { sure = λ e. absurd (true-false e); never = λ e. sym (c .if2 .taken) ∙ c .before .spent .ensures e }
 
--- src/lib.rt:171:5
-find-loop-less : (t : ℕ) → find-lts.Need-loop-less (
+find-lowest-requires : (t : ℕ) → find-lts.Need-lowest-requires (
   allowed-reads.Asked,
   allowed-reads.Learnt,
   pick-reads.Asked,
   pick-reads.Learnt,
   finish-reads.Asked,
   finish-reads.Learnt,
+  fitting-reads.Asked,
+  fitting-reads.Learnt,
+  spent-reads.Asked,
+  spent-reads.Learnt,
   lowest-reads.Asked,
   lowest-reads.Learnt,
   without-reads.Asked,
@@ -492,23 +455,26 @@ find-loop-less : (t : ℕ) → find-lts.Need-loop-less (
   wrapping-add-u64-reads.Learnt,
   settle-all-reads.Asked,
   settle-all-reads.Learnt,
-  empty-reads.Asked,
-  empty-reads.Learnt,
   mark-reads.Asked,
   mark-reads.Learnt,
+  meet-reads.Asked,
+  meet-reads.Learnt,
   find-below t,
   find.Post,
 ) (find-at t) find.Post find-Inv-loop find-μ-loop
-find-loop-less t c = c .before .before .before .before .before .before .before .before .without .ensures .less (c .before .before .before .before .before .before .before .before .before .lowest .ensures .1)
+find-lowest-requires t c κs = c .before .before .loop-test .taken
 
--- src/lib.rt:171:5
-find-loop-again : (t : ℕ) → find-lts.Need-loop-again (
+find-without-requires : (t : ℕ) → find-lts.Need-without-requires (
   allowed-reads.Asked,
   allowed-reads.Learnt,
   pick-reads.Asked,
   pick-reads.Learnt,
   finish-reads.Asked,
   finish-reads.Learnt,
+  fitting-reads.Asked,
+  fitting-reads.Learnt,
+  spent-reads.Asked,
+  spent-reads.Learnt,
   lowest-reads.Asked,
   lowest-reads.Learnt,
   without-reads.Asked,
@@ -517,27 +483,26 @@ find-loop-again : (t : ℕ) → find-lts.Need-loop-again (
   wrapping-add-u64-reads.Learnt,
   settle-all-reads.Asked,
   settle-all-reads.Learnt,
-  empty-reads.Asked,
-  empty-reads.Learnt,
   mark-reads.Asked,
   mark-reads.Learnt,
+  meet-reads.Asked,
+  meet-reads.Learnt,
   find-below t,
   find.Post,
 ) (find-at t) find.Post find-Inv-loop find-μ-loop
-find-loop-again t c =
-    let i = c .before .before .before .before .before .before .before .before .before .before .before .loop .inv in
-    let p = c .before .before .before .before .before .before .before .before .before .before .before .before .before .before .before .before .before .before .before .pre .1 in
-    let no-more = told-lost (c .before .before .before .before .before .before .before .before .before .before .before .before .before .before .before .before .before .before .before .args .cl .now) (c .before .before .before .before .before .before .before .before .before .before .before .before .before .before .before .before .before .before .before .args .base .now) (c .before .before .before .before .before .before .before .before .before .before .before .before .before .before .before .before .before .before .before .args .ms) (c .before .before .before .before .before .before .before .before .before .before .before .before .before .before .before .before .before .before .before .args .ps) (c .before .before .before .before .before .before .before .before .before .before .before .before .before .before .before .before .before .before .before .args .caps) (c .before .before .before .before .before .before .before .before .before .before .before .before .before .before .before .before .before .before .before .args .spots) (c .before .before .before .before .before .before .before .before .before .before .before .before .before .before .before .before .before .before .before .args .v) (c .before .before .before .before .before .before .before .before .before .before .before .before .before .before .before .before .before .before .before .args .j) (set (c .before .before .before .before .before .before .before .before .before .before .before .before .before .before .before .before .before .before .before .args .codes) (c .before .before .before .before .before .before .before .before .before .before .before .before .before .pick .result) (c .before .before .before .before .before .before .before .before .before .lowest .result)) (c .before .before .before .before .before .before .settle-all .result) (c .before .before .before .before .before .before .before .before .before .before .before .before .before .before .before .before .before .before .before .args .codes) (c .before .before .before .before .before .before .before .before .before .before .before .before .before .before .before .before .before .before .before .args .t13) _ _ (c .if3 .left) (c .before .before .find .ensures) in
-    (i .0, i .1, i .2, trying-more (c .before .before .before .before .before .before .before .before .before .before .before .before .before .before .before .before .before .before .before .args .cl .now) (c .before .before .before .before .before .before .before .before .before .before .before .before .before .before .before .before .before .before .before .args .base .now) (c .before .before .before .before .before .before .before .before .before .before .before .before .before .before .before .before .before .before .before .args .ms) (c .before .before .before .before .before .before .before .before .before .before .before .before .before .before .before .before .before .before .before .args .caps) (c .before .before .before .before .before .before .before .before .before .before .before .before .before .before .before .before .before .before .before .args .spots) (c .before .before .before .before .before .before .before .before .before .before .before .before .before .before .before .before .before .before .before .args .v) (c .before .before .before .before .before .before .before .before .before .before .before .before .before .before .before .before .before .before .before .args .j) (c .before .before .before .before .before .before .before .before .before .before .before .before .before .before .before .before .before .before .before .args .codes) (c .before .before .before .before .before .before .before .before .before .before .before .before .before .before .before .before .before .before .before .args .t13) (c .before .before .before .before .before .before .before .before .before .before .before .before .before .pick .result) (c .before .before .before .before .before .before .before .before .before .before .before .before .before .before .allowed .result) (i .1) (c .before .before .before .before .before .before .before .before .before .before .before .loop .left) (c .before .before .before .before .before .before .before .before .before .lowest .result) (c .before .before .before .before .before .before .before .before .without .result) (c .before .before .before .before .before .before .settle-all .result) (i .0) (p .3) (c .before .before .before .before .before .before .before .before .without .ensures) (c .before .before .before .before .before .before .settle-all .ensures) no-more (i .3))
+find-without-requires t c κs = c .lowest .ensures .0
 
--- src/lib.rt:171:5
-find-loop-less-2 : (t : ℕ) → find-lts.Need-loop-less-2 (
+find-wrapping-add-u64-requires : (t : ℕ) → find-lts.Need-wrapping-add-u64-requires (
   allowed-reads.Asked,
   allowed-reads.Learnt,
   pick-reads.Asked,
   pick-reads.Learnt,
   finish-reads.Asked,
   finish-reads.Learnt,
+  fitting-reads.Asked,
+  fitting-reads.Learnt,
+  spent-reads.Asked,
+  spent-reads.Learnt,
   lowest-reads.Asked,
   lowest-reads.Learnt,
   without-reads.Asked,
@@ -546,23 +511,26 @@ find-loop-less-2 : (t : ℕ) → find-lts.Need-loop-less-2 (
   wrapping-add-u64-reads.Learnt,
   settle-all-reads.Asked,
   settle-all-reads.Learnt,
-  empty-reads.Asked,
-  empty-reads.Learnt,
   mark-reads.Asked,
   mark-reads.Learnt,
+  meet-reads.Asked,
+  meet-reads.Learnt,
   find-below t,
   find.Post,
 ) (find-at t) find.Post find-Inv-loop find-μ-loop
-find-loop-less-2 t c = c .before .before .before .before .without .ensures .less (c .before .before .before .before .before .lowest .ensures .1)
+find-wrapping-add-u64-requires t c κs = search needs
 
--- src/lib.rt:171:5
-find-loop-again-2 : (t : ℕ) → find-lts.Need-loop-again-2 (
+find-array-write-next : (t : ℕ) → find-lts.Need-array-write-next (
   allowed-reads.Asked,
   allowed-reads.Learnt,
   pick-reads.Asked,
   pick-reads.Learnt,
   finish-reads.Asked,
   finish-reads.Learnt,
+  fitting-reads.Asked,
+  fitting-reads.Learnt,
+  spent-reads.Asked,
+  spent-reads.Learnt,
   lowest-reads.Asked,
   lowest-reads.Learnt,
   without-reads.Asked,
@@ -571,20 +539,220 @@ find-loop-again-2 : (t : ℕ) → find-lts.Need-loop-again-2 (
   wrapping-add-u64-reads.Learnt,
   settle-all-reads.Asked,
   settle-all-reads.Learnt,
-  empty-reads.Asked,
-  empty-reads.Learnt,
   mark-reads.Asked,
   mark-reads.Learnt,
+  meet-reads.Asked,
+  meet-reads.Learnt,
   find-below t,
   find.Post,
 ) (find-at t) find.Post find-Inv-loop find-μ-loop
-find-loop-again-2 t c =
-    let i = c .before .before .before .before .before .before .before .loop .inv in
-    let p = c .before .before .before .before .before .before .before .before .before .before .before .before .before .before .before .pre .1 in
-    let no-more = empty-hopeless (c .before .before .before .before .before .before .before .before .before .before .before .before .before .before .before .args .cl .now) (c .before .before .before .before .before .before .before .before .before .before .before .before .before .before .before .args .base .now) (c .before .before .before .before .before .before .before .before .before .before .before .before .before .before .before .args .ms) (c .before .before .before .before .before .before .before .before .before .before .before .before .before .before .before .args .caps) (c .before .before .before .before .before .before .before .before .before .before .before .before .before .before .before .args .spots) (c .before .before .before .before .before .before .before .before .before .before .before .before .before .before .before .args .v) (c .before .before .before .before .before .before .before .before .before .before .before .before .before .before .before .args .j) (set (c .before .before .before .before .before .before .before .before .before .before .before .before .before .before .before .args .codes) (c .before .before .before .before .before .before .before .before .before .pick .result) (c .before .before .before .before .before .lowest .result)) (c .before .before .settle-all .result) (c .before .empty .ensures (not-false _ (c .if2 .left))) in
-    (i .0, i .1, i .2, trying-more (c .before .before .before .before .before .before .before .before .before .before .before .before .before .before .before .args .cl .now) (c .before .before .before .before .before .before .before .before .before .before .before .before .before .before .before .args .base .now) (c .before .before .before .before .before .before .before .before .before .before .before .before .before .before .before .args .ms) (c .before .before .before .before .before .before .before .before .before .before .before .before .before .before .before .args .caps) (c .before .before .before .before .before .before .before .before .before .before .before .before .before .before .before .args .spots) (c .before .before .before .before .before .before .before .before .before .before .before .before .before .before .before .args .v) (c .before .before .before .before .before .before .before .before .before .before .before .before .before .before .before .args .j) (c .before .before .before .before .before .before .before .before .before .before .before .before .before .before .before .args .codes) (c .before .before .before .before .before .before .before .before .before .before .before .before .before .before .before .args .t13) (c .before .before .before .before .before .before .before .before .before .pick .result) (c .before .before .before .before .before .before .before .before .before .before .allowed .result) (i .1) (c .before .before .before .before .before .before .before .loop .left) (c .before .before .before .before .before .lowest .result) (c .before .before .before .before .without .result) (c .before .before .settle-all .result) (i .0) (p .3) (c .before .before .before .before .without .ensures) (c .before .before .settle-all .ensures) no-more (i .3))
+find-array-write-next t c =
+    let a = c .before .before .before .before .before .before .loop .inv .1 in
+    let b = c .before .before .before .before .before .before .before .before .before .before .before .before .before .before .before .before .before .before .pre .1 .3 in
+    search needs
 
--- src/lib.rt:139:1
+find-slice-aggregate-settle-all : (t : ℕ) → find-lts.Need-slice-aggregate-settle-all (
+  allowed-reads.Asked,
+  allowed-reads.Learnt,
+  pick-reads.Asked,
+  pick-reads.Learnt,
+  finish-reads.Asked,
+  finish-reads.Learnt,
+  fitting-reads.Asked,
+  fitting-reads.Learnt,
+  spent-reads.Asked,
+  spent-reads.Learnt,
+  lowest-reads.Asked,
+  lowest-reads.Learnt,
+  without-reads.Asked,
+  without-reads.Learnt,
+  wrapping-add-u64-reads.Asked,
+  wrapping-add-u64-reads.Learnt,
+  settle-all-reads.Asked,
+  settle-all-reads.Learnt,
+  mark-reads.Asked,
+  mark-reads.Learnt,
+  meet-reads.Asked,
+  meet-reads.Learnt,
+  find-below t,
+  find.Post,
+) (find-at t) find.Post find-Inv-loop find-μ-loop
+find-slice-aggregate-settle-all t c = search needs
+
+find-slice-aggregate-settle-all-2 : (t : ℕ) → find-lts.Need-slice-aggregate-settle-all-2 (
+  allowed-reads.Asked,
+  allowed-reads.Learnt,
+  pick-reads.Asked,
+  pick-reads.Learnt,
+  finish-reads.Asked,
+  finish-reads.Learnt,
+  fitting-reads.Asked,
+  fitting-reads.Learnt,
+  spent-reads.Asked,
+  spent-reads.Learnt,
+  lowest-reads.Asked,
+  lowest-reads.Learnt,
+  without-reads.Asked,
+  without-reads.Learnt,
+  wrapping-add-u64-reads.Asked,
+  wrapping-add-u64-reads.Learnt,
+  settle-all-reads.Asked,
+  settle-all-reads.Learnt,
+  mark-reads.Asked,
+  mark-reads.Learnt,
+  meet-reads.Asked,
+  meet-reads.Learnt,
+  find-below t,
+  find.Post,
+) (find-at t) find.Post find-Inv-loop find-μ-loop
+find-slice-aggregate-settle-all-2 t c =
+    let far = c .before .before .before .before .before .before .before .before .before .before .before .before in
+    let d = far .before .before .before .before .before .before .before .before .good .1 .1 .1 .1 .1 .1 .1 .1 .1 .1 .1 .1 .1 .1 .0 in
+    search needs
+
+find-settle-all-requires : (t : ℕ) → find-lts.Need-settle-all-requires (
+  allowed-reads.Asked,
+  allowed-reads.Learnt,
+  pick-reads.Asked,
+  pick-reads.Learnt,
+  finish-reads.Asked,
+  finish-reads.Learnt,
+  fitting-reads.Asked,
+  fitting-reads.Learnt,
+  spent-reads.Asked,
+  spent-reads.Learnt,
+  lowest-reads.Asked,
+  lowest-reads.Learnt,
+  without-reads.Asked,
+  without-reads.Learnt,
+  wrapping-add-u64-reads.Asked,
+  wrapping-add-u64-reads.Learnt,
+  settle-all-reads.Asked,
+  settle-all-reads.Learnt,
+  mark-reads.Asked,
+  mark-reads.Learnt,
+  meet-reads.Asked,
+  meet-reads.Learnt,
+  find-below t,
+  find.Post,
+) (find-at t) find.Post find-Inv-loop find-μ-loop
+find-settle-all-requires t c κs =
+    let far = c .before .before .before .before .before .before .before .before .before .before .before .before in
+    let p = far .before .before .before .before .before .before .before .before .pre .1 in
+    let few = p .3 in
+    let i = c .before .before .before .before .before .before .before .before .loop .inv .1 in
+    let d = far .before .before .before .before .before .before .before .before .good .1 .1 .1 .1 .1 .1 .1 .1 .1 .1 .1 .1 .1 .1 .0 in
+    let long = length-set (far .before .before .before .before .before .before .before .before .args .t14)
+    (c .before .before .before .before .before .before .before .before .before .before .before .pick .result) (c .before .before .before .before .lowest .result)
+    ∙ c .before .before .before .before .before .before .before .before .loop .inv .0 in
+    (p .0, p .1, p .2, p .3, p .4, c .before .before .before .before .lowest .ensures .0, omega arith, long, search needs)
+
+find-mark-requires : (t : ℕ) → find-lts.Need-mark-requires (
+  allowed-reads.Asked,
+  allowed-reads.Learnt,
+  pick-reads.Asked,
+  pick-reads.Learnt,
+  finish-reads.Asked,
+  finish-reads.Learnt,
+  fitting-reads.Asked,
+  fitting-reads.Learnt,
+  spent-reads.Asked,
+  spent-reads.Learnt,
+  lowest-reads.Asked,
+  lowest-reads.Learnt,
+  without-reads.Asked,
+  without-reads.Learnt,
+  wrapping-add-u64-reads.Asked,
+  wrapping-add-u64-reads.Learnt,
+  settle-all-reads.Asked,
+  settle-all-reads.Learnt,
+  mark-reads.Asked,
+  mark-reads.Learnt,
+  meet-reads.Asked,
+  meet-reads.Learnt,
+  find-below t,
+  find.Post,
+) (find-at t) find.Post find-Inv-loop find-μ-loop
+find-mark-requires t c κs =
+    let far = c .before .before .before .before .before .before .before .before .before .before .before .before .before .before .before .before .before .before .before .before .before .before in
+    (far .before .pre .1 .6 .blocks .long, c .before .before .before .before .before .before .before .lowest .ensures .0)
+
+find-meet-requires : (t : ℕ) → find-lts.Need-meet-requires (
+  allowed-reads.Asked,
+  allowed-reads.Learnt,
+  pick-reads.Asked,
+  pick-reads.Learnt,
+  finish-reads.Asked,
+  finish-reads.Learnt,
+  fitting-reads.Asked,
+  fitting-reads.Learnt,
+  spent-reads.Asked,
+  spent-reads.Learnt,
+  lowest-reads.Asked,
+  lowest-reads.Learnt,
+  without-reads.Asked,
+  without-reads.Learnt,
+  wrapping-add-u64-reads.Asked,
+  wrapping-add-u64-reads.Learnt,
+  settle-all-reads.Asked,
+  settle-all-reads.Learnt,
+  mark-reads.Asked,
+  mark-reads.Learnt,
+  meet-reads.Asked,
+  meet-reads.Learnt,
+  find-below t,
+  find.Post,
+) (find-at t) find.Post find-Inv-loop find-μ-loop
+find-meet-requires t c κs =
+    let far = c .before .before .before .before .before .before .before .before .before .before .before .before in
+    let p = far .before .before .before .before .before .before .before .before .before .before .before .before .pre .1 in
+    let a = far .loop .inv .1 in
+    let b = p .3 in
+    (p .0, p .4, omega arith)
+
+find-find-requires : (t : ℕ) → find-lts.Need-find-requires (
+  allowed-reads.Asked,
+  allowed-reads.Learnt,
+  pick-reads.Asked,
+  pick-reads.Learnt,
+  finish-reads.Asked,
+  finish-reads.Learnt,
+  fitting-reads.Asked,
+  fitting-reads.Learnt,
+  spent-reads.Asked,
+  spent-reads.Learnt,
+  lowest-reads.Asked,
+  lowest-reads.Learnt,
+  without-reads.Asked,
+  without-reads.Learnt,
+  wrapping-add-u64-reads.Asked,
+  wrapping-add-u64-reads.Learnt,
+  settle-all-reads.Asked,
+  settle-all-reads.Learnt,
+  mark-reads.Asked,
+  mark-reads.Learnt,
+  meet-reads.Asked,
+  meet-reads.Learnt,
+  find-below t,
+  find.Post,
+) (find-at t) find.Post find-Inv-loop find-μ-loop
+find-find-requires t c κs =
+    let far = c .before .before .before .before .before .before .before .before .before .before .before .before in
+    let p = far .before .before .before .before .before .before .before .before .before .before .before .before .before .pre .1 in
+    let m = far .before .before .before .before .before .before .before .before .before .before .before .before .before .pre .0 in
+    let i = far .before .loop .inv in
+    let a = far .before .before .before .before .before .before .before .before .before .before .before .before .before .args in
+    let x = far .before .before .before .before .pick .result in
+    let l = c .before .before .before .before .before .before .before .before .before .lowest .ensures .0 in
+    let n = c .before .before .before .before .before .before .before .before .before .lowest .result in
+    let w = uncoded-less (a .t14) (a .v) x n (i .0) (p .3) (i .1) (i .2) l in
+    let q = valued-more (a .t14) (a .v) x n (i .0) (p .3) (i .1) (a .ms) (a .gb .now) (a .all) (a .j) (a .kn) (a .used) (c .before .mark .result) l (c .before .mark .ensures) (p .6) in
+    let s = c .before .before .before .before .settle-all in
+    let k = covers-more (a .t14) (a .v) x n (i .0) (p .3) (i .1) (a .cl .now) (a .base .now) (a .ms) (a .caps) (a .spots) (a .j) (a .kn) (a .val) (a .t15) _ (i .2) (s .ensures .0) (p .7) in
+    let y = c .before .before .before .before .before .before .before .before .before .lowest .ensures .1 in
+    let d = knows-more (a .t14) (a .v) x n (i .0) (p .3) (i .1) (a .kn) (a .val) (a .ps) (a .j) (i .3 .digit n l y) (p .8) in
+    (omega arith, (p .0, p .1, p .2, p .3, p .4, p .5, q, k, d))
+
 find-returns-3 : (t : ℕ) → find-lts.Need-returns-3 (
   allowed-reads.Asked,
   allowed-reads.Learnt,
@@ -592,6 +760,10 @@ find-returns-3 : (t : ℕ) → find-lts.Need-returns-3 (
   pick-reads.Learnt,
   finish-reads.Asked,
   finish-reads.Learnt,
+  fitting-reads.Asked,
+  fitting-reads.Learnt,
+  spent-reads.Asked,
+  spent-reads.Learnt,
   lowest-reads.Asked,
   lowest-reads.Learnt,
   without-reads.Asked,
@@ -600,16 +772,240 @@ find-returns-3 : (t : ℕ) → find-lts.Need-returns-3 (
   wrapping-add-u64-reads.Learnt,
   settle-all-reads.Asked,
   settle-all-reads.Learnt,
-  empty-reads.Asked,
-  empty-reads.Learnt,
   mark-reads.Asked,
   mark-reads.Learnt,
+  meet-reads.Asked,
+  meet-reads.Learnt,
   find-below t,
   find.Post,
 ) (find-at t) find.Post find-Inv-loop find-μ-loop
 find-returns-3 t c =
-    let p = c .before .before .before .before .before .before .before .before .before .pre .1 in
-    trying-end (c .before .before .before .before .before .before .before .before .before .args .cl .now) (c .before .before .before .before .before .before .before .before .before .args .base .now) (c .before .before .before .before .before .before .before .before .before .args .ms) (c .before .before .before .before .before .before .before .before .before .args .caps) (c .before .before .before .before .before .before .before .before .before .args .spots) (c .before .before .before .before .before .before .before .before .before .args .v) (c .before .before .before .before .before .before .before .before .before .args .j) (c .before .before .before .before .before .before .before .before .before .args .codes) (c .before .before .before .before .before .before .before .before .before .args .t13) (c .before .before .before .pick .result) (c .before .before .before .before .allowed .result) (c .before .loop .inv .1) (c .before .before .before .before .before .before .before .before .before .args .gb .now) (c .before .before .before .before .before .before .before .before .before .args .used) (c .before .before .before .before .before .before .before .before .before .args .all) (c .before .loop .left) (c .before .loop .inv .2) (c .loop-test .left) (p .6) (c .before .before .before .before .allowed .ensures) (p .7) (c .before .loop .inv .3)
+    let far = c .before .before .before .before .before .before .before .before .before .before .before .before in
+    let a = far .before .before .before .before .before .before .before .before .before .before .before .before .before .before .before .args in
+    let s = c .before .before .before .before .before .before .settle-all in
+    let next = set (a .t14) (far .before .before .before .before .before .before .pick .result)
+    (c .before .before .before .before .before .before .before .before .before .before .before .lowest .result) in
+    let r = c .before .find .ensures in
+    record {
+      sure = λ e. told-found (a .cl .now) (a .base .now) (a .ms) (a .ps) (a .caps) (a .spots) (a .v) (a .j) (a .kn) (a .val) (a .t14) (a .t15) next _ _ _ (c .if4 .taken) (r .sure e);
+      never = r .never;
+    }
+
+find-returns-4 : (t : ℕ) → find-lts.Need-returns-4 (
+  allowed-reads.Asked,
+  allowed-reads.Learnt,
+  pick-reads.Asked,
+  pick-reads.Learnt,
+  finish-reads.Asked,
+  finish-reads.Learnt,
+  fitting-reads.Asked,
+  fitting-reads.Learnt,
+  spent-reads.Asked,
+  spent-reads.Learnt,
+  lowest-reads.Asked,
+  lowest-reads.Learnt,
+  without-reads.Asked,
+  without-reads.Learnt,
+  wrapping-add-u64-reads.Asked,
+  wrapping-add-u64-reads.Learnt,
+  settle-all-reads.Asked,
+  settle-all-reads.Learnt,
+  mark-reads.Asked,
+  mark-reads.Learnt,
+  meet-reads.Asked,
+  meet-reads.Learnt,
+  find-below t,
+  find.Post,
+) (find-at t) find.Post find-Inv-loop find-μ-loop
+find-returns-4 t c = record { sure = λ e. absurd (true-false (sym (c .if5 .taken) ∙ e)); never = c .before .before .find .ensures .never }
+
+find-loop-less : (t : ℕ) → find-lts.Need-loop-less (
+  allowed-reads.Asked,
+  allowed-reads.Learnt,
+  pick-reads.Asked,
+  pick-reads.Learnt,
+  finish-reads.Asked,
+  finish-reads.Learnt,
+  fitting-reads.Asked,
+  fitting-reads.Learnt,
+  spent-reads.Asked,
+  spent-reads.Learnt,
+  lowest-reads.Asked,
+  lowest-reads.Learnt,
+  without-reads.Asked,
+  without-reads.Learnt,
+  wrapping-add-u64-reads.Asked,
+  wrapping-add-u64-reads.Learnt,
+  settle-all-reads.Asked,
+  settle-all-reads.Learnt,
+  mark-reads.Asked,
+  mark-reads.Learnt,
+  meet-reads.Asked,
+  meet-reads.Learnt,
+  find-below t,
+  find.Post,
+) (find-at t) find.Post find-Inv-loop find-μ-loop
+find-loop-less t c =
+    let far = c .before .before .before .before .before .before .before .before .before .before .before .before in
+    c .before .before .before .before .before .before .before .before .before .before .before .without .ensures .less (far .lowest .ensures .1)
+
+find-loop-again : (t : ℕ) → find-lts.Need-loop-again (
+  allowed-reads.Asked,
+  allowed-reads.Learnt,
+  pick-reads.Asked,
+  pick-reads.Learnt,
+  finish-reads.Asked,
+  finish-reads.Learnt,
+  fitting-reads.Asked,
+  fitting-reads.Learnt,
+  spent-reads.Asked,
+  spent-reads.Learnt,
+  lowest-reads.Asked,
+  lowest-reads.Learnt,
+  without-reads.Asked,
+  without-reads.Learnt,
+  wrapping-add-u64-reads.Asked,
+  wrapping-add-u64-reads.Learnt,
+  settle-all-reads.Asked,
+  settle-all-reads.Learnt,
+  mark-reads.Asked,
+  mark-reads.Learnt,
+  meet-reads.Asked,
+  meet-reads.Learnt,
+  find-below t,
+  find.Post,
+) (find-at t) find.Post find-Inv-loop find-μ-loop
+find-loop-again t c =
+    let far = c .before .before .before .before .before .before .before .before .before .before .before .before in
+    let i = far .before .before .before .before .loop .inv in
+    let p = far .before .before .before .before .before .before .before .before .before .before .before .before .before .before .before .before .pre .1 in
+    let a = far .before .before .before .before .before .before .before .before .before .before .before .before .before .before .before .before .args in
+    let x = far .before .before .before .before .before .before .before .pick .result in
+    let n = far .lowest .result in
+    let y = far .lowest .ensures .1 in
+    let s = c .before .before .before .before .before .before .before .settle-all in
+    let w = c .before .before .before .before .before .before .before .before .before .before .before .without in
+    let r = c .before .before .find .ensures .sure (c .if5 .left) in
+    let lost = told-lost (a .cl .now) (a .base .now) (a .ms) (a .ps) (a .caps) (a .spots) (a .v) (a .j) (a .kn) (a .val) (set (a .t14) x n) _ (a .t14) (a .t15)
+    _ _ (c .before .if4 .left) r in
+    let left = far .before .before .before .before .loop .left in
+    let can = far .before .before .before .before .before .before .before .before .before .before .before .allowed .result in (
+      i .0,
+      i .1,
+      i .2,
+      trying-more (a .cl .now) (a .base .now) (a .ms) (a .caps) (a .spots) (a .v) (a .j) (a .kn) (a .val) (a .t14) (a .t15) x can (i .1)
+          left n (w .result) _ (i .0) (p .3) (w .ensures) y (s .ensures .0) lost (i .3),
+    )
+
+find-loop-less-2 : (t : ℕ) → find-lts.Need-loop-less-2 (
+  allowed-reads.Asked,
+  allowed-reads.Learnt,
+  pick-reads.Asked,
+  pick-reads.Learnt,
+  finish-reads.Asked,
+  finish-reads.Learnt,
+  fitting-reads.Asked,
+  fitting-reads.Learnt,
+  spent-reads.Asked,
+  spent-reads.Learnt,
+  lowest-reads.Asked,
+  lowest-reads.Learnt,
+  without-reads.Asked,
+  without-reads.Learnt,
+  wrapping-add-u64-reads.Asked,
+  wrapping-add-u64-reads.Learnt,
+  settle-all-reads.Asked,
+  settle-all-reads.Learnt,
+  mark-reads.Asked,
+  mark-reads.Learnt,
+  meet-reads.Asked,
+  meet-reads.Learnt,
+  find-below t,
+  find.Post,
+) (find-at t) find.Post find-Inv-loop find-μ-loop
+find-loop-less-2 t c = c .before .before .before .before .before .before .without .ensures .less (c .before .before .before .before .before .before .before .lowest .ensures .1)
+
+find-loop-again-2 : (t : ℕ) → find-lts.Need-loop-again-2 (
+  allowed-reads.Asked,
+  allowed-reads.Learnt,
+  pick-reads.Asked,
+  pick-reads.Learnt,
+  finish-reads.Asked,
+  finish-reads.Learnt,
+  fitting-reads.Asked,
+  fitting-reads.Learnt,
+  spent-reads.Asked,
+  spent-reads.Learnt,
+  lowest-reads.Asked,
+  lowest-reads.Learnt,
+  without-reads.Asked,
+  without-reads.Learnt,
+  wrapping-add-u64-reads.Asked,
+  wrapping-add-u64-reads.Learnt,
+  settle-all-reads.Asked,
+  settle-all-reads.Learnt,
+  mark-reads.Asked,
+  mark-reads.Learnt,
+  meet-reads.Asked,
+  meet-reads.Learnt,
+  find-below t,
+  find.Post,
+) (find-at t) find.Post find-Inv-loop find-μ-loop
+find-loop-again-2 t c =
+    let far = c .before .before .before .before .before .before .before .before .before .before .before .before in
+    let i = c .before .before .before .before .before .before .before .before .before .before .before .loop .inv in
+    let p = far .before .before .before .before .before .before .before .before .before .before .before .pre .1 in
+    let a = far .before .before .before .before .before .before .before .before .before .before .before .args in
+    let x = far .before .before .pick .result in
+    let n = c .before .before .before .before .before .before .before .lowest .result in
+    let y = c .before .before .before .before .before .before .before .lowest .ensures .1 in
+    let s = c .before .before .settle-all in
+    let w = c .before .before .before .before .before .before .without in
+    let lost = s .ensures .2 (c .if3 .left) (a .kn) (a .val) in
+    let kept = kept-start (a .cl .now) (a .base .now) (a .ms) (a .caps) (a .spots) (a .v) (a .j) (set (a .t14) x n) (a .t15) in
+    let left = c .before .before .before .before .before .before .before .before .before .before .before .loop .left in
+    let can = far .before .before .before .before .before .before .allowed .result in (
+      i .0,
+      i .1,
+      i .2,
+      trying-more (a .cl .now) (a .base .now) (a .ms) (a .caps) (a .spots) (a .v) (a .j) (a .kn) (a .val) (a .t14) (a .t15) x can (i .1)
+          left n (w .result) (a .t15) (i .0) (p .3) (w .ensures) y kept lost (i .3),
+    )
+
+find-returns-5 : (t : ℕ) → find-lts.Need-returns-5 (
+  allowed-reads.Asked,
+  allowed-reads.Learnt,
+  pick-reads.Asked,
+  pick-reads.Learnt,
+  finish-reads.Asked,
+  finish-reads.Learnt,
+  fitting-reads.Asked,
+  fitting-reads.Learnt,
+  spent-reads.Asked,
+  spent-reads.Learnt,
+  lowest-reads.Asked,
+  lowest-reads.Learnt,
+  without-reads.Asked,
+  without-reads.Learnt,
+  wrapping-add-u64-reads.Asked,
+  wrapping-add-u64-reads.Learnt,
+  settle-all-reads.Asked,
+  settle-all-reads.Learnt,
+  mark-reads.Asked,
+  mark-reads.Learnt,
+  meet-reads.Asked,
+  meet-reads.Learnt,
+  find-below t,
+  find.Post,
+) (find-at t) find.Post find-Inv-loop find-μ-loop
+find-returns-5 t c =
+    let p = c .before .before .before .before .before .before .before .before .before .before .before .before .before .pre .1 in
+    let a = c .before .before .before .before .before .before .before .before .before .before .before .before .before .args in
+    let i = c .before .loop .inv in
+    let n = c .before .before .before .before .before .before .before .before .allowed in
+    let end = trying-end (a .cl .now) (a .base .now) (a .ms) (a .caps) (a .spots) (a .v) (a .j) (a .kn) (a .val) (a .t14) (a .t15)
+    (c .before .before .before .before .pick .result) (n .result) (i .1) in
+    record { sure = λ e. end (a .gb .now) (a .used) (a .all) (c .before .loop .left) (i .2) (c .loop-test .left) (p .6) (n .ensures) (p .7) (i .3); never = λ e. refl }
 
 pub +find-spec : {M : Type 1} → statement M
 +find-spec = close μ-find λ t. find-lts.spec (
@@ -619,6 +1015,10 @@ pub +find-spec : {M : Type 1} → statement M
   pick-reads.Learnt,
   finish-reads.Asked,
   finish-reads.Learnt,
+  fitting-reads.Asked,
+  fitting-reads.Learnt,
+  spent-reads.Asked,
+  spent-reads.Learnt,
   lowest-reads.Asked,
   lowest-reads.Learnt,
   without-reads.Asked,
@@ -627,10 +1027,10 @@ pub +find-spec : {M : Type 1} → statement M
   wrapping-add-u64-reads.Learnt,
   settle-all-reads.Asked,
   settle-all-reads.Learnt,
-  empty-reads.Asked,
-  empty-reads.Learnt,
   mark-reads.Asked,
   mark-reads.Learnt,
+  meet-reads.Asked,
+  meet-reads.Learnt,
   find-below t,
   find.Post,
 )
@@ -639,24 +1039,32 @@ pub +find-spec : {M : Type 1} → statement M
     find-Inv-loop
     find-μ-loop
     (find-allowed-requires t)
+    (find-slice-aggregate-pick t)
+    (find-slice-aggregate-pick-2 t)
+    (find-slice-aggregate-pick-3 t)
     (find-pick-requires t)
     (find-finish-requires t)
     (find-returns t)
+    (find-fitting-requires t)
     (find-mul-left t)
     (find-array-read-left t)
     (find-loop-holds t)
+    (find-spent-requires t)
+    (find-returns-2 t)
     (find-lowest-requires t)
     (find-without-requires t)
     (find-wrapping-add-u64-requires t)
     (find-array-write-next t)
+    (find-slice-aggregate-settle-all t)
+    (find-slice-aggregate-settle-all-2 t)
     (find-settle-all-requires t)
-    (find-empty-requires t)
     (find-mark-requires t)
+    (find-meet-requires t)
     (find-find-requires t)
-    (find-wrapping-add-u64-requires-2 t)
-    (find-returns-2 t)
+    (find-returns-3 t)
+    (find-returns-4 t)
     (find-loop-less t)
     (find-loop-again t)
     (find-loop-less-2 t)
     (find-loop-again-2 t)
-    (find-returns-3 t)
+    (find-returns-5 t)

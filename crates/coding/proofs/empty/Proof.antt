@@ -8,22 +8,22 @@ use Rattle.coding.proofs.empty.Reads as reads
 use Rattle.coding.proofs.empty.Lts as lts
 
 abbrev Inv-loop : tie.InvT-loop
-Inv-loop v dom y₀ y = y ≤ v
+Inv-loop dom v y₀ y = y ≤ v
 
 abbrev μ-loop : tie.MeasureT-loop
-μ-loop v dom y₀ y = v - y
+μ-loop dom v y₀ y = v - y
 
 loop-holds : tie.Need-loop-holds Inv-loop μ-loop
 loop-holds c = search needs
 
 mul-if1 : tie.Need-mul-if1 Inv-loop μ-loop
-mul-if1 c = let h = c .loop-test .taken in let z = c .before .before .pre in search needs
+mul-if1 c = let h = c .loop-test .taken in let z = c .before .before .pre .0 in let n = c .before .before .pre .1 in search needs
 
-array-read-if1 : tie.Need-array-read-if1 Inv-loop μ-loop
-array-read-if1 c = let h = c .loop-test .taken in let z = c .before .before .pre in search needs
+shared-slice-read-if1 : tie.Need-shared-slice-read-if1 Inv-loop μ-loop
+shared-slice-read-if1 c = let h = c .before .loop-test .taken in let z = c .before .before .before .pre .0 in let n = c .before .before .before .pre .1 in search needs
 
 returns : tie.Need-returns Inv-loop μ-loop
-returns c = λ e. (c .before .before .loop .y, c .before .loop-test .taken, c .if1 .taken)
+returns c = λ e. (c .before .before .before .loop .y, c .before .before .loop-test .taken, c .if1 .taken)
 
 add-y : tie.Need-add-y Inv-loop μ-loop
 add-y c = search needs
@@ -45,7 +45,7 @@ empty-spec =
     μ-loop
     loop-holds
     mul-if1
-    array-read-if1
+    shared-slice-read-if1
     returns
     add-y
     loop-less

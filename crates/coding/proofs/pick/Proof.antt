@@ -9,24 +9,48 @@ use Rattle.coding.proofs.pick.Tie as tie
 use Rattle.coding.proofs.pick.Reads as reads
 use Rattle.coding.proofs.pick.Lts as lts
 use Rattle.coding.proofs.better.Reads as better-reads
+use Rattle.coding.proofs.rank.Reads as rank-reads
+use Rattle.coding.proofs.unmet.Reads as unmet-reads
 
 abbrev Inv-loop : tie.InvT-loop
-Inv-loop v can dom codes best₀ least₀ y₀ best least y = (y ≤ v) × Seeking codes y best
+Inv-loop cl j met dom codes v can best₀ least₀ y₀ best least y = (y ≤ v) × Seeking codes y best
 
 abbrev μ-loop : tie.MeasureT-loop
-μ-loop v can dom codes best₀ least₀ y₀ best least y = v - y
+μ-loop cl j met dom codes v can best₀ least₀ y₀ best least y = v - y
 
 loop-holds : tie.Need-loop-holds Inv-loop μ-loop
-loop-holds c = (omega arith, seeking-start (c .args .t2))
+loop-holds c = (omega arith, seeking-start (c .before .before .before .before .args .codes .now))
 
-array-read-if1 : tie.Need-array-read-if1 Inv-loop μ-loop
-array-read-if1 c = let h = c .loop-test .taken in let z = c .before .before .pre in search needs
+shared-slice-read-if1 : tie.Need-shared-slice-read-if1 Inv-loop μ-loop
+shared-slice-read-if1 c =
+    let h = c .before .loop-test .taken in
+    let z = c .before .before .before .before .before .before .before .pre .2 in
+    let n = c .before .before .before .before .before .before .before .pre .4 in
+    search needs
 
-mul-n : tie.Need-mul-n Inv-loop μ-loop
-mul-n c = let h = c .before .loop-test .taken in let z = c .before .before .before .pre in search needs
+mul-rank : tie.Need-mul-rank Inv-loop μ-loop
+mul-rank c =
+    let h = c .before .before .loop-test .taken in
+    let z = c .before .before .before .before .before .before .before .before .pre .2 in
+    let n = c .before .before .before .before .before .before .before .before .pre .3 in
+    search needs
 
-array-read-n : tie.Need-array-read-n Inv-loop μ-loop
-array-read-n c = let h = c .before .loop-test .taken in let z = c .before .before .before .pre in search needs
+shared-slice-read-rank : tie.Need-shared-slice-read-rank Inv-loop μ-loop
+shared-slice-read-rank c =
+    let h = c .before .before .before .loop-test .taken in
+    let z = c .before .before .before .before .before .before .before .before .before .pre .2 in
+    let n = c .before .before .before .before .before .before .before .before .before .pre .3 in
+    search needs
+
+unmet-requires : tie.Need-unmet-requires Inv-loop μ-loop
+unmet-requires c κs =
+    let h = c .before .before .before .loop-test .taken in
+    let p = c .before .before .before .before .before .before .before .before .before .pre in
+    let z = p .2 in
+    (p .0, p .1, omega arith, p .5)
+
+rank-requires : tie.Need-rank-requires Inv-loop μ-loop
+rank-requires c κs = search needs
 
 better-requires : tie.Need-better-requires Inv-loop μ-loop
 better-requires c κs = search needs
@@ -39,26 +63,25 @@ loop-less c = search needs
 
 loop-again : tie.Need-loop-again Inv-loop μ-loop
 loop-again c =
-    let loop-test = c .before .loop-test in
-    let loop = c .before .before .loop in
-    let args = c .before .before .before .args in
-    let pre = c .before .before .before .pre in
+    let loop-test = c .before .before .loop-test in
+    let loop = c .before .before .before .loop in
+    let args = c .before .before .before .before .before .before .before .before .args in
     let h = loop-test .taken in
-    let z = pre in (
+    let z = c .before .before .before .before .before .before .before .before .pre .2 in (
       omega arith,
       ⊎-elim
-          (λ w. seeking-better (args .t2) (loop .y) (loop .best) _ (omega arith) (w .0 .taken) (w .3) (loop .inv .1))
+          (λ w. seeking-better (args .codes .now) (loop .y) (loop .best) _ (omega arith) (w .0 .taken) (w .6) (loop .inv .1))
           (⊎-elim
-          (λ w. seeking-worse (args .t2) (loop .y) (loop .best) _ (w .1 .ensures (w .2 .left)) (w .3) (loop .inv .1))
-          (λ w. seeking-coded (args .t2) (loop .y) (loop .best) _ (w .0 .left) (w .1) (loop .inv .1)))
+          (λ w. seeking-worse (args .codes .now) (loop .y) (loop .best) _ (w .4 .ensures (w .5 .left)) (w .6) (loop .inv .1))
+          (λ w. seeking-coded (args .codes .now) (loop .y) (loop .best) _ (w .0 .left) (w .1) (loop .inv .1)))
           (c .if1 .came),
     )
 
 returns : tie.Need-returns Inv-loop μ-loop
 returns c =
     let loop = c .before .loop in
-    let args = c .before .before .args in
-    subst (λ (z : ℕ). Seeking (args .t2) z (loop .best)) (let h = c .loop-test .left in let z = loop .inv .0 in omega arith) (loop .inv .1)
+    let args = c .before .before .before .before .before .before .args in
+    subst (λ (z : ℕ). Seeking (args .codes .now) z (loop .best)) (let h = c .loop-test .left in let z = loop .inv .0 in omega arith) (loop .inv .1)
 
 pub pick-spec : {M : Type 1} → statement M
 pick-spec =
@@ -67,9 +90,11 @@ pick-spec =
     Inv-loop
     μ-loop
     loop-holds
-    array-read-if1
-    mul-n
-    array-read-n
+    shared-slice-read-if1
+    mul-rank
+    shared-slice-read-rank
+    unmet-requires
+    rank-requires
     better-requires
     add-y
     loop-less

@@ -1,8 +1,11 @@
-use mathlib.Core.Path.{_≡_, refl, sym, ap, _∙_, subst}
-use Prim.Native.Nat.{ℕ, _<_, _≤_, _+_, _-_, _*_}
+use Prim.Native.Nat.{_≤_, _-_}
 use native.Mathlib.Omega.{arith}
 use Rattle.numbering.specs.Given.{Kept}
-use Rattle.holding.specs.Narrow.{kept-start, kept-more}
+use Rattle.holding.specs.Narrow.{kept-start, kept-more, hopeless-before}
+use Rattle.holding.specs.Search.{empty-hopeless}
+use borrow.Author.Tests.{not-true, not-false}
+use mathlib.Core.Path.{_≡_, sym, _∙_}
+use lib.ListN.{length}
 use borrow.Author.Needs.{needs}
 use Rattle.coding.proofs.settle_all.Statement.{statement}
 use Rattle.coding.proofs.settle_all.Tie as tie
@@ -13,46 +16,97 @@ use Rattle.coding.proofs.empty.Reads as empty-reads
 use Rattle.holding.proofs.settle.Reads as settle-reads
 
 abbrev Inv-loop : tie.InvT-loop
-Inv-loop cl base bs ms caps spots v j codes c r₀ o₀ r o = (o ≤ j) × Kept cl base ms caps spots v j codes r₀ r
+Inv-loop cl base bs ms caps spots v j codes dom₀ c x o₀ dom o = (o ≤ j) × (length dom ≡ 32) × Kept cl base ms caps spots v j codes dom₀ dom
 
 abbrev μ-loop : tie.MeasureT-loop
-μ-loop cl base bs ms caps spots v j codes c r₀ o₀ r o = j - o
+μ-loop cl base bs ms caps spots v j codes dom₀ c x o₀ dom o = j - o
 
--- src/lib.rt:74:9
 bar-all-requires : tie.Need-bar-all-requires Inv-loop μ-loop
-bar-all-requires c κs = let p = c .before .before .before .pre in (p .0, p .2 .long, p .3, p .4, p .5)
+bar-all-requires c κs = let p = c .before .before .before .before .before .before .pre in (p .0, p .2 .long, p .3, p .4, p .5, p .6, p .7, p .8)
 
--- src/lib.rt:76:5
 loop-holds : tie.Need-loop-holds Inv-loop μ-loop
-loop-holds c = (omega arith, kept-start (c .before .before .before .before .args .cl .now) (c .before .before .before .before .args .base .now) (c .before .before .before .before .args .ms) (c .before .before .before .before .args .caps) (c .before .before .before .before .args .spots) (c .before .before .before .before .args .v) (c .before .before .before .before .args .j) (c .before .before .before .before .args .codes) (c .bar-all .result))
+loop-holds c =
+    let a = c .before .before .before .before .before .before .before .before .before .args in
+    (omega arith, c .before .before .bar-all .ensures .1, kept-start (a .cl .now) (a .base .now) (a .ms) (a .caps) (a .spots) (a .v) (a .j) (a .codes .now) _)
 
--- src/lib.rt:77:12
 empty-requires : tie.Need-empty-requires Inv-loop μ-loop
-empty-requires c κs = c .before .before .before .before .before .before .pre .3
+empty-requires c κs = (c .before .before .before .before .before .before .before .before .before .before .before .before .pre .3, c .before .before .loop .inv .1)
 
--- src/lib.rt:78:13
+same-length : tie.Need-same-length Inv-loop μ-loop
+same-length c = c .before .before .before .before .loop .inv .1 ∙ sym (c .before .before .before .before .before .before .before .before .before .before .before .before .before .before .pre .8)
+
 returns : tie.Need-returns Inv-loop μ-loop
-returns c = kept-more (c .before .before .before .before .before .before .before .before .args .cl .now) (c .before .before .before .before .before .before .before .before .args .base .now) (c .before .before .before .before .before .before .before .before .args .ms) (c .before .before .before .before .before .before .before .before .args .caps) (c .before .before .before .before .before .before .before .before .args .spots) (c .before .before .before .before .before .before .before .before .args .v) (c .before .before .before .before .before .before .before .before .args .j) (c .before .before .before .before .before .before .before .before .args .codes) (c .before .before .before .before .before .before .before .before .args .dom) (c .before .before .before .before .bar-all .result) _ (c .before .before .before .before .bar-all .ensures (c .before .before .before .before .before .before .before .before .args .base .now) (c .before .before .before .before .before .before .before .before .args .ms) (c .before .before .before .before .before .before .before .before .args .spots) (c .before .before .before .before .before .before .before .before .pre .2)) (c .before .before .before .loop .inv .1)
+returns c =
+    let a = c .before .before .before .before .before .before .before .before .before .before .before .before .before .before .args in
+    let p = c .before .before .before .before .before .before .before .before .before .before .before .before .before .before .pre in
+    let b = c .before .before .before .before .before .before .before .bar-all in
+    let l = c .before .before .before .before .loop in
+    let k = kept-more (a .cl .now) (a .base .now) (a .ms) (a .caps) (a .spots) (a .v) (a .j) (a .codes .now) (a .dom .now) _ (l .dom) (b .ensures .0 (a .base .now) (a .ms) (a .spots) (p .2))
+    (l .inv .2) in
+    let before = hopeless-before (a .cl .now) (a .base .now) (a .ms) (a .caps) (a .spots) (a .v) (a .j) (a .codes .now) (a .dom .now) (l .dom) k in
+    let e = c .before .empty .ensures (c .if1 .taken) in
+    (k, l .inv .1, λ q kn val. before kn val (empty-hopeless (a .cl .now) (a .base .now) (a .ms) (a .caps) (a .spots) (a .v) (a .j) kn val (a .codes .now) (l .dom) e))
 
--- src/lib.rt:80:13
 settle-requires : tie.Need-settle-requires Inv-loop μ-loop
-settle-requires c κs = let p = c .before .before .before .before .before .before .before .before .pre in (p .0, p .1, p .2, p .3, p .4, c .before .before .loop-test .taken)
+settle-requires c κs =
+    let p = c .before .before .before .before .before .before .before .before .before .before .before .before .before .before .before .pre in
+    (p .0, p .1, p .2, p .3, p .4, c .before .before .before .before .loop-test .taken, p .7, c .before .before .before .before .before .loop .inv .1)
 
--- src/lib.rt:82:9
+same-length-2 : tie.Need-same-length-2 Inv-loop μ-loop
+same-length-2 c =
+    let far = c .before .before .before .before .before .before .before .before .before .before .before .before in
+    c .before .before .before .settle .ensures .1 ∙ sym (far .before .before .before .before .before .before .before .pre .8)
+
+returns-2 : tie.Need-returns-2 Inv-loop μ-loop
+returns-2 c =
+    let a = c .before .before .before .before .before .before .before .before .before .before .before .before .before .before .before .before .before .before .before .args in
+    let p = c .before .before .before .before .before .before .before .before .before .before .before .before .before .before .before .before .before .before .before .pre in
+    let b = c .before .before .before .before .before .before .before .before .before .before .before .before .bar-all in
+    let l = c .before .before .before .before .before .before .before .before .before .loop in
+    let k = kept-more (a .cl .now) (a .base .now) (a .ms) (a .caps) (a .spots) (a .v) (a .j) (a .codes .now) (a .dom .now) _ (l .dom) (b .ensures .0 (a .base .now) (a .ms) (a .spots) (p .2))
+    (l .inv .2) in
+    let before = hopeless-before (a .cl .now) (a .base .now) (a .ms) (a .caps) (a .spots) (a .v) (a .j) (a .codes .now) (a .dom .now) (l .dom) k in
+    let s = c .before .before .before .settle .ensures in (
+      kept-more (a .cl .now) (a .base .now) (a .ms) (a .caps) (a .spots) (a .v) (a .j) (a .codes .now) (a .dom .now) (l .dom) _ k (s .0),
+      s .1,
+      λ q kn val. before kn val
+          (s .2 (not-true _ (c .if2 .taken)) kn val),
+    )
+
 add-o : tie.Need-add-o Inv-loop μ-loop
 add-o c = search needs
 
--- src/lib.rt:76:5
 loop-less : tie.Need-loop-less Inv-loop μ-loop
 loop-less c = search needs
 
--- src/lib.rt:76:5
 loop-again : tie.Need-loop-again Inv-loop μ-loop
-loop-again c = let h = c .before .before .before .loop-test .taken in (omega arith, kept-more (c .before .before .before .before .before .before .before .before .before .args .cl .now) (c .before .before .before .before .before .before .before .before .before .args .base .now) (c .before .before .before .before .before .before .before .before .before .args .ms) (c .before .before .before .before .before .before .before .before .before .args .caps) (c .before .before .before .before .before .before .before .before .before .args .spots) (c .before .before .before .before .before .before .before .before .before .args .v) (c .before .before .before .before .before .before .before .before .before .args .j) (c .before .before .before .before .before .before .before .before .before .args .codes) (c .before .before .before .before .before .bar-all .result) (c .before .before .before .before .loop .r) _ (c .before .before .before .before .loop .inv .1) (c .settle .ensures))
+loop-again c =
+    let a = c .before .before .before .before .before .before .before .before .before .before .before .before .before .before .before .before .before .before .before .args in
+    let h = c .before .before .before .before .before .before .before .before .loop-test .taken in
+    let l = c .before .before .before .before .before .before .before .before .before .loop in
+    let s = c .before .before .before .settle .ensures in
+    (omega arith, s .1, kept-more (a .cl .now) (a .base .now) (a .ms) (a .caps) (a .spots) (a .v) (a .j) (a .codes .now) _ (l .dom) _ (l .inv .2) (s .0))
 
--- src/lib.rt:58:1
-returns-2 : tie.Need-returns-2 Inv-loop μ-loop
-returns-2 c = kept-more (c .before .before .before .before .before .before .args .cl .now) (c .before .before .before .before .before .before .args .base .now) (c .before .before .before .before .before .before .args .ms) (c .before .before .before .before .before .before .args .caps) (c .before .before .before .before .before .before .args .spots) (c .before .before .before .before .before .before .args .v) (c .before .before .before .before .before .before .args .j) (c .before .before .before .before .before .before .args .codes) (c .before .before .before .before .before .before .args .dom) (c .before .before .bar-all .result) _ (c .before .before .bar-all .ensures (c .before .before .before .before .before .before .args .base .now) (c .before .before .before .before .before .before .args .ms) (c .before .before .before .before .before .before .args .spots) (c .before .before .before .before .before .before .pre .2)) (c .before .loop .inv .1)
+empty-requires-2 : tie.Need-empty-requires-2 Inv-loop μ-loop
+empty-requires-2 c κs = (c .before .before .before .before .before .before .before .before .before .before .before .before .pre .3, c .before .before .loop .inv .1)
+
+same-length-3 : tie.Need-same-length-3 Inv-loop μ-loop
+same-length-3 c = c .before .before .before .loop .inv .1 ∙ sym (c .before .before .before .before .before .before .before .before .before .before .before .before .before .pre .8)
+
+returns-3 : tie.Need-returns-3 Inv-loop μ-loop
+returns-3 c =
+    let a = c .before .before .before .before .before .before .before .before .before .before .before .before .before .args in
+    let p = c .before .before .before .before .before .before .before .before .before .before .before .before .before .pre in
+    let b = c .before .before .before .before .before .before .bar-all in
+    let l = c .before .before .before .loop in
+    let k = kept-more (a .cl .now) (a .base .now) (a .ms) (a .caps) (a .spots) (a .v) (a .j) (a .codes .now) (a .dom .now) _ (l .dom) (b .ensures .0 (a .base .now) (a .ms) (a .spots) (p .2))
+    (l .inv .2) in
+    let before = hopeless-before (a .cl .now) (a .base .now) (a .ms) (a .caps) (a .spots) (a .v) (a .j) (a .codes .now) (a .dom .now) (l .dom) k in (
+      k,
+      l .inv .1,
+      λ q kn val. before kn val (empty-hopeless (a .cl .now) (a .base .now) (a .ms) (a .caps) (a .spots) (a .v) (a .j) kn val (a .codes .now) (l .dom)
+          (c .empty2 .ensures (not-false _ q))),
+    )
 
 pub settle-all-spec : {M : Type 1} → statement M
 settle-all-spec =
@@ -63,9 +117,14 @@ settle-all-spec =
     bar-all-requires
     loop-holds
     empty-requires
+    same-length
     returns
     settle-requires
+    same-length-2
+    returns-2
     add-o
     loop-less
     loop-again
-    returns-2)
+    empty-requires-2
+    same-length-3
+    returns-3)

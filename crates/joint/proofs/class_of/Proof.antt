@@ -8,10 +8,10 @@ use Rattle.joint.proofs.class_of.Lts as lts
 use Rattle.joint.proofs.alike.Reads as alike-reads
 
 abbrev Inv-loop : tie.InvT-loop
-Inv-loop cl j n x first i₀ i = i ≤ n
+Inv-loop cl j kn val n x first i₀ i = i ≤ n
 
 abbrev μ-loop : tie.MeasureT-loop
-μ-loop cl j n x first i₀ i = n - i
+μ-loop cl j kn val n x first i₀ i = n - i
 
 loop-holds : tie.Need-loop-holds Inv-loop μ-loop
 loop-holds c = search needs

@@ -12,13 +12,13 @@ use Rattle.joint.proofs.merge.Lts as lts
 use Rattle.joint.proofs.class_of.Reads as class-of-reads
 
 abbrev Inv-loop : tie.InvT-loop
-Inv-loop cl v j first₀ place₀ n₀ x₀ first place n x = (x ≤ v) × Merged cl j x n first place
+Inv-loop cl v j kn val first₀ place₀ n₀ x₀ first place n x = (x ≤ v) × Merged cl j kn val x n first place
 
 abbrev μ-loop : tie.MeasureT-loop
-μ-loop cl v j first₀ place₀ n₀ x₀ first place n x = v - x
+μ-loop cl v j kn val first₀ place₀ n₀ x₀ first place n x = v - x
 
 loop-holds : tie.Need-loop-holds Inv-loop μ-loop
-loop-holds c = (omega arith, merged-start (c .before .args .cl .now) (c .before .args .j) _ _ refl refl (vertices-zero maxVertices))
+loop-holds c = (omega arith, merged-start (c .before .args .cl .now) (c .before .args .j) (c .before .args .kn) (c .before .args .val) _ _ refl refl (vertices-zero maxVertices))
 
 class-of-requires : tie.Need-class-of-requires Inv-loop μ-loop
 class-of-requires c κs =
@@ -79,8 +79,10 @@ loop-again c =
     let p = start .pre .1 in (
       omega arith,
       ⊎-elim
-          (λ w. at-new (start .args .cl .now) (start .args .j) (l .x) (l .n) (l .first) _ (l .place) _ (q .result) (omega arith) (l .inv .1) (w .0 .taken) (w .1) (w .2))
-          (λ w. at-old (start .args .cl .now) (start .args .j) (l .x) (l .n) (l .first) _ (l .place) _ (q .result) (omega arith) (l .inv .1) (q .ensures) (w .0 .left) (w .1) (w .2))
+          (λ w. at-new (start .args .cl .now) (start .args .j) (start .args .kn) (start .args .val) (l .x) (l .n) (l .first) _ (l .place) _
+          (q .result) (omega arith) (l .inv .1) (w .0 .taken) (w .1) (w .2))
+          (λ w. at-old (start .args .cl .now) (start .args .j) (start .args .kn) (start .args .val) (l .x) (l .n) (l .first) _ (l .place) _
+          (q .result) (omega arith) (l .inv .1) (q .ensures) (w .0 .left) (w .1) (w .2))
           (c .if1 .came),
     )
 
@@ -88,7 +90,7 @@ returns : tie.Need-returns Inv-loop μ-loop
 returns c =
     let start = c .before .before .before in
     let l = c .before .loop in
-    subst (λ (z : ℕ). Merged (start .args .cl .now) (start .args .j) z (l .n) (l .first) (l .place))
+    subst (λ (z : ℕ). Merged (start .args .cl .now) (start .args .j) (start .args .kn) (start .args .val) z (l .n) (l .first) (l .place))
     (let h = c .loop-test .left in let z = l .inv .0 in omega arith)
     (l .inv .1)
 

@@ -1,14 +1,15 @@
 use mathlib.Core.Path.{_≡_, refl, subst}
 use Prim.Native.Nat.{ℕ, _≤_, _-_, _*_, _%_}
 use native.Mathlib.Omega.{arith}
-use Rattle.limits.specs.Limits.{maxVertices, labelCount}
-use Rattle.cells.specs.Lists.{zeros-are}
-use Rattle.joint.specs.Merge.{Picked, picked-more}
+use Rattle.limits.specs.Limits.{maxVertices}
+use Rattle.joint.specs.Merge.{Picked, picked-start, picked-more}
 use borrow.Author.Needs.{needs}
 use Rattle.joint.proofs.relabel.Statement.{statement}
 use Rattle.joint.proofs.relabel.Tie as tie
 use Rattle.joint.proofs.relabel.Reads as reads
 use Rattle.joint.proofs.relabel.Lts as lts
+use Rattle.joint.proofs.copied.Reads as copied-reads
+use Rattle.joint.proofs.copied.Reads as copied-reads
 use Rattle.numbering.proofs.label.Reads as label-reads
 
 abbrev Inv-loop : tie.InvT-loop
@@ -17,11 +18,16 @@ Inv-loop cl j first r₀ end i₀ r i = (i ≤ end) × (end ≡ j * maxVertices)
 abbrev μ-loop : tie.MeasureT-loop
 μ-loop cl j first r₀ end i₀ r i = end - i
 
+copied-requires : tie.Need-copied-requires Inv-loop μ-loop
+copied-requires c κs = c .before .pre .0
+
 mul-end : tie.Need-mul-end Inv-loop μ-loop
-mul-end c = let h = c .before .pre .1 in search needs
+mul-end c = let h = c .before .before .pre .1 in search needs
 
 loop-holds : tie.Need-loop-holds Inv-loop μ-loop
-loop-holds c = (omega arith, refl, record { long = refl; done = λ k h. absurd (omega arith); rest = λ k h. zeros-are labelCount k })
+loop-holds c =
+    let args = c .before .before .args in
+    (omega arith, refl, picked-start (args .cl .now) (args .t2) (c .copied .result) (c .copied .ensures))
 
 mul-x : tie.Need-mul-x Inv-loop μ-loop
 mul-x c = search needs
@@ -31,25 +37,26 @@ array-copy-out-x c = search needs
 
 label-requires : tie.Need-label-requires Inv-loop μ-loop
 label-requires c κs =
-    let p = c .before .before .before .before .pre in
+    let p = c .before .before .before .before .before .pre in
     let l = c .before .before .loop in
     let h = c .before .loop-test .taken in
     let e = l .inv .1 in
     let few = p .1 in
-    (p .0 .long, omega arith, p .2 (l .i % maxVertices) (omega arith))
+    let long = p .0 .long in
+    (omega arith, omega arith, p .2 (l .i % maxVertices) (omega arith))
 
 array-write-r : tie.Need-array-write-r Inv-loop μ-loop
 array-write-r c =
     let h = c .before .before .loop-test .taken in
     let e = c .before .before .before .loop .inv .1 in
-    let p = c .before .before .before .before .before .pre .1 in
+    let p = c .before .before .before .before .before .before .pre .1 in
     search needs
 
 add-i : tie.Need-add-i Inv-loop μ-loop
 add-i c =
     let h = c .before .before .loop-test .taken in
     let e = c .before .before .before .loop .inv .1 in
-    let p = c .before .before .before .before .before .pre .1 in
+    let p = c .before .before .before .before .before .before .pre .1 in
     search needs
 
 loop-less : tie.Need-loop-less Inv-loop μ-loop
@@ -57,7 +64,7 @@ loop-less c = search needs
 
 loop-again : tie.Need-loop-again Inv-loop μ-loop
 loop-again c =
-    let start = c .before .before .before .before .before in
+    let start = c .before .before .before .before .before .before in
     let l = c .before .before .before .loop in
     let h = c .before .before .loop-test .taken in
     let e = l .inv .1 in
@@ -66,7 +73,7 @@ loop-again c =
 
 returns : tie.Need-returns Inv-loop μ-loop
 returns c =
-    let start = c .before .before .before in
+    let start = c .before .before .before .before in
     let l = c .before .loop in
     subst (λ (z : ℕ). Picked (start .args .cl .now) (start .args .t2) z (l .r))
     (let h = c .loop-test .left in let z = l .inv .0 in let e = l .inv .1 in omega arith)
@@ -78,6 +85,7 @@ relabel-spec =
     (tie.spec
     Inv-loop
     μ-loop
+    copied-requires
     mul-end
     loop-holds
     mul-x

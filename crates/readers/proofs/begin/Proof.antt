@@ -4,14 +4,16 @@ use Rattle.readers.proofs.begin.Statement.{statement}
 use Rattle.readers.proofs.begin.Tie as tie
 use Rattle.readers.proofs.begin.Reads as reads
 use Rattle.readers.proofs.begin.Lts as lts
+use Rattle.readers.proofs.fitting_sets.Reads as fitting-sets-reads
 
--- src/lib.rt:169:5
 array-write-codes : tie.Need-array-write-codes
 array-write-codes c = search needs
 
--- src/lib.rt:165:1
+fitting-sets-requires : tie.Need-fitting-sets-requires
+fitting-sets-requires c κs = search needs
+
 returns : tie.Need-returns
-returns c = start-of
+returns c = let a = c .before .args in start-of (a .kn) (a .val) (c .fitting-sets .result) (c .fitting-sets .ensures .fits)
 
 pub begin-spec : {M : Type 1} → statement M
-begin-spec = tie.close (tie.spec array-write-codes returns)
+begin-spec = tie.close (tie.spec array-write-codes fitting-sets-requires returns)

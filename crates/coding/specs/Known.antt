@@ -1,0 +1,69 @@
+-- The codes that a vertex may have where digits of cell 0 are known: those with the known digit, or any where none is known at
+-- the vertex. Assumes nothing.
+use mathlib.Core.Path.{_≡_, refl, sym, ap, _∙_}
+use mathlib.Core.Bool.{Bool, true, false, not}
+use mathlib.Core.Logic.{⊎-elim}
+use Prim.Native.Nat.{ℕ, zero, suc, _-_, _^_, _<_}
+use native.Mathlib.Omega.{arith}
+use Rattle.limits.specs.Limits.{maxCodes}
+use Rattle.bits.specs.Logic.{andb, pick}
+use Rattle.bits.specs.LogicLaws.{true-false, and-left, and-right}
+use Rattle.bits.specs.Digit.{digit, on}
+use Rattle.bits.specs.DigitLaws.{on-ones}
+use Rattle.cells.specs.Lists.{less-or-equal, never-both}
+
+-- ======== definitions
+-- fit has the codes with the known digit of cell 0 at vertex x, or all where none is known there
+pub record Fitting (kn val x fit : ℕ) : Type 0 where
+  pub only : (c : ℕ) → c < maxCodes → on fit c ≡ true → on kn x ≡ true → on c 0 ≡ on val x
+  pub all : (c : ℕ) → c < maxCodes → (on kn x ≡ true → on c 0 ≡ on val x) → on fit c ≡ true
+
+-- ======== laws
+every : (ℕ → Bool) → ℕ → Bool
+every p zero = true
+every p (suc n) = andb (p n) (every p n)
+
+every-at : (p : ℕ → Bool) (n c : ℕ) → every p n ≡ true → c < n → p c ≡ true
+unfolding every
+every-at p zero c e h = absurd (omega arith)
+every-at p (suc n) c e h = ⊎-elim (λ l. every-at p n c (and-right (p n) (every p n) e) l) (λ q. ap p q ∙ and-left (p n) (every p n) e) (less-or-equal c n h)
+
+same : Bool → Bool → Bool
+same a b = pick a b (not b)
+
+same-equal : (a b : Bool) → same a b ≡ true → a ≡ b
+unfolding same
+same-equal true b e = sym e
+same-equal false true e = absurd (true-false (sym e))
+same-equal false false e = refl
+
+-- the codes with digit 0 on, and those with it off
+abbrev odd : ℕ
+odd = 12297829382473034410
+
+abbrev even : ℕ
+even = 6148914691236517205
+
+odd-on : (c : ℕ) → c < 64 → on odd c ≡ on c 0
+unfolding on digit every same
+odd-on c h = same-equal _ _ (every-at (λ (c : ℕ). same (on odd c) (on c 0)) 64 c refl h)
+
+even-on : (c : ℕ) → c < 64 → on even c ≡ not (on c 0)
+unfolding on digit every same
+even-on c h = same-equal _ _ (every-at (λ (c : ℕ). same (on even c) (not (on c 0))) 64 c refl h)
+
+pub fitting-any : (kn val x : ℕ) → on kn x ≡ false → Fitting kn val x (2 ^ 64 - 1)
+fitting-any kn val x e = record { only = λ c l t k. absurd (never-both k e); all = λ c l k. on-ones 64 c l }
+
+pub fitting-one : (kn val x : ℕ) → on kn x ≡ true → on val x ≡ true → Fitting kn val x odd
+fitting-one kn val x e d = record { only = λ c l t k. sym (odd-on c l) ∙ t ∙ sym d; all = λ c l k. odd-on c l ∙ k e ∙ d }
+
+pub fitting-zero : (kn val x : ℕ) → on kn x ≡ true → on val x ≡ false → Fitting kn val x even
+fitting-zero kn val x e d = record {
+  only = λ c l t k. off (on c 0) (sym (even-on c l) ∙ t) ∙ sym d;
+  all = λ c l k. even-on c l ∙ ap not (k e ∙ d);
+}
+  where
+    off : (b : Bool) → not b ≡ true → b ≡ false
+    off false e = refl
+    off true e = absurd (true-false (sym e))

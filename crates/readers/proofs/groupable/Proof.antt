@@ -1,0 +1,15 @@
+use Rattle.readers.specs.Known.{groupable-all, groupable-less}
+use borrow.Author.Needs.{needs}
+use Rattle.readers.proofs.groupable.Statement.{statement}
+use Rattle.readers.proofs.groupable.Tie as tie
+use Rattle.readers.proofs.groupable.Reads as reads
+use Rattle.readers.proofs.groupable.Lts as lts
+
+returns : tie.Need-returns
+returns c = let a = c .before .args in groupable-all (a .sh) (a .kn) (c .before .pre) (c .if1 .taken)
+
+returns-2 : tie.Need-returns-2
+returns-2 c = let a = c .before .args in groupable-less (a .sh) (a .kn) (c .before .pre)
+
+pub groupable-spec : {M : Type 1} → statement M
+groupable-spec = tie.close (tie.spec returns returns-2)
