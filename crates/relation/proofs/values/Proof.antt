@@ -1,0 +1,66 @@
+use native.Mathlib.Omega.{arith}
+use Prim.Native.Nat.{ℕ, _≤_, _-_}
+use mathlib.Core.Path.{refl, subst}
+use Rattle.relation.specs.Refining.{Valued, valued-more}
+use borrow.Author.Needs.{needs}
+use Rattle.relation.proofs.values.Statement.{statement}
+use Rattle.relation.proofs.values.Tie as tie
+use Rattle.relation.proofs.values.Reads as reads
+use Rattle.relation.proofs.values.Lts as lts
+
+abbrev Inv-loop : tie.InvT-loop
+Inv-loop given g v r₀ x₀ r x = (x ≤ v) × Valued given g x r
+
+abbrev μ-loop : tie.MeasureT-loop
+μ-loop given g v r₀ x₀ r x = v - x
+
+loop-holds : tie.Need-loop-holds Inv-loop μ-loop
+loop-holds c = (omega arith, record { long = refl; each = λ y h. absurd (omega arith) })
+
+mul-r : tie.Need-mul-r Inv-loop μ-loop
+mul-r c = let z = c .before .before .pre .1 in search needs
+
+shared-slice-read-r : tie.Need-shared-slice-read-r Inv-loop μ-loop
+shared-slice-read-r c = let z = c .before .before .before .pre .1 in search needs
+
+mul-r-2 : tie.Need-mul-r-2 Inv-loop μ-loop
+mul-r-2 c = let z = c .before .before .before .pre .1 in search needs
+
+array-write-r : tie.Need-array-write-r Inv-loop μ-loop
+array-write-r c = let z = c .before .before .before .pre .1 in search needs
+
+add-x : tie.Need-add-x Inv-loop μ-loop
+add-x c = search needs
+
+loop-less : tie.Need-loop-less Inv-loop μ-loop
+loop-less c = search needs
+
+loop-again : tie.Need-loop-again Inv-loop μ-loop
+loop-again c =
+    let start = c .before .before .before in
+    let l = c .before .before .loop in
+    let h = c .before .loop-test .taken in
+    let z = start .pre .1 in
+    (omega arith, valued-more (start .args .given .now) (start .args .g) (l .x) _ (l .r) (omega arith) refl (l .inv .1))
+
+returns : tie.Need-returns Inv-loop μ-loop
+returns c =
+    let start = c .before .before in
+    let l = c .before .loop in
+    subst (λ (z : ℕ). Valued (start .args .given .now) (start .args .g) z (l .r)) (let h = c .loop-test .left in let z = l .inv .0 in omega arith) (l .inv .1)
+
+pub values-spec : {M : Type 1} → statement M
+values-spec =
+    tie.close
+    (tie.spec
+    Inv-loop
+    μ-loop
+    loop-holds
+    mul-r
+    shared-slice-read-r
+    mul-r-2
+    array-write-r
+    add-x
+    loop-less
+    loop-again
+    returns)

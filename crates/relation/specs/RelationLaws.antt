@@ -1,0 +1,88 @@
+-- Laws of what given tables leave: a conflict can be decided and has no order, no given table leaves every conflict, and codes
+-- tell apart what is left exactly when they tell the labels and parts apart. Assumes nothing.
+use mathlib.Core.Path.{_≡_, refl, sym, _∙_, subst}
+use mathlib.Core.List.{List, [], _∷_}
+use mathlib.Core.Logic.{_⊎_, inl, inr}
+use Prim.Native.Nat.{ℕ, _+_, _≤_, _<_}
+use native.Mathlib.Decide.{ℕ-discrete}
+use native.Mathlib.Omega.{arith}
+use lib.Bits.{and-zero-r}
+use Rattle.cells.specs.Lists.{less-or-equal}
+use Rattle.cells.specs.Cut.{Within}
+use Rattle.cells.specs.Codes.{Coded}
+use Rattle.numbering.specs.Given.{labelAt, partAt, item}
+use Rattle.relation.specs.Relation.{Conflict, Left, Leaves, NoneLeft}
+
+pub conflict-or-not : (cl : List ℕ) (o x y : ℕ) → Conflict cl o x y ⊎ (Conflict cl o x y → ⊥)
+unfolding Conflict
+conflict-or-not cl o x y = go (ℕ-discrete (labelAt cl o x) (labelAt cl o y))
+  where
+    go : Dec (labelAt cl o x ≡ labelAt cl o y) → (labelAt cl o x ≡ labelAt cl o y → ⊥) ⊎ ((labelAt cl o x ≡ labelAt cl o y → ⊥) → ⊥)
+    go (yes e) = inr (λ c. c e)
+    go (no d) = inl d
+
+pub conflict-sym : (cl : List ℕ) (o x y : ℕ) → Conflict cl o x y → Conflict cl o y x
+unfolding Conflict
+conflict-sym cl o x y c e = c (sym e)
+
+pub left-none-conflict : (cl given : List ℕ) (o x y : ℕ) → Left cl given 0 o x y → Conflict cl o x y
+left-none-conflict cl given o x y l = l .conflict
+
+pub conflict-left-none : (cl given : List ℕ) (o x y : ℕ) → Conflict cl o x y → Left cl given 0 o x y
+conflict-left-none cl given o x y c = record { conflict = c; agree = and-zero-r (item given x) ∙ sym (and-zero-r (item given y)) }
+
+module _ (cl given from gs : List ℕ) (n v : ℕ) (r : List ℕ) (s : Leaves cl given from gs n v r) (j : ℕ) (h : j ≤ n) (rows codes : ℕ → ℕ) where
+  pub coded-left : Coded v j (Within (partAt r) (labelAt r)) rows codes → Coded v j (λ i x y. Left cl given (item gs i) (item from i) x y) rows codes
+  coded-left c = record { tells = λ i x y l a b k. c .tells i x y l a b (s .within i x y (omega arith) a b k) }
+
+  pub left-coded : Coded v j (λ i x y. Left cl given (item gs i) (item from i) x y) rows codes → Coded v j (Within (partAt r) (labelAt r)) rows codes
+  left-coded c = record { tells = λ i x y l a b k. c .tells i x y l a b (s .left i x y (omega arith) a b k) }
+
+-- ======== no conflict left
+left-sym : (cl given : List ℕ) (g o x y : ℕ) → Left cl given g o x y → Left cl given g o y x
+left-sym cl given g o x y l = record { conflict = conflict-sym cl o x y (l .conflict); agree = sym (l .agree) }
+
+left-self : (cl given : List ℕ) (g o x : ℕ) → Left cl given g o x x → ⊥
+unfolding Conflict
+left-self cl given g o x l = l .conflict refl
+
+pub equal-not-left : (cl given : List ℕ) (g o x y : ℕ) → labelAt cl o x ≡ labelAt cl o y → Left cl given g o x y → ⊥
+unfolding Conflict
+equal-not-left cl given g o x y e l = l .conflict e
+
+pub none-left-start : (cl given : List ℕ) (g o : ℕ) → NoneLeft cl given g o 0
+none-left-start cl given g o = record { none = λ x y h. absurd (omega arith) }
+
+pub none-left-more : (cl given : List ℕ) (g o x : ℕ) → ((y : ℕ) → y < x → Left cl given g o x y → ⊥) → NoneLeft cl given g o x → NoneLeft cl given g o (x + 1)
+none-left-more cl given g o x new s = record { none = λ a b h k. at a b (less-or-equal a x (omega arith)) (less-or-equal b x (omega arith)) }
+  where
+    L : ℕ → ℕ → Type 0
+    L a b = Left cl given g o a b
+
+    at : (a b : ℕ) → (a < x) ⊎ (a ≡ x) → (b < x) ⊎ (b ≡ x) → L a b → ⊥
+    at a b (inl h) (inl k) l = s .none a b h k l
+    at a b (inr h) (inl k) l = new b k (subst (λ (a : ℕ). L a b) h l)
+    at a b (inl h) (inr k) l = new a h (left-sym cl given g o a x (subst (L a) k l))
+    at a b (inr h) (inr k) l = left-self cl given g o x (subst (L x) k (subst (λ (a : ℕ). L a b) h l))
+
+-- ======== a worked example
+-- Classes 0 1 1 0 at four vertices, and given tables 0 0 1 1 and 0 1 0 1: the first leaves the pairs 0 1 and 2 3, but not 0 2.
+abbrev example-classes : List ℕ
+example-classes = 0 ∷ 1 ∷ 1 ∷ 0 ∷ []
+
+abbrev example-given : List ℕ
+example-given = 0 ∷ 2 ∷ 1 ∷ 3 ∷ []
+
+first-leaves-0-1 : Left example-classes example-given 1 0 0 1
+unfolding Conflict
+first-leaves-0-1 = record { conflict = λ e. let z : _≡_ {A = ℕ} 0 1 = e in omega arith; agree = refl }
+
+first-leaves-2-3 : Left example-classes example-given 1 0 2 3
+unfolding Conflict
+first-leaves-2-3 = record { conflict = λ e. let z : _≡_ {A = ℕ} 1 0 = e in omega arith; agree = refl }
+
+first-tells-0-2 : Left example-classes example-given 1 0 0 2 → ⊥
+first-tells-0-2 l = let z : _≡_ {A = ℕ} 0 1 = l .agree in omega arith
+
+both-leave-none : Left example-classes example-given 3 0 0 1 → ⊥
+both-leave-none l = let z : _≡_ {A = ℕ} 0 2 = l .agree in omega arith
