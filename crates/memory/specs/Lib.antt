@@ -1,2 +1,2 @@
--- Memory has the definitions that contracts cite, and their laws.
 pub mod Memory
+pub mod MemoryLaws

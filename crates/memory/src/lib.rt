@@ -1,184 +1,242 @@
-// A memory of questions answered, and the subsets of outputs for which it is asked. What it says was found to have no codes
-// has none; that something has codes is used to leave a search out, and nothing rests on it. It rests on questions.
+// A memory of questions answered, and the sets of outputs for which it is asked. What it says was found to have no codes has
+// none; that something has codes, or may have, is used to leave a search out, and nothing rests on it. It rests on questions.
 ghost use mathlib.Core.Path.{_≡_};
-ghost use mathlib.Core.Bool.{true, false};
+ghost use mathlib.Core.Bool.{Bool, true, false};
 ghost use mathlib.Core.List.{List};
-ghost use Prim.Native.Nat.{ℕ, _+_, _*_, _<_, _≤_, _^_};
+ghost use Prim.Native.Nat.{ℕ, _+_, _*_, _<_, _≤_};
+ghost use lib.ListN.{length};
 ghost use Rattle.limits.specs.Limits.{searchOutputs, maxVertices};
-ghost use Rattle.numbering.specs.Given.{Labels};
-ghost use Rattle.readers.specs.Masks.{Short, Decided};
+ghost use Rattle.bits.specs.Digit.{on};
+ghost use Rattle.numbering.specs.Given.{item};
+ghost use Rattle.relation.specs.Relation.{Classes};
 ghost use Rattle.questions.specs.Question.{Barred};
-ghost use Rattle.memory.specs.Memory.{wordCount, questionEnd, setCount, Honest, Word};
+ghost use Rattle.memory.specs.Memory.{entryCount, entrySize, headAt, rowAt, Honest};
 use limits::SEARCH_OUTPUTS;
 
-// The words of a memory, and the largest prime below their number.
-pub const WORDS: usize = 256;
+// The entries of a memory, the largest prime below their number, and the numbers that each entry has: its head and a row for
+// each output.
+pub const ENTRIES: usize = 2048;
 
-const PRIME: u64 = 251;
+const PRIME: u64 = 2039;
 
-// A question below this has a word, with room for its answer.
-const QUESTION_END: u64 = 1 << 62;
+pub const ENTRY: usize = SEARCH_OUTPUTS + 1;
 
-// The word for a question and its answer: its last digit is 1 where there are no codes.
-pub fn word(k: u64, ok: bool) -> u64
-    requires { ⌜ k < questionEnd ⌝ }
-    ensures { λ r. ⌜ Word k ok r ⌝ }
+pub const SIZE: usize = ENTRIES * ENTRY;
+
+// The head of an entry for the outputs of the set asked: odd where there are no codes.
+fn head(asked: u8, ok: bool) -> u16
+    ensures { λ r. ⌜ (ok ≡ true → r ≡ asked * 2) × (ok ≡ false → r ≡ asked * 2 + 1) ⌝ }
 {
-    if ok { k * 2 } else { k * 2 + 1 }
+    if ok {
+        asked as u16 * 2
+    } else {
+        asked as u16 * 2 + 1
+    }
 }
 
-// Where a question's word stands: by a prime, so that questions that differ in one output's cells seldom stand in one place.
-pub fn place(k: u64) -> usize
-    ensures { λ r. ⌜ r < wordCount ⌝ }
+// Two more primes, by which the rows are brought into one number; the second is the largest below 2 to the power 32.
+const FACTOR: u64 = 263;
+
+const LARGE_PRIME: u64 = 4_294_967_291;
+
+// Where a question's entry stands: by a prime, so that questions that differ in one output's row seldom stand in one place.
+fn place(asked: u8, rows: [u16; SEARCH_OUTPUTS]) -> usize
+    ensures { λ r. ⌜ r < entryCount ⌝ }
 {
-    (k % PRIME) as usize
+    let mut h = asked as u64;
+    let mut o: usize = 0;
+    while o < SEARCH_OUTPUTS {
+        h = std::num::wrapping_add_u64(h * FACTOR, rows[o] as u64) % LARGE_PRIME;
+        o += 1;
+    }
+    (h % PRIME) as usize
+}
+
+// Whether entry i has this head and these rows.
+fn holds(mem: &[u16], i: usize, head: u16, rows: [u16; SEARCH_OUTPUTS]) -> bool
+    requires { ⌜ (length (now mem) ≡ entryCount * entrySize) × (i < entryCount) ⌝ }
+    ensures { λ r. ⌜ (r ≡ true → (headAt (now (mem .entry)) i ≡ head) × ((o : ℕ) → o < searchOutputs → rowAt (now (mem .entry)) i o ≡ item rows o)) ⌝ }
+{
+    if mem[i * ENTRY] != head {
+        return false;
+    }
+    let mut o: usize = 0;
+    while o < SEARCH_OUTPUTS {
+        if mem[i * ENTRY + (o + 1)] != rows[o] {
+            return false;
+        }
+        o += 1;
+    }
+    true
 }
 
 // Whether the question is known to have no codes.
-pub fn is_bad(mem: [u64; WORDS], k: u64) -> bool
-    ensures { λ r. ⌜ ((cl : List ℕ) (v : ℕ) → Honest cl v mem → r ≡ true → Barred cl v k) ⌝ }
+fn is_bad(mem: &[u16], asked: u8, rows: [u16; SEARCH_OUTPUTS]) -> bool
+    requires { ⌜ length (now mem) ≡ entryCount * entrySize ⌝ }
+    ensures { λ r. ⌜ ((cl given : List ℕ) (kn val v : ℕ) → Honest cl given kn val v (now (mem .entry)) → r ≡ true → Barred cl given kn val v asked (item rows)) ⌝ }
 {
-    let i = place(k);
-    let w = mem[i];
-    if w % 2 == 1 { w / 2 == k } else { false }
+    holds(mem, place(asked, rows), head(asked, false), rows)
 }
 
-// Whether the question is known to have codes. An empty word says so of question 0, about 8 outputs that read nothing.
-pub fn is_good(mem: [u64; WORDS], k: u64) -> bool {
-    let i = place(k);
-    let w = mem[i];
-    if w % 2 == 0 { w / 2 == k } else { false }
-}
-
-// The memory with one answer more, in place of what stood there. A question of QUESTION_END or more has no word; none
-// is made of rows.
-pub fn store(mem: [u64; WORDS], k: u64, ok: bool) -> [u64; WORDS]
-    ensures { λ r. ⌜ ((cl : List ℕ) (v : ℕ) → (ok ≡ false → Barred cl v k) → Honest cl v mem → Honest cl v r) ⌝ }
+// The entry of a question with its answer, in place of what stood there.
+fn store(mem: &mut [u16], asked: u8, rows: [u16; SEARCH_OUTPUTS], ok: bool)
+    requires { ⌜ length (now mem) ≡ entryCount * entrySize ⌝ }
+    ensures { λ r. ⌜ ((cl given : List ℕ) (kn val v : ℕ) → (ok ≡ false → Barred cl given kn val v asked (item rows)) → Honest cl given kn val v (now (mem .entry))
+        → Honest cl given kn val v (now (mem .exit))) ⌝ }
 {
-    let mut r = mem;
-    if k < QUESTION_END {
-        let i = place(k);
-        r[i] = word(k, ok);
+    let i = place(asked, rows);
+    let mut o: usize = 0;
+    while o < SEARCH_OUTPUTS {
+        mem[i * ENTRY + (o + 1)] = rows[o];
+        o += 1;
     }
-    r
+    mem[i * ENTRY] = head(asked, ok);
 }
 
-// An answer, the memory after it, and how often the search gave a vertex a code: not at all where the answer was known.
+// The memory without what it says has codes: such a question may have been given up, and is to be asked again.
+pub fn forget(mem: &mut [u16])
+    requires { ⌜ length (now mem) ≡ entryCount * entrySize ⌝ }
+    ensures { λ r. ⌜ ((cl given : List ℕ) (kn val v : ℕ) → Honest cl given kn val v (now (mem .entry)) → Honest cl given kn val v (now (mem .exit))) ⌝ }
+{
+    let mut i: usize = 0;
+    while i < ENTRIES {
+        if mem[i * ENTRY] % 2 == 0 {
+            mem[i * ENTRY] = 0;
+        }
+        i += 1;
+    }
+}
+
+// Whether some codes may answer a question, and how often the search gave a vertex a code: not at all where the answer was
+// known.
 pub struct Reply {
     pub ok: bool,
-    pub mem: [u64; WORDS],
     pub nodes: u64,
 }
 
-// Whether some codes answer the question, from memory where it is known.
-pub fn tell(cl: &[u8], v: usize, k: u64, mem: [u64; WORDS]) -> Reply
-    requires { ⌜ Labels (now cl) × (v ≤ maxVertices) × Honest (now cl) v mem ⌝ }
-    ensures { λ r. ⌜ Honest (now (cl .entry)) v (r .mem) × (r .ok ≡ false → Barred (now (cl .entry)) v k) ⌝ }
+// The same for the outputs of the set asked, from memory where it is known.
+fn tell(
+    cl: &[u8],
+    given: &[u16],
+    mem: &mut [u16],
+    v: usize,
+    kn: u32,
+    val: u32,
+    asked: u8,
+    rows: [u16; SEARCH_OUTPUTS],
+    limit: u64,
+) -> Reply
+    requires { ⌜ Classes (now cl) × (length (now given) ≡ maxVertices) × (v ≤ maxVertices) × Honest (now cl) (now given) kn val v (now mem) ⌝ }
+    ensures { λ r. ⌜ Honest (now (cl .entry)) (now (given .entry)) kn val v (now (mem .exit)) × (r .ok ≡ false → Barred (now (cl .entry)) (now (given .entry)) kn val v asked (item rows)) ⌝ }
 {
-    if is_bad(mem, k) {
+    let asks = questions::question(rows, asked, kn != 0);
+    if is_bad(mem, asked, asks) {
         return Reply {
             ok: false,
-            mem,
             nodes: 0,
         };
     }
-    if is_good(mem, k) {
-        return Reply {
-            ok: true,
-            mem,
-            nodes: 0,
-        };
+    if holds(mem, place(asked, asks), head(asked, true), asks) {
+        return Reply { ok: true, nodes: 0 };
     }
-    let a = questions::ask(cl, v, k);
-    let next = store(mem, k, a.ok);
-    Reply {
-        ok: a.ok,
-        mem: next,
-        nodes: a.nodes,
-    }
+    let a = questions::ask(cl, given, v, kn, val, asked, asks, limit);
+    let ok = if a.unsure { true } else { a.ok };
+    store(mem, asked, asks, ok);
+    Reply { ok, nodes: a.nodes }
 }
 
-// How many sets of n outputs there are.
-pub fn sets(n: usize) -> usize
-    requires { ⌜ n ≤ searchOutputs ⌝ }
-    ensures { λ r. ⌜ (0 < r) × (r ≤ setCount) ⌝ }
+// Whether a is a set of some of the outputs of among, those of with among them.
+fn between(a: u8, with: u8, among: u8) -> bool
+    ensures { λ r. ⌜ (r ≡ true → (o : ℕ) → on a o ≡ true → on among o ≡ true) ⌝ }
 {
-    1 << n
+    if a & !among != 0 {
+        return false;
+    }
+    with & !a == 0
 }
 
-// Whether one of the sets from .. to - 1 of the first n outputs is known to have no codes for the rows.
-pub fn known_bad(
-    mem: [u64; WORDS],
-    rows: [u8; SEARCH_OUTPUTS],
-    n: usize,
-    from: usize,
-    to: usize,
-) -> bool
-    requires { ⌜ (n ≤ searchOutputs) × (to ≤ setCount) × Short rows n ⌝ }
-    ensures { λ r. ⌜ ((cl : List ℕ) (v : ℕ) → Honest cl v mem → r ≡ true → Decided cl v n rows false rows) ⌝ }
+// Whether a set of outputs of among, those of with among them, is known to have no codes for the rows.
+pub fn known_bad(mem: &[u16], rows: [u16; SEARCH_OUTPUTS], with: u8, among: u8, known: bool) -> bool
+    requires { ⌜ length (now mem) ≡ entryCount * entrySize ⌝ }
+    ensures { λ r. ⌜ ((cl given : List ℕ) (kn val v : ℕ) → (known ≡ false → kn ≡ 0) → Honest cl given kn val v (now (mem .entry)) → r ≡ true → Barred cl given kn val v among (item rows)) ⌝ }
 {
-    let mut a = from;
-    while a < to {
-        let k = questions::question(rows, n, a as u8);
-        if is_bad(mem, k) {
-            return true;
+    let mut a: usize = 1;
+    while a < SETS {
+        if between(a as u8, with, among) {
+            let asks = questions::question(rows, a as u8, known);
+            if is_bad(mem, a as u8, asks) {
+                return true;
+            }
         }
         a += 1;
     }
     false
 }
 
-// Whether the outputs of the set a, where it has n of them, may have codes for the rows.
-pub fn visit(
+// The sets of outputs.
+const SETS: usize = 1 << SEARCH_OUTPUTS;
+
+// Whether the sets of n outputs of among, those of with among them, may have codes for the rows.
+pub fn settle(
     cl: &[u8],
+    given: &[u16],
+    mem: &mut [u16],
     v: usize,
-    m: usize,
-    rows: [u8; SEARCH_OUTPUTS],
-    mem: [u64; WORDS],
-    a: usize,
+    kn: u32,
+    val: u32,
     n: u32,
+    with: u8,
+    among: u8,
+    rows: [u16; SEARCH_OUTPUTS],
+    limit: u64,
 ) -> Reply
-    requires { ⌜ Labels (now cl) × (v ≤ maxVertices) × (m ≤ searchOutputs) × Short rows m × Honest (now cl) v mem × (a < setCount) ⌝ }
-    ensures { λ r. ⌜ Honest (now (cl .entry)) v (r .mem) × (r .ok ≡ false → Decided (now (cl .entry)) v m rows false rows) ⌝ }
+    requires { ⌜ Classes (now cl) × (length (now given) ≡ maxVertices) × (v ≤ maxVertices) × Honest (now cl) (now given) kn val v (now mem) ⌝ }
+    ensures { λ r. ⌜ Honest (now (cl .entry)) (now (given .entry)) kn val v (now (mem .exit)) × (r .ok ≡ false → Barred (now (cl .entry)) (now (given .entry)) kn val v among (item rows)) ⌝ }
 {
-    if u64::count_ones(a as u64) == n {
-        let k = questions::question(rows, m, a as u8);
-        return tell(cl, v, k, mem);
+    let mut nodes: u64 = 0;
+    let mut a: usize = 1;
+    while a < SETS {
+        if u64::count_ones(a as u64) == n {
+            if between(a as u8, with, among) {
+                let t = tell(cl, given, mem, v, kn, val, a as u8, rows, limit);
+                nodes = std::num::wrapping_add_u64(nodes, t.nodes);
+                if !t.ok {
+                    return Reply { ok: false, nodes };
+                }
+            }
+        }
+        a += 1;
     }
-    Reply {
-        ok: true,
-        mem,
-        nodes: 0,
-    }
+    Reply { ok: true, nodes }
 }
 
-// Whether every set of two or more of the m outputs, but not of all, has codes for the rows; smaller sets first, since
-// they are asked quickly and rule out more.
-pub fn settle(cl: &[u8], v: usize, m: usize, rows: [u8; SEARCH_OUTPUTS], mem: [u64; WORDS]) -> Reply
-    requires { ⌜ Labels (now cl) × (v ≤ maxVertices) × (m ≤ searchOutputs) × Short rows m × Honest (now cl) v mem ⌝ }
-    ensures { λ r. ⌜ Honest (now (cl .entry)) v (r .mem) × (r .ok ≡ false → Decided (now (cl .entry)) v m rows false rows) ⌝ }
+// Whether the sets of fewer than n outputs of among may have codes for the rows; smaller sets first, since they are asked
+// quickly and rule out more. One output alone is asked about only where cell 0 has known digits: else a count has shown that
+// it has codes.
+pub fn settle_smaller(
+    cl: &[u8],
+    given: &[u16],
+    mem: &mut [u16],
+    v: usize,
+    kn: u32,
+    val: u32,
+    n: u32,
+    among: u8,
+    rows: [u16; SEARCH_OUTPUTS],
+    limit: u64,
+) -> Reply
+    requires { ⌜ Classes (now cl) × (length (now given) ≡ maxVertices) × (v ≤ maxVertices) × Honest (now cl) (now given) kn val v (now mem) ⌝ }
+    ensures { λ r. ⌜ Honest (now (cl .entry)) (now (given .entry)) kn val v (now (mem .exit)) × (r .ok ≡ false → Barred (now (cl .entry)) (now (given .entry)) kn val v among (item rows)) ⌝ }
 {
-    let end = sets(m);
-    let last = end * m;
-    let mut known = mem;
     let mut nodes: u64 = 0;
-    let mut i = end * 2;
-    while i < last {
-        let t = visit(cl, v, m, rows, known, i % end, (i / end) as u32);
-        known = t.mem;
+    let mut i: u32 = if kn != 0 { 1 } else { 2 };
+    while i < n {
+        let t = settle(cl, given, mem, v, kn, val, i, 0, among, rows, limit);
         nodes = std::num::wrapping_add_u64(nodes, t.nodes);
         if !t.ok {
-            return Reply {
-                ok: false,
-                mem: known,
-                nodes,
-            };
+            return Reply { ok: false, nodes };
         }
         i += 1;
     }
-    Reply {
-        ok: true,
-        mem: known,
-        nodes,
-    }
+    Reply { ok: true, nodes }
 }

@@ -1,33 +1,46 @@
-// Questions about some of the outputs: made of the rows so far, and asked on the labels of these outputs alone. A question
-// is a number, so that a memory of answers is an array (specs/Question has the argument). It rests on joint and orders.
+// Questions about some of the outputs: each has a row, the open cells and the given tables that it reads. A question is put
+// into one order of the open cells, so that questions that differ in that order alone are one, and it is asked on what the
+// given tables leave of the conflicts. It rests on relation, joint and orders.
 ghost use mathlib.Core.Path.{_≡_};
-ghost use mathlib.Core.Bool.{false};
-ghost use Prim.Native.Nat.{ℕ, _+_, _*_, _<_, _≤_};
+ghost use mathlib.Core.Bool.{Bool, true, false};
+ghost use Prim.Native.Nat.{ℕ, _<_, _≤_, _/_, _^_};
 ghost use lib.ListN.{length};
-ghost use Rattle.limits.specs.Limits.{searchOutputs, maxVertices, labelCount, maxCodes, maxCells};
-ghost use Rattle.numbering.specs.Given.{Labels, item};
-ghost use Rattle.readers.specs.Masks.{Short};
+ghost use Rattle.limits.specs.Limits.{searchOutputs, maxVertices, maxCodes, maxCells};
+ghost use Rattle.numbering.specs.Given.{item};
+ghost use Rattle.relation.specs.Relation.{Classes};
+ghost use Rattle.coding.specs.Limit.{Sure};
 ghost use Rattle.orders.specs.Order.{Order};
-ghost use Rattle.questions.specs.Question.{Barred, Asks, Moved, Part, Packed, Gathered, Taken};
-use limits::LABELS;
+ghost use Rattle.questions.specs.Question.{openOf, givenOf, Barred, Settled, Same};
+ghost use Rattle.questions.specs.Gathering.{Moved, Turned, Gathered};
 use limits::MAX_VERTICES;
 use limits::SEARCH_OUTPUTS;
 
-// An entry of a question is a row of cells, or this where an output is not asked about.
-pub const NOT_ASKED: u8 = cells::MAX_CODES;
+// The given tables of a row stand after the open cells.
+const FIRST_GIVEN: u16 = cells::MAX_CODES as u16;
 
-// A question has its entries as digits to this base: a power of 2 above every entry.
-const ENTRIES: u64 = 2 * NOT_ASKED as u64;
+// The open cells of a row.
+pub fn open_of(row: u16) -> u8
+    ensures { λ r. ⌜ (r ≡ openOf row) × (r < maxCodes) ⌝ }
+{
+    (row % FIRST_GIVEN) as u8
+}
 
-// The row with its cells in the order perm.
-pub fn moved(row: u8, perm: [u8; SEARCH_OUTPUTS]) -> u8
+// The given tables of a row.
+pub fn given_of(row: u16) -> u16
+    ensures { λ r. ⌜ (r ≡ givenOf row) × (r < 2 ^ 16 / maxCodes) ⌝ }
+{
+    row / FIRST_GIVEN
+}
+
+// The open cells of a set in the order perm.
+fn moved(f: u8, perm: [u8; SEARCH_OUTPUTS]) -> u8
     requires { ⌜ Order perm maxCells ⌝ }
-    ensures { λ r. ⌜ (r < maxCodes) × Moved row perm maxCells r ⌝ }
+    ensures { λ r. ⌜ (r < maxCodes) × Moved f perm maxCells r ⌝ }
 {
     let mut r: u8 = 0;
     let mut i: u8 = 0;
     while i < cells::MAX_CELLS {
-        if cells::in_set(row as u64, perm[i as usize]) {
+        if cells::in_set(f as u64, perm[i as usize]) {
             r = r | bounds::power(i);
         }
         i += 1;
@@ -35,48 +48,13 @@ pub fn moved(row: u8, perm: [u8; SEARCH_OUTPUTS]) -> u8
     r
 }
 
-// Output o's entry in the question about those of the first n outputs that are in the set asked; NOT_ASKED where it is not.
-pub fn entry(
-    rows: [u8; SEARCH_OUTPUTS],
-    n: usize,
-    asked: u8,
-    perm: [u8; SEARCH_OUTPUTS],
-    o: usize,
-) -> u8
-    requires { ⌜ (n ≤ searchOutputs) × (o < searchOutputs) × Order perm maxCells ⌝ }
-    ensures { λ r. ⌜ Part rows n perm o r ⌝ }
-{
-    if o < n {
-        if cells::in_set(asked as u64, o as u8) {
-            return moved(rows[o], perm);
-        }
-    }
-    NOT_ASKED
-}
-
-// The question about those of the first n outputs that are in the set asked, with the cells in the order perm.
-pub fn packed(rows: [u8; SEARCH_OUTPUTS], n: usize, asked: u8, perm: [u8; SEARCH_OUTPUTS]) -> u64
-    requires { ⌜ (n ≤ searchOutputs) × Order perm maxCells ⌝ }
-    ensures { λ r. ⌜ Packed rows n perm 0 r ⌝ }
-{
-    let mut k: u64 = 0;
-    let mut o: usize = SEARCH_OUTPUTS;
-    while o > 0 {
-        let q = o - 1;
-        let e = entry(rows, n, asked, perm, q);
-        k = k * ENTRIES + e as u64;
-        o = q;
-    }
-    k
-}
-
-// The outputs of the set asked, of the first n, that read cell i.
-pub fn readers(rows: [u8; SEARCH_OUTPUTS], n: usize, asked: u8, i: u8) -> u64
-    requires { ⌜ (n ≤ searchOutputs) × (i < maxCells) ⌝ }
+// The outputs of the set asked that read open cell i.
+fn readers(rows: [u16; SEARCH_OUTPUTS], asked: u8, i: u8) -> u64
+    requires { ⌜ i < maxCells ⌝ }
 {
     let mut r: u64 = 0;
     let mut o: usize = 0;
-    while o < n {
+    while o < SEARCH_OUTPUTS {
         if cells::in_set(rows[o] as u64, i) {
             r = cells::with(r, o as u8);
         }
@@ -85,101 +63,119 @@ pub fn readers(rows: [u8; SEARCH_OUTPUTS], n: usize, asked: u8, i: u8) -> u64
     r & asked as u64
 }
 
-// The readers of each cell, where orders takes them.
-pub fn columns(rows: [u8; SEARCH_OUTPUTS], n: usize, asked: u8) -> [u64; SEARCH_OUTPUTS]
-    requires { ⌜ n ≤ searchOutputs ⌝ }
-{
+// The readers of each open cell, where orders takes them. Cell 0 comes first where it is to keep its place.
+fn columns(rows: [u16; SEARCH_OUTPUTS], asked: u8, known: bool) -> [u64; SEARCH_OUTPUTS] {
     let mut r = [0u64; SEARCH_OUTPUTS];
     let mut i: u8 = 0;
     while i < cells::MAX_CELLS {
-        r[i as usize] = readers(rows, n, asked, i);
+        r[i as usize] = readers(rows, asked, i);
         i += 1;
+    }
+    if known {
+        r[0] = cells::ALL_CODES;
     }
     r
 }
 
-// The order in which the cells stand in the question about the set asked: two questions that differ in the order of the
-// cells alone are one.
-pub fn order(rows: [u8; SEARCH_OUTPUTS], n: usize, asked: u8) -> [u8; SEARCH_OUTPUTS]
-    requires { ⌜ n ≤ searchOutputs ⌝ }
-    ensures { λ r. ⌜ Order r maxCells ⌝ }
+// The order in which the open cells stand in the question about the set asked; where cell 0 is to keep its place and does not,
+// they stay as they are.
+fn order(rows: [u16; SEARCH_OUTPUTS], asked: u8, known: bool) -> [u8; SEARCH_OUTPUTS]
+    ensures { λ r. ⌜ Order r maxCells × (known ≡ true → item r 0 ≡ 0) ⌝ }
 {
-    orders::falling(columns(rows, n, asked), limits::MAX_CELLS)
+    let perm = orders::falling(columns(rows, asked, known), limits::MAX_CELLS);
+    if known {
+        if perm[0] != 0 {
+            return orders::AS_THEY_STAND;
+        }
+    }
+    perm
 }
 
-// The question about those of the first n outputs that are in the set asked.
-pub fn question(rows: [u8; SEARCH_OUTPUTS], n: usize, asked: u8) -> u64
-    requires { ⌜ (n ≤ searchOutputs) × Short rows n ⌝ }
-    ensures { λ r. ⌜ Asks rows n r ⌝ }
+// The question about the outputs of the set asked: their rows in one order of the open cells, and 0 for the others.
+pub fn question(rows: [u16; SEARCH_OUTPUTS], asked: u8, known: bool) -> [u16; SEARCH_OUTPUTS]
+    ensures { λ r. ⌜ Same asked known rows r ⌝ }
 {
-    let perm = order(rows, n, asked);
-    packed(rows, n, asked, perm)
+    let perm = order(rows, asked, known);
+    let mut r = [0u16; SEARCH_OUTPUTS];
+    let mut o: usize = 0;
+    while o < SEARCH_OUTPUTS {
+        if cells::in_set(asked as u64, o as u8) {
+            let row = rows[o];
+            let f = moved(open_of(row), perm);
+            r[o] = given_of(row) * FIRST_GIVEN + f as u16;
+        }
+        o += 1;
+    }
+    r
 }
 
-// The outputs that a question is about, and the cells that each of them reads.
+// The outputs that are asked about, and the open cells and given tables that each of them reads.
 pub struct Outputs {
     pub count: usize,
     pub from: [u8; SEARCH_OUTPUTS],
-    pub rows: [u8; SEARCH_OUTPUTS],
+    pub cells: [u8; SEARCH_OUTPUTS],
+    pub tables: [u16; SEARCH_OUTPUTS],
 }
 
-pub fn gather(k: u64) -> Outputs
-    ensures { λ r. ⌜ ((rest : ℕ) × Gathered k searchOutputs rest (r .count) (r .from) (r .rows)) ⌝ }
+fn gather(asked: u8, rows: [u16; SEARCH_OUTPUTS]) -> Outputs
+    ensures { λ r. ⌜ Gathered asked rows searchOutputs (r .count) (r .from) (r .cells) (r .tables) ⌝ }
 {
     let mut from = [0u8; SEARCH_OUTPUTS];
-    let mut rows = [0u8; SEARCH_OUTPUTS];
+    let mut fs = [0u8; SEARCH_OUTPUTS];
+    let mut gs = [0u16; SEARCH_OUTPUTS];
     let mut n: usize = 0;
-    let mut rest = k;
     let mut o: usize = 0;
     while o < SEARCH_OUTPUTS {
-        let e = (rest % ENTRIES) as u8;
-        if e < NOT_ASKED {
+        if cells::in_set(asked as u64, o as u8) {
+            let row = rows[o];
             from[n] = o as u8;
-            rows[n] = e;
+            fs[n] = open_of(row);
+            gs[n] = given_of(row);
             n += 1;
         }
-        rest = rest / ENTRIES;
         o += 1;
     }
     Outputs {
         count: n,
         from,
-        rows,
+        cells: fs,
+        tables: gs,
     }
 }
 
-// The labels of the outputs of from.
-pub fn labels(cl: &[u8], from: [u8; SEARCH_OUTPUTS]) -> [u8; LABELS]
-    requires { ⌜ (length (now cl) ≡ labelCount) × ((i : ℕ) → i < searchOutputs → item from i < searchOutputs) ⌝ }
-    ensures { λ r. ⌜ Taken (now (cl .entry)) from labelCount r ⌝ }
+// Whether a count leaves it open that codes answer the question about the outputs of the set asked.
+pub fn possible(cl: &[u8], given: &[u16], v: usize, asked: u8, rows: [u16; SEARCH_OUTPUTS]) -> bool
+    requires { ⌜ Classes (now cl) × (length (now given) ≡ maxVertices) × (v ≤ maxVertices) ⌝ }
+    ensures { λ r. ⌜ (r ≡ false → (kn val : ℕ) → Barred (now (cl .entry)) (now (given .entry)) kn val v asked (item rows)) ⌝ }
 {
-    let mut r = [0u8; LABELS];
-    let mut i = 0;
-    while i < LABELS {
-        r[i] = numbering::label(cl, from[i / MAX_VERTICES] as usize, i % MAX_VERTICES);
-        i += 1;
-    }
-    r
-}
-
-// Whether some codes answer a question, and how often the search for them gave a vertex a code.
-pub struct Answer {
-    pub ok: bool,
-    pub nodes: u64,
-}
-
-pub fn ask(cl: &[u8], v: usize, k: u64) -> Answer
-    requires { ⌜ Labels (now cl) × (v ≤ maxVertices) ⌝ }
-    ensures { λ r. ⌜ (r .ok ≡ false → Barred (now (cl .entry)) v k) ⌝ }
-{
-    let g = gather(k);
+    let g = gather(asked, rows);
     let n = g.count;
     let from = g.from;
-    let rows = g.rows;
-    let part = labels(cl, from);
-    let c = joint::codes_for(&part, v, n, rows);
-    Answer {
-        ok: c.ok,
-        nodes: c.nodes,
-    }
+    let fs = g.cells;
+    let gs = g.tables;
+    let labels = relation::cut(cl, given, from, gs, n, v);
+    readers::possible(&labels, v, n, fs)
+}
+
+// Codes that answer the question about the outputs of the set asked, or there are none, or the search was given up.
+pub fn ask(
+    cl: &[u8],
+    given: &[u16],
+    v: usize,
+    kn: u32,
+    val: u32,
+    asked: u8,
+    rows: [u16; SEARCH_OUTPUTS],
+    limit: u64,
+) -> coding::Search
+    requires { ⌜ Classes (now cl) × (length (now given) ≡ maxVertices) × (v ≤ maxVertices) ⌝ }
+    ensures { λ r. ⌜ Sure limit (r .unsure) (Settled (now (cl .entry)) (now (given .entry)) kn val v asked (item rows) (r .ok) (r .codes)) ⌝ }
+{
+    let g = gather(asked, rows);
+    let n = g.count;
+    let from = g.from;
+    let fs = g.cells;
+    let gs = g.tables;
+    let labels = relation::cut(cl, given, from, gs, n, v);
+    joint::codes_for(&labels, v, n, fs, kn, val, limit)
 }

@@ -1,69 +1,85 @@
-use native.Mathlib.Nat.{mod-lt, div-le-self}
-use borrow.Author.Tests.{not-true}
-use Rattle.memory.specs.Memory.{Honest, sizes-few}
+use Rattle.memory.specs.MemoryLaws.{barred-among}
+use Rattle.memory.specs.Memory.{Honest}
+use Rattle.numbering.specs.Given.{item}
 use Rattle.bits.specs.LogicLaws.{true-false}
-use Prim.Native.Nat.{_<_, _≤_, _-_}
+use borrow.Author.Tests.{not-true}
 use native.Mathlib.Omega.{arith}
+use Prim.Native.Nat.{ℕ, _≤_, _-_}
+use mathlib.Core.List.{List}
+use mathlib.Core.Logic.{⊎-elim}
+use mathlib.Core.Path.{sym, _∙_, subst}
 use borrow.Author.Needs.{needs}
 use Rattle.memory.proofs.settle.Statement.{statement}
 use Rattle.memory.proofs.settle.Tie as tie
 use Rattle.memory.proofs.settle.Reads as reads
 use Rattle.memory.proofs.settle.Lts as lts
-use Rattle.memory.proofs.sets.Reads as sets-reads
-use Rattle.memory.proofs.visit.Reads as visit-reads
+use Rattle.memory.proofs.between.Reads as between-reads
+use Rattle.memory.proofs.tell.Reads as tell-reads
 use Rattle.std.proofs.num.wrapping_add_u64.Reads as wrapping-add-u64-reads
 
 abbrev Inv-loop : tie.InvT-loop
-Inv-loop cl v m rows end last known₀ nodes₀ i₀ known nodes i = (0 < end) × (end ≤ 256) × (last ≤ 2048) × Honest cl v known
+Inv-loop cl given mem₀ v kn val n with among rows limit nodes₀ a₀ mem nodes a = (a ≤ 256) × Honest cl given kn val v mem
 
 abbrev μ-loop : tie.MeasureT-loop
-μ-loop cl v m rows end last known₀ nodes₀ i₀ known nodes i = last - i
-
-sets-requires : tie.Need-sets-requires Inv-loop μ-loop
-sets-requires c κs = c .before .pre .2
-
-mul-last : tie.Need-mul-last Inv-loop μ-loop
-mul-last c = let z = sizes-few (c .sets .result) (c .before .before .args .m) (c .sets .ensures .1) (c .before .before .pre .2) in omega arith
-
-mul-i : tie.Need-mul-i Inv-loop μ-loop
-mul-i c = let b = c .sets .ensures .1 in omega arith
+μ-loop cl given mem₀ v kn val n with among rows limit nodes₀ a₀ mem nodes a = 256 - a
 
 loop-holds : tie.Need-loop-holds Inv-loop μ-loop
-loop-holds c = (c .sets .ensures .0, c .sets .ensures .1, sizes-few (c .sets .result) (c .before .before .args .m) (c .sets .ensures .1) (c .before .before .pre .2), c .before .before .pre .4)
+loop-holds c = (omega arith, c .before .before .before .pre .3)
 
-rem-visit : tie.Need-rem-visit Inv-loop μ-loop
-rem-visit c = c .before .before .sets .ensures .0
+cast-between : tie.Need-cast-between Inv-loop μ-loop
+cast-between c = let h = c .before .loop-test .taken in record { fits = omega arith }
 
-div-visit : tie.Need-div-visit Inv-loop μ-loop
-div-visit c = c .before .before .sets .ensures .0
+between-requires : tie.Need-between-requires Inv-loop μ-loop
+between-requires c κs = search needs
 
-cast-visit : tie.Need-cast-visit Inv-loop μ-loop
-cast-visit c = let h = c .loop-test .taken in let b = c .before .loop .inv .2 in let z = div-le-self (c .before .loop .i) (c .before .before .sets .result) in record { fits = omega arith }
+cast-tell : tie.Need-cast-tell Inv-loop μ-loop
+cast-tell c = let h = c .before .before .before .before .loop-test .taken in record { fits = omega arith }
 
-visit-requires : tie.Need-visit-requires Inv-loop μ-loop
-visit-requires c κs =
-    let loop = c .before .loop in
-    let sets = c .before .before .sets in
-    let pre = c .before .before .before .before .pre in
-    let p = pre in let z = mod-lt (loop .i) (sets .ensures .0) in let b = sets .ensures .1 in (p .0, p .1, p .2, p .3, loop .inv .3, omega arith)
+tell-requires : tie.Need-tell-requires Inv-loop μ-loop
+tell-requires c κs = let p = c .before .before .before .before .before .before .before .before .before .pre in (p .0, p .1, p .2, c .before .before .before .before .before .loop .inv .1)
 
 wrapping-add-u64-requires : tie.Need-wrapping-add-u64-requires Inv-loop μ-loop
 wrapping-add-u64-requires c κs = search needs
 
-returns : tie.Need-returns Inv-loop μ-loop
-returns c = (c .before .before .before .before .visit .ensures .0, λ e. c .before .before .before .before .visit .ensures .1 (not-true _ (c .if1 .taken)))
+same-length : tie.Need-same-length Inv-loop μ-loop
+same-length c =
+    let t = c .before .before .before .before .before .tell in
+    let p = c .before .before .before .before .before .before .before .before .before .before .before .before .before .before .before .pre in
+    t .ensures .0 .long ∙ sym (p .3 .long)
 
-add-i : tie.Need-add-i Inv-loop μ-loop
-add-i c = let h = c .before .before .before .before .before .loop-test .taken in let b = c .before .before .before .before .before .before .loop .inv .2 in omega arith
+returns : tie.Need-returns Inv-loop μ-loop
+returns c =
+    let a = c .before .before .before .before .before .before .before .before .before .before .before .before .before .before .before .args in
+    let t = c .before .before .before .before .before .tell in
+    let i = c .before .before .before .before .before .before .before .before .before .before .before .loop .a in
+    let b = c .before .before .before .before .before .before .before .before .between .ensures (c .before .before .before .before .before .before .before .if2 .taken) in
+    let n = not-true _ (c .if3 .taken) in
+    (t .ensures .0, λ e. barred-among (a .cl .now) (a .given .now) (a .kn) (a .val) (a .v) i (a .among) (item (a .rows)) b (t .ensures .1 n))
+
+add-a : tie.Need-add-a Inv-loop μ-loop
+add-a c = let h = c .before .loop-test .taken in omega arith
 
 loop-less : tie.Need-loop-less Inv-loop μ-loop
 loop-less c = search needs
 
 loop-again : tie.Need-loop-again Inv-loop μ-loop
-loop-again c = let i = c .before .before .before .before .before .before .loop .inv in (i .0, i .1, i .2, c .before .before .before .before .visit .ensures .0)
+loop-again c =
+    let h = c .before .loop-test .taken in
+    let a = c .before .before .before .before .before .before .args in
+    let l = c .before .before .loop in
+    let P : List ℕ → Type 0 = Honest (a .cl .now) (a .given .now) (a .kn) (a .val) (a .v) in (
+      omega arith,
+      ⊎-elim
+          (λ w. subst P (sym (w .10)) (w .4 .ensures .0))
+          (⊎-elim (λ w. subst P (sym (w .3)) (l .inv .1)) (λ w. subst P (sym (w .1)) (l .inv .1)))
+          (c .if1 .came),
+    )
+
+same-length-2 : tie.Need-same-length-2 Inv-loop μ-loop
+same-length-2 c = c .before .loop .inv .1 .long ∙ sym (c .before .before .before .before .before .pre .3 .long)
 
 returns-2 : tie.Need-returns-2 Inv-loop μ-loop
-returns-2 c = (c .before .loop .inv .3, λ e. absurd (true-false e))
+returns-2 c = (c .before .loop .inv .1, λ e. absurd (true-false e))
 
 pub settle-spec : {M : Type 1} → statement M
 settle-spec =
@@ -71,17 +87,16 @@ settle-spec =
     (tie.spec
     Inv-loop
     μ-loop
-    sets-requires
-    mul-last
-    mul-i
     loop-holds
-    rem-visit
-    div-visit
-    cast-visit
-    visit-requires
+    cast-between
+    between-requires
+    cast-tell
+    tell-requires
     wrapping-add-u64-requires
+    same-length
     returns
-    add-i
+    add-a
     loop-less
     loop-again
+    same-length-2
     returns-2)

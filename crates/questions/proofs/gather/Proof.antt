@@ -1,67 +1,89 @@
+use Rattle.questions.specs.Gathering.{Gathered, gathered-start, gathered-skip, gathered-more, gathered-same}
 use Rattle.cells.specs.Lists.{zeros-are}
-use Rattle.questions.specs.Question.{Gathered, gathered-start, gathered-skip, gathered-more}
-use mathlib.Core.Path.{refl, subst}
-use mathlib.Core.Logic.{⊎-elim}
-use Prim.Native.Nat.{ℕ, _≤_, _-_}
 use native.Mathlib.Omega.{arith}
+use Prim.Native.Nat.{ℕ, _+_, _≤_, _-_}
+use mathlib.Core.List.{List}
+use mathlib.Core.Logic.{⊎-elim}
+use mathlib.Core.Path.{refl, sym, _∙_, subst}
 use borrow.Author.Needs.{needs}
 use Rattle.questions.proofs.gather.Statement.{statement}
 use Rattle.questions.proofs.gather.Tie as tie
 use Rattle.questions.proofs.gather.Reads as reads
 use Rattle.questions.proofs.gather.Lts as lts
+use Rattle.cells.proofs.in_set.Reads as in-set-reads
+use Rattle.questions.proofs.given_of.Reads as given-of-reads
+use Rattle.questions.proofs.open_of.Reads as open-of-reads
 
 abbrev Inv-loop : tie.InvT-loop
-Inv-loop k from₀ rows₀ n₀ rest₀ o₀ from rows n rest o = (o ≤ 8) × Gathered k o rest n from rows
+Inv-loop asked rows from₀ fs₀ gs₀ n₀ o₀ from fs gs n o = (o ≤ 8) × Gathered asked rows o n from fs gs
 
 abbrev μ-loop : tie.MeasureT-loop
-μ-loop k from₀ rows₀ n₀ rest₀ o₀ from rows n rest o = 8 - o
+μ-loop asked rows from₀ fs₀ gs₀ n₀ o₀ from fs gs n o = 8 - o
 
--- src/lib.rt:81:5
 loop-holds : tie.Need-loop-holds Inv-loop μ-loop
-loop-holds c = (omega arith, gathered-start (c .args .k) _ _ refl refl (zeros-are 8))
+loop-holds c = (omega arith, gathered-start (c .args .asked) (c .args .t2) _ _ _ refl refl refl (zeros-are 8))
 
--- src/lib.rt:82:17
-cast-e : tie.Need-cast-e Inv-loop μ-loop
-cast-e c = record { fits = omega arith }
+cast-in-set : tie.Need-cast-in-set Inv-loop μ-loop
+cast-in-set c = let h = c .loop-test .taken in record { fits = omega arith }
 
--- src/lib.rt:84:23
+in-set-requires : tie.Need-in-set-requires Inv-loop μ-loop
+in-set-requires c κs = let h = c .loop-test .taken in omega arith
+
+mul-row : tie.Need-mul-row Inv-loop μ-loop
+mul-row c = search needs
+
+array-read-row : tie.Need-array-read-row Inv-loop μ-loop
+array-read-row c = search needs
+
 cast-from : tie.Need-cast-from Inv-loop μ-loop
-cast-from c = let h = c .before .loop-test .taken in record { fits = omega arith }
+cast-from c = let h = c .before .before .loop-test .taken in let f = c .before .before .before .loop .inv .1 .few in record { fits = omega arith }
 
--- src/lib.rt:84:13
 array-write-from : tie.Need-array-write-from Inv-loop μ-loop
-array-write-from c = let h = c .before .loop-test .taken in let f = c .before .before .loop .inv .1 .few in search needs
+array-write-from c = let h = c .before .before .loop-test .taken in let f = c .before .before .before .loop .inv .1 .few in search needs
 
--- src/lib.rt:85:13
-array-write-rows : tie.Need-array-write-rows Inv-loop μ-loop
-array-write-rows c = let h = c .before .loop-test .taken in let f = c .before .before .loop .inv .1 .few in search needs
+open-of-requires : tie.Need-open-of-requires Inv-loop μ-loop
+open-of-requires c κs = search needs
 
--- src/lib.rt:86:13
+array-write-fs : tie.Need-array-write-fs Inv-loop μ-loop
+array-write-fs c = let h = c .before .before .before .loop-test .taken in let f = c .before .before .before .before .loop .inv .1 .few in search needs
+
+given-of-requires : tie.Need-given-of-requires Inv-loop μ-loop
+given-of-requires c κs = search needs
+
+mul-gs : tie.Need-mul-gs Inv-loop μ-loop
+mul-gs c = let h = c .before .before .before .before .loop-test .taken in let f = c .before .before .before .before .before .loop .inv .1 .few in search needs
+
+array-write-gs : tie.Need-array-write-gs Inv-loop μ-loop
+array-write-gs c = let h = c .before .before .before .before .loop-test .taken in let f = c .before .before .before .before .before .loop .inv .1 .few in search needs
+
 add-n : tie.Need-add-n Inv-loop μ-loop
-add-n c = let h = c .before .loop-test .taken in let f = c .before .before .loop .inv .1 .few in omega arith
+add-n c = let h = c .before .before .before .before .loop-test .taken in let f = c .before .before .before .before .before .loop .inv .1 .few in omega arith
 
--- src/lib.rt:89:9
 add-o : tie.Need-add-o Inv-loop μ-loop
 add-o c = search needs
 
--- src/lib.rt:81:5
 loop-less : tie.Need-loop-less Inv-loop μ-loop
 loop-less c = search needs
 
--- src/lib.rt:81:5
 loop-again : tie.Need-loop-again Inv-loop μ-loop
 loop-again c =
-    let h = c .before .loop-test .taken in (
+    let h = c .before .before .loop-test .taken in
+    let a = c .before .before .before .before .args in
+    let l = c .before .before .before .loop in (
       omega arith,
       ⊎-elim
-          (λ w. gathered-more (c .before .before .before .args .k) (c .before .before .loop .o) (c .before .before .loop .rest) (c .before .before .loop .n) (c .before .before .loop .from) (c .before .before .loop .rows) h _ _ _ _ refl (w .0 .taken) (w .3) (w .1) (w .2) (c .before .before .loop .inv .1))
-          (λ w. gathered-skip (c .before .before .before .args .k) (c .before .before .loop .o) (c .before .before .loop .rest) (c .before .before .loop .n) (c .before .before .loop .from) (c .before .before .loop .rows) h _ _ _ (w .3) (w .1) (w .2) (c .before .before .loop .inv .1))
+          (λ w. gathered-same (a .asked) (a .t2) (l .o + 1) _ _ _ _ _ _ _ _ (w .6) (w .3) (w .4) (w .5)
+          (gathered-more (a .asked) (a .t2) (l .o) (l .n) (l .from) (l .fs) (l .gs) h (l .inv .1) _ _ (sym (w .0 .taken) ∙ c .before .in-set .ensures) (w .1 .ensures .0) (w .2 .ensures .0)))
+          (λ w. gathered-same (a .asked) (a .t2) (l .o + 1) _ _ _ _ _ _ _ _ (w .4) (w .1) (w .2) (w .3)
+          (gathered-skip (a .asked) (a .t2) (l .o) (l .n) (l .from) (l .fs) (l .gs) h (l .inv .1) (sym (w .0 .left) ∙ c .before .in-set .ensures)))
           (c .if1 .came),
     )
 
--- src/lib.rt:73:1
 returns : tie.Need-returns Inv-loop μ-loop
-returns c = (c .before .loop .rest, subst (λ (z : ℕ). Gathered (c .before .before .args .k) z (c .before .loop .rest) (c .before .loop .n) (c .before .loop .from) (c .before .loop .rows)) (let h = c .loop-test .left in let z = c .before .loop .inv .0 in omega arith) (c .before .loop .inv .1))
+returns c =
+    let a = c .before .before .args in
+    let l = c .before .loop in
+    subst (λ (z : ℕ). Gathered (a .asked) (a .t2) z (l .n) (l .from) (l .fs) (l .gs)) (let h = c .loop-test .left in let z = l .inv .0 in omega arith) (l .inv .1)
 
 pub gather-spec : {M : Type 1} → statement M
 gather-spec =
@@ -70,10 +92,17 @@ gather-spec =
     Inv-loop
     μ-loop
     loop-holds
-    cast-e
+    cast-in-set
+    in-set-requires
+    mul-row
+    array-read-row
     cast-from
     array-write-from
-    array-write-rows
+    open-of-requires
+    array-write-fs
+    given-of-requires
+    mul-gs
+    array-write-gs
     add-n
     add-o
     loop-less

@@ -10,48 +10,41 @@ use Rattle.cells.proofs.in_set.Reads as in-set-reads
 use Rattle.cells.proofs.with.Reads as with-reads
 
 abbrev Inv-loop : tie.InvT-loop
-Inv-loop n asked i rows r₀ o₀ r o = o ≤ n
+Inv-loop asked i rows r₀ o₀ r o = o ≤ 8
 
 abbrev μ-loop : tie.MeasureT-loop
-μ-loop n asked i rows r₀ o₀ r o = n - o
+μ-loop asked i rows r₀ o₀ r o = 8 - o
 
--- src/lib.rt:63:5
 loop-holds : tie.Need-loop-holds Inv-loop μ-loop
 loop-holds c = search needs
 
--- src/lib.rt:64:26
-array-read-in-set : tie.Need-array-read-in-set Inv-loop μ-loop
-array-read-in-set c = let h = c .loop-test .taken in let a = c .before .before .pre .0 in search needs
+mul-in-set : tie.Need-mul-in-set Inv-loop μ-loop
+mul-in-set c = let h = c .loop-test .taken in search needs
 
--- src/lib.rt:64:26
+array-read-in-set : tie.Need-array-read-in-set Inv-loop μ-loop
+array-read-in-set c = let h = c .loop-test .taken in search needs
+
 cast-in-set : tie.Need-cast-in-set Inv-loop μ-loop
 cast-in-set c = search needs
 
--- src/lib.rt:64:12
 in-set-requires : tie.Need-in-set-requires Inv-loop μ-loop
-in-set-requires c κs = let a = c .before .before .pre .1 in omega arith
+in-set-requires c κs = let a = c .before .before .pre in omega arith
 
--- src/lib.rt:65:32
 cast-with : tie.Need-cast-with Inv-loop μ-loop
-cast-with c = let h = c .before .before .loop-test .taken in let a = c .before .before .before .before .pre .0 in record { fits = omega arith }
+cast-with c = let h = c .before .before .loop-test .taken in record { fits = omega arith }
 
--- src/lib.rt:65:13
 with-requires : tie.Need-with-requires Inv-loop μ-loop
-with-requires c κs = let h = c .before .before .loop-test .taken in let a = c .before .before .before .before .pre .0 in omega arith
+with-requires c κs = let h = c .before .before .loop-test .taken in omega arith
 
--- src/lib.rt:67:9
 add-o : tie.Need-add-o Inv-loop μ-loop
-add-o c = let h = c .before .before .loop-test .taken in let a = c .before .before .before .before .pre .0 in omega arith
+add-o c = let h = c .before .before .loop-test .taken in omega arith
 
--- src/lib.rt:63:5
 loop-less : tie.Need-loop-less Inv-loop μ-loop
 loop-less c = search needs
 
--- src/lib.rt:63:5
 loop-again : tie.Need-loop-again Inv-loop μ-loop
 loop-again c = search needs
 
--- src/lib.rt:58:1
 returns : tie.Need-returns Inv-loop μ-loop
 returns c = search needs
 
@@ -62,6 +55,7 @@ readers-spec =
     Inv-loop
     μ-loop
     loop-holds
+    mul-in-set
     array-read-in-set
     cast-in-set
     in-set-requires

@@ -1,0 +1,30 @@
+-- Laws of questions: what no codes answer stays so where more outputs are asked about, and rows say the same where they are
+-- equal. Assumes nothing.
+use mathlib.Core.Path.{_≡_, subst}
+use mathlib.Core.Bool.{Bool, true, false}
+use mathlib.Core.List.{List}
+use Prim.Native.Nat.{ℕ, _<_}
+use lib.Bits.{bitAnd}
+use Rattle.limits.specs.Limits.{searchOutputs}
+use Rattle.bits.specs.Digit.{on}
+use Rattle.relation.specs.Relation.{Left}
+use Rattle.questions.specs.Question.{openOf, givenOf, Answers, Barred, Settled}
+
+module _ (cl given : List ℕ) (kn val v : ℕ) where
+  -- codes that answer a question answer each question about fewer outputs, with the same rows for these
+  pub answers-fewer : (a b : ℕ) (rows rows' f : ℕ → ℕ) → ((o : ℕ) → o < searchOutputs → on a o ≡ true → on b o ≡ true)
+      → ((o : ℕ) → o < searchOutputs → on a o ≡ true → rows o ≡ rows' o)
+      → Answers cl given kn val v b rows' f → Answers cl given kn val v a rows f
+  answers-fewer a b rows rows' f sub same s = record {
+    tells = λ o x y h i c d l e. s .tells o x y h (sub o h i) c d (subst (λ (r : ℕ). Left cl given (givenOf r) o x y) (same o h i) l)
+        (subst (λ (r : ℕ). bitAnd (f x) (openOf r) ≡ bitAnd (f y) (openOf r)) (same o h i) e);
+    fixed = s .fixed;
+  }
+
+  pub barred-more : (a b : ℕ) (rows rows' : ℕ → ℕ) → ((o : ℕ) → o < searchOutputs → on a o ≡ true → on b o ≡ true)
+      → ((o : ℕ) → o < searchOutputs → on a o ≡ true → rows o ≡ rows' o) → Barred cl given kn val v a rows → Barred cl given kn val v b rows'
+  barred-more a b rows rows' sub same s = record { none = λ f z w. s .none f z (answers-fewer a b rows rows' f sub same w) }
+
+  -- an answer that there are no codes
+  pub settled-barred : (asked : ℕ) (rows : ℕ → ℕ) (ok : Bool) (codes : List ℕ) → Settled cl given kn val v asked rows ok codes → ok ≡ false → Barred cl given kn val v asked rows
+  settled-barred asked rows ok codes s e = subst (λ (b : Bool). Settled cl given kn val v asked rows b codes) e s
