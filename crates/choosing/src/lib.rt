@@ -1,160 +1,384 @@
-// Reading sets, output after output. `choose` leaves what a count or the memory of questions rules out, and at a complete
-// choice `finish` asks about ever larger sets of outputs, at last about all: the crate joint finds codes for them or shows
-// that there are none. Only rows of a normal form are tried (specs/Choice). It rests on memory.
+// Rows, output after output: for each the open cells and the given tables that it reads. `choose` leaves what a count, the
+// memory or a question about two outputs rules out, and at a complete choice `finish` asks about ever larger sets of outputs,
+// at last about all. Each output reads as many tables as it may, and of neighbouring open cells that the outputs so far read
+// alike the next one reads the first (specs/ChoiceLaws). The order of the outputs is free. It rests on memory.
 ghost use mathlib.Core.Path.{_≡_};
-ghost use mathlib.Core.Bool.{true, false};
-ghost use Prim.Native.Nat.{_+_, _<_, _≤_, _^_, min};
-ghost use Rattle.limits.specs.Limits.{searchOutputs, maxVertices, maxCells};
-ghost use Rattle.numbering.specs.Given.{Labels};
-ghost use Rattle.readers.specs.Masks.{Short, Decided};
+ghost use mathlib.Core.Bool.{Bool, true, false};
+ghost use Prim.Native.Nat.{ℕ, _+_, _*_, _/_, _%_, _<_, _≤_, _^_, min};
+ghost use lib.Bits.{bitOr};
+ghost use lib.ListN.{length};
+ghost use Rattle.limits.specs.Limits.{searchOutputs, maxVertices, maxCells, maxCodes};
+ghost use Rattle.bits.specs.Digit.{on};
+ghost use Rattle.numbering.specs.Given.{item};
+ghost use Rattle.relation.specs.Relation.{Classes};
+ghost use Rattle.coding.specs.Limit.{Sure};
+ghost use Rattle.questions.specs.Question.{Barred, Settled};
 ghost use Rattle.memory.specs.Memory.{Honest};
-ghost use Rattle.choosing.specs.Choice.{Rows, Alike, Chosen, Suits};
+ghost use Rattle.choosing.specs.Choice.{maxGiven, rowDigits, firstOutputs, numbered, Rows, Alike, Chosen, Suits, stillAlike, Next, Served};
 use limits::MAX_VERTICES;
 use limits::SEARCH_OUTPUTS;
-use memory::WORDS;
 
-// The smaller of two numbers.
-pub fn smaller(a: u8, b: u8) -> u8
-    ensures { λ r. ⌜ r ≡ min a b ⌝ }
-{
-    if a < b { a } else { b }
+// Given tables that there may be: the bound inputs, and cells but one whose tables are fixed.
+pub const MAX_GIVEN: u8 = 10;
+
+// What a choice of rows is asked for: the budgets of the outputs, the numbers of vertices and outputs, of open cells and of
+// given tables, the vertices where cell 0 has known digits and these digits, and the limits of nodes for a question about some
+// of the outputs and for one about all.
+pub struct Problem {
+    pub budgets: [u8; SEARCH_OUTPUTS],
+    pub vertices: usize,
+    pub outputs: usize,
+    pub cells: u8,
+    pub tables: u8,
+    pub kn: u32,
+    pub val: u32,
+    pub limit: u64,
+    pub last: u64,
 }
 
-// Whether r has as many cells as wanted and is in order: of neighbouring cells of same it reads the first ones.
-pub fn suits(r: u8, want: u8, same: u8) -> bool
-    ensures { λ ok. ⌜ Suits r want same ok ⌝ }
+// The first m outputs as a set.
+fn first_outputs(m: usize) -> u8
+    requires { ⌜ m ≤ searchOutputs ⌝ }
+    ensures { λ r. ⌜ r ≡ firstOutputs m ⌝ }
 {
-    let n = bounds::digits(r);
-    if n == want {
-        (r / 2) & !r & same == 0
+    ((1u16 << m) - 1) as u8
+}
+
+// The set done with output n.
+fn with(done: u8, n: usize) -> u8
+    requires { ⌜ n < searchOutputs ⌝ }
+    ensures { λ r. ⌜ r ≡ bitOr done (2 ^ n) ⌝ }
+{
+    done | (1u8 << n)
+}
+
+// How many tables an output with this budget reads.
+fn wanted(budget: u8, u: u8, g: u8) -> u32
+    requires { ⌜ (u ≤ maxCells) × (g ≤ maxGiven) ⌝ }
+    ensures { λ r. ⌜ r ≡ min budget (u + g) ⌝ }
+{
+    let all = u + g;
+    if budget < all {
+        budget as u32
+    } else {
+        all as u32
+    }
+}
+
+// How many numbers of d digits there are.
+fn numbers(d: u8) -> u32
+    requires { ⌜ d ≤ rowDigits ⌝ }
+    ensures { λ r. ⌜ (r ≡ 2 ^ d) × (r ≤ 2 ^ rowDigits) ⌝ }
+{
+    1 << d
+}
+
+// The row of number r: its given tables are the digits of r above those of the open cells, and its open cells the lowest digits
+// that r has not. So rows with few given tables and late cells come first, which finds hard cores sooner.
+fn row_of(r: u32, u: u8) -> u16
+    requires { ⌜ (u ≤ maxCells) × (r < 2 ^ (u + maxGiven)) ⌝ }
+    ensures { λ row. ⌜ row ≡ numbered u r ⌝ }
+{
+    let end = numbers(u);
+    (r / end * limits::MAX_CODES as u32 + (end - 1 - r % end)) as u16
+}
+
+// Whether a row reads as many tables as wanted and is in order: of neighbouring open cells of same it reads the first ones.
+fn suits(row: u16, want: u32, same: u8) -> bool
+    ensures { λ ok. ⌜ Suits row want same ok ⌝ }
+{
+    if u32::count_ones(row as u32) == want {
+        let f = questions::open_of(row);
+        (f / 2) & !f & same == 0
     } else {
         false
     }
 }
 
-// Whether the rows of the first n + 1 outputs may go on: nothing rules them out that a count or the memory shows. A set of
-// outputs without the last of them was looked up before.
-pub fn alive(cl: &[u8], v: usize, n: usize, rows: [u8; SEARCH_OUTPUTS], mem: [u64; WORDS]) -> bool
-    requires { ⌜ Labels (now cl) × (v ≤ maxVertices) × (n < searchOutputs) × Short rows (n + 1) × Honest (now cl) v mem ⌝ }
-    ensures { λ r. ⌜ (r ≡ false → Decided (now (cl .entry)) v (n + 1) rows false rows) ⌝ }
+// The cells of same that a row too reads like the next cell.
+fn still_alike(same: u8, row: u16) -> u8
+    ensures { λ r. ⌜ r ≡ stillAlike same row ⌝ }
 {
-    if !readers::possible(cl, v, n + 1, rows) {
-        return false;
-    }
-    !memory::known_bad(mem, rows, n + 1, memory::sets(n), memory::sets(n + 1))
+    let f = questions::open_of(row);
+    same & !(f ^ (f / 2))
 }
 
-// Whether there is a core with the rows given, its rows and codes, what was learnt, and the nodes so far: how often the
-// search gave a vertex a code.
+// Whether a row counts for output o: it suits, and where there are given tables a count for o alone leaves it. Without given
+// tables such a count says much the same of all rows that suit.
+fn counts(cl: &[u8], given: &[u16], p: Problem, o: usize, row: u16, want: u32, same: u8) -> bool
+    requires { ⌜ Classes (now cl) × (length (now given) ≡ maxVertices) × (p .vertices ≤ maxVertices) × (o < searchOutputs) ⌝ }
+{
+    if !suits(row, want, same) {
+        return false;
+    }
+    if p.tables == 0 {
+        return true;
+    }
+    let mut rows = [0u16; SEARCH_OUTPUTS];
+    rows[o] = row;
+    questions::possible(cl, given, p.vertices, with(0, o), rows)
+}
+
+// How many rows count for output o.
+fn candidates(cl: &[u8], given: &[u16], p: Problem, o: usize, want: u32, same: u8) -> u32
+    requires { ⌜ Classes (now cl) × (length (now given) ≡ maxVertices) × (p .vertices ≤ maxVertices) × (o < searchOutputs) × (p .cells ≤ maxCells) × (p .tables ≤ maxGiven) ⌝ }
+{
+    let end = numbers(p.cells + p.tables);
+    let mut n: u32 = 0;
+    let mut r: u32 = 0;
+    while r < end {
+        let row = row_of(r, p.cells);
+        if counts(cl, given, p, o, row, want, same) {
+            n += 1;
+        }
+        r += 1;
+    }
+    n
+}
+
+// Where there is no output without a row.
+const NO_OUTPUT: usize = SEARCH_OUTPUTS;
+
+// An output without a row for which the fewest rows count, the first of several, or NO_OUTPUT where all have rows.
+fn next(cl: &[u8], given: &[u16], p: Problem, done: u8, same: u8) -> usize
+    requires { ⌜ Classes (now cl) × (length (now given) ≡ maxVertices) × (p .vertices ≤ maxVertices) × (p .outputs ≤ searchOutputs) × (p .cells ≤ maxCells) × (p .tables ≤ maxGiven) ⌝ }
+    ensures { λ r. ⌜ Next (p .outputs) done r ⌝ }
+{
+    let budgets = p.budgets;
+    let m = p.outputs;
+    let mut best: usize = NO_OUTPUT;
+    let mut least: u32 = 0;
+    let mut o: usize = 0;
+    while o < m {
+        if !cells::in_set(done as u64, o as u8) {
+            let n = candidates(cl, given, p, o, wanted(budgets[o], p.cells, p.tables), same);
+            if best == NO_OUTPUT {
+                best = o;
+                least = n;
+            } else if n < least {
+                best = o;
+                least = n;
+            }
+        }
+        o += 1;
+    }
+    best
+}
+
+// Whether the rows of the outputs of the set done, n among them, may go on: nothing rules them out that a count, the memory or a
+// question about n and one other of them shows. A count for n alone comes first: it is quick and rules out most rows. Sets
+// without n were looked up before.
+fn alive(
+    cl: &[u8],
+    given: &[u16],
+    mem: &mut [u16],
+    p: Problem,
+    rows: [u16; SEARCH_OUTPUTS],
+    done: u8,
+    n: usize,
+) -> memory::Reply
+    requires { ⌜ Classes (now cl) × (length (now given) ≡ maxVertices) × (p .vertices ≤ maxVertices) × (n < searchOutputs) × (on done n ≡ true)
+        × Honest (now cl) (now given) (p .kn) (p .val) (p .vertices) (now mem) ⌝ }
+    ensures { λ r. ⌜ Honest (now (cl .entry)) (now (given .entry)) (p .kn) (p .val) (p .vertices) (now (mem .exit))
+        × (r .ok ≡ false → Barred (now (cl .entry)) (now (given .entry)) (p .kn) (p .val) (p .vertices) done (item rows)) ⌝ }
+{
+    let last = with(0, n);
+    if !questions::possible(cl, given, p.vertices, last, rows) {
+        return memory::Reply {
+            ok: false,
+            nodes: 0,
+        };
+    }
+    if !questions::possible(cl, given, p.vertices, done, rows) {
+        return memory::Reply {
+            ok: false,
+            nodes: 0,
+        };
+    }
+    if memory::known_bad(mem, rows, last, done, p.kn != 0) {
+        return memory::Reply {
+            ok: false,
+            nodes: 0,
+        };
+    }
+    memory::settle(
+        cl,
+        given,
+        mem,
+        p.vertices,
+        p.kn,
+        p.val,
+        2,
+        last,
+        done,
+        rows,
+        p.limit,
+    )
+}
+
+// Which of the rows, in the order in which they are tried, has given tables that leave no conflict of output n: then codes need
+// not serve it, and no other row has to be tried (specs/ServedLaws). The number of all rows where there is none.
+fn served(cl: &[u8], given: &[u16], p: Problem, n: usize, want: u32, same: u8) -> u32
+    requires { ⌜ Classes (now cl) × (length (now given) ≡ maxVertices) × (p .vertices ≤ maxVertices) × (n < searchOutputs) × (p .cells ≤ maxCells) × (p .tables ≤ maxGiven) ⌝ }
+    ensures { λ r. ⌜ Served (now (cl .entry)) (now (given .entry)) (p .vertices) (p .cells) (p .tables) n want r ⌝ }
+{
+    let end = numbers(p.cells + p.tables);
+    if p.tables == 0 {
+        return end;
+    }
+    let mut r: u32 = 0;
+    while r < end {
+        let row = row_of(r, p.cells);
+        if suits(row, want, same) {
+            if relation::none_left(cl, given, n, questions::given_of(row), p.vertices) {
+                return r;
+            }
+        }
+        r += 1;
+    }
+    end
+}
+
+// Whether there is a core with the rows given, whether that is unsure since a search was given up, its rows and codes, and the
+// nodes so far: how often the search gave a vertex a code.
 pub struct Choice {
     pub ok: bool,
-    pub rows: [u8; SEARCH_OUTPUTS],
+    pub unsure: bool,
+    pub rows: [u16; SEARCH_OUTPUTS],
     pub codes: [u8; MAX_VERTICES],
-    pub mem: [u64; WORDS],
     pub nodes: u64,
 }
 
+// No core, and that is sure or not.
+fn none(rows: [u16; SEARCH_OUTPUTS], unsure: bool, nodes: u64) -> Choice
+    ensures { λ r. ⌜ (r .ok ≡ false) × (r .unsure ≡ unsure) × (r .rows ≡ rows) ⌝ }
+{
+    Choice {
+        ok: false,
+        unsure,
+        rows,
+        codes: [0u8; MAX_VERTICES],
+        nodes,
+    }
+}
+
 // Codes for the rows of all outputs. Sets of some of them are asked first: what they show rules out other rows too.
-pub fn finish(
+fn finish(
     cl: &[u8],
-    v: usize,
-    m: usize,
-    rows: [u8; SEARCH_OUTPUTS],
-    mem: [u64; WORDS],
+    given: &[u16],
+    mem: &mut [u16],
+    p: Problem,
+    rows: [u16; SEARCH_OUTPUTS],
     nodes: u64,
 ) -> Choice
-    requires { ⌜ Labels (now cl) × (v ≤ maxVertices) × (m ≤ searchOutputs) × Short rows m × Honest (now cl) v mem ⌝ }
-    ensures { λ r. ⌜ (r .rows ≡ rows) × Decided (now (cl .entry)) v m rows (r .ok) (r .codes) × Honest (now (cl .entry)) v (r .mem) ⌝ }
+    requires { ⌜ Classes (now cl) × (length (now given) ≡ maxVertices) × (p .vertices ≤ maxVertices) × (p .outputs ≤ searchOutputs)
+        × Honest (now cl) (now given) (p .kn) (p .val) (p .vertices) (now mem) ⌝ }
+    ensures { λ r. ⌜ (r .rows ≡ rows)
+        × Sure (p .last) (r .unsure) (Settled (now (cl .entry)) (now (given .entry)) (p .kn) (p .val) (p .vertices) (firstOutputs (p .outputs)) (item rows) (r .ok) (r .codes))
+        × Honest (now (cl .entry)) (now (given .entry)) (p .kn) (p .val) (p .vertices) (now (mem .exit)) ⌝ }
 {
-    let s = memory::settle(cl, v, m, rows, mem);
-    let known = s.mem;
+    let all = first_outputs(p.outputs);
+    let m = p.outputs as u32;
+    let s = memory::settle_smaller(
+        cl,
+        given,
+        mem,
+        p.vertices,
+        p.kn,
+        p.val,
+        m,
+        all,
+        rows,
+        p.limit,
+    );
     let asked = std::num::wrapping_add_u64(nodes, s.nodes);
     if !s.ok {
-        return Choice {
-            ok: false,
-            rows,
-            codes: [0u8; MAX_VERTICES],
-            mem: known,
-            nodes: asked,
-        };
+        return none(rows, false, asked);
     }
-    let c = joint::codes_for(cl, v, m, rows);
+    let c = questions::ask(cl, given, p.vertices, p.kn, p.val, all, rows, p.last);
     let codes = c.codes;
     Choice {
         ok: c.ok,
+        unsure: c.unsure,
         rows,
         codes,
-        mem: known,
         nodes: std::num::wrapping_add_u64(asked, c.nodes),
     }
 }
 
-// A core of u cells whose first n rows are given. What was learnt below may concern the rows given alone: then none of the
-// rows left to try is of use.
+// A core whose outputs of the set done have the rows given. An output that given tables serve alone gets one row only. What was
+// learnt below may concern the rows given alone: then none of the rows left to try is of use.
 pub fn choose(
     cl: &[u8],
-    budgets: [u8; SEARCH_OUTPUTS],
-    v: usize,
-    m: usize,
-    u: u8,
-    rows: [u8; SEARCH_OUTPUTS],
-    n: usize,
+    given: &[u16],
+    mem: &mut [u16],
+    p: Problem,
+    rows: [u16; SEARCH_OUTPUTS],
+    done: u8,
     same: u8,
-    mem: [u64; WORDS],
     nodes: u64,
 ) -> Choice
-    requires { ⌜ Labels (now cl) × (v ≤ maxVertices) × (m ≤ searchOutputs) × (u ≤ maxCells) × (n ≤ m) × Rows budgets u n rows × Alike rows n same × Honest (now cl) v mem ⌝ }
-    ensures { λ r. ⌜ Chosen (now (cl .entry)) budgets v m u n rows (r .ok) (r .rows) (r .codes) × Honest (now (cl .entry)) v (r .mem) ⌝ }
+    requires { ⌜ Classes (now cl) × (length (now given) ≡ maxVertices) × (p .vertices ≤ maxVertices) × (p .outputs ≤ searchOutputs) × (p .cells ≤ maxCells) × (p .tables ≤ maxGiven)
+        × Rows (p .budgets) (p .outputs) (p .cells) (p .tables) done rows × Alike (p .kn) (p .cells) done rows same × Honest (now cl) (now given) (p .kn) (p .val) (p .vertices) (now mem) ⌝ }
+    ensures { λ r. ⌜ Sure (p .last) (r .unsure) (Chosen (now (cl .entry)) (now (given .entry)) (p .budgets) (p .kn) (p .val) (p .vertices) (p .outputs)
+        (p .cells) (p .tables) done rows (r .ok) (r .rows) (r .codes)) × Honest (now (cl .entry)) (now (given .entry)) (p .kn) (p .val) (p .vertices) (now (mem .exit)) ⌝ }
 {
-    if n == m {
-        return finish(cl, v, m, rows, mem, nodes);
+    let n = next(cl, given, p, done, same);
+    if n == NO_OUTPUT {
+        return finish(cl, given, mem, p, rows, nodes);
     }
-    let want = smaller(budgets[n], u);
-    let end = bounds::power(u);
-    let given = memory::sets(n);
-    let mut known = mem;
+    let budgets = p.budgets;
+    let want = wanted(budgets[n], p.cells, p.tables);
+    let done_now = with(done, n);
+    let end = numbers(p.cells + p.tables);
+    let s = served(cl, given, p, n, want, same);
+    if s < end {
+        let row = row_of(s, p.cells);
+        let mut only = rows;
+        only[n] = row;
+        return choose(
+            cl,
+            given,
+            mem,
+            p,
+            only,
+            done_now,
+            still_alike(same, row),
+            nodes,
+        );
+    }
     let mut total = nodes;
-    let mut r: u8 = 0;
+    let mut unsure = false;
+    let mut r: u32 = 0;
     while r < end {
-        if suits(r, want, same) {
-            let mut next = rows;
-            next[n] = r;
-            if alive(cl, v, n, next, known) {
+        let row = row_of(r, p.cells);
+        if suits(row, want, same) {
+            let mut tried = rows;
+            tried[n] = row;
+            let a = alive(cl, given, mem, p, tried, done_now, n);
+            total = std::num::wrapping_add_u64(total, a.nodes);
+            if a.ok {
                 let k = choose(
                     cl,
-                    budgets,
-                    v,
-                    m,
-                    u,
-                    next,
-                    n + 1,
-                    same & !(r ^ (r / 2)),
-                    known,
+                    given,
+                    mem,
+                    p,
+                    tried,
+                    done_now,
+                    still_alike(same, row),
                     total,
                 );
                 if k.ok {
                     return k;
                 }
-                known = k.mem;
                 total = k.nodes;
-                if memory::known_bad(known, rows, n, 0, given) {
-                    return Choice {
-                        ok: false,
-                        rows,
-                        codes: [0u8; MAX_VERTICES],
-                        mem: known,
-                        nodes: total,
-                    };
+                unsure = unsure | k.unsure;
+                if memory::known_bad(mem, rows, 0, done, p.kn != 0) {
+                    return none(rows, false, total);
                 }
             }
         }
         r += 1;
     }
-    Choice {
-        ok: false,
-        rows,
-        codes: [0u8; MAX_VERTICES],
-        mem: known,
-        nodes: total,
-    }
+    none(rows, unsure, total)
 }

@@ -1,524 +1,498 @@
-use Rattle.choosing.specs.Choice.{Tried, rows-more, rows-short, alike-more, power-low, tried-start, tried-unfit, tried-dead, tried-lost, tried-all, lost-of, chosen-end, chosen-found}
-use Rattle.memory.specs.Memory.{Honest}
-use Rattle.numbering.specs.Given.{item}
-use mathlib.Core.Path.{_≡_, refl, sym, _∙_, subst}
-use mathlib.Core.Bool.{false}
+use Prim.Native.Nat.{ℕ, _<_, _≤_, _+_, _-_, _^_}
+use mathlib.Core.Path.{_≡_, refl, sym, ap, _∙_, subst}
+use mathlib.Core.Bool.{Bool, true, false}
 use mathlib.Core.Logic.{⊎-elim}
-use Prim.Native.Nat.{ℕ, _<_, _≤_, _+_, _-_, _^_, min}
 use native.Mathlib.Omega.{arith}
 use lib.ListN.{set}
+use Rattle.choosing.specs.ChoiceLaws.{Tried, tried-start, tried-all, step-less, step-fits, step-rows, step-alike, step-lost, step-dead, step-unfit}
+use Rattle.choosing.specs.ChoiceLaws.{chosen-end, chosen-found, chosen-lost, chosen-none, done-lost, known-or-none, number-room, on-with-same, sure-now, sure-then, sure-both}
+use Rattle.choosing.specs.ServedLaws.{served-chosen}
+use Rattle.choosing.specs.Choice.{Lost, Chosen}
+use Rattle.cells.specs.Lists.{count}
+use Rattle.bits.specs.Digit.{on}
+use Rattle.coding.specs.Limit.{Sure}
+use Rattle.relation.specs.Relation.{NoneLeft}
+use Rattle.questions.specs.Question.{givenOf}
+use Rattle.memory.specs.Memory.{Honest}
 use borrow.Author.Needs.{needs}
-use Prim.Native.Nat.{ℕ, _<_}
 use borrow.Fn.Kinds.{In}
 use borrow.Fn.PlainCycle.{Measures, is, falls, and}
 use Rattle.choosing.proofs.choose.Reads as choose
 use Rattle.choosing.proofs.choose.Kinds as choose-kinds
 use Rattle.choosing.proofs.+choose.Lts-choose as choose-lts
-use Rattle.bounds.proofs.power.Reads as power-reads
 use Rattle.choosing.proofs.alive.Reads as alive-reads
 use Rattle.choosing.proofs.finish.Reads as finish-reads
-use Rattle.choosing.proofs.smaller.Reads as smaller-reads
+use Rattle.choosing.proofs.next.Reads as next-reads
+use Rattle.choosing.proofs.none.Reads as none-reads
+use Rattle.choosing.proofs.numbers.Reads as numbers-reads
+use Rattle.choosing.proofs.row_of.Reads as row-of-reads
+use Rattle.choosing.proofs.served.Reads as served-reads
+use Rattle.choosing.proofs.still_alike.Reads as still-alike-reads
 use Rattle.choosing.proofs.suits.Reads as suits-reads
+use Rattle.choosing.proofs.wanted.Reads as wanted-reads
+use Rattle.choosing.proofs.with.Reads as with-reads
 use Rattle.memory.proofs.known_bad.Reads as known-bad-reads
-use Rattle.memory.proofs.sets.Reads as sets-reads
+use Rattle.std.proofs.num.wrapping_add_u64.Reads as wrapping-add-u64-reads
 use Rattle.choosing.proofs.+choose.{statement}
 use Rattle.choosing.proofs.+choose.Tie.{close}
 
-abbrev μ-choose : Measures 1 choose-kinds.ps ℕ
-μ-choose κs a = a .1 .1 .1 .0 - a .1 .1 .1 .1 .1 .1 .0
+abbrev μ-choose : Measures 3 choose-kinds.ps ℕ
+μ-choose κs a = 8 - count (on (a .1 .1 .1 .1 .1 .0)) 8
 
-abbrev choose-at : ℕ → In 1 choose-kinds.ps
-choose-at t = and 1 choose-kinds.ps (is 1 choose-kinds.ps μ-choose t) choose.Pre
+abbrev choose-at : ℕ → In 3 choose-kinds.ps
+choose-at t = and 3 choose-kinds.ps (is 3 choose-kinds.ps μ-choose t) choose.Pre
 
-abbrev choose-below : ℕ → In 1 choose-kinds.ps
-choose-below t = and 1 choose-kinds.ps (falls 1 choose-kinds.ps _<_ μ-choose t) choose.Pre
+abbrev choose-below : ℕ → In 3 choose-kinds.ps
+choose-below t = and 3 choose-kinds.ps (falls 3 choose-kinds.ps _<_ μ-choose t) choose.Pre
+
+-- what is known of the functions called
+abbrev choose-claims : ℕ → choose-lts.Claims
+choose-claims t = (
+  next-reads.Asked,
+  next-reads.Learnt,
+  finish-reads.Asked,
+  finish-reads.Learnt,
+  wanted-reads.Asked,
+  wanted-reads.Learnt,
+  with-reads.Asked,
+  with-reads.Learnt,
+  numbers-reads.Asked,
+  numbers-reads.Learnt,
+  served-reads.Asked,
+  served-reads.Learnt,
+  row-of-reads.Asked,
+  row-of-reads.Learnt,
+  still-alike-reads.Asked,
+  still-alike-reads.Learnt,
+  choose-below t,
+  choose.Post,
+  suits-reads.Asked,
+  suits-reads.Learnt,
+  alive-reads.Asked,
+  alive-reads.Learnt,
+  wrapping-add-u64-reads.Asked,
+  wrapping-add-u64-reads.Learnt,
+  known-bad-reads.Asked,
+  known-bad-reads.Learnt,
+  none-reads.Asked,
+  none-reads.Learnt,
+)
 
 abbrev choose-Inv-loop : choose-lts.InvT-loop
-choose-Inv-loop cl v m u rows n same nodes budgets want end given known₀ total₀ r₀ known total r = (r ≤ end) × (n < m) × (want ≡ min (item budgets n) u) × (end ≡ 2 ^ u) × (end ≤ 64) × Tried cl budgets v m u n rows r × (given ≤ 256) × Honest cl v known
+choose-Inv-loop cl given mem₀ p rows done same nodes n want done-now end s total₀ unsure₀ r₀ mem total unsure r =
+    (r ≤ end)
+    × Sure (p .last) unsure (Tried cl given (p .budgets) (p .kn) (p .val) (p .vertices) (p .outputs) (p .cells) (p .tables) done rows same n r)
+    × Honest cl given (p .kn) (p .val) (p .vertices) mem
 
 abbrev choose-μ-loop : choose-lts.MeasureT-loop
-choose-μ-loop cl v m u rows n same nodes budgets want end given known₀ total₀ r₀ known total r = end - r
+choose-μ-loop cl given mem₀ p rows done same nodes n want done-now end s total₀ unsure₀ r₀ mem total unsure r =
+    end - r
 
--- src/lib.rt:99:9
-choose-finish-requires : (t : ℕ) → choose-lts.Need-finish-requires (
-  finish-reads.Asked,
-  finish-reads.Learnt,
-  smaller-reads.Asked,
-  smaller-reads.Learnt,
-  power-reads.Asked,
-  power-reads.Learnt,
-  sets-reads.Asked,
-  sets-reads.Learnt,
-  suits-reads.Asked,
-  suits-reads.Learnt,
-  alive-reads.Asked,
-  alive-reads.Learnt,
-  choose-below t,
-  choose.Post,
-  known-bad-reads.Asked,
-  known-bad-reads.Learnt,
-) (choose-at t) choose.Post choose-Inv-loop choose-μ-loop
-choose-finish-requires t c κs = let p = c .before .before .pre .1 in (p .0, p .1, p .2, (λ o h. rows-short (c .before .before .args .t2) (c .before .before .args .u) (c .before .before .args .n) (c .before .before .args .rows) (p .3) (p .5) o (let e = c .if1 .taken in omega arith)), p .7)
+choose-next-requires : (t : ℕ) → choose-lts.Need-next-requires (choose-claims t) (choose-at t) choose.Post choose-Inv-loop choose-μ-loop
+choose-next-requires t c κs = let q = c .before .before .before .pre .1 in (q .0, q .1, q .2, q .3, q .4, q .5)
 
--- src/lib.rt:99:9
-choose-returns : (t : ℕ) → choose-lts.Need-returns (
-  finish-reads.Asked,
-  finish-reads.Learnt,
-  smaller-reads.Asked,
-  smaller-reads.Learnt,
-  power-reads.Asked,
-  power-reads.Learnt,
-  sets-reads.Asked,
-  sets-reads.Learnt,
-  suits-reads.Asked,
-  suits-reads.Learnt,
-  alive-reads.Asked,
-  alive-reads.Learnt,
-  choose-below t,
-  choose.Post,
-  known-bad-reads.Asked,
-  known-bad-reads.Learnt,
-) (choose-at t) choose.Post choose-Inv-loop choose-μ-loop
-choose-returns t c = let p = c .before .before .before .pre .1 in (chosen-end (c .before .before .before .args .cl .now) (c .before .before .before .args .t2) (c .before .before .before .args .v) (c .before .before .before .args .m) (c .before .before .before .args .u) (c .before .before .before .args .n) (c .before .before .before .args .rows) (c .finish .result .rows) (c .finish .result .codes) (c .finish .result .ok) (c .before .if1 .taken) (c .finish .ensures .0) (p .5) (c .finish .ensures .1), c .finish .ensures .2)
+choose-finish-requires : (t : ℕ) → choose-lts.Need-finish-requires (choose-claims t) (choose-at t) choose.Post choose-Inv-loop choose-μ-loop
+choose-finish-requires t c κs = let q = c .before .before .before .before .before .before .pre .1 in (q .0, q .1, q .2, q .3, q .8)
 
--- src/lib.rt:101:24
-choose-array-read-smaller : (t : ℕ) → choose-lts.Need-array-read-smaller (
-  finish-reads.Asked,
-  finish-reads.Learnt,
-  smaller-reads.Asked,
-  smaller-reads.Learnt,
-  power-reads.Asked,
-  power-reads.Learnt,
-  sets-reads.Asked,
-  sets-reads.Learnt,
-  suits-reads.Asked,
-  suits-reads.Learnt,
-  alive-reads.Asked,
-  alive-reads.Learnt,
-  choose-below t,
-  choose.Post,
-  known-bad-reads.Asked,
-  known-bad-reads.Learnt,
-) (choose-at t) choose.Post choose-Inv-loop choose-μ-loop
-choose-array-read-smaller t c = let p = c .before .before .pre .1 in let a = p .2 in let b = p .4 in let e = c .if1 .left in search needs
+choose-same-length : (t : ℕ) → choose-lts.Need-same-length (choose-claims t) (choose-at t) choose.Post choose-Inv-loop choose-μ-loop
+choose-same-length t c = c .before .before .finish .ensures .2 .long ∙ sym (c .before .before .before .before .before .before .before .before .before .pre .1 .8 .long)
 
--- src/lib.rt:101:9
-choose-smaller-requires : (t : ℕ) → choose-lts.Need-smaller-requires (
-  finish-reads.Asked,
-  finish-reads.Learnt,
-  smaller-reads.Asked,
-  smaller-reads.Learnt,
-  power-reads.Asked,
-  power-reads.Learnt,
-  sets-reads.Asked,
-  sets-reads.Learnt,
-  suits-reads.Asked,
-  suits-reads.Learnt,
-  alive-reads.Asked,
-  alive-reads.Learnt,
-  choose-below t,
-  choose.Post,
-  known-bad-reads.Asked,
-  known-bad-reads.Learnt,
-) (choose-at t) choose.Post choose-Inv-loop choose-μ-loop
-choose-smaller-requires t c κs = search needs
+choose-returns : (t : ℕ) → choose-lts.Need-returns (choose-claims t) (choose-at t) choose.Post choose-Inv-loop choose-μ-loop
+choose-returns t c =
+    let a = c .before .before .before .before .before .before .before .before .before .args in
+    let p = a .p in
+    let q = c .before .before .before .before .before .before .before .before .before .pre .1 in
+    let f = c .before .before .finish in
+    let r = f .result in
+    let end = chosen-end (a .cl .now) (a .given .now) (p .budgets) (p .kn) (p .val) (p .vertices) (p .outputs) (p .cells) (p .tables)
+    (a .done) (a .rows) (r .ok) (r .rows) (r .codes) (c .before .before .before .before .before .next .ensures .none (c .before .before .before .before .if1 .taken)) (f .ensures .0) (q .6) in
+    (sure-then (p .last) (r .unsure) _ _ end (f .ensures .1), f .ensures .2)
 
--- src/lib.rt:102:9
-choose-power-requires : (t : ℕ) → choose-lts.Need-power-requires (
-  finish-reads.Asked,
-  finish-reads.Learnt,
-  smaller-reads.Asked,
-  smaller-reads.Learnt,
-  power-reads.Asked,
-  power-reads.Learnt,
-  sets-reads.Asked,
-  sets-reads.Learnt,
-  suits-reads.Asked,
-  suits-reads.Learnt,
-  alive-reads.Asked,
-  alive-reads.Learnt,
-  choose-below t,
-  choose.Post,
-  known-bad-reads.Asked,
-  known-bad-reads.Learnt,
-) (choose-at t) choose.Post choose-Inv-loop choose-μ-loop
-choose-power-requires t c κs = c .before .before .before .pre .1 .3
+choose-array-read-wanted : (t : ℕ) → choose-lts.Need-array-read-wanted (choose-claims t) (choose-at t) choose.Post choose-Inv-loop choose-μ-loop
+choose-array-read-wanted t c =
+    let h = c .before .before .next .ensures .room in
+    let e = c .before .if1 .left in
+    search needs
 
--- src/lib.rt:103:9
-choose-sets-requires : (t : ℕ) → choose-lts.Need-sets-requires (
-  finish-reads.Asked,
-  finish-reads.Learnt,
-  smaller-reads.Asked,
-  smaller-reads.Learnt,
-  power-reads.Asked,
-  power-reads.Learnt,
-  sets-reads.Asked,
-  sets-reads.Learnt,
-  suits-reads.Asked,
-  suits-reads.Learnt,
-  alive-reads.Asked,
-  alive-reads.Learnt,
-  choose-below t,
-  choose.Post,
-  known-bad-reads.Asked,
-  known-bad-reads.Learnt,
-) (choose-at t) choose.Post choose-Inv-loop choose-μ-loop
-choose-sets-requires t c κs = let p = c .before .before .before .before .pre .1 in let a = p .2 in let b = p .4 in omega arith
+choose-wanted-requires : (t : ℕ) → choose-lts.Need-wanted-requires (choose-claims t) (choose-at t) choose.Post choose-Inv-loop choose-μ-loop
+choose-wanted-requires t c κs = let q = c .before .before .before .before .before .before .pre .1 in (q .4, q .5)
 
--- src/lib.rt:107:5
-choose-loop-holds : (t : ℕ) → choose-lts.Need-loop-holds (
-  finish-reads.Asked,
-  finish-reads.Learnt,
-  smaller-reads.Asked,
-  smaller-reads.Learnt,
-  power-reads.Asked,
-  power-reads.Learnt,
-  sets-reads.Asked,
-  sets-reads.Learnt,
-  suits-reads.Asked,
-  suits-reads.Learnt,
-  alive-reads.Asked,
-  alive-reads.Learnt,
-  choose-below t,
-  choose.Post,
-  known-bad-reads.Asked,
-  known-bad-reads.Learnt,
-) (choose-at t) choose.Post choose-Inv-loop choose-μ-loop
+choose-with-requires : (t : ℕ) → choose-lts.Need-with-requires (choose-claims t) (choose-at t) choose.Post choose-Inv-loop choose-μ-loop
+choose-with-requires t c κs = let h = c .before .before .before .next .ensures .room in let e = c .before .before .if1 .left in omega arith
+
+choose-add-numbers : (t : ℕ) → choose-lts.Need-add-numbers (choose-claims t) (choose-at t) choose.Post choose-Inv-loop choose-μ-loop
+choose-add-numbers t c = let q = c .before .before .before .before .before .before .before .before .before .pre .1 in let h = q .4 in let k = q .5 in search needs
+
+choose-numbers-requires : (t : ℕ) → choose-lts.Need-numbers-requires (choose-claims t) (choose-at t) choose.Post choose-Inv-loop choose-μ-loop
+choose-numbers-requires t c κs = let q = c .before .before .before .before .before .before .before .before .before .pre .1 in let h = q .4 in let k = q .5 in omega arith
+
+choose-served-requires : (t : ℕ) → choose-lts.Need-served-requires (choose-claims t) (choose-at t) choose.Post choose-Inv-loop choose-μ-loop
+choose-served-requires t c κs =
+    let c10 = c .before .before .before .before .before .before .before .before .before .before in
+    let q = c10 .pre .1 in
+    let h = c .before .before .before .before .before .before .next .ensures .room in
+    let e = c .before .before .before .before .before .if1 .left in
+    (q .0, q .1, q .2, omega arith, q .4, q .5)
+
+choose-row-of-requires : (t : ℕ) → choose-lts.Need-row-of-requires (choose-claims t) (choose-at t) choose.Post choose-Inv-loop choose-μ-loop
+choose-row-of-requires t c κs =
+    let c10 = c .before .before .before .before .before .before .before .before .before .before in
+    let p = c10 .before .before .args .p in
+    let q = c10 .before .before .pre .1 in
+    let s = c .before .served in
+    let k = c .before .before .numbers in
+    let h = c .if2 .taken in
+    (q .4, number-room (p .cells) (p .tables) (s .result) (k .result) (q .5) (k .ensures .0) h)
+
+choose-mul-only : (t : ℕ) → choose-lts.Need-mul-only (choose-claims t) (choose-at t) choose.Post choose-Inv-loop choose-μ-loop
+choose-mul-only t c =
+    let h = c .before .before .before .before .before .before .before .before .before .next .ensures .room in
+    let e = c .before .before .before .before .before .before .before .before .if1 .left in
+    search needs
+
+choose-array-write-only : (t : ℕ) → choose-lts.Need-array-write-only (choose-claims t) (choose-at t) choose.Post choose-Inv-loop choose-μ-loop
+choose-array-write-only t c =
+    let h = c .before .before .before .before .before .before .before .before .before .next .ensures .room in
+    let e = c .before .before .before .before .before .before .before .before .if1 .left in
+    search needs
+
+choose-still-alike-requires : (t : ℕ) → choose-lts.Need-still-alike-requires (choose-claims t) (choose-at t) choose.Post choose-Inv-loop choose-μ-loop
+choose-still-alike-requires t c κs = search needs
+
+choose-choose-requires : (t : ℕ) → choose-lts.Need-choose-requires (choose-claims t) (choose-at t) choose.Post choose-Inv-loop choose-μ-loop
+choose-choose-requires t c κs =
+    let c10 = c .before .before .before .before .before .before .before .before .before .before in
+    let a = c10 .before .before .before .before .before .args in
+    let p = a .p in
+    let q = c10 .before .before .before .before .before .pre .1 in
+    let x = c10 .before .next .ensures in
+    let n = c10 .before .next .result in
+    let e1 = x .room in
+    let e2 = c10 .if1 .left in
+    let low : n < 8 = omega arith in
+    let free = x .free low in
+    let w = c .before .before .before .before .before .before .before .with in
+    let e3 = c .before .before .before .before .before .numbers .ensures .0 in
+    let s = c .before .before .before .before .served in
+    let e4 = c .before .before .before .if2 .taken in
+    let k = c .before .before .row-of in
+    let last = k .ensures in
+    let here : s .result < 2 ^ (p .cells + p .tables) = omega arith in
+    let full = ap (λ (z : ℕ). count (on z) 16) last ∙ s .ensures .full here ∙ c .before .before .before .before .before .before .before .before .wanted .ensures in
+    let y = c .still-alike in
+    let t' = c10 .before .before .before .before .before .pre .0 in
+    let less = step-less (a .cl .now) (a .given .now) (p .budgets) (p .kn) (p .val) (p .vertices) (p .outputs) (p .cells) (p .tables) (a .done) (a .rows) (a .same) n
+    (w .result) (k .result) (s .result) (q .4) (free .0) low (free .1) (w .ensures) last (q .6) in
+    let more = step-rows (a .cl .now) (a .given .now) (p .budgets) (p .kn) (p .val) (p .vertices) (p .outputs) (p .cells) (p .tables) (a .done) (a .rows) (a .same) n
+    (w .result) (k .result) (s .result) (q .4) (free .0) low (free .1) (w .ensures) last (q .6) here full in
+    let same = step-alike (a .cl .now) (a .given .now) (p .budgets) (p .kn) (p .val) (p .vertices) (p .outputs) (p .cells) (p .tables) (a .done) (a .rows) (a .same) n
+    (w .result) (k .result) (s .result) (q .4) (free .0) low (free .1) (w .ensures) last (q .6) (y .result) (y .ensures) (q .7) in
+    (omega arith, (q .0, q .1, q .2, q .3, q .4, q .5, more, same, q .8))
+
+choose-same-length-2 : (t : ℕ) → choose-lts.Need-same-length-2 (choose-claims t) (choose-at t) choose.Post choose-Inv-loop choose-μ-loop
+choose-same-length-2 t c =
+    let c10 = c .before .before .before .before .before .before .before .before .before .before in
+    c .before .before .choose .ensures .1 .long ∙ sym (c10 .before .before .before .before .before .before .before .before .pre .1 .8 .long)
+
+choose-returns-2 : (t : ℕ) → choose-lts.Need-returns-2 (choose-claims t) (choose-at t) choose.Post choose-Inv-loop choose-μ-loop
+choose-returns-2 t c =
+    let c10 = c .before .before .before .before .before .before .before .before .before .before in
+    let a = c10 .before .before .before .before .before .before .before .before .args in
+    let p = a .p in
+    let q = c10 .before .before .before .before .before .before .before .before .pre .1 in
+    let x = c10 .before .before .before .before .next .ensures in
+    let n = c10 .before .before .before .before .next .result in
+    let e1 = x .room in
+    let e2 = c10 .before .before .before .if1 .left in
+    let low : n < 8 = omega arith in
+    let free = x .free low in
+    let w = c10 .with in
+    let e3 = c .before .before .before .before .before .before .before .before .numbers .ensures .0 in
+    let s = c .before .before .before .before .before .before .before .served in
+    let e4 = c .before .before .before .before .before .before .if2 .taken in
+    let k = c .before .before .before .before .before .row-of in
+    let last = k .ensures in
+    let here : s .result < 2 ^ (p .cells + p .tables) = omega arith in
+    let full = ap (λ (z : ℕ). count (on z) 16) last ∙ s .ensures .full here ∙ c10 .before .wanted .ensures in
+    let y = c .before .before .choose in
+    let r = y .result in
+    let fits = step-fits (a .cl .now) (a .given .now) (p .budgets) (p .kn) (p .val) (p .vertices) (p .outputs) (p .cells) (p .tables) (a .done) (a .rows) (a .same) n
+    (w .result) (k .result) (s .result) (q .4) (free .0) low (free .1) (w .ensures) last (q .6) here full in
+    let serves = subst (λ (z : ℕ). NoneLeft (a .cl .now) (a .given .now) (givenOf z) n (p .vertices)) (sym last) (s .ensures .serves here) in
+    let said = served-chosen (a .cl .now) (a .given .now) (p .budgets) (p .kn) (p .val) (p .vertices) (p .outputs) (p .cells) (p .tables) n (k .result) fits serves
+    (a .done) (w .result) (a .rows) (q .6 .long) low (free .1) (w .ensures) (r .rows) (r .codes) (r .ok) in
+    (sure-then (p .last) (r .unsure) _ _ said (y .ensures .0), y .ensures .1)
+
+choose-loop-holds : (t : ℕ) → choose-lts.Need-loop-holds (choose-claims t) (choose-at t) choose.Post choose-Inv-loop choose-μ-loop
 choose-loop-holds t c =
-    let p = c .before .before .before .before .before .pre .1 in
-    let b = p .4 in
-    let e = c .before .before .before .if1 .left in
-    let w = c .before .power .ensures .0 in
-    (omega arith, omega arith, c .before .before .smaller .ensures, c .before .power .ensures .0, c .before .power .ensures .2, tried-start (c .before .before .before .before .before .args .cl .now) (c .before .before .before .before .before .args .t2) (c .before .before .before .before .before .args .v) (c .before .before .before .before .before .args .m) (c .before .before .before .before .before .args .u) (c .before .before .before .before .before .args .n) (c .before .before .before .before .before .args .rows), c .sets .ensures .1, p .7)
+    let c10 = c .before .before .before .before .before .before .before .before .before .before in
+    let a = c10 .before .before .args in
+    let p = a .p in
+    let q = c10 .before .before .pre .1 in
+    let n = c .before .before .before .before .before .before .before .before .next .result in
+    let x = c .before .before .before .before .before .before .before .before .next .ensures in
+    let e1 = x .room in
+    let e2 = c .before .before .before .before .before .before .before .if1 .left in
+    let low : n < 8 = omega arith in
+    let free = x .free low in
+    let start = tried-start (a .cl .now) (a .given .now) (p .budgets) (p .kn) (p .val) (p .vertices) (p .outputs) (p .cells) (p .tables) (a .done) (a .rows) (a .same) n (q .4) (free .0) in
+    (omega arith, sure-now (p .last) false _ refl start, q .8)
 
--- src/lib.rt:108:12
-choose-suits-requires : (t : ℕ) → choose-lts.Need-suits-requires (
-  finish-reads.Asked,
-  finish-reads.Learnt,
-  smaller-reads.Asked,
-  smaller-reads.Learnt,
-  power-reads.Asked,
-  power-reads.Learnt,
-  sets-reads.Asked,
-  sets-reads.Learnt,
-  suits-reads.Asked,
-  suits-reads.Learnt,
-  alive-reads.Asked,
-  alive-reads.Learnt,
-  choose-below t,
-  choose.Post,
-  known-bad-reads.Asked,
-  known-bad-reads.Learnt,
-) (choose-at t) choose.Post choose-Inv-loop choose-μ-loop
+choose-row-of-requires-2 : (t : ℕ) → choose-lts.Need-row-of-requires-2 (choose-claims t) (choose-at t) choose.Post choose-Inv-loop choose-μ-loop
+choose-row-of-requires-2 t c κs =
+    let c10 = c .before .before .before .before .before .before .before .before .before .before in
+    let a = c10 .before .before .before .before .args in
+    let p = a .p in
+    let q = c10 .before .before .before .before .pre .1 in
+    let l = c .before .loop in
+    let k = c .before .before .before .before .numbers in
+    let h = c .loop-test .taken in
+    (q .4, number-room (p .cells) (p .tables) (l .r) (k .result) (q .5) (k .ensures .0) h)
+
+choose-suits-requires : (t : ℕ) → choose-lts.Need-suits-requires (choose-claims t) (choose-at t) choose.Post choose-Inv-loop choose-μ-loop
 choose-suits-requires t c κs = search needs
 
--- src/lib.rt:110:13
-choose-array-write-next : (t : ℕ) → choose-lts.Need-array-write-next (
-  finish-reads.Asked,
-  finish-reads.Learnt,
-  smaller-reads.Asked,
-  smaller-reads.Learnt,
-  power-reads.Asked,
-  power-reads.Learnt,
-  sets-reads.Asked,
-  sets-reads.Learnt,
-  suits-reads.Asked,
-  suits-reads.Learnt,
-  alive-reads.Asked,
-  alive-reads.Learnt,
-  choose-below t,
-  choose.Post,
-  known-bad-reads.Asked,
-  known-bad-reads.Learnt,
-) (choose-at t) choose.Post choose-Inv-loop choose-μ-loop
-choose-array-write-next t c = let p = c .before .before .before .before .before .before .before .before .before .pre .1 in let a = p .2 in let b = c .before .before .before .loop .inv .1 in search needs
+choose-mul-tried : (t : ℕ) → choose-lts.Need-mul-tried (choose-claims t) (choose-at t) choose.Post choose-Inv-loop choose-μ-loop
+choose-mul-tried t c =
+    let c10 = c .before .before .before .before .before .before .before .before .before .before in
+    let h = c10 .before .before .before .next .ensures .room in
+    let e = c10 .before .before .if1 .left in
+    search needs
 
--- src/lib.rt:111:16
-choose-alive-requires : (t : ℕ) → choose-lts.Need-alive-requires (
-  finish-reads.Asked,
-  finish-reads.Learnt,
-  smaller-reads.Asked,
-  smaller-reads.Learnt,
-  power-reads.Asked,
-  power-reads.Learnt,
-  sets-reads.Asked,
-  sets-reads.Learnt,
-  suits-reads.Asked,
-  suits-reads.Learnt,
-  alive-reads.Asked,
-  alive-reads.Learnt,
-  choose-below t,
-  choose.Post,
-  known-bad-reads.Asked,
-  known-bad-reads.Learnt,
-) (choose-at t) choose.Post choose-Inv-loop choose-μ-loop
+choose-array-write-tried : (t : ℕ) → choose-lts.Need-array-write-tried (choose-claims t) (choose-at t) choose.Post choose-Inv-loop choose-μ-loop
+choose-array-write-tried t c =
+    let c10 = c .before .before .before .before .before .before .before .before .before .before in
+    let h = c10 .before .before .before .next .ensures .room in
+    let e = c10 .before .before .if1 .left in
+    search needs
+
+choose-alive-requires : (t : ℕ) → choose-lts.Need-alive-requires (choose-claims t) (choose-at t) choose.Post choose-Inv-loop choose-μ-loop
 choose-alive-requires t c κs =
-    let p = c .before .before .before .before .before .before .before .before .before .pre .1 in
-    let a = p .2 in
-    let b = c .before .before .before .loop .inv .1 in
-    let e = c .before .before .before .loop .inv .3 in
-    let h = c .before .before .loop-test .taken in
-    let l : c .before .before .before .loop .r < 2 ^ c .before .before .before .before .before .before .before .before .before .args .u = omega arith in
-    (p .0, p .1, omega arith, rows-short (c .before .before .before .before .before .before .before .before .before .args .t2) (c .before .before .before .before .before .before .before .before .before .args .u) (c .before .before .before .before .before .before .before .before .before .args .n + 1) (set (c .before .before .before .before .before .before .before .before .before .args .rows) (c .before .before .before .before .before .before .before .before .before .args .n) (c .before .before .before .loop .r)) (p .3) (rows-more (c .before .before .before .before .before .before .before .before .before .args .t2) (c .before .before .before .before .before .before .before .before .before .args .u) (c .before .before .before .before .before .before .before .before .before .args .n) (c .before .before .before .loop .r) (c .before .before .before .before .before .before .before .before .before .args .rows) (omega arith) (p .3) l (c .before .suits .ensures .right (c .if2 .taken) ∙ c .before .before .before .loop .inv .2) (p .5)), c .before .before .before .loop .inv .7)
+    let c10 = c .before .before .before .before .before .before .before .before .before .before in
+    let q = c10 .before .before .before .before .before .before .before .before .pre .1 in
+    let a = c10 .before .before .before .before .before .before .before .before .args in
+    let x = c10 .before .before .before .before .next in
+    let h = x .ensures .room in
+    let e = c10 .before .before .before .if1 .left in
+    let w = c10 .with in
+    let has = subst (λ (d : ℕ). on d (x .result) ≡ true) (sym (w .ensures)) (on-with-same (a .done) (x .result)) in
+    (q .0, q .1, q .2, omega arith, has, c .before .before .before .before .before .loop .inv .2)
 
--- src/lib.rt:119:21
-choose-add-choose : (t : ℕ) → choose-lts.Need-add-choose (
-  finish-reads.Asked,
-  finish-reads.Learnt,
-  smaller-reads.Asked,
-  smaller-reads.Learnt,
-  power-reads.Asked,
-  power-reads.Learnt,
-  sets-reads.Asked,
-  sets-reads.Learnt,
-  suits-reads.Asked,
-  suits-reads.Learnt,
-  alive-reads.Asked,
-  alive-reads.Learnt,
-  choose-below t,
-  choose.Post,
-  known-bad-reads.Asked,
-  known-bad-reads.Learnt,
-) (choose-at t) choose.Post choose-Inv-loop choose-μ-loop
-choose-add-choose t c = let p = c .before .before .before .before .before .before .before .before .before .before .before .pre .1 in let a = p .2 in let b = c .before .before .before .before .before .loop .inv .1 in omega arith
+choose-wrapping-add-u64-requires : (t : ℕ) → choose-lts.Need-wrapping-add-u64-requires (choose-claims t) (choose-at t) choose.Post choose-Inv-loop choose-μ-loop
+choose-wrapping-add-u64-requires t c κs = search needs
 
--- src/lib.rt:112:21
-choose-choose-requires : (t : ℕ) → choose-lts.Need-choose-requires (
-  finish-reads.Asked,
-  finish-reads.Learnt,
-  smaller-reads.Asked,
-  smaller-reads.Learnt,
-  power-reads.Asked,
-  power-reads.Learnt,
-  sets-reads.Asked,
-  sets-reads.Learnt,
-  suits-reads.Asked,
-  suits-reads.Learnt,
-  alive-reads.Asked,
-  alive-reads.Learnt,
-  choose-below t,
-  choose.Post,
-  known-bad-reads.Asked,
-  known-bad-reads.Learnt,
-) (choose-at t) choose.Post choose-Inv-loop choose-μ-loop
-choose-choose-requires t c κs =
-    let p = c .before .before .before .before .before .before .before .before .before .before .before .pre .1 in
-    let a = p .2 in
-    let b = c .before .before .before .before .before .loop .inv .1 in
-    let e = c .before .before .before .before .before .loop .inv .3 in
-    let h = c .before .before .before .before .loop-test .taken in
-    let t' = c .before .before .before .before .before .before .before .before .before .before .before .pre .0 in
-    let l : c .before .before .before .before .before .loop .r < 2 ^ c .before .before .before .before .before .before .before .before .before .before .before .args .u = omega arith in
-    (omega arith, (p .0, p .1, p .2, p .3, (omega arith), rows-more (c .before .before .before .before .before .before .before .before .before .before .before .args .t2) (c .before .before .before .before .before .before .before .before .before .before .before .args .u) (c .before .before .before .before .before .before .before .before .before .before .before .args .n) (c .before .before .before .before .before .loop .r) (c .before .before .before .before .before .before .before .before .before .before .before .args .rows) (omega arith) (p .3) l (c .before .before .before .suits .ensures .right (c .before .before .if2 .taken) ∙ c .before .before .before .before .before .loop .inv .2) (p .5), alike-more (c .before .before .before .before .before .before .before .before .before .before .before .args .rows) (c .before .before .before .before .before .before .before .before .before .before .before .args .n) (c .before .before .before .before .before .before .before .before .before .before .before .args .same) (c .before .before .before .before .before .loop .r) (p .5 .long) (omega arith) (power-low (c .before .before .before .before .before .before .before .before .before .before .before .args .u) (c .before .before .before .before .before .loop .r) (p .3) l) (p .6), c .before .before .before .before .before .loop .inv .7))
+choose-still-alike-requires-2 : (t : ℕ) → choose-lts.Need-still-alike-requires-2 (choose-claims t) (choose-at t) choose.Post choose-Inv-loop choose-μ-loop
+choose-still-alike-requires-2 t c κs = search needs
 
--- src/lib.rt:125:21
-choose-returns-2 : (t : ℕ) → choose-lts.Need-returns-2 (
-  finish-reads.Asked,
-  finish-reads.Learnt,
-  smaller-reads.Asked,
-  smaller-reads.Learnt,
-  power-reads.Asked,
-  power-reads.Learnt,
-  sets-reads.Asked,
-  sets-reads.Learnt,
-  suits-reads.Asked,
-  suits-reads.Learnt,
-  alive-reads.Asked,
-  alive-reads.Learnt,
-  choose-below t,
-  choose.Post,
-  known-bad-reads.Asked,
-  known-bad-reads.Learnt,
-) (choose-at t) choose.Post choose-Inv-loop choose-μ-loop
-choose-returns-2 t c = (chosen-found (c .before .before .before .before .before .before .before .before .before .before .before .before .before .args .cl .now) (c .before .before .before .before .before .before .before .before .before .before .before .before .before .args .t2) (c .before .before .before .before .before .before .before .before .before .before .before .before .before .args .v) (c .before .before .before .before .before .before .before .before .before .before .before .before .before .args .m) (c .before .before .before .before .before .before .before .before .before .before .before .before .before .args .u) (c .before .before .before .before .before .before .before .before .before .before .before .before .before .args .n) (c .before .before .before .before .before .before .before .before .before .before .before .before .before .args .n + 1) (c .before .before .before .before .before .before .before .before .before .before .before .before .before .args .rows) (set (c .before .before .before .before .before .before .before .before .before .before .before .before .before .args .rows) (c .before .before .before .before .before .before .before .before .before .before .before .before .before .args .n) (c .before .before .before .before .before .before .before .loop .r)) (c .before .choose .result .rows) (c .before .choose .result .codes) (c .before .choose .result .ok) (c .if4 .taken) (c .before .choose .ensures .0), c .before .choose .ensures .1)
+choose-choose-requires-2 : (t : ℕ) → choose-lts.Need-choose-requires-2 (choose-claims t) (choose-at t) choose.Post choose-Inv-loop choose-μ-loop
+choose-choose-requires-2 t c κs =
+    let c10 = c .before .before .before .before .before .before .before .before .before .before in
+    let c20 = c10 .before .before .before .before .before .before .before .before .before .before in
+    let a = c20 .before .before .before .before .before .args in
+    let p = a .p in
+    let q = c20 .before .before .before .before .before .pre .1 in
+    let n = c20 .before .next .result in
+    let x = c20 .before .next .ensures in
+    let e1 = x .room in
+    let e2 = c20 .if1 .left in
+    let low : n < 8 = omega arith in
+    let free = x .free low in
+    let l = c10 .before .before .loop in
+    let w = c10 .before .before .before .before .before .before .before .with in
+    let k = c10 .row-of2 in
+    let last = k .ensures in
+    let t' = c20 .before .before .before .before .before .pre .0 in
+    let e3 = c10 .before .before .before .before .before .numbers .ensures .0 in
+    let e4 = c10 .before .loop-test .taken in
+    let e5 = c .before .before .before .before .before .before .before .before .before .suits .ensures .right (c .before .before .before .before .before .before .before .before .if3 .taken) in
+    let full = e5 ∙ c10 .before .before .before .before .before .before .before .before .wanted .ensures in
+    let s = c .still-alike2 in
+    let less = step-less (a .cl .now) (a .given .now) (p .budgets) (p .kn) (p .val) (p .vertices) (p .outputs) (p .cells) (p .tables) (a .done) (a .rows) (a .same) n
+    (w .result) (k .result) (l .r) (q .4) (free .0) low (free .1) (w .ensures) last (q .6) in
+    let more = step-rows (a .cl .now) (a .given .now) (p .budgets) (p .kn) (p .val) (p .vertices) (p .outputs) (p .cells) (p .tables) (a .done) (a .rows) (a .same) n
+    (w .result) (k .result) (l .r) (q .4) (free .0) low (free .1) (w .ensures) last (q .6) (omega arith) full in
+    let same = step-alike (a .cl .now) (a .given .now) (p .budgets) (p .kn) (p .val) (p .vertices) (p .outputs) (p .cells) (p .tables) (a .done) (a .rows) (a .same) n
+    (w .result) (k .result) (l .r) (q .4) (free .0) low (free .1) (w .ensures) last (q .6) (s .result) (s .ensures) (q .7) in
+    (omega arith, (q .0, q .1, q .2, q .3, q .4, q .5, more, same, c .before .before .before .before .before .before .alive .ensures .0))
 
--- src/lib.rt:129:20
-choose-known-bad-requires : (t : ℕ) → choose-lts.Need-known-bad-requires (
-  finish-reads.Asked,
-  finish-reads.Learnt,
-  smaller-reads.Asked,
-  smaller-reads.Learnt,
-  power-reads.Asked,
-  power-reads.Learnt,
-  sets-reads.Asked,
-  sets-reads.Learnt,
-  suits-reads.Asked,
-  suits-reads.Learnt,
-  alive-reads.Asked,
-  alive-reads.Learnt,
-  choose-below t,
-  choose.Post,
-  known-bad-reads.Asked,
-  known-bad-reads.Learnt,
-) (choose-at t) choose.Post choose-Inv-loop choose-μ-loop
-choose-known-bad-requires t c κs = let p = c .before .before .before .before .before .before .before .before .before .before .before .before .before .before .pre .1 in let a = p .2 in let b = p .4 in (omega arith, c .before .before .before .before .before .before .before .before .loop .inv .6, rows-short (c .before .before .before .before .before .before .before .before .before .before .before .before .before .before .args .t2) (c .before .before .before .before .before .before .before .before .before .before .before .before .before .before .args .u) (c .before .before .before .before .before .before .before .before .before .before .before .before .before .before .args .n) (c .before .before .before .before .before .before .before .before .before .before .before .before .before .before .args .rows) (p .3) (p .5))
+choose-same-length-3 : (t : ℕ) → choose-lts.Need-same-length-3 (choose-claims t) (choose-at t) choose.Post choose-Inv-loop choose-μ-loop
+choose-same-length-3 t c =
+    let c10 = c .before .before .before .before .before .before .before .before .before .before in
+    let c20 = c10 .before .before .before .before .before .before .before .before .before .before in
+    let h = c .before .before .before .choose2 .ensures .1 in
+    h .long ∙ sym (c20 .before .before .before .before .before .before .before .before .before .pre .1 .8 .long)
 
--- src/lib.rt:130:21
-choose-returns-3 : (t : ℕ) → choose-lts.Need-returns-3 (
-  finish-reads.Asked,
-  finish-reads.Learnt,
-  smaller-reads.Asked,
-  smaller-reads.Learnt,
-  power-reads.Asked,
-  power-reads.Learnt,
-  sets-reads.Asked,
-  sets-reads.Learnt,
-  suits-reads.Asked,
-  suits-reads.Learnt,
-  alive-reads.Asked,
-  alive-reads.Learnt,
-  choose-below t,
-  choose.Post,
-  known-bad-reads.Asked,
-  known-bad-reads.Learnt,
-) (choose-at t) choose.Post choose-Inv-loop choose-μ-loop
-choose-returns-3 t c = let p = c .before .before .before .before .before .before .before .before .before .before .before .before .before .before .before .before .pre .1 in (lost-of (c .before .before .before .before .before .before .before .before .before .before .before .before .before .before .before .before .args .cl .now) (c .before .before .before .before .before .before .before .before .before .before .before .before .before .before .before .before .args .t2) (c .before .before .before .before .before .before .before .before .before .before .before .before .before .before .before .before .args .v) (c .before .before .before .before .before .before .before .before .before .before .before .before .before .before .before .before .args .m) (c .before .before .before .before .before .before .before .before .before .before .before .before .before .before .before .before .args .u) (c .before .before .before .before .before .before .before .before .before .before .before .before .before .before .before .before .args .n) (c .before .before .before .before .before .before .before .before .before .before .before .before .before .before .before .before .args .rows) (p .4) (c .before .known-bad .ensures (c .before .before .before .before .before .before .before .before .before .before .before .before .before .before .before .before .args .cl .now) (c .before .before .before .before .before .before .before .before .before .before .before .before .before .before .before .before .args .v) (c .before .before .before .before .choose .ensures .1) (c .if5 .taken)), c .before .before .before .before .choose .ensures .1)
+choose-returns-3 : (t : ℕ) → choose-lts.Need-returns-3 (choose-claims t) (choose-at t) choose.Post choose-Inv-loop choose-μ-loop
+choose-returns-3 t c =
+    let c10 = c .before .before .before .before .before .before .before .before .before .before in
+    let c20 = c10 .before .before .before .before .before .before .before .before .before .before in
+    let a = c20 .before .before .before .before .before .before .before .before .before .args in
+    let p = a .p in
+    let q = c20 .before .before .before .before .before .before .before .before .before .pre .1 in
+    let y = c .before .before .before .choose2 in
+    let r = y .result in
+    let tried = set (a .rows) (c20 .before .before .before .before .before .next .result) (c10 .before .before .before .before .row-of2 .result) in
+    let found = chosen-found (a .cl .now) (a .given .now) (p .budgets) (p .kn) (p .val) (p .vertices) (p .outputs) (p .cells) (p .tables)
+    (a .done) (c20 .before .with .result) (a .rows) tried (r .rows) (r .codes) (r .ok) (c .if5 .taken) in
+    (sure-then (p .last) (r .unsure) _ _ found (y .ensures .0), y .ensures .1)
 
--- src/lib.rt:140:9
-choose-add-r : (t : ℕ) → choose-lts.Need-add-r (
-  finish-reads.Asked,
-  finish-reads.Learnt,
-  smaller-reads.Asked,
-  smaller-reads.Learnt,
-  power-reads.Asked,
-  power-reads.Learnt,
-  sets-reads.Asked,
-  sets-reads.Learnt,
-  suits-reads.Asked,
-  suits-reads.Learnt,
-  alive-reads.Asked,
-  alive-reads.Learnt,
-  choose-below t,
-  choose.Post,
-  known-bad-reads.Asked,
-  known-bad-reads.Learnt,
-) (choose-at t) choose.Post choose-Inv-loop choose-μ-loop
-choose-add-r t c = let h = c .before .before .loop-test .taken in let z = c .before .before .before .loop .inv .4 in omega arith
+choose-known-bad-requires : (t : ℕ) → choose-lts.Need-known-bad-requires (choose-claims t) (choose-at t) choose.Post choose-Inv-loop choose-μ-loop
+choose-known-bad-requires t c κs = c .before .before .before .before .before .before .choose2 .ensures .1 .long
 
--- src/lib.rt:107:5
-choose-loop-less : (t : ℕ) → choose-lts.Need-loop-less (
-  finish-reads.Asked,
-  finish-reads.Learnt,
-  smaller-reads.Asked,
-  smaller-reads.Learnt,
-  power-reads.Asked,
-  power-reads.Learnt,
-  sets-reads.Asked,
-  sets-reads.Learnt,
-  suits-reads.Asked,
-  suits-reads.Learnt,
-  alive-reads.Asked,
-  alive-reads.Learnt,
-  choose-below t,
-  choose.Post,
-  known-bad-reads.Asked,
-  known-bad-reads.Learnt,
-) (choose-at t) choose.Post choose-Inv-loop choose-μ-loop
-choose-loop-less t c = search needs
+choose-none-requires : (t : ℕ) → choose-lts.Need-none-requires (choose-claims t) (choose-at t) choose.Post choose-Inv-loop choose-μ-loop
+choose-none-requires t c κs = search needs
 
--- src/lib.rt:107:5
-choose-loop-again : (t : ℕ) → choose-lts.Need-loop-again (
-  finish-reads.Asked,
-  finish-reads.Learnt,
-  smaller-reads.Asked,
-  smaller-reads.Learnt,
-  power-reads.Asked,
-  power-reads.Learnt,
-  sets-reads.Asked,
-  sets-reads.Learnt,
-  suits-reads.Asked,
-  suits-reads.Learnt,
-  alive-reads.Asked,
-  alive-reads.Learnt,
-  choose-below t,
-  choose.Post,
-  known-bad-reads.Asked,
-  known-bad-reads.Learnt,
-) (choose-at t) choose.Post choose-Inv-loop choose-μ-loop
+choose-same-length-4 : (t : ℕ) → choose-lts.Need-same-length-4 (choose-claims t) (choose-at t) choose.Post choose-Inv-loop choose-μ-loop
+choose-same-length-4 t c =
+    let c10 = c .before .before .before .before .before .before .before .before .before .before in
+    let c20 = c10 .before .before .before .before .before .before .before .before .before .before in
+    let h = c .before .before .before .before .before .before .before .before .before .choose2 .ensures .1 in
+    h .long ∙ sym (c20 .before .before .before .before .before .before .before .before .before .before .before .before .before .before .before .pre .1 .8 .long)
+
+choose-returns-4 : (t : ℕ) → choose-lts.Need-returns-4 (choose-claims t) (choose-at t) choose.Post choose-Inv-loop choose-μ-loop
+choose-returns-4 t c =
+    let c10 = c .before .before .before .before .before .before .before .before .before .before in
+    let c20 = c10 .before .before .before .before .before .before .before .before .before .before in
+    let a = c20 .before .before .before .before .before .before .before .before .before .before .before .before .before .before .before .args in
+    let p = a .p in
+    let q = c20 .before .before .before .before .before .before .before .before .before .before .before .before .before .before .before .pre .1 in
+    let h = c .before .before .before .before .before .before .before .before .before .choose2 .ensures .1 in
+    let r = c .none .result in
+    let e = c .none .ensures in
+    let bad = c .before .before .known-bad .ensures (a .cl .now) (a .given .now) (p .kn) (p .val) (p .vertices) (known-or-none (p .kn)) h (c .before .if6 .taken) in
+    let lost = done-lost (a .cl .now) (a .given .now) (p .budgets) (p .kn) (p .val) (p .vertices) (p .outputs) (p .cells) (p .tables) (a .done) (a .rows) (q .6) bad in
+    let said = chosen-none (a .cl .now) (a .given .now) (p .budgets) (p .kn) (p .val) (p .vertices) (p .outputs) (p .cells) (p .tables) (a .done) (a .rows) (r .rows) (r .codes) (r .ok) (e .0) lost in
+    (sure-now (p .last) (r .unsure) _ (e .1) said, h)
+
+choose-add-r : (t : ℕ) → choose-lts.Need-add-r (choose-claims t) (choose-at t) choose.Post choose-Inv-loop choose-μ-loop
+choose-add-r t c = let h = c .before .before .before .loop-test .taken in let z = c .before .before .before .before .before .before .before .numbers .ensures .1 in omega arith
+
+choose-loop-less : (t : ℕ) → choose-lts.Need-loop-less (choose-claims t) (choose-at t) choose.Post choose-Inv-loop choose-μ-loop
+choose-loop-less t c = let h = c .before .before .before .loop-test .taken in search needs
+
+choose-loop-again : (t : ℕ) → choose-lts.Need-loop-again (choose-claims t) (choose-at t) choose.Post choose-Inv-loop choose-μ-loop
 choose-loop-again t c =
-    let p = c .before .before .before .before .before .before .before .before .before .pre .1 in
-    let a = p .2 in
-    let i = c .before .before .before .loop .inv in
-    let b = i .1 in
-    let h = c .before .before .loop-test .taken in (
+    let c10 = c .before .before .before .before .before .before .before .before .before .before in
+    let a = c10 .before .before .before .before .before .before .before .args in
+    let p = a .p in
+    let q = c10 .before .before .before .before .before .before .before .pre .1 in
+    let n = c10 .before .before .before .next .result in
+    let x = c10 .before .before .before .next .ensures in
+    let e1 = x .room in
+    let e2 = c10 .before .before .if1 .left in
+    let low : n < 8 = omega arith in
+    let free = x .free low in
+    let l = c .before .before .before .before .loop in
+    let w = c .before .before .before .before .before .before .before .before .before .with in
+    let k = c .before .before .row-of2 in
+    let last = k .ensures in
+    let i = l .inv in
+    let h = c .before .before .before .loop-test .taken in
+    let tried = set (a .rows) n (k .result) in
+    let T : ℕ → Type 0 = Tried (a .cl .now) (a .given .now) (p .budgets) (p .kn) (p .val) (p .vertices) (p .outputs) (p .cells) (p .tables) (a .done) (a .rows) (a .same) n in
+    let S : Bool → Type 0 = λ b. Sure (p .last) b (T (l .r + 1)) in
+    let H = Honest (a .cl .now) (a .given .now) (p .kn) (p .val) (p .vertices) in
+    let lost : Lost (a .cl .now) (a .given .now) (p .budgets) (p .kn) (p .val) (p .vertices) (p .outputs) (p .cells) (p .tables) (w .result) tried → T (l .r) → T (l .r + 1) = step-lost
+    (a .cl .now) (a .given .now) (p .budgets) (p .kn) (p .val) (p .vertices) (p .outputs) (p .cells) (p .tables) (a .done) (a .rows) (a .same) n
+    (w .result) (k .result) (l .r) (q .4) (free .0) low (free .1) (w .ensures) last (q .6) in
+    let dead = step-dead (a .cl .now) (a .given .now) (p .budgets) (p .kn) (p .val) (p .vertices) (p .outputs) (p .cells) (p .tables) (a .done) (a .rows) (a .same) n
+    (w .result) (k .result) (l .r) (q .4) (free .0) low (free .1) (w .ensures) last (q .6) in
+    let s = c .before .suits in
+    let v = c10 .wanted in
+    let unfit = step-unfit (a .cl .now) (a .given .now) (p .budgets) (p .kn) (p .val) (p .vertices) (p .outputs) (p .cells) (p .tables) (a .done) (a .rows) (a .same) n
+    (w .result) (k .result) (l .r) (q .4) (free .0) low (free .1) (w .ensures) last (q .6)
+    (v .result) (s .result) (v .ensures) in (
       omega arith,
-      i .1,
-      i .2,
-      i .3,
-      i .4,
       ⊎-elim
-          (λ w. tried-lost (c .before .before .before .before .before .before .before .before .before .args .cl .now) (c .before .before .before .before .before .before .before .before .before .args .t2) (c .before .before .before .before .before .before .before .before .before .args .v) (c .before .before .before .before .before .before .before .before .before .args .m) (c .before .before .before .before .before .before .before .before .before .args .u) (c .before .before .before .before .before .before .before .before .before .args .n) (c .before .before .before .before .before .before .before .before .before .args .rows) (c .before .before .before .loop .r) (w .3 .result .ok) (w .3 .result .rows) (w .3 .result .codes) (p .5 .long) (omega arith) (w .4 .left) (w .3 .ensures .0) (i .5))
+          (λ z.
+          let r = z .9 .result in
+          let none = chosen-lost (a .cl .now) (a .given .now) (p .budgets) (p .kn) (p .val) (p .vertices) (p .outputs) (p .cells) (p .tables)
+          (w .result) tried (r .rows) (r .codes) (r .ok) (z .12 .left) in
+          subst S (sym (z .20)) (sure-both (p .last) (l .unsure) (r .unsure) _ _ _ (λ t s. lost (none s) t) (i .1) (z .9 .ensures .0)))
           (⊎-elim
-          (λ w. tried-dead (c .before .before .before .before .before .before .before .before .before .args .cl .now) (c .before .before .before .before .before .before .before .before .before .args .t2) (c .before .before .before .before .before .before .before .before .before .args .v) (c .before .before .before .before .before .before .before .before .before .args .m) (c .before .before .before .before .before .before .before .before .before .args .u) (c .before .before .before .before .before .before .before .before .before .args .n) (c .before .before .before .before .before .before .before .before .before .args .rows) (c .before .before .before .loop .r) (set (c .before .before .before .before .before .before .before .before .before .args .rows) (c .before .before .before .before .before .before .before .before .before .args .n) (c .before .before .before .loop .r)) false (p .5 .long) (omega arith) b refl (w .1 .ensures (w .2 .left)) (i .5))
-          (λ w. tried-unfit (c .before .before .before .before .before .before .before .before .before .args .cl .now) (c .before .before .before .before .before .before .before .before .before .args .t2) (c .before .before .before .before .before .before .before .before .before .args .v) (c .before .before .before .before .before .before .before .before .before .args .m) (c .before .before .before .before .before .before .before .before .before .args .u) (c .before .before .before .before .before .before .before .before .before .args .n) (c .before .before .before .before .before .before .before .before .before .args .rows) (c .before .before .before .loop .r) (c .before .before .before .before .before .before .smaller .result) (c .before .before .before .before .before .before .before .before .before .args .same) (c .before .suits .result) (p .3) b (i .2) (p .6) (w .0 .left) (c .before .suits .ensures) (i .5)))
-          (c .if2 .came),
-      i .6,
+          (λ z. subst S (sym (z .9)) (sure-then (p .last) (l .unsure) _ _ (dead (z .2 .ensures .1 (z .6 .left))) (i .1)))
+          (λ z. subst S (sym (z .3)) (sure-then (p .last) (l .unsure) _ _ (unfit (z .0 .left) (s .ensures)) (i .1))))
+          (c .if3 .came),
       ⊎-elim
-          (λ w. subst (Honest (c .before .before .before .before .before .before .before .before .before .args .cl .now) (c .before .before .before .before .before .before .before .before .before .args .v)) (sym (w .8)) (w .3 .ensures .1))
-          (⊎-elim (λ w. subst (Honest (c .before .before .before .before .before .before .before .before .before .args .cl .now) (c .before .before .before .before .before .before .before .before .before .args .v)) (sym (w .3)) (i .7)) (λ w. subst (Honest (c .before .before .before .before .before .before .before .before .before .args .cl .now) (c .before .before .before .before .before .before .before .before .before .args .v)) (sym (w .1)) (i .7)))
-          (c .if2 .came),
+          (λ z. subst H (sym (z .18)) (z .9 .ensures .1))
+          (⊎-elim (λ z. subst H (sym (z .7)) (z .2 .ensures .0)) (λ z. subst H (sym (z .1)) (i .2)))
+          (c .if3 .came),
     )
 
--- src/lib.rt:83:1
-choose-returns-4 : (t : ℕ) → choose-lts.Need-returns-4 (
-  finish-reads.Asked,
-  finish-reads.Learnt,
-  smaller-reads.Asked,
-  smaller-reads.Learnt,
-  power-reads.Asked,
-  power-reads.Learnt,
-  sets-reads.Asked,
-  sets-reads.Learnt,
-  suits-reads.Asked,
-  suits-reads.Learnt,
-  alive-reads.Asked,
-  alive-reads.Learnt,
-  choose-below t,
-  choose.Post,
-  known-bad-reads.Asked,
-  known-bad-reads.Learnt,
-) (choose-at t) choose.Post choose-Inv-loop choose-μ-loop
-choose-returns-4 t c = (tried-all (c .before .before .before .before .before .before .before .args .cl .now) (c .before .before .before .before .before .before .before .args .t2) (c .before .before .before .before .before .before .before .args .v) (c .before .before .before .before .before .before .before .args .m) (c .before .before .before .before .before .before .before .args .u) (c .before .before .before .before .before .before .before .args .n) (c .before .before .before .before .before .before .before .args .rows) (c .before .loop .r) (let h = c .loop-test .left in let e = c .before .loop .inv .3 in omega arith) (c .before .loop .inv .5), c .before .loop .inv .7)
+choose-none-requires-2 : (t : ℕ) → choose-lts.Need-none-requires-2 (choose-claims t) (choose-at t) choose.Post choose-Inv-loop choose-μ-loop
+choose-none-requires-2 t c κs = search needs
+
+choose-same-length-5 : (t : ℕ) → choose-lts.Need-same-length-5 (choose-claims t) (choose-at t) choose.Post choose-Inv-loop choose-μ-loop
+choose-same-length-5 t c =
+    let c10 = c .before .before .before .before .before .before .before .before .before .before in
+    c .before .before .loop .inv .2 .long ∙ sym (c10 .before .before .before .before .before .pre .1 .8 .long)
+
+choose-returns-5 : (t : ℕ) → choose-lts.Need-returns-5 (choose-claims t) (choose-at t) choose.Post choose-Inv-loop choose-μ-loop
+choose-returns-5 t c =
+    let c10 = c .before .before .before .before .before .before .before .before .before .before in
+    let a = c10 .before .before .before .before .before .args in
+    let p = a .p in
+    let q = c10 .before .before .before .before .before .pre .1 in
+    let n = c10 .before .next .result in
+    let x = c10 .before .next .ensures in
+    let e1 = x .room in
+    let e2 = c10 .if1 .left in
+    let low : n < 8 = omega arith in
+    let free = x .free low in
+    let l = c .before .before .loop in
+    let i = l .inv in
+    let h = c .before .loop-test .left in
+    let e3 = c .before .before .before .before .before .numbers .ensures .0 in
+    let r = c .none2 .result in
+    let e = c .none2 .ensures in
+    let all = tried-all (a .cl .now) (a .given .now) (p .budgets) (p .kn) (p .val) (p .vertices) (p .outputs) (p .cells) (p .tables) (a .done) (a .rows) (a .same) n
+    (q .4) (free .0) (l .r) (q .3) (q .7) (omega arith) in
+    let said = chosen-none (a .cl .now) (a .given .now) (p .budgets) (p .kn) (p .val) (p .vertices) (p .outputs) (p .cells) (p .tables) (a .done) (a .rows) (r .rows) (r .codes) (r .ok) (e .0) in
+    let S : Bool → Type 0 = λ b. Sure (p .last) b
+    (Chosen (a .cl .now) (a .given .now) (p .budgets) (p .kn) (p .val) (p .vertices) (p .outputs) (p .cells) (p .tables) (a .done) (a .rows) (r .ok) (r .rows) (r .codes)) in
+    (subst S (sym (e .1)) (sure-then (p .last) (l .unsure) _ _ (λ t. said (all t)) (i .1)), i .2)
 
 pub +choose-spec : {M : Type 1} → statement M
-+choose-spec = close μ-choose λ t. choose-lts.spec (
-  finish-reads.Asked,
-  finish-reads.Learnt,
-  smaller-reads.Asked,
-  smaller-reads.Learnt,
-  power-reads.Asked,
-  power-reads.Learnt,
-  sets-reads.Asked,
-  sets-reads.Learnt,
-  suits-reads.Asked,
-  suits-reads.Learnt,
-  alive-reads.Asked,
-  alive-reads.Learnt,
-  choose-below t,
-  choose.Post,
-  known-bad-reads.Asked,
-  known-bad-reads.Learnt,
-)
++choose-spec = close μ-choose λ t. choose-lts.spec (choose-claims t)
     (choose-at t)
     choose.Post
     choose-Inv-loop
     choose-μ-loop
+    (choose-next-requires t)
     (choose-finish-requires t)
+    (choose-same-length t)
     (choose-returns t)
-    (choose-array-read-smaller t)
-    (choose-smaller-requires t)
-    (choose-power-requires t)
-    (choose-sets-requires t)
-    (choose-loop-holds t)
-    (choose-suits-requires t)
-    (choose-array-write-next t)
-    (choose-alive-requires t)
-    (choose-add-choose t)
+    (choose-array-read-wanted t)
+    (choose-wanted-requires t)
+    (choose-with-requires t)
+    (choose-add-numbers t)
+    (choose-numbers-requires t)
+    (choose-served-requires t)
+    (choose-row-of-requires t)
+    (choose-mul-only t)
+    (choose-array-write-only t)
+    (choose-still-alike-requires t)
     (choose-choose-requires t)
+    (choose-same-length-2 t)
     (choose-returns-2 t)
-    (choose-known-bad-requires t)
+    (choose-loop-holds t)
+    (choose-row-of-requires-2 t)
+    (choose-suits-requires t)
+    (choose-mul-tried t)
+    (choose-array-write-tried t)
+    (choose-alive-requires t)
+    (choose-wrapping-add-u64-requires t)
+    (choose-still-alike-requires-2 t)
+    (choose-choose-requires-2 t)
+    (choose-same-length-3 t)
     (choose-returns-3 t)
+    (choose-known-bad-requires t)
+    (choose-none-requires t)
+    (choose-same-length-4 t)
+    (choose-returns-4 t)
     (choose-add-r t)
     (choose-loop-less t)
     (choose-loop-again t)
-    (choose-returns-4 t)
+    (choose-none-requires-2 t)
+    (choose-same-length-5 t)
+    (choose-returns-5 t)

@@ -1,62 +1,71 @@
-use borrow.Author.Tests.{not-true, not-false}
-use mathlib.Core.Bool.{true, false}
-use native.Mathlib.Omega.{arith}
-use lib.ListN.{set}
+use Rattle.choosing.specs.ChoiceLaws.{barred-alone, known-or-none}
+use Rattle.numbering.specs.Given.{item}
+use borrow.Author.Tests.{not-true}
 use borrow.Author.Needs.{needs}
 use Rattle.choosing.proofs.alive.Statement.{statement}
 use Rattle.choosing.proofs.alive.Tie as tie
 use Rattle.choosing.proofs.alive.Reads as reads
 use Rattle.choosing.proofs.alive.Lts as lts
-use Rattle.readers.proofs.possible.Reads as possible-reads
+use Rattle.choosing.proofs.with.Reads as with-reads
 use Rattle.memory.proofs.known_bad.Reads as known-bad-reads
-use Rattle.memory.proofs.sets.Reads as sets-reads
+use Rattle.memory.proofs.settle.Reads as settle-reads
+use Rattle.questions.proofs.possible.Reads as possible-reads
 
--- src/lib.rt:48:25
-add-possible : tie.Need-add-possible
-add-possible c = let h = c .before .pre .2 in omega arith
+with-requires : tie.Need-with-requires
+with-requires c κs = search needs
 
--- src/lib.rt:48:9
 possible-requires : tie.Need-possible-requires
-possible-requires c κs = let p = c .before .pre in let h = p .2 in (p .0, p .1, omega arith, p .3)
+possible-requires c κs = search needs
 
--- src/lib.rt:49:9
 returns : tie.Need-returns
-returns c = λ e. c .before .possible .ensures (not-true _ (c .if1 .taken))
+returns c =
+    let a = c .before .before .before .before .before .before .args in
+    let q = c .before .before .before .before .before .before .pre in
+    let w = c .before .before .with in
+    let none = c .before .possible .ensures (not-true _ (c .if1 .taken)) (a .p .kn) (a .p .val) in
+    (q .5, λ e. barred-alone (a .cl .now) (a .given .now) (a .p .kn) (a .p .val) (a .p .vertices) (a .done) (a .n) (w .result) (item (a .rows)) (w .ensures) (q .4) none)
 
--- src/lib.rt:51:35
-add-known-bad : tie.Need-add-known-bad
-add-known-bad c = let h = c .before .before .before .pre .2 in omega arith
+possible-requires-2 : tie.Need-possible-requires-2
+possible-requires-2 c κs = search needs
 
--- src/lib.rt:51:42
-sets-requires : tie.Need-sets-requires
-sets-requires c κs = let h = c .before .before .before .pre .2 in omega arith
-
--- src/lib.rt:51:72
-add-sets : tie.Need-add-sets
-add-sets c = let h = c .before .before .before .before .pre .2 in omega arith
-
--- src/lib.rt:51:59
-sets-requires-2 : tie.Need-sets-requires-2
-sets-requires-2 c κs = let h = c .before .before .before .before .pre .2 in omega arith
-
--- src/lib.rt:51:6
-known-bad-requires : tie.Need-known-bad-requires
-known-bad-requires c κs = let h = c .before .before .before .before .before .pre .2 in (omega arith, c .sets2 .ensures .1, c .before .before .before .before .before .pre .3)
-
--- src/lib.rt:44:1
 returns-2 : tie.Need-returns-2
-returns-2 c = λ e. c .known-bad .ensures (c .before .before .before .before .before .before .args .cl .now) (c .before .before .before .before .before .before .args .v) (c .before .before .before .before .before .before .pre .4) (not-false _ e)
+returns-2 c =
+    let a = c .before .before .before .before .before .before .before .before .args in
+    (c .before .before .before .before .before .before .before .before .pre .5, λ e. c .before .possible2 .ensures (not-true _ (c .if2 .taken)) (a .p .kn) (a .p .val))
+
+known-bad-requires : tie.Need-known-bad-requires
+known-bad-requires c κs = search needs
+
+same-length : tie.Need-same-length
+same-length c = search needs
+
+returns-3 : tie.Need-returns-3
+returns-3 c =
+    let a = c .before .before .before .before .before .before .before .before .before .before .before .before .args in
+    let h = c .before .before .before .before .before .before .before .before .before .before .before .before .pre .5 in
+    (h, λ e. c .before .known-bad .ensures (a .cl .now) (a .given .now) (a .p .kn) (a .p .val) (a .p .vertices) (known-or-none (a .p .kn)) h (c .if3 .taken))
+
+settle-requires : tie.Need-settle-requires
+settle-requires c κs = search needs
+
+same-length-2 : tie.Need-same-length-2
+same-length-2 c = search needs
+
+returns-4 : tie.Need-returns-4
+returns-4 c = search needs
 
 pub alive-spec : {M : Type 1} → statement M
 alive-spec =
     tie.close
     (tie.spec
-    add-possible
+    with-requires
     possible-requires
     returns
-    add-known-bad
-    sets-requires
-    add-sets
-    sets-requires-2
+    possible-requires-2
+    returns-2
     known-bad-requires
-    returns-2)
+    same-length
+    returns-3
+    settle-requires
+    same-length-2
+    returns-4)

@@ -1,48 +1,82 @@
+use Rattle.choosing.specs.ChoiceLaws.{settled-none, sure-now}
+use Rattle.coding.specs.Limit.{Sure}
+use Rattle.questions.specs.Question.{Barred, Settled}
+use Rattle.numbering.specs.Given.{item}
+use Prim.Native.Nat.{ℕ}
+use mathlib.Core.Path.{refl, subst}
 use borrow.Author.Tests.{not-true}
-use mathlib.Core.Path.{refl}
-use mathlib.Core.Bool.{true}
-use native.Mathlib.Omega.{arith}
-use lib.ListN.{set}
 use borrow.Author.Needs.{needs}
 use Rattle.choosing.proofs.finish.Statement.{statement}
 use Rattle.choosing.proofs.finish.Tie as tie
 use Rattle.choosing.proofs.finish.Reads as reads
 use Rattle.choosing.proofs.finish.Lts as lts
-use Rattle.joint.proofs.codes_for.Reads as codes-for-reads
-use Rattle.memory.proofs.settle.Reads as settle-reads
+use Rattle.choosing.proofs.first_outputs.Reads as first-outputs-reads
+use Rattle.choosing.proofs.none.Reads as none-reads
+use Rattle.memory.proofs.settle_smaller.Reads as settle-smaller-reads
+use Rattle.questions.proofs.ask.Reads as ask-reads
 use Rattle.std.proofs.num.wrapping_add_u64.Reads as wrapping-add-u64-reads
 
--- src/lib.rt:58:9
-settle-requires : tie.Need-settle-requires
-settle-requires c κs = c .before .pre
+first-outputs-requires : tie.Need-first-outputs-requires
+first-outputs-requires c κs = search needs
 
--- src/lib.rt:60:9
+cast-m : tie.Need-cast-m
+cast-m c = search needs
+
+settle-smaller-requires : tie.Need-settle-smaller-requires
+settle-smaller-requires c κs = search needs
+
 wrapping-add-u64-requires : tie.Need-wrapping-add-u64-requires
 wrapping-add-u64-requires c κs = search needs
 
--- src/lib.rt:62:9
+none-requires : tie.Need-none-requires
+none-requires c κs = search needs
+
+same-length : tie.Need-same-length
+same-length c = search needs
+
 returns : tie.Need-returns
-returns c = (refl, c .before .before .before .before .settle .ensures .1 (not-true _ (c .if1 .taken)), c .before .before .before .before .settle .ensures .0)
+returns c =
+    let a = c .before .before .before .before .before .before .before .before .before .before .before .before .before .args in
+    let p = a .p in
+    let s = c .before .before .before .before .before .before .settle-smaller .ensures in
+    let r = c .none .result in
+    let e = c .none .ensures in
+    let all = c .before .before .before .before .before .before .before .before .before .first-outputs .ensures in
+    let B : ℕ → Type 0 = λ d. Barred (a .cl .now) (a .given .now) (p .kn) (p .val) (p .vertices) d (item (a .rows)) in
+    let bad = subst B all (s .1 (not-true _ (c .before .if1 .taken))) in
+    (e .2, sure-now (p .last) (r .unsure) _ (e .1) (settled-none (a .cl .now) (a .given .now) (p .kn) (p .val) (p .vertices) _ (item (a .rows)) (r .ok) (r .codes) (e .0) bad), s .0)
 
--- src/lib.rt:70:9
-codes-for-requires : tie.Need-codes-for-requires
-codes-for-requires c κs = let p = c .before .before .before .before .before .before .pre in (p .0, p .1, p .2, p .3)
+ask-requires : tie.Need-ask-requires
+ask-requires c κs = search needs
 
--- src/lib.rt:77:16
 wrapping-add-u64-requires-2 : tie.Need-wrapping-add-u64-requires-2
 wrapping-add-u64-requires-2 c κs = search needs
 
--- src/lib.rt:54:1
+same-length-2 : tie.Need-same-length-2
+same-length-2 c = search needs
+
 returns-2 : tie.Need-returns-2
-returns-2 c = (refl, c .before .before .codes-for .ensures, c .before .before .before .before .before .before .before .settle .ensures .0)
+returns-2 c =
+    let a = c .before .before .before .before .before .before .before .before .before .before .before .before .before .before .before .args in
+    let p = a .p in
+    let k = c .before .before .ask in
+    let r = k .result in
+    let all = c .before .before .before .before .before .before .before .before .before .before .before .first-outputs .ensures in
+    let S : ℕ → Type 0 = λ d. Sure (p .last) (r .unsure) (Settled (a .cl .now) (a .given .now) (p .kn) (p .val) (p .vertices) d (item (a .rows)) (r .ok) (r .codes)) in
+    (refl, subst S all (k .ensures), c .before .before .before .before .before .before .before .before .settle-smaller .ensures .0)
 
 pub finish-spec : {M : Type 1} → statement M
 finish-spec =
     tie.close
     (tie.spec
-    settle-requires
+    first-outputs-requires
+    cast-m
+    settle-smaller-requires
     wrapping-add-u64-requires
+    none-requires
+    same-length
     returns
-    codes-for-requires
+    ask-requires
     wrapping-add-u64-requires-2
+    same-length-2
     returns-2)

@@ -1,23 +1,28 @@
-use Rattle.choosing.specs.Choice.{suits-count, suits-not}
-use native.Mathlib.Omega.{arith}
+use mathlib.Core.Path.{sym, subst}
+use Prim.Native.Nat.{ℕ}
+use lib.Dec.{eqb}
+use Rattle.choosing.specs.Choice.{Suits, disorder}
+use Rattle.choosing.specs.ChoiceLaws.{suits-count, suits-not, ones-count}
+use lib.Count.{ones}
 use borrow.Author.Needs.{needs}
 use Rattle.choosing.proofs.suits.Statement.{statement}
 use Rattle.choosing.proofs.suits.Tie as tie
 use Rattle.choosing.proofs.suits.Reads as reads
 use Rattle.choosing.proofs.suits.Lts as lts
-use Rattle.bounds.proofs.digits.Reads as digits-reads
+use Rattle.questions.proofs.open_of.Reads as open-of-reads
 
--- src/lib.rt:24:9
-digits-requires : tie.Need-digits-requires
-digits-requires c κs = search needs
+open-of-requires : tie.Need-open-of-requires
+open-of-requires c κs = search needs
 
--- src/lib.rt:21:1
 returns : tie.Need-returns
-returns c = suits-count (c .before .before .args .r) (c .before .before .args .want) (c .before .before .args .same) (c .before .digits .result) (c .if1 .taken) (c .before .digits .ensures .0)
+returns c =
+    let a = c .before .before .args in
+    let f = c .open-of in
+    subst (λ (f : ℕ). Suits (a .row) (a .want) (a .same) (eqb (disorder f (a .same)) 0)) (sym (f .ensures .0))
+    (suits-count (a .row) (a .want) (a .same) (ones (a .row)) (c .before .if1 .taken) (ones-count 16 (a .row) (c .before .before .fits .row .fits)))
 
--- src/lib.rt:21:1
 returns-2 : tie.Need-returns-2
-returns-2 c = suits-not (c .before .before .args .r) (c .before .before .args .want) (c .before .before .args .same) (c .before .digits .result) (c .if1 .left) (c .before .digits .ensures .0)
+returns-2 c = let a = c .before .args in suits-not (a .row) (a .want) (a .same) (ones (a .row)) (c .if1 .left) (ones-count 16 (a .row) (c .before .fits .row .fits))
 
 pub suits-spec : {M : Type 1} → statement M
-suits-spec = tie.close (tie.spec digits-requires returns returns-2)
+suits-spec = tie.close (tie.spec open-of-requires returns returns-2)

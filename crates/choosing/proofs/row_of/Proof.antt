@@ -1,0 +1,83 @@
+use mathlib.Core.Path.{ap}
+use Prim.Native.Nat.{ℕ, _+_, _*_, _/_, _%_, _-_}
+use native.Mathlib.Omega.{arith}
+use Rattle.choosing.specs.ChoiceLaws.{number-parts}
+use borrow.Author.Needs.{needs}
+use Rattle.choosing.proofs.row_of.Statement.{statement}
+use Rattle.choosing.proofs.row_of.Tie as tie
+use Rattle.choosing.proofs.row_of.Reads as reads
+use Rattle.choosing.proofs.row_of.Lts as lts
+use Rattle.choosing.proofs.numbers.Reads as numbers-reads
+
+numbers-requires : tie.Need-numbers-requires
+numbers-requires c κs = let h = c .pre .0 in omega arith
+
+div-result : tie.Need-div-result
+div-result c =
+    let a = c .before .args in
+    let p = c .before .pre in
+    let h = number-parts (a .u) (a .r) (c .numbers .result) (p .0) (c .numbers .ensures .0) (p .1) in
+    let z = h .0 in search needs
+
+cast-result : tie.Need-cast-result
+cast-result c = search needs
+
+mul-result : tie.Need-mul-result
+mul-result c =
+    let a = c .before .args in
+    let p = c .before .pre in
+    let h = number-parts (a .u) (a .r) (c .numbers .result) (p .0) (c .numbers .ensures .0) (p .1) in
+    let z = h .1 in search needs
+
+sub-result : tie.Need-sub-result
+sub-result c =
+    let a = c .before .args in
+    let p = c .before .pre in
+    let h = number-parts (a .u) (a .r) (c .numbers .result) (p .0) (c .numbers .ensures .0) (p .1) in
+    let z = h .0 in search needs
+
+rem-result : tie.Need-rem-result
+rem-result c =
+    let a = c .before .args in
+    let p = c .before .pre in
+    let h = number-parts (a .u) (a .r) (c .numbers .result) (p .0) (c .numbers .ensures .0) (p .1) in
+    let z = h .0 in search needs
+
+sub-result-2 : tie.Need-sub-result-2
+sub-result-2 c =
+    let a = c .before .args in
+    let p = c .before .pre in
+    let h = number-parts (a .u) (a .r) (c .numbers .result) (p .0) (c .numbers .ensures .0) (p .1) in
+    let z = h .2 in search needs
+
+add-result : tie.Need-add-result
+add-result c =
+    let a = c .before .args in
+    let p = c .before .pre in
+    let h = number-parts (a .u) (a .r) (c .numbers .result) (p .0) (c .numbers .ensures .0) (p .1) in
+    let z = h .1 in let w = h .3 in search needs
+
+cast-result-2 : tie.Need-cast-result-2
+cast-result-2 c =
+    let a = c .before .args in
+    let p = c .before .pre in
+    let h = number-parts (a .u) (a .r) (c .numbers .result) (p .0) (c .numbers .ensures .0) (p .1) in
+    let z = h .1 in let w = h .3 in search needs
+
+returns : tie.Need-returns
+returns c = ap (λ (p : ℕ). c .before .args .r / p * 64 + (p - 1 - c .before .args .r % p)) (c .numbers .ensures .0)
+
+pub row-of-spec : {M : Type 1} → statement M
+row-of-spec =
+    tie.close
+    (tie.spec
+    numbers-requires
+    div-result
+    cast-result
+    mul-result
+    sub-result
+    rem-result
+    sub-result-2
+    add-result
+    cast-result-2
+    returns)
