@@ -1,32 +1,44 @@
--- The count of cells. A count for which no rows are found is too small, and so the first count that is found is the least.
+-- The count of cells. A count for which no cells are found is too small, and so the first count that is found is the least.
 -- Every table is complemented where it is 1 at vertex 0. Assumes nothing.
-use mathlib.Core.Path.{_≡_, refl, sym, ap, _∙_, subst}
+use mathlib.Core.Path.{_≡_, refl, sym, ap, ap₂, _∙_, subst}
 use mathlib.Core.Bool.{Bool, true, false}
-use mathlib.Core.List.{List}
-use mathlib.Core.Logic.{⊎-elim}
-use Prim.Native.Nat.{ℕ, zero, _+_, _^_, _≤_, _<_, min}
+use mathlib.Core.List.{List, [], _∷_, _++_, append-nil}
+use mathlib.Core.Logic.{inl, inr, ⊎-elim}
+use Prim.Native.Nat.{ℕ, zero, suc, _+_, _^_, _≤_, _<_, min}
 use native.Mathlib.Decide.{decLt}
 use native.Mathlib.Omega.{arith}
 use lib.Bits.{bitXor}
 use lib.ListN.{length, set, length-set}
 use lib.Seq.{getD-set-same, getD-set-other}
-use Rattle.limits.specs.Limits.{maxVertices}
+use Rattle.limits.specs.Limits.{maxVertices, searchOutputs}
 use Rattle.bits.specs.Logic.{xorb}
 use Rattle.bits.specs.LogicLaws.{true-false}
 use Rattle.bits.specs.Digit.{on}
-use Rattle.bits.specs.DigitLaws.{on-xor, on-none}
-use Rattle.cells.specs.Core.{Cell, Differ, Serves, Answer, coreOf}
-use Rattle.cells.specs.Lists.{count, less-or-equal}
-use Rattle.cells.specs.Pigeon.{agree-and, and-agree}
-use Rattle.cells.specs.Codes.{Coded, normal-of, core-serves, cells-length, cells-zero}
+use Rattle.bits.specs.DigitLaws.{on-xor, on-none, on-zero}
+use Rattle.cells.specs.Core.{Cell, Apart, bit, reading, Differ, Serves, Answer, cellsFrom, coreOf}
+use Rattle.cells.specs.Lists.{count, less-or-equal, never-both}
+use Rattle.cells.specs.Codes.{cells-length, cells-zero}
+use Rattle.cells.specs.FullSize.{readBy}
 use Rattle.numbering.specs.Given.{labelAt, item}
-use Rattle.choosing.specs.Choice.{Chosen}
+use Rattle.relation.specs.Relation.{Conflict}
+use Rattle.questions.specs.Question.{openOf}
+use Rattle.seeking.specs.Seeking.{Tables, Known, openCells, givenCells, Sought}
+use Rattle.seeking.specs.SeekingLaws.{fit-open}
 
 -- ======== definitions
+-- the rounds that may give up a complete choice
+abbrev pub roundCount : ℕ
+roundCount = 7
+
 -- r has the first n codes with every table complemented where it is 1 at vertex 0
 pub record Zeroed (codes : List ℕ) (n : ℕ) (r : List ℕ) : Type 0 where
   pub long : length r ≡ maxVertices
   pub done : (x : ℕ) → x < n → item r x ≡ bitXor (item codes x) (item codes 0)
+
+-- the first n numbers of r are the open cells of rows
+pub record Opened (rows : List ℕ) (n : ℕ) (r : List ℕ) : Type 0 where
+  pub long : length r ≡ searchOutputs
+  pub done : (o : ℕ) → o < n → item r o ≡ openOf (item rows o)
 
 -- every core that serves has at least u cells
 pub record AtLeast (cl budgets : List ℕ) (v m u : ℕ) : Type 0 where
@@ -48,6 +60,13 @@ zeroed-more codes n r x h e s = record {
       (λ q. subst (λ (k : ℕ). item (set r n x) k ≡ bitXor (item codes k) (item codes 0)) (sym q) (getD-set-same r n x 0 (let z = s .long in omega arith) ∙ e)) (less-or-equal k n (omega arith));
 }
 
+pub opened-more : (rows : List ℕ) (n : ℕ) (r : List ℕ) (f : ℕ) → n < 8 → f ≡ openOf (item rows n) → Opened rows n r → Opened rows (n + 1) (set r n f)
+opened-more rows n r f h e s = record {
+  long = length-set r n f ∙ s .long;
+  done = λ k i. ⊎-elim (λ a. getD-set-other r n k f 0 (λ q. let z : k ≡ n = q in omega arith) ∙ s .done k a)
+      (λ q. subst (λ (k : ℕ). item (set r n f) k ≡ openOf (item rows k)) (sym q) (getD-set-same r n f 0 (let z = s .long in omega arith) ∙ e)) (less-or-equal k n (omega arith));
+}
+
 xor-same : (a b c : Bool) → xorb a c ≡ xorb b c → a ≡ b
 xor-same true true c e = refl
 xor-same false false c e = refl
@@ -63,47 +82,88 @@ xor-self a = on-none (bitXor a a) (λ i. on-xor a a i ∙ self (on a i))
     self true = refl
     self false = refl
 
-pub zeroed-coded : (cl : List ℕ) (v m u : ℕ) (rows codes r : List ℕ) → v ≤ 32 → ((o : ℕ) → o < m → item rows o < 2 ^ u)
-    → Zeroed codes 32 r → Coded v m (Differ (labelAt cl)) (item rows) (item codes)
-    → Coded v m (Differ (labelAt cl)) (item rows) (item r)
-zeroed-coded cl v m u rows codes r few low z c = record {
-  tells = λ o x y h a b d e. c .tells o x y h a b d (agree-and u (item rows o) (item codes x) (item codes y) (low o h) (λ i l t.
-      xor-same (on (item codes x) i) (on (item codes y) i) (on (item codes 0) i)
-      (sym (ap (λ (n : ℕ). on n i) (z .done x (omega arith)) ∙ on-xor (item codes x) (item codes 0) i)
-      ∙ and-agree u (item rows o) (item r x) (item r y) e i l t
-      ∙ ap (λ (n : ℕ). on n i) (z .done y (omega arith)) ∙ on-xor (item codes y) (item codes 0) i)));
+-- cells with other tables and the same rows: where they tell no less apart
+cells-apart-more : (o x y n i : ℕ) (rows rows' codes codes' : ℕ → ℕ) → rows' o ≡ rows o → ((k : ℕ) → on (codes' x) k ≡ on (codes' y) k → on (codes x) k ≡ on (codes y) k)
+    → Apart o x y (cellsFrom n i rows codes) → Apart o x y (cellsFrom n i rows' codes')
+unfolding cellsFrom
+cells-apart-more o x y zero i rows rows' codes codes' e s a = a
+cells-apart-more o x y (suc n) i rows rows' codes codes' e s a = ⊎-elim
+    (λ p. inl (ap (λ (z : ℕ). on z i) e ∙ p .0, λ q. p .1 (s i q)))
+    (λ r. inr (cells-apart-more o x y n (suc i) rows rows' codes codes' e s r))
+    a
+
+cells-reading-same : (o n i : ℕ) (rows rows' codes codes' : ℕ → ℕ) → rows' o ≡ rows o → reading o (cellsFrom n i rows' codes') ≡ reading o (cellsFrom n i rows codes)
+unfolding cellsFrom reading
+cells-reading-same o zero i rows rows' codes codes' e = refl
+cells-reading-same o (suc n) i rows rows' codes codes' e = ap₂ (λ (a : Bool) (b : ℕ). bit a + b) (ap (λ (z : ℕ). on z i) e) (cells-reading-same o n (suc i) rows rows' codes codes' e)
+
+-- the open cells of rows, complemented where they are 1 at vertex 0, serve where the open cells do
+zeroed-serves : (v m : ℕ) (Conflict : ℕ → ℕ → ℕ → Type 0) (budget : ℕ → ℕ) (u : ℕ) (rows codes fs r : List ℕ) → v ≤ 32 → m ≤ 8 → Opened rows 8 fs → Zeroed codes 32 r
+    → Serves v m Conflict budget (openCells u rows codes) → Serves v m Conflict budget (coreOf u (item fs) (item r))
+zeroed-serves v m Conflict budget u rows codes fs r few outs f z s = record {
+  tells = λ o x y h a b c. cells-apart-more o x y u 0 opens (item fs) (item codes) (item r) (f .done o (omega arith))
+      (λ k e. xor-same (on (item codes x) k) (on (item codes y) k) (on (item codes 0) k) (sym (digit x k (omega arith)) ∙ e ∙ digit y k (omega arith)))
+      (s .tells o x y h a b c);
+  within = λ o h. subst (λ (n : ℕ). n ≤ budget o) (sym (cells-reading-same o u 0 opens (item fs) (item codes) (item r) (f .done o (omega arith)))) (s .within o h);
 }
+  where
+    opens : ℕ → ℕ
+    opens o = openOf (item rows o)
+
+    digit : (x k : ℕ) → x < 32 → on (item r x) k ≡ xorb (on (item codes x) k) (on (item codes 0) k)
+    digit x k h = ap (λ (n : ℕ). on n k) (z .done x h) ∙ on-xor (item codes x) (item codes 0) k
+
+-- ---- what is asked without given tables and known digits
+serves-conflict : (cl : List ℕ) (v m : ℕ) (budget : ℕ → ℕ) (l : List Cell) → Serves v m (Differ (labelAt cl)) budget l → Serves v m (Conflict cl) budget l
+unfolding Conflict
+serves-conflict cl v m budget l s = s
+
+conflict-serves : (cl : List ℕ) (v m : ℕ) (budget : ℕ → ℕ) (l : List Cell) → Serves v m (Conflict cl) budget l → Serves v m (Differ (labelAt cl)) budget l
+unfolding Conflict
+conflict-serves cl v m budget l s = s
+
+no-tables : (given : List ℕ) (v : ℕ) → Tables given v 0 []
+no-tables given v = record { long = refl; digits = λ i x h. absurd (omega arith) }
+
+nothing-known : (val v : ℕ) (l : List Cell) → Known 0 val v l
+nothing-known val v [] = tt
+nothing-known val v (c ∷ l) = λ x h e. absurd (never-both e (on-zero x))
+
+none-read : (l : List Cell) (rows : List ℕ) → l ++ givenCells rows [] ≡ l
+unfolding readBy
+none-read l rows = append-nil l
 
 -- ---- the count
 pub atleast-start : (cl budgets : List ℕ) (v m : ℕ) → AtLeast cl budgets v m 0
 atleast-start cl budgets v m = record { enough = λ k s. omega arith }
 
-pub atleast-more : (cl budgets : List ℕ) (v m u : ℕ) (rows rows' codes : List ℕ) (ok : Bool) → ok ≡ false
-    → Chosen cl budgets v m u 0 rows ok rows' codes → AtLeast cl budgets v m u → AtLeast cl budgets v m (u + 1)
-atleast-more cl budgets v m u rows rows' codes true e c a = absurd (true-false e)
-atleast-more cl budgets v m u rows rows' codes false e c a = record {
+pub atleast-more : (cl given budgets : List ℕ) (v m u : ℕ) (rows codes : List ℕ) (ok : Bool) → ok ≡ false
+    → Sought cl given budgets 0 0 v m u 0 ok rows codes → AtLeast cl budgets v m u → AtLeast cl budgets v m (u + 1)
+atleast-more cl given budgets v m u rows codes true e c a = absurd (true-false e)
+atleast-more cl given budgets v m u rows codes false e c a = record {
   enough = λ k s. elim (decLt u (length k)) as (λ _. u + 1 ≤ length k) [
     | yes h ↦ omega arith
-    | no h ↦ absurd (let n = normal-of u v m (Differ (labelAt cl)) (item budgets) k (omega arith) s in c .none (n .0) (n .1) (n .2) (λ p l. absurd (omega arith)))
+    | no h ↦ absurd (let n = a .enough k s in c .none k [] (omega arith) (no-tables given v) (nothing-known 0 v k)
+        (subst (Serves v m (Conflict cl) (item budgets)) (sym (append-nil k)) (serves-conflict cl v m (item budgets) k s)))
   ];
 }
 
 -- Theorem B, found
-pub answer-found : (cl budgets : List ℕ) (v m u limit : ℕ) (rows rows' codes r : List ℕ) (ok : Bool) → v ≤ 32
-    → u ≤ limit → ok ≡ true → Chosen cl budgets v m u 0 rows ok rows' codes → Zeroed codes 32 r
-    → AtLeast cl budgets v m u → Answered cl budgets v m limit true u rows' r
-answer-found cl budgets v m u limit rows rows' codes r false few h e c z a = absurd (true-false (sym e))
-answer-found cl budgets v m u limit rows rows' codes r true few h e c z a = record {
+pub answer-found : (cl given budgets : List ℕ) (v m u limit : ℕ) (rows codes fs r : List ℕ) (ok : Bool) → v ≤ 32 → m ≤ 8 → limit ≤ 6
+    → u ≤ limit → ok ≡ true → Sought cl given budgets 0 0 v m u 0 ok rows codes → Opened rows 8 fs → Zeroed codes 32 r
+    → AtLeast cl budgets v m u → Answered cl budgets v m limit true u fs r
+answer-found cl given budgets v m u limit rows codes fs r false few outs cells h e c f z a = absurd (true-false (sym e))
+answer-found cl given budgets v m u limit rows codes fs r true few outs cells h e c f z a = record {
   few = h;
-  low = λ _. c .rows-fit .low;
-  full = λ _. c .rows-fit .full;
+  low = λ _ o l. subst (λ (n : ℕ). n < 2 ^ u) (sym (f .done o (omega arith))) (c .fit o l .cells-low);
+  full = λ _ o l. ap (λ (n : ℕ). count (on n) u) (f .done o (omega arith)) ∙ fit-open (item budgets o) u (item rows o) (omega arith) (c .fit o l);
   answer = (
-    rw (cells-length u 0 (item rows') (item r)) h,
+    rw (cells-length u 0 (item fs) (item r)) h,
     record {
-      serves = core-serves u v m (Differ (labelAt cl)) (item budgets) (item rows') (item r) (zeroed-coded cl v m u rows' codes r few (c .rows-fit .low) z (c .coded)) (c .rows-fit .low)
-          (λ o k. (let q = c .rows-fit .full o k in omega arith));
-      zero = cells-zero u 0 (item rows') (item r) (z .done 0 (omega arith) ∙ xor-self (item codes 0));
-      fewest = λ k s. rw (cells-length u 0 (item rows') (item r)) (a .enough k s);
+      serves = conflict-serves cl v m (item budgets) (coreOf u (item fs) (item r)) (zeroed-serves v m (Conflict cl) (item budgets) u rows codes fs r few outs f z
+          (subst (Serves v m (Conflict cl) (item budgets)) (none-read (openCells u rows codes) rows) (c .serves [] (no-tables given v))));
+      zero = cells-zero u 0 (item fs) (item r) (z .done 0 (omega arith) ∙ xor-self (item codes 0));
+      fewest = λ k s. rw (cells-length u 0 (item fs) (item r)) (a .enough k s);
     },
   );
 }

@@ -1,23 +1,23 @@
 -- The outputs in another order. The search takes them as it likes, on labels and budgets put in that order, and the rows
 -- that it finds are put back: the answer is the same, since serving does not care which number an output has. Assumes nothing.
-use mathlib.Core.Path.{_≡_, sym, ap, _∙_, subst}
+use mathlib.Core.Path.{_≡_, sym, ap, ap₂, _∙_, subst}
 use mathlib.Core.Bool.{Bool, true, false}
 use mathlib.Core.List.{List}
 use mathlib.Core.Logic.{⊎-elim}
-use Prim.Native.Nat.{ℕ, _+_, _^_, _≤_, _<_, min}
+use Prim.Native.Nat.{ℕ, _+_, _*_, _/_, _%_, _^_, _≤_, _<_, min}
 use native.Mathlib.Decide.{ℕ-discrete}
 use native.Mathlib.Omega.{arith}
-use lib.ListN.{length, set, length-set}
+use lib.ListN.{length, getD, set, length-set}
 use lib.Seq.{getD-set-same, getD-set-other}
-use Rattle.limits.specs.Limits.{searchOutputs}
+use Rattle.limits.specs.Limits.{searchOutputs, maxVertices, labelCount}
 use Rattle.bits.specs.Digit.{on}
 use Rattle.cells.specs.Core.{Cell, Differ, Serves, Answer, coreOf}
 use Rattle.cells.specs.Lists.{count, less-or-equal}
 use Rattle.cells.specs.Codes.{cells-length}
 use Rattle.cells.specs.Renumbered.{renumbered, renumbered-length, renumbered-serves, cells-zero-as, cells-serve-as}
 use Rattle.numbering.specs.Given.{labelAt, item}
+use Rattle.relation.specs.Relation.{Classes}
 use Rattle.orders.specs.Order.{Order}
-use Rattle.questions.specs.Question.{Taken, taken-at}
 use Rattle.fewest.specs.Count.{Answered}
 
 -- ======== definitions
@@ -30,6 +30,11 @@ pub record Picked (l from : List ℕ) (n : ℕ) (r : List ℕ) : Type 0 where
 pub record Returned (l from : List ℕ) (n : ℕ) (r : List ℕ) : Type 0 where
   pub long : length r ≡ searchOutputs
   pub hit : (j : ℕ) → j < n → (i : ℕ) × (i < n) × (item from i ≡ item from j) × (item r (item from j) ≡ item l i)
+
+-- the first n labels are those of the outputs of from
+pub record Taken (cl from : List ℕ) (n : ℕ) (r : List ℕ) : Type 0 where
+  pub long : length r ≡ labelCount
+  pub done : (i : ℕ) → i < n → getD r i 0 ≡ labelAt cl (item from (i / maxVertices)) (i % maxVertices)
 
 -- ======== laws
 pub picked-more : (l from : List ℕ) (n x : ℕ) (r : List ℕ) → n < 8 → x ≡ item l (item from n) → Picked l from n r → Picked l from (n + 1) (set r n x)
@@ -48,6 +53,25 @@ returned-more l from n o x r h p e s = record { long = length-set r o x ∙ s .l
         (λ a. let w = s .hit j a in (w .0, (let z = w .1 in omega arith), w .2, getD-set-other r o (item from j) x 0 q ∙ w .3))
         (λ z. absurd (q (ap (item from) z ∙ sym p)))
         (less-or-equal j n (omega arith))
+
+pub taken-more : (cl from : List ℕ) (i x : ℕ) (r : List ℕ) → i < 256 → x ≡ labelAt cl (item from (i / 32)) (i % 32) → Taken cl from i r → Taken cl from (i + 1) (set r i x)
+taken-more cl from i x r h e s = record {
+  long = length-set r i x ∙ s .long;
+  done = λ k b. ⊎-elim (λ a. getD-set-other r i k x 0 (λ q. let z : k ≡ i = q in omega arith) ∙ s .done k a)
+      (λ q. subst (λ (k : ℕ). getD (set r i x) k 0 ≡ labelAt cl (item from (k / 32)) (k % 32)) (sym q) (getD-set-same r i x 0 (let z = s .long in omega arith) ∙ e)) (less-or-equal k i (omega arith));
+}
+
+module _ (cl from r : List ℕ) (p : Taken cl from 256 r) where
+  taken-at : (o x : ℕ) → o < 8 → x < 32 → labelAt r o x ≡ labelAt cl (item from o) x
+  taken-at o x h k = p .done (o * 32 + x) (omega arith) ∙ ap₂ (λ (a b : ℕ). labelAt cl (item from a) b) (let e : (o * 32 + x) / 32 ≡ o = omega arith in e)
+      (let e : (o * 32 + x) % 32 ≡ x = omega arith in e)
+
+  pub taken-classes : Classes cl → ((i : ℕ) → i < 8 → item from i < 8) → Classes r
+  taken-classes c low = record {
+    long = p .long;
+    low = λ k h. subst (λ (z : ℕ). z < 32) (sym (p .done k h))
+        (c .low (item from (k / 32) * 32 + k % 32) (let z = low (k / 32) (omega arith) in omega arith));
+  }
 
 -- the answer in the order from is the answer
 module _ (cl labels budgets budgets' from rows rows' codes : List ℕ) (v m limit u : ℕ) (few : v ≤ 32) (outs : m ≤ 8) (order : Order from m) (t : Taken cl from 256 labels)

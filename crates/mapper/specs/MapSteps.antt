@@ -27,7 +27,8 @@ use Rattle.classes.specs.VertexLaws.{local-below, local-most}
 use Rattle.classes.specs.declared.Classes.{Classes}
 use Rattle.network.specs.Network.{Network}
 use Rattle.network.specs.Printer.{printNetwork}
-use Rattle.numbering.specs.Given.{Labels, item}
+use Rattle.numbering.specs.Given.{item}
+use Rattle.relation.specs.Relation as relation
 use Rattle.fewest.specs.Count.{Answered}
 use Rattle.writing.specs.Lines.{Fitting}
 use Rattle.writing.specs.NodeLaws.{shape-fitting}
@@ -118,7 +119,7 @@ module _ (x : spec.Examined) (k : Sheet) (v : Valid x k) (right : Right x) where
 
     pub search-ready : (cl : List ℕ)
         → LabelsAre (c .locals) cl
-        → Labels cl × (c .shape .vertices ≤ maxVertices) × (k .outputs ≤ searchOutputs) × (k .limit ≤ maxCells)
+        → relation.Classes cl × (c .shape .vertices ≤ maxVertices) × (k .outputs ≤ searchOutputs) × (k .limit ≤ maxCells)
     search-ready cl h = (
       record { long = h .long; low = λ i _. labels-low (c .locals) cl h i },
       q .shaped .few-vertices,

@@ -8,7 +8,7 @@ use Rattle.border.proofs.labels.Statement.{statement}
 use Rattle.border.proofs.labels.Tie as tie
 use Rattle.border.proofs.labels.Reads as reads
 use Rattle.border.proofs.labels.Lts as lts
-use Rattle.border.proofs.label.Reads as label-reads
+use Rattle.border.proofs.letter.Reads as letter-reads
 
 abbrev Inv-loop : tie.InvT-loop
 Inv-loop line cl₀ i₀ cl i = (i ≤ labelCount) × Low i cl
@@ -19,14 +19,14 @@ abbrev μ-loop : tie.MeasureT-loop
 loop-holds : tie.Need-loop-holds Inv-loop μ-loop
 loop-holds c = (omega arith, record { long = refl; below = λ k h. absurd (omega arith) })
 
-add-label : tie.Need-add-label Inv-loop μ-loop
-add-label c = let h = c .loop-test .taken in omega arith
+add-letter : tie.Need-add-letter Inv-loop μ-loop
+add-letter c = let h = c .loop-test .taken in omega arith
 
-shared-slice-read-label : tie.Need-shared-slice-read-label Inv-loop μ-loop
-shared-slice-read-label c = let h = c .before .loop-test .taken in let p = c .before .before .before .before .pre in search needs
+shared-slice-read-letter : tie.Need-shared-slice-read-letter Inv-loop μ-loop
+shared-slice-read-letter c = let h = c .before .loop-test .taken in let p = c .before .before .before .before .pre in search needs
 
-label-requires : tie.Need-label-requires Inv-loop μ-loop
-label-requires c κs = search needs
+letter-requires : tie.Need-letter-requires Inv-loop μ-loop
+letter-requires c κs = search needs
 
 array-write-cl : tie.Need-array-write-cl Inv-loop μ-loop
 array-write-cl c = search needs
@@ -41,7 +41,7 @@ loop-again : tie.Need-loop-again Inv-loop μ-loop
 loop-again c =
     let h = c .before .before .loop-test .taken in
     let l = c .before .before .before .loop in
-    (omega arith, low-more (l .i) _ (l .cl) h (c .label .ensures) (l .inv .1))
+    (omega arith, low-more (l .i) _ (l .cl) h (c .letter .ensures) (l .inv .1))
 
 returns : tie.Need-returns Inv-loop μ-loop
 returns c = let h = c .loop-test .left in let s = c .before .loop .inv .1 in record { long = s .long; low = λ k l. s .below k (omega arith) }
@@ -53,9 +53,9 @@ labels-spec =
     Inv-loop
     μ-loop
     loop-holds
-    add-label
-    shared-slice-read-label
-    label-requires
+    add-letter
+    shared-slice-read-letter
+    letter-requires
     array-write-cl
     add-i
     loop-less

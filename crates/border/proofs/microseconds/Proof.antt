@@ -17,19 +17,17 @@ positive : (z : ℤ) → ltZ (pos 0) z ≡ true → T (nonNeg z)
 positive (pos n) e = tt
 positive (negsuc n) e = subst T (sym e) tt
 
--- src/main.rt:52:9
 clock-requires : tie.Need-clock-requires
 clock-requires c κs = search needs
 
--- src/main.rt:53:16
 cast-result : tie.Need-cast-result
-cast-result c = (positive (toZ w64 (ofZ w64 (c .before .clock .result))) (c .if1 .taken), fits-natAbs {w = w64} {w′ = w64} tt (sfits-toZ (fits-ofZ {w = w64} {z = c .before .clock .result} (record { sfits = c .before .clock .ok }))))
+cast-result c =
+    let clock = c .before .clock in
+    (positive (toZ w64 (ofZ w64 (clock .result))) (c .if1 .taken), fits-natAbs {w = w64} {w′ = w64} tt (sfits-toZ (fits-ofZ {w = w64} {z = clock .result} (record { sfits = clock .ok }))))
 
--- src/main.rt:51:1
 returns : tie.Need-returns
 returns c = search needs
 
--- src/main.rt:51:1
 returns-2 : tie.Need-returns-2
 returns-2 c = search needs
 

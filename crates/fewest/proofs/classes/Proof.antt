@@ -17,39 +17,61 @@ Inv-loop cl v o seen₀ n₀ x₀ seen n x = (x ≤ v) × (n ≤ x)
 abbrev μ-loop : tie.MeasureT-loop
 μ-loop cl v o seen₀ n₀ x₀ seen n x = v - x
 
--- src/lib.rt:217:5
 loop-holds : tie.Need-loop-holds Inv-loop μ-loop
 loop-holds c = search needs
 
--- src/lib.rt:218:13
 label-requires : tie.Need-label-requires Inv-loop μ-loop
-label-requires c κs = let p = c .before .before .before .pre in let h = c .loop-test .taken in let b = p .1 in (p .0 .long, p .2, omega arith)
+label-requires c κs = let p = c .before .before .before .pre in let h = c .loop-test .taken in let b = p .1 in let w = p .0 .long in (omega arith, p .2, omega arith)
 
--- src/lib.rt:219:13
 in-set-requires : tie.Need-in-set-requires Inv-loop μ-loop
-in-set-requires c κs = let p = c .before .before .before .before .pre in let h = c .before .loop-test .taken in let b = p .1 in let o = p .2 in let z = p .0 .low (c .before .before .before .before .args .o * 32 + c .before .before .loop .x) (omega arith) in let e = c .label .ensures in omega arith
+in-set-requires c κs =
+    let args = c .before .before .before .before .args in
+    let pre = c .before .before .before .before .pre in
+    let h = c .before .loop-test .taken in
+    let b = pre .1 in
+    let o = pre .2 in
+    let z = pre .0 .low (args .o * 32 + c .before .before .loop .x) (omega arith) in
+    let e = c .label .ensures in
+    omega arith
 
--- src/lib.rt:220:13
 with-requires : tie.Need-with-requires Inv-loop μ-loop
-with-requires c κs = let p = c .before .before .before .before .before .before .pre in let h = c .before .before .before .loop-test .taken in let b = p .1 in let o = p .2 in let z = p .0 .low (c .before .before .before .before .before .before .args .o * 32 + c .before .before .before .before .loop .x) (omega arith) in let e = c .before .before .label .ensures in omega arith
+with-requires c κs =
+    let label = c .before .before .label in
+    let loop-test = c .before .before .before .loop-test in
+    let loop = c .before .before .before .before .loop in
+    let args = c .before .before .before .before .before .before .args in
+    let pre = c .before .before .before .before .before .before .pre in
+    let h = loop-test .taken in
+    let b = pre .1 in
+    let o = pre .2 in
+    let z = pre .0 .low (args .o * 32 + loop .x) (omega arith) in
+    let e = label .ensures in
+    omega arith
 
--- src/lib.rt:221:13
 add-n : tie.Need-add-n Inv-loop μ-loop
-add-n c = let b = c .before .before .before .before .before .before .before .pre .1 in let h = c .before .before .before .before .loop-test .taken in let z = c .before .before .before .before .before .loop .inv .1 in omega arith
+add-n c =
+    let loop-test = c .before .before .before .before .loop-test in
+    let loop = c .before .before .before .before .before .loop in
+    let pre = c .before .before .before .before .before .before .before .pre in
+    let b = pre .1 in
+    let h = loop-test .taken in
+    let z = loop .inv .1 in
+    omega arith
 
--- src/lib.rt:223:9
 add-x : tie.Need-add-x Inv-loop μ-loop
 add-x c = let b = c .before .before .before .before .before .before .pre .1 in let h = c .before .before .before .loop-test .taken in omega arith
 
--- src/lib.rt:217:5
 loop-less : tie.Need-loop-less Inv-loop μ-loop
 loop-less c = search needs
 
--- src/lib.rt:217:5
 loop-again : tie.Need-loop-again Inv-loop μ-loop
-loop-again c = let h = c .before .before .before .loop-test .taken in let z = c .before .before .before .before .loop .inv .1 in (omega arith, ⊎-elim (λ w. let e = w .3 in omega arith) (λ w. let e = w .2 in omega arith) (c .if1 .came))
+loop-again c =
+    let loop-test = c .before .before .before .loop-test in
+    let loop = c .before .before .before .before .loop in
+    let h = loop-test .taken in
+    let z = loop .inv .1 in
+    (omega arith, ⊎-elim (λ w. let e = w .3 in omega arith) (λ w. let e = w .2 in omega arith) (c .if1 .came))
 
--- src/lib.rt:211:1
 returns : tie.Need-returns Inv-loop μ-loop
 returns c = search needs
 
