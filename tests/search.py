@@ -11,16 +11,10 @@ import random
 import subprocess
 import sys
 
-ROOT = pathlib.Path(__file__).resolve().parent.parent
-BORDER = ROOT / "target" / "bin" / "border"
-OUT = ROOT / "target" / "search"
+import border
+
+OUT = border.ROOT / "target" / "search"
 BATCH = 1000
-
-
-def numbered(labels):
-    """the labels renumbered in the order in which they occur"""
-    seen = {}
-    return [seen.setdefault(label, len(seen)) for label in labels]
 
 
 def problem(draw):
@@ -34,29 +28,16 @@ def problem(draw):
         kept = draw.sample(range(vertices), 16)
         seen_as = [draw.choice(kept) for _ in range(vertices)]
         rows = [[row[x] for x in seen_as] for row in rows]
-    return vertices, draw.randint(0, 6), [numbered(row) for row in rows]
+    return border.Problem(vertices, draw.randint(0, 6), [border.numbered(row) for row in rows], [border.width(row) for row in rows])
 
 
-def border_line(number, vertices, limit, rows):
-    """a problem as the program border reads it"""
-    budgets = [(len(set(row)) - 1).bit_length() for row in rows] + [0] * (8 - len(rows))
-    labels = [row + [0] * (32 - vertices) for row in rows] + [[0] * 32] * (8 - len(rows))
-    head = f"{number:03d} {vertices:02d} {len(rows)} {limit} " + "".join(map(str, budgets)) + " "
-    return head.encode() + bytes(64 + label for row in labels for label in row) + b"\n"
-
-
-def reference_text(vertices, limit, rows):
-    return f"{vertices} {len(rows)} {limit}\n" + "".join(" ".join(map(str, row)) + "\n" for row in rows)
-
-
-def answers(program, text):
-    done = subprocess.run(program, input=text, capture_output=True, check=True)
-    return [line.split() for line in done.stdout.decode().splitlines()]
+def reference_text(p):
+    return f"{p.vertices} {len(p.labels)} {p.limit}\n" + "".join(" ".join(map(str, row)) + "\n" for row in p.labels)
 
 
 def main():
     parser = argparse.ArgumentParser(description=__doc__, formatter_class=argparse.RawDescriptionHelpFormatter)
-    parser.add_argument("--reference", type=pathlib.Path, default=ROOT.parent / "shared" / "bench" / "reference_search.cpp")
+    parser.add_argument("--reference", type=pathlib.Path, default=border.ROOT.parent / "shared" / "bench" / "reference_search.cpp")
     parser.add_argument("count", nargs="?", type=int, default=10000)
     parser.add_argument("seed", nargs="?", type=int, default=1)
     args = parser.parse_args()
@@ -66,13 +47,13 @@ def main():
     passed = left = 0
     for start in range(0, args.count, BATCH):
         problems = [problem(draw) for _ in range(min(BATCH, args.count - start))]
-        ours = answers([BORDER], b"".join(border_line(i, *p) for i, p in enumerate(problems)))
-        theirs = answers([OUT / "reference", "CAP=5000000"], "".join(reference_text(*p) for p in problems).encode())
-        for p, (_, cells, _), (wanted, *_) in zip(problems, ours, theirs, strict=True):
+        done = subprocess.run([OUT / "reference", "CAP=5000000"], input="".join(map(reference_text, problems)), capture_output=True, text=True, check=True)
+        for p, ours, theirs in zip(problems, border.answers(problems), done.stdout.splitlines(), strict=True):
+            wanted, cells = theirs.split()[0], "inf" if ours.cells is None else str(ours.cells)
             if wanted == "cap":
                 left += 1
             elif cells != wanted:
-                sys.exit(f"the reference says {wanted}, the search {cells}:\n{reference_text(*p)}")
+                sys.exit(f"the reference says {wanted}, the search {cells}:\n{reference_text(p)}")
             else:
                 passed += 1
         print(f"{start + len(problems)} of {args.count}", file=sys.stderr, flush=True)
