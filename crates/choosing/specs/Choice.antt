@@ -26,10 +26,9 @@ pub record RowFits (budget u g row : ℕ) : Type 0 where
   pub tables-low : givenOf row < 2 ^ g
   pub full : count (on row) rowDigits ≡ min budget (u + g)
 
--- the row of number r: its given tables are the digits of r from u on, and its open cells those of the lowest u that r has not,
--- so that rows with the last open cells have the first numbers
+-- the row of number r: its open cells are the lowest u digits of r, and its given tables the digits above
 abbrev pub numbered : ℕ → ℕ → ℕ
-numbered u r = r / 2 ^ u * maxCodes + (2 ^ u - 1 - r % 2 ^ u)
+numbered u r = r / 2 ^ u * maxCodes + r % 2 ^ u
 
 -- the first m outputs as a set
 abbrev pub firstOutputs : ℕ → ℕ

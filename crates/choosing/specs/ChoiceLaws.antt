@@ -68,40 +68,36 @@ ones-count (suc w) n h =
     ∙ sym (count-shift (on n) w)
 
 -- ======== a row and its number
--- the number of a row among u open cells: fewer given tables come first, and of the open cells the last
+-- the number of a row among u open cells
 abbrev pub numberOf : ℕ → ℕ → ℕ
-numberOf u row = 2 ^ u - 1 - openOf row + 2 ^ u * givenOf row
+numberOf u row = openOf row + 2 ^ u * givenOf row
 
 pub power-low : (u : ℕ) → u ≤ 6 → 2 ^ u ≤ 64
 power-low u h = let p : 2 ^ u ≤ 2 ^ 6 = pow-mono h in p
 
 pub number-row : (u row : ℕ) → openOf row < 2 ^ u → numbered u (numberOf u row) ≡ row
 number-row u row h =
-    let k : 2 ^ u - 1 - row % 64 < 2 ^ u = omega arith in
     let a : numberOf u row / 2 ^ u ≡ row / 64 =
-    add-mul-div-left (2 ^ u - 1 - row % 64) (row / 64) (pow-pos u) ∙ ap (λ (z : ℕ). z + row / 64) (div-eq-of-lt k) ∙ (let e : 0 + row / 64 ≡ row / 64 = omega arith in e) in
-    let b : numberOf u row % 2 ^ u ≡ 2 ^ u - 1 - row % 64 = add-mul-mod-self-left (2 ^ u - 1 - row % 64) (2 ^ u) (row / 64) ∙ mod-eq-of-lt k in
-    ap₂ (λ (x y : ℕ). x * 64 + (2 ^ u - 1 - y)) a b ∙ back (2 ^ u) h
-  where
-    back : (p : ℕ) → row % 64 < p → row / 64 * 64 + (p - 1 - (p - 1 - row % 64)) ≡ row
-    back p h = omega arith
+    add-mul-div-left (row % 64) (row / 64) (pow-pos u) ∙ ap (λ (z : ℕ). z + row / 64) (div-eq-of-lt h) ∙ (let e : 0 + row / 64 ≡ row / 64 = omega arith in e) in
+    let b : numberOf u row % 2 ^ u ≡ row % 64 = add-mul-mod-self-left (row % 64) (2 ^ u) (row / 64) ∙ mod-eq-of-lt h in
+    ap₂ (λ (x y : ℕ). x * 64 + y) a b ∙ (let e : row / 64 * 64 + row % 64 ≡ row = omega arith in e)
 
 pub number-low : (u g row : ℕ) → openOf row < 2 ^ u → givenOf row < 2 ^ g → numberOf u row < 2 ^ (u + g)
 number-low u g row a b = subst (λ (z : ℕ). numberOf u row < z) (sym (pow-add 2 u g))
     (let e : 2 ^ u * suc (givenOf row) ≤ 2 ^ u * 2 ^ g = mul-le-mul-left (2 ^ u) b in let f = mul-suc (2 ^ u) (givenOf row) in omega arith)
 
 module _ (u g r : ℕ) (few : u ≤ 6) (low : r < 2 ^ (u + g)) where
-  rest-low : 2 ^ u - 1 - r % 2 ^ u < 64
+  rest-low : r % 2 ^ u < 64
   rest-low = let a = power-low u few in let b : r % 2 ^ u < 2 ^ u = mod-lt r (pow-pos u) in omega arith
 
-  pub numbered-open : openOf (numbered u r) ≡ 2 ^ u - 1 - r % 2 ^ u
-  numbered-open = go (r / 2 ^ u) (2 ^ u - 1 - r % 2 ^ u) rest-low
+  pub numbered-open : openOf (numbered u r) ≡ r % 2 ^ u
+  numbered-open = go (r / 2 ^ u) (r % 2 ^ u) rest-low
     where
       go : (a b : ℕ) → b < 64 → (a * 64 + b) % 64 ≡ b
       go a b h = omega arith
 
   pub numbered-given : givenOf (numbered u r) ≡ r / 2 ^ u
-  numbered-given = go (r / 2 ^ u) (2 ^ u - 1 - r % 2 ^ u) rest-low
+  numbered-given = go (r / 2 ^ u) (r % 2 ^ u) rest-low
     where
       go : (a b : ℕ) → b < 64 → (a * 64 + b) / 64 ≡ a
       go a b h = omega arith
@@ -111,7 +107,7 @@ module _ (u g r : ℕ) (few : u ≤ 6) (low : r < 2 ^ (u + g)) where
 
   numbered-fits : (budget : ℕ) → count (on (numbered u r)) 16 ≡ min budget (u + g) → RowFits budget u g (numbered u r)
   numbered-fits budget e = record {
-    cells-low = subst (λ (z : ℕ). z < 2 ^ u) (sym numbered-open) (let b : r % 2 ^ u < 2 ^ u = mod-lt r (pow-pos u) in omega arith);
+    cells-low = subst (λ (z : ℕ). z < 2 ^ u) (sym numbered-open) (mod-lt r (pow-pos u));
     tables-low = subst (λ (z : ℕ). z < 2 ^ g) (sym numbered-given) given-low;
     full = e;
   }
@@ -473,8 +469,8 @@ pub first-outputs-are : (m : ℕ) → m ≤ 8 → (1 * 2 ^ m % 2 ^ 16 ≡ 2 ^ m)
 first-outputs-are m h = (shifted 16 m (omega arith), pow-pos m, let p : 2 ^ m ≤ 2 ^ 8 = pow-mono h in p)
 
 -- the parts of a row's number
-pub number-parts : (u r p : ℕ) → u ≤ 6 → p ≡ 2 ^ u → r < 2 ^ (u + 10) → (0 < p) × (r / p < 1024) × (r % p < p) × (p ≤ 64)
-number-parts u r p h e l = subst (λ (p : ℕ). (0 < p) × (r / p < 1024) × (r % p < p) × (p ≤ 64)) (sym e) (pow-pos u, given-low u 10 r h l, mod-lt r (pow-pos u), power-low u h)
+pub number-parts : (u r p : ℕ) → u ≤ 6 → p ≡ 2 ^ u → r < 2 ^ (u + 10) → (0 < p) × (r / p < 1024) × (r % p < 64)
+number-parts u r p h e l = subst (λ (p : ℕ). (0 < p) × (r / p < 1024) × (r % p < 64)) (sym e) (pow-pos u, given-low u 10 r h l, rest-low u 10 r h l)
 
 pub number-room : (u g r end : ℕ) → g ≤ 10 → end ≡ 2 ^ (u + g) → r < end → r < 2 ^ (u + 10)
 number-room u g r end h e l = let p : 2 ^ (u + g) ≤ 2 ^ (u + 10) = pow-mono (omega arith) in omega arith

@@ -73,14 +73,13 @@ fn numbers(d: u8) -> u32
     1 << d
 }
 
-// The row of number r: its given tables are the digits of r above those of the open cells, and its open cells the lowest digits
-// that r has not. So rows with few given tables and late cells come first, which finds hard cores sooner.
+// The row of number r: its open cells are the lowest digits of r, as many as there are, and its given tables the digits above.
 fn row_of(r: u32, u: u8) -> u16
     requires { ⌜ (u ≤ maxCells) × (r < 2 ^ (u + maxGiven)) ⌝ }
     ensures { λ row. ⌜ row ≡ numbered u r ⌝ }
 {
     let end = numbers(u);
-    (r / end * limits::MAX_CODES as u32 + (end - 1 - r % end)) as u16
+    (r / end * limits::MAX_CODES as u32 + r % end) as u16
 }
 
 // Whether a row reads as many tables as wanted and is in order: of neighbouring open cells of same it reads the first ones.

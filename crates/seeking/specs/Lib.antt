@@ -1,4 +1,3 @@
--- Seeking has the definitions that contracts cite, SeekingLaws their laws, Joined a row in one piece and in two parts.
+-- Seeking has the definitions that contracts cite, SeekingLaws their laws.
 pub mod Seeking
 pub mod SeekingLaws
-pub mod Joined

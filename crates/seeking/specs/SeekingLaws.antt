@@ -26,9 +26,8 @@ use Rattle.numbering.specs.Given.{item, Fixed}
 use Rattle.relation.specs.Relation.{Conflict}
 use Rattle.coding.specs.Limit.{noLimit, Sure}
 use Rattle.questions.specs.Question.{openOf, givenOf}
-use Rattle.choosing.specs.Choice.{RowFits, firstOutputs, Core, Rows, Alike, Found, Lost, Chosen}
-use Rattle.choosing.specs.ChoiceLaws.{count-sum, count-row, first-outputs-low}
-use Rattle.seeking.specs.Joined.{parted, inPiece, joined-row, joined-low, parted-open, parted-given, given-low}
+use Rattle.choosing.specs.Choice.{RowFits, numbered, firstOutputs, Core, Rows, Alike, Found, Lost, Chosen}
+use Rattle.choosing.specs.ChoiceLaws.{count-sum, count-row, numberOf, number-row, number-low, numbered-open, numbered-given, given-low, first-outputs-low}
 use Rattle.seeking.specs.Seeking.{Tables, Known, Begins, Lacks, openCells, givenCells, Has, Sought, AllFit, SoughtWhere, roundCount, Places}
 
 -- ======== digits
@@ -68,10 +67,10 @@ count-within n w k h l =
     ∙ (let e : count (on n) w + 0 ≡ count (on n) w = omega arith in e)
 
 -- a row reads as many tables as its number has digits
-count-parted : (u g r : ℕ) → u ≤ 6 → g ≤ 10 → r < 2 ^ (u + g) → count (on (parted u r)) 16 ≡ count (on r) (u + g)
-count-parted u g r few room low =
-    count-row (parted u r)
-    ∙ ap₂ (λ (a b : ℕ). count (on a) 6 + count (on b) 10) (parted-open u g r few low) (parted-given u g r few low)
+count-numbered : (u g r : ℕ) → u ≤ 6 → g ≤ 10 → r < 2 ^ (u + g) → count (on (numbered u r)) 16 ≡ count (on r) (u + g)
+count-numbered u g r few room low =
+    count-row (numbered u r)
+    ∙ ap₂ (λ (a b : ℕ). count (on a) 6 + count (on b) 10) (numbered-open u g r few low) (numbered-given u g r few low)
     ∙ ap₂ (λ (a b : ℕ). a + b) (count-within (r % 2 ^ u) u 6 (mod-lt r (pow-pos u)) few) (count-within (r / 2 ^ u) g 10 (given-low u g r few low) room)
     ∙ ap₂ (λ (a b : ℕ). a + b) (count-alike (on (r % 2 ^ u)) (on r) u (λ i h. on-rest u r i h)) (count-alike (on (r / 2 ^ u)) (λ (i : ℕ). on r (u + i)) g (λ i h. sym (on-next u r i)))
     ∙ sym (count-sum (on r) u g)
@@ -96,7 +95,7 @@ xor-false false c e = e
 module _ (cl given budgets : List ℕ) (kn val v m u g : ℕ) (few : u ≤ 6) (room : g ≤ 10) where
   module _ (ts : List Cell) (t : Tables given v g ts) (rows codes : ℕ → ℕ) (s : Full u g v m (Conflict cl) (item budgets) (codeOf ts) rows codes) where
     abbrev rowsOf : ℕ → ℕ
-    rowsOf o = parted u (rows o)
+    rowsOf o = numbered u (rows o)
 
     abbrev codesOf : ℕ → ℕ
     codesOf x = codes x % 2 ^ u
@@ -111,10 +110,10 @@ module _ (cl given budgets : List ℕ) (kn val v m u g : ℕ) (few : u ≤ 6) (r
 
         go : (i : ℕ) → i < u + g → on (rows o) i ≡ true → Dec (i < u) → on (codes x) i ≡ on (codes y) i
         go i h r (yes l) = sym (on-rest u (codes x) i l) ∙ and-agree u (openOf (rowsOf o)) (codesOf x) (codesOf y) q i l
-            (ap (λ (z : ℕ). on z i) (parted-open u g (rows o) few (s .short o)) ∙ on-rest u (rows o) i l ∙ r) ∙ on-rest u (codes y) i l
+            (ap (λ (z : ℕ). on z i) (numbered-open u g (rows o) few (s .short o)) ∙ on-rest u (rows o) i l ∙ r) ∙ on-rest u (codes y) i l
         go i h r (no l) = subst (λ (i : ℕ). on (codes x) i ≡ on (codes y) i) (sym place) (table j x (omega arith) a
             ∙ and-agree g (givenOf (rowsOf o)) (item given x) (item given y) e j (omega arith)
-            (ap (λ (z : ℕ). on z j) (parted-given u g (rows o) few (s .short o)) ∙ sym (on-next u (rows o) j) ∙ ap (on (rows o)) (sym place) ∙ r)
+            (ap (λ (z : ℕ). on z j) (numbered-given u g (rows o) few (s .short o)) ∙ sym (on-next u (rows o) j) ∙ ap (on (rows o)) (sym place) ∙ r)
             ∙ sym (table j y (omega arith) b))
           where
             j : ℕ
@@ -130,9 +129,9 @@ module _ (cl given budgets : List ℕ) (kn val v m u g : ℕ) (few : u ≤ 6) (r
         fixed = f;
       };
       rows = λ o h. record {
-        cells-low = subst (λ (z : ℕ). z < 2 ^ u) (sym (parted-open u g (rows o) few (s .short o))) (mod-lt (rows o) (pow-pos u));
-        tables-low = subst (λ (z : ℕ). z < 2 ^ g) (sym (parted-given u g (rows o) few (s .short o))) (given-low u g (rows o) few (s .short o));
-        full = count-parted u g (rows o) few room (s .short o) ∙ s .full o h;
+        cells-low = subst (λ (z : ℕ). z < 2 ^ u) (sym (numbered-open u g (rows o) few (s .short o))) (mod-lt (rows o) (pow-pos u));
+        tables-low = subst (λ (z : ℕ). z < 2 ^ g) (sym (numbered-given u g (rows o) few (s .short o))) (given-low u g (rows o) few (s .short o));
+        full = count-numbered u g (rows o) few room (s .short o) ∙ s .full o h;
       };
       zero = z;
     }
@@ -200,15 +199,15 @@ module _ (cl given budgets : List ℕ) (kn val v m u g : ℕ) (rows codes : List
   abbrev codesTo : ℕ → ℕ
   codesTo x = joined u (item codes x) (item given x)
 
-  rows-number : (o : ℕ) → o < m → rowsTo o ≡ inPiece u (item rows o)
+  rows-number : (o : ℕ) → o < m → rowsTo o ≡ numberOf u (item rows o)
   rows-number o h = ap (λ (z : ℕ). z + 2 ^ u * givenOf (item rows o)) (mod-eq-of-lt (fit o h .cells-low))
 
   rows-low : (o : ℕ) → o < m → rowsTo o < 2 ^ (u + g)
-  rows-low o h = subst (λ (z : ℕ). z < 2 ^ (u + g)) (sym (rows-number o h)) (joined-low u g (item rows o) (fit o h .cells-low) (fit o h .tables-low))
+  rows-low o h = subst (λ (z : ℕ). z < 2 ^ (u + g)) (sym (rows-number o h)) (number-low u g (item rows o) (fit o h .cells-low) (fit o h .tables-low))
 
   rows-count : (o : ℕ) → o < m → count (on (rowsTo o)) (u + g) ≡ min (item budgets o) (u + g)
-  rows-count o h = sym (count-parted u g (rowsTo o) few room (rows-low o h))
-      ∙ ap (λ (z : ℕ). count (on z) 16) (ap (parted u) (rows-number o h) ∙ joined-row u (item rows o) (fit o h .cells-low)) ∙ fit o h .full
+  rows-count o h = sym (count-numbered u g (rowsTo o) few room (rows-low o h))
+      ∙ ap (λ (z : ℕ). count (on z) 16) (ap (numbered u) (rows-number o h) ∙ number-row u (item rows o) (fit o h .cells-low)) ∙ fit o h .full
 
   joined-coded : Coded v m (Conflict cl) rowsTo codesTo
   joined-coded = record {

@@ -38,10 +38,10 @@ fn places(u: u8, kn: u32) -> u8
 }
 
 // The nodes after which the first round gives up a question about some of the outputs, and a complete choice. In each later
-// round they are 8 and 16 times as many.
-const SOME_NODES: u64 = 3000;
+// round they are 8 and 32 times as many.
+const SOME_NODES: u64 = 10000;
 
-const ALL_NODES: u64 = 24000;
+const ALL_NODES: u64 = 6000;
 
 // The rounds that may give up a complete choice; after them comes one that does not.
 const ROUNDS: u64 = 7;
@@ -51,7 +51,7 @@ fn all_nodes(i: u64) -> u64
     ensures { λ r. ⌜ (roundCount ≤ i → r ≡ noLimit) ⌝ }
 {
     if i < ROUNDS {
-        ALL_NODES << (4 * i)
+        ALL_NODES << (5 * i)
     } else {
         coding::NO_LIMIT
     }

@@ -1,5 +1,5 @@
 use mathlib.Core.Path.{ap}
-use Prim.Native.Nat.{ℕ, _+_, _*_, _/_, _%_, _-_}
+use Prim.Native.Nat.{ℕ, _+_, _*_, _/_, _%_}
 use native.Mathlib.Omega.{arith}
 use Rattle.choosing.specs.ChoiceLaws.{number-parts}
 use borrow.Author.Needs.{needs}
@@ -29,13 +29,6 @@ mul-result c =
     let h = number-parts (a .u) (a .r) (c .numbers .result) (p .0) (c .numbers .ensures .0) (p .1) in
     let z = h .1 in search needs
 
-sub-result : tie.Need-sub-result
-sub-result c =
-    let a = c .before .args in
-    let p = c .before .pre in
-    let h = number-parts (a .u) (a .r) (c .numbers .result) (p .0) (c .numbers .ensures .0) (p .1) in
-    let z = h .0 in search needs
-
 rem-result : tie.Need-rem-result
 rem-result c =
     let a = c .before .args in
@@ -43,29 +36,22 @@ rem-result c =
     let h = number-parts (a .u) (a .r) (c .numbers .result) (p .0) (c .numbers .ensures .0) (p .1) in
     let z = h .0 in search needs
 
-sub-result-2 : tie.Need-sub-result-2
-sub-result-2 c =
-    let a = c .before .args in
-    let p = c .before .pre in
-    let h = number-parts (a .u) (a .r) (c .numbers .result) (p .0) (c .numbers .ensures .0) (p .1) in
-    let z = h .2 in search needs
-
 add-result : tie.Need-add-result
 add-result c =
     let a = c .before .args in
     let p = c .before .pre in
     let h = number-parts (a .u) (a .r) (c .numbers .result) (p .0) (c .numbers .ensures .0) (p .1) in
-    let z = h .1 in let w = h .3 in search needs
+    let z = h .1 in let w = h .2 in search needs
 
 cast-result-2 : tie.Need-cast-result-2
 cast-result-2 c =
     let a = c .before .args in
     let p = c .before .pre in
     let h = number-parts (a .u) (a .r) (c .numbers .result) (p .0) (c .numbers .ensures .0) (p .1) in
-    let z = h .1 in let w = h .3 in search needs
+    let z = h .1 in let w = h .2 in search needs
 
 returns : tie.Need-returns
-returns c = ap (λ (p : ℕ). c .before .args .r / p * 64 + (p - 1 - c .before .args .r % p)) (c .numbers .ensures .0)
+returns c = ap (λ (p : ℕ). c .before .args .r / p * 64 + c .before .args .r % p) (c .numbers .ensures .0)
 
 pub row-of-spec : {M : Type 1} → statement M
 row-of-spec =
@@ -75,9 +61,7 @@ row-of-spec =
     div-result
     cast-result
     mul-result
-    sub-result
     rem-result
-    sub-result-2
     add-result
     cast-result-2
     returns)
