@@ -15,8 +15,8 @@
  * - Out-parameters are not null, are aligned, and are objects of their own: none overlaps another, a text or a buffer. The
  *   buffer overlaps no text.
  *
- * A call needs stack, which the proof takes for granted: at most 190,000 bytes, measured on the most deeply nested texts, and
- * 114,000 on the valid sheets tried (tests/stack/run, which fails above 256 KiB).
+ * A call needs stack, which the proof takes for granted: at most 222,000 bytes, measured on the most deeply nested texts and
+ * on valid sheets (tests/stack/run, which fails above 256 KiB).
  */
 #ifndef CELLMAPPER_H
 #define CELLMAPPER_H
