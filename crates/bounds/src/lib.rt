@@ -3,12 +3,12 @@ ghost use mathlib.Core.Path.{_≡_};
 ghost use mathlib.Core.Bool.{Bool, true, false};
 ghost use mathlib.Core.List.{List};
 ghost use Prim.Native.Nat.{ℕ, _+_, _*_, _<_, _≤_, _^_};
-ghost use lib.ListN.{length, getD};
-ghost use Rattle.limits.specs.Limits.{searchOutputs, maxVertices, maxCodes, maxCells};
+ghost use lib.ListN.{length};
+ghost use Rattle.limits.specs.Limits.{searchOutputs, maxVertices, labelCount, maxCodes, maxCells};
 ghost use Rattle.bits.specs.Digit.{on};
 ghost use Rattle.cells.specs.Lists.{count};
 ghost use Rattle.numbering.specs.Given.{Labels, item};
-ghost use Rattle.bounds.specs.Reasons.{FewKinds, Reason, Based};
+ghost use Rattle.bounds.specs.Reasons.{FewKinds, Raised, Based};
 use limits::LABELS;
 use limits::MAX_VERTICES;
 use limits::SEARCH_OUTPUTS;
@@ -36,94 +36,79 @@ pub fn power(k: u8) -> u8
     1 << k
 }
 
-// The largest of the numbers.
-fn most(t: [u8; MAX_VERTICES]) -> u8
-    ensures { λ r. ⌜ ((p : ℕ) × (p < maxVertices) × (r ≡ item t p)) ⌝ }
-{
-    let mut m = t[0];
-    let mut i = 1;
-    while i < MAX_VERTICES {
-        if m < t[i] {
-            m = t[i];
-        }
-        i += 1;
-    }
-    m
-}
+// The classes of an output and the parts of another, as pairs.
+const PAIRS: usize = MAX_VERTICES * MAX_VERTICES;
 
-// How many classes of one part of q occur in class l of o, for the part with the most.
-fn kinds(cl: &[u8], v: usize, o: usize, l: u8, q: usize) -> u8
+// For each class of o how many classes of one part of q occur in it, for the part with the most.
+fn kinds(cl: &[u8], v: usize, o: usize, q: usize) -> [u8; MAX_VERTICES]
     requires { ⌜ Labels (now cl) × (v ≤ maxVertices) × (o < searchOutputs) × (q < searchOutputs) ⌝ }
-    ensures { λ r. ⌜ FewKinds (now (cl .entry)) v o l q r ⌝ }
+    ensures { λ r. ⌜ ((l : ℕ) → l < maxVertices → FewKinds (now (cl .entry)) v o l q (item r l)) ⌝ }
 {
-    let mut seen: u64 = 0;
-    let mut g = [0u8; MAX_VERTICES];
+    let mut seen = [0u64; MAX_VERTICES];
+    let mut g = [0u8; PAIRS];
+    let mut r = [0u8; MAX_VERTICES];
     let mut x = 0;
     while x < v {
-        let t = numbering::label(cl, o, x);
-        if t == l {
-            let k = numbering::label(cl, q, x);
-            if !cells::in_set(seen, k) {
-                seen = cells::with(seen, k);
-                let p = numbering::part(cl, q, x) as usize;
-                g[p] = g[p] + 1;
+        let l = numbering::label(cl, o, x) as usize;
+        let k = numbering::label(cl, q, x);
+        if !cells::in_set(seen[l], k) {
+            seen[l] = cells::with(seen[l], k);
+            let p = numbering::part(cl, q, x) as usize;
+            let i = l * MAX_VERTICES + p;
+            let n = g[i] + 1;
+            g[i] = n;
+            if r[l] < n {
+                r[l] = n;
             }
         }
-        x += 1;
-    }
-    most(g)
-}
-
-// How many blocks class l of o needs.
-fn need(cl: &[u8], v: usize, j: usize, rows: [u8; SEARCH_OUTPUTS], o: usize, l: u8) -> u8
-    requires { ⌜ Labels (now cl) × (v ≤ maxVertices) × (j ≤ searchOutputs) × (o < j) ⌝ }
-    ensures { λ r. ⌜ Reason (now (cl .entry)) rows v j o l r ⌝ }
-{
-    let mut n: u8 = 0;
-    let mut q = 0;
-    while q < j {
-        let g = kinds(cl, v, o, l, q);
-        let p = power(digits(rows[q] & !rows[o]));
-        let b = (g + p - 1) / p;
-        if n < b {
-            n = b;
-        }
-        q += 1;
-    }
-    n
-}
-
-// The classes of output o.
-fn classes(cl: &[u8], v: usize, o: usize) -> u64
-    requires { ⌜ Labels (now cl) × (v ≤ maxVertices) × (o < searchOutputs) ⌝ }
-{
-    let mut r: u64 = 0;
-    let mut x = 0;
-    while x < v {
-        r = cells::with(r, numbering::label(cl, o, x));
         x += 1;
     }
     r
 }
 
-// The same for each class l of each output o, at o * MAX_VERTICES + l; a class that no vertex has needs none.
+// The blocks that the classes of o need are raised to what the kinds of q say, where q reads d cells that o does not read: d of
+// them tell 2 to the power d kinds apart inside a block.
+fn raise(base: &mut [u8], o: usize, kinds: [u8; MAX_VERTICES], d: u8)
+    requires { ⌜ (length (now base) ≡ labelCount) × (o < searchOutputs) × (d ≤ maxCells) × ((l : ℕ) → l < maxVertices → item kinds l ≤ maxVertices) ⌝ }
+    ensures { λ _. ⌜ Raised o d maxVertices kinds (now (base .entry)) (now (base .exit)) ⌝ }
+{
+    let p = power(d);
+    let mut l = 0;
+    while l < MAX_VERTICES {
+        let i = o * MAX_VERTICES + l;
+        let b = (kinds[l] + p - 1) >> d;
+        if base[i] < b {
+            base[i] = b;
+        }
+        l += 1;
+    }
+}
+
+// The blocks that the classes of o need, by each of the first j outputs. Where there are others, o itself says no more than they.
+fn raise_all(base: &mut [u8], cl: &[u8], v: usize, j: usize, rows: [u8; SEARCH_OUTPUTS], o: usize)
+    requires { ⌜ Labels (now cl) × (v ≤ maxVertices) × (j ≤ searchOutputs) × (o < j) × Based (now cl) rows v j (j * maxVertices) (now base) ⌝ }
+    ensures { λ _. ⌜ Based (now (cl .entry)) rows v j (j * maxVertices) (now (base .exit)) ⌝ }
+{
+    let mut q = 0;
+    while q < j {
+        if q != o || j == 1 {
+            let d = digits(rows[q] & !rows[o]);
+            raise(base, o, kinds(cl, v, o, q), d);
+        }
+        q += 1;
+    }
+}
+
+// How many blocks each class l of each output o needs, at o * MAX_VERTICES + l; a class that no vertex has needs none.
 pub fn bases(cl: &[u8], v: usize, j: usize, rows: [u8; SEARCH_OUTPUTS]) -> [u8; LABELS]
     requires { ⌜ Labels (now cl) × (v ≤ maxVertices) × (j ≤ searchOutputs) ⌝ }
     ensures { λ r. ⌜ Based (now (cl .entry)) rows v j (j * maxVertices) r ⌝ }
 {
     let mut r = [0u8; LABELS];
-    let end = j * MAX_VERTICES;
-    let mut here: u64 = 0;
-    let mut i = 0;
-    while i < end {
-        let l = (i % MAX_VERTICES) as u8;
-        if l == 0 {
-            here = classes(cl, v, i / MAX_VERTICES);
-        }
-        if cells::in_set(here, l) {
-            r[i] = need(cl, v, j, rows, i / MAX_VERTICES, l);
-        }
-        i += 1;
+    let mut o = 0;
+    while o < j {
+        raise_all(&mut r, cl, v, j, rows, o);
+        o += 1;
     }
     r
 }

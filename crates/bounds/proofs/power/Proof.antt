@@ -1,16 +1,7 @@
-use Rattle.bounds.specs.Reasons.{power-is}
-use borrow.Author.Tests.{not-true, not-false}
-use lib.ListN.{length, getD, set}
-use native.Mathlib.Omega.{arith}
-use Prim.Native.Nat.{ℕ, _<_, _≤_, _+_, _-_, _*_, _^_, _/_, _%_}
-use mathlib.Core.Logic.{_⊎_, inl, inr, ⊎-elim}
-use mathlib.Core.Bool.{Bool, true, false}
-use mathlib.Core.Path.{_≡_, refl, sym, ap, _∙_, subst}
+use Rattle.bounds.specs.RaisingLaws.{power-is}
 use borrow.Author.Needs.{needs}
 use Rattle.bounds.proofs.power.Statement.{statement}
 use Rattle.bounds.proofs.power.Tie as tie
-use Rattle.bounds.proofs.power.Reads as reads
-use Rattle.bounds.proofs.power.Lts as lts
 
 -- src/lib.rt:31:5
 shl-result : tie.Need-shl-result
