@@ -2,15 +2,13 @@
 -- the vertex. Assumes nothing.
 use mathlib.Core.Path.{_≡_, refl, sym, ap, _∙_}
 use mathlib.Core.Bool.{Bool, true, false, not}
-use mathlib.Core.Logic.{⊎-elim}
-use Prim.Native.Nat.{ℕ, zero, suc, _-_, _^_, _<_}
-use native.Mathlib.Omega.{arith}
+use Prim.Native.Nat.{ℕ, _-_, _^_, _<_}
 use Rattle.limits.specs.Limits.{maxCodes}
-use Rattle.bits.specs.Logic.{andb, pick}
-use Rattle.bits.specs.LogicLaws.{true-false, and-left, and-right}
+use Rattle.bits.specs.LogicLaws.{true-false}
 use Rattle.bits.specs.Digit.{digit, on}
 use Rattle.bits.specs.DigitLaws.{on-ones}
-use Rattle.cells.specs.Lists.{less-or-equal, never-both}
+use Rattle.cells.specs.Lists.{never-both}
+use Rattle.holding.specs.Every.{every, every-at, same, same-equal, withoutCell, without-cell-on}
 
 -- ======== definitions
 -- fit has the codes with the known digit of cell 0 at vertex x, or all where none is known there
@@ -19,24 +17,6 @@ pub record Fitting (kn val x fit : ℕ) : Type 0 where
   pub all : (c : ℕ) → c < maxCodes → (on kn x ≡ true → on c 0 ≡ on val x) → on fit c ≡ true
 
 -- ======== laws
-every : (ℕ → Bool) → ℕ → Bool
-every p zero = true
-every p (suc n) = andb (p n) (every p n)
-
-every-at : (p : ℕ → Bool) (n c : ℕ) → every p n ≡ true → c < n → p c ≡ true
-unfolding every
-every-at p zero c e h = absurd (omega arith)
-every-at p (suc n) c e h = ⊎-elim (λ l. every-at p n c (and-right (p n) (every p n) e) l) (λ q. ap p q ∙ and-left (p n) (every p n) e) (less-or-equal c n h)
-
-same : Bool → Bool → Bool
-same a b = pick a b (not b)
-
-same-equal : (a b : Bool) → same a b ≡ true → a ≡ b
-unfolding same
-same-equal true b e = sym e
-same-equal false true e = absurd (true-false (sym e))
-same-equal false false e = refl
-
 -- the codes with digit 0 on, and those with it off
 abbrev odd : ℕ
 odd = 12297829382473034410
@@ -49,8 +29,8 @@ unfolding on digit every same
 odd-on c h = same-equal _ _ (every-at (λ (c : ℕ). same (on odd c) (on c 0)) 64 c refl h)
 
 even-on : (c : ℕ) → c < 64 → on even c ≡ not (on c 0)
-unfolding on digit every same
-even-on c h = same-equal _ _ (every-at (λ (c : ℕ). same (on even c) (not (on c 0))) 64 c refl h)
+unfolding on digit every same withoutCell
+even-on c h = without-cell-on even 0 refl c h
 
 pub fitting-any : (kn val x : ℕ) → on kn x ≡ false → Fitting kn val x (2 ^ 64 - 1)
 fitting-any kn val x e = record { only = λ c l t k. absurd (never-both k e); all = λ c l k. on-ones 64 c l }

@@ -11,38 +11,16 @@ use lib.Bits.{bitAnd, bitOr, and-le-l}
 use lib.Dec.{eqb}
 use lib.ListN.{length, getD, set, length-set}
 use lib.Seq.{getD-set-same, getD-set-other}
-use borrow.Author.Tests.{eq-eqb, ne-eqb, eqb-true}
+use borrow.Author.Tests.{eq-eqb, ne-eqb}
 use Rattle.limits.specs.Limits.{blockCount, maxCodes}
 use Rattle.bits.specs.Logic.{andb, orb}
 use Rattle.bits.specs.Digit.{on}
-use Rattle.bits.specs.DigitLaws.{on-and, on-or, on-zero, on-complement, equal-digits}
-use Rattle.cells.specs.Lists.{less-or-equal, never-both, or-on, or-off}
+use Rattle.bits.specs.DigitLaws.{on-and, on-or, on-single, on-complement, equal-digits}
+use Rattle.cells.specs.Lists.{less-or-equal, never-both, false-where, or-on}
 use Rattle.numbering.specs.Given.{item, Block}
-use Rattle.cells.specs.Sets.{With, Without}
+use Rattle.cells.specs.Sets.{on-power-other}
 
--- ======== the block of a code
--- the codes below k that are in c's block
-pub record Blocked (mask c k r : ℕ) : Type 0 where
-  pub below : (i : ℕ) → i < k → on r i ≡ eqb (bitAnd i mask) (bitAnd c mask)
-  pub rest : (i : ℕ) → k ≤ i → on r i ≡ false
-
-pub blocked-start : (mask c : ℕ) → Blocked mask c 0 0
-blocked-start mask c = record { below = λ i h. absurd (omega arith); rest = λ i h. on-zero i }
-
-pub blocked-in : (mask c k r r' s : ℕ) → bitAnd k mask ≡ bitAnd c mask → With r k s → r' ≡ s → Blocked mask c k r → Blocked mask c (k + 1) r'
-blocked-in mask c k r r' s e w a b = subst (Blocked mask c (k + 1)) (sym a) (record {
-  below = λ i h. ⊎-elim (λ l. w i ∙ ap (λ (t : Bool). orb (on r i) t) (ne-eqb i k (λ q. omega arith)) ∙ or-off (on r i) ∙ b .below i l)
-      (λ q. subst (λ (z : ℕ). on s z ≡ eqb (bitAnd z mask) (bitAnd c mask)) (sym q) (w k ∙ ap (λ (t : Bool). orb (on r k) t) (eq-eqb k k refl) ∙ or-on (on r k) ∙ sym (eq-eqb _ _ e)))
-      (less-or-equal i k (omega arith));
-  rest = λ i h. w i ∙ ap (λ (t : Bool). orb (on r i) t) (ne-eqb i k (λ q. omega arith)) ∙ or-off (on r i) ∙ b .rest i (omega arith);
-})
-
-pub blocked-out : (mask c k r r' : ℕ) → (bitAnd k mask ≡ bitAnd c mask → ⊥) → r' ≡ r → Blocked mask c k r → Blocked mask c (k + 1) r'
-blocked-out mask c k r r' ne a b = subst (Blocked mask c (k + 1)) (sym a) (record {
-  below = λ i h. ⊎-elim (b .below i) (λ q. subst (λ (z : ℕ). on r z ≡ eqb (bitAnd z mask) (bitAnd c mask)) (sym q) (b .rest k (omega arith) ∙ sym (ne-eqb _ _ ne))) (less-or-equal i k (omega arith));
-  rest = λ i h. b .rest i (omega arith);
-})
-
+-- ======== the table of blocks
 -- the table of blocks, filled up to n
 pub record Table (ms : List ℕ) (n : ℕ) (bs : List ℕ) : Type 0 where
   pub long : length bs ≡ blockCount
@@ -124,26 +102,18 @@ pub all-ones : (n i : ℕ) → i < n → item (copies n (2 ^ 64 - 1)) i ≡ 2 ^ 
 all-ones n i h = copies-are n (2 ^ 64 - 1) i h
 
 -- ======== the codes of the blocks that meet a set
--- r has the whole block of each code of d
+-- r has the whole block of each code of d, and no other code
 pub record Spans (mask d r : ℕ) : Type 0 where
   pub whole : (c k : ℕ) → c < maxCodes → k < maxCodes → on d c ≡ true → bitAnd c mask ≡ bitAnd k mask → on r k ≡ true
+  pub only : (k : ℕ) → k < maxCodes → on r k ≡ true → (c : ℕ) × (c < maxCodes) × (on d c ≡ true) × (bitAnd c mask ≡ bitAnd k mask)
 
--- so it is but for the codes of rest
-pub record Spanning (mask d rest r : ℕ) : Type 0 where
-  pub part : (c : ℕ) → c < maxCodes → on d c ≡ true → (on rest c ≡ true) ⊎ ((k : ℕ) → k < maxCodes → bitAnd c mask ≡ bitAnd k mask → on r k ≡ true)
-
-pub spanning-start : (mask d : ℕ) → Spanning mask d d 0
-spanning-start mask d = record { part = λ c h e. inl e }
-
-pub spanning-more : (mask d rest r c b w rest' : ℕ) → c < 64 → Block mask c b → Without rest c w → Minus w b rest' → Spanning mask d rest r → Spanning mask d rest' (bitOr r b)
-spanning-more mask d rest r c b w rest' l is without minus s = record { part = λ k h e. ⊎-elim (λ t. case k h t (on b k) refl) (λ f. inr (λ i j q. on-either r b i (inl (f i j q)))) (s .part k h e) }
+-- the block of one code
+pub spans-block : (mask c d r : ℕ) → c < 64 → d ≡ 2 ^ c → Spans mask d r → Block mask c r
+spans-block mask c d r l q s k h = go (ℕ-discrete (bitAnd k mask) (bitAnd c mask))
   where
-    Part : ℕ → Type 0
-    Part k = (on rest' k ≡ true) ⊎ ((i : ℕ) → i < 64 → bitAnd k mask ≡ bitAnd i mask → on (bitOr r b) i ≡ true)
+    in-d : (x : ℕ) → on d x ≡ true → x ≡ c
+    in-d x t = elim (ℕ-discrete x c) as (λ _. x ≡ c) [ yes e ↦ e | no e ↦ absurd (never-both t (ap (λ (z : ℕ). on z x) q ∙ on-power-other c x e)) ]
 
-    case : (k : ℕ) → k < 64 → on rest k ≡ true → (t : Bool) → on b k ≡ t → Part k
-    case k h e true q = inr (λ i j p. on-either r b i (inr (is i j ∙ eq-eqb (bitAnd i mask) (bitAnd c mask) (sym p ∙ eqb-true (bitAnd k mask) (bitAnd c mask) (sym (is k h) ∙ q)))))
-    case k h e false q = inl (minus-keeps w b rest' k minus h (without .others k h (λ z. never-both (is k h ∙ eq-eqb (bitAnd k mask) (bitAnd c mask) (ap (λ (n : ℕ). bitAnd n mask) z)) q) ∙ e) q)
-
-pub spanning-end : (mask d rest r : ℕ) → rest ≡ 0 → Spanning mask d rest r → Spans mask d r
-spanning-end mask d rest r z s = record { whole = λ c k h l e q. ⊎-elim (λ t. absurd (never-both t (ap (λ (n : ℕ). on n c) z ∙ on-zero c))) (λ f. f k l q) (s .part c h e) }
+    go : Dec (bitAnd k mask ≡ bitAnd c mask) → on r k ≡ eqb (bitAnd k mask) (bitAnd c mask)
+    go (yes e) = s .whole c k l h (ap (λ (z : ℕ). on z c) q ∙ on-single c) (sym e) ∙ sym (eq-eqb _ _ e)
+    go (no e) = false-where (on r k) (λ t. let a = s .only k h t in e (sym (a .3) ∙ ap (λ (z : ℕ). bitAnd z mask) (in-d (a .0) (a .2)))) ∙ sym (ne-eqb _ _ e)

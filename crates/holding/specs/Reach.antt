@@ -4,7 +4,7 @@
 use mathlib.Core.Path.{_≡_, refl, sym, ap, _∙_, subst}
 use mathlib.Core.Bool.{Bool, true, false, not}
 use mathlib.Core.List.{List, [], _∷_, _++_}
-use mathlib.Core.Logic.{_⊎_, inl, inr, ⊎-elim}
+use mathlib.Core.Logic.{inl, inr, ⊎-elim}
 use Prim.Native.Nat.{ℕ, zero, suc, _+_, _-_, _*_, _≤_, _<_}
 use native.Mathlib.Decide.{ℕ-discrete, decLt}
 use native.Mathlib.Omega.{arith}
@@ -17,7 +17,7 @@ use Rattle.bits.specs.Logic.{pick}
 use Rattle.bits.specs.Digit.{on}
 use Rattle.bits.specs.DigitLaws.{on-zero}
 use Rattle.cells.specs.Lists.{All, Pairs, part, sum, all-map, all-both, all-append, all-part, pairs-append, pairs-part, part-has, part-length, less-or-equal, never-both}
-use Rattle.cells.specs.Sets.{With, Without}
+use Rattle.cells.specs.Sets.{Without}
 use Rattle.cells.specs.Shared.{block}
 use Rattle.numbering.specs.Given.{noCode, labelAt, partAt, partOf, item, Block, Labels, Solves, Extends, Hopeless}
 use Rattle.holding.specs.Blocks.{Minus, minus-keeps, on-either}

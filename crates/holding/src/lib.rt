@@ -1,18 +1,19 @@
 // What the classes of one output hold while vertices take codes, and the sets of codes of the others narrowed by it. A rule
 // that prunes is one law of specs/Rules, specs/Full or specs/Reach: what it takes away is in no solution.
 ghost use mathlib.Core.Path.{_≡_};
-ghost use mathlib.Core.Bool.{Bool, true, false};
+ghost use mathlib.Core.Bool.{Bool, true, false, not};
 ghost use mathlib.Core.List.{List};
 ghost use Prim.Native.Nat.{ℕ, _+_, _*_, _<_, _≤_, max};
 ghost use lib.Dec.{eqb};
 ghost use Rattle.bits.specs.Logic.{pick};
 ghost use lib.ListN.{length, getD};
-ghost use Rattle.limits.specs.Limits.{searchOutputs, maxVertices, labelCount, blockCount, maxCodes};
+ghost use Rattle.limits.specs.Limits.{searchOutputs, maxVertices, labelCount, blockCount, maxCells, maxCodes};
 ghost use Rattle.bits.specs.Digit.{on};
 ghost use Rattle.numbering.specs.Given.{noCode, labelAt, partAt, item, Block, Labels, Blocks, Kept, Hopeless};
 ghost use Rattle.holding.specs.Held.{Held};
 ghost use Rattle.holding.specs.Wants.{Wanted, Totals, Filled, Tight, needed};
 ghost use Rattle.holding.specs.Blocks.{Table, Minus, Spans};
+ghost use Rattle.holding.specs.Joined.{Joined};
 ghost use Rattle.holding.specs.Narrow.{Narrowed, Keeps, Stays};
 ghost use Rattle.holding.specs.Full.{Crowd, Free, Others};
 ghost use Rattle.holding.specs.Reach.{Lacks, Reached, Fewer, Lost};
@@ -21,19 +22,57 @@ use limits::MAX_CODES;
 use limits::MAX_VERTICES;
 use limits::SEARCH_OUTPUTS;
 
-// The set of codes that a mask does not tell from c.
-pub fn block(mask: u8, c: u8) -> u64
-    ensures { λ r. ⌜ Block mask c r ⌝ }
+// The codes without cell i.
+fn without_cell(i: u8) -> u64
+    requires { ⌜ i < maxCells ⌝ }
+    ensures { λ r. ⌜ ((k : ℕ) → k < maxCodes → on r k ≡ not (on k i)) ⌝ }
 {
-    let mut r: u64 = 0;
-    let mut k: u8 = 0;
-    while k < cells::MAX_CODES {
-        if k & mask == c & mask {
-            r = cells::with(r, k);
+    if i == 0 {
+        0x5555_5555_5555_5555
+    } else if i == 1 {
+        0x3333_3333_3333_3333
+    } else if i == 2 {
+        0x0f0f_0f0f_0f0f_0f0f
+    } else if i == 3 {
+        0x00ff_00ff_00ff_00ff
+    } else if i == 4 {
+        0x0000_ffff_0000_ffff
+    } else {
+        0x0000_0000_ffff_ffff
+    }
+}
+
+// The codes of d, and those that differ from a code of d in cell i alone.
+fn joined(d: u64, i: u8) -> u64
+    requires { ⌜ i < maxCells ⌝ }
+    ensures { λ r. ⌜ Joined d i r ⌝ }
+{
+    let low = without_cell(i);
+    let step = 1u32 << i;
+    d | ((d & low) << step) | ((d >> step) & low)
+}
+
+// The codes that a mask does not tell from some code of d.
+fn spread(mask: u8, d: u64) -> u64
+    ensures { λ r. ⌜ Spans mask d r ⌝ }
+{
+    let mut r = d;
+    let mut i: u8 = 0;
+    while i < cells::MAX_CELLS {
+        if !cells::in_set(mask as u64, i) {
+            r = joined(r, i);
         }
-        k += 1;
+        i += 1;
     }
     r
+}
+
+// The set of codes that a mask does not tell from c.
+pub fn block(mask: u8, c: u8) -> u64
+    requires { ⌜ c < maxCodes ⌝ }
+    ensures { λ r. ⌜ Block mask c r ⌝ }
+{
+    spread(mask, cells::single(c))
 }
 
 // The block of each code c for each of the first n outputs o, at o * MAX_CODES + c. It is made once for the codes of a block.
@@ -100,22 +139,6 @@ fn minus(d: u64, b: u64) -> u64
     d & !b
 }
 
-// The codes of the blocks of output o that meet d.
-fn spread(bs: &[u64], o: usize, d: u64) -> u64
-    requires { ⌜ (length (now bs) ≡ blockCount) × (o < searchOutputs) ⌝ }
-    ensures { λ r. ⌜ ((mask : ℕ) → ((c : ℕ) → c < maxCodes → Block mask c (getD (now (bs .entry)) (o * maxCodes + c) 0)) → Spans mask d r) ⌝ }
-{
-    let mut r: u64 = 0;
-    let mut rest = d;
-    while rest != 0 {
-        let c = cells::lowest(rest);
-        let b = bs[o * MAX_CODES + c as usize];
-        r = r | b;
-        rest = minus(cells::without(rest, c), b);
-    }
-    r
-}
-
 // One more than n, or two more where m is empty.
 fn more(n: u8, m: u64) -> u8
     requires { ⌜ n ≤ maxVertices ⌝ }
@@ -133,17 +156,16 @@ pub struct Wants {
 
 fn wanted(
     cl: &[u8],
-    bs: &[u64],
+    mask: u8,
     v: usize,
     o: usize,
     dom: &[u64],
     own: &[u64],
     owns: [u8; MAX_VERTICES],
 ) -> Wants
-    requires { ⌜ Labels (now cl) × (length (now bs) ≡ blockCount) × (v ≤ maxVertices) × (o < searchOutputs) × (length (now dom) ≡ maxVertices) × (length (now own) ≡ maxVertices)
+    requires { ⌜ Labels (now cl) × (v ≤ maxVertices) × (o < searchOutputs) × (length (now dom) ≡ maxVertices) × (length (now own) ≡ maxVertices)
         × ((l : ℕ) → l < maxVertices → item owns l ≤ maxVertices) ⌝ }
-    ensures { λ r. ⌜ ((mask : ℕ) → ((c : ℕ) → c < maxCodes → Block mask c (getD (now (bs .entry)) (o * maxCodes + c) 0))
-        → Wanted (now (cl .entry)) o mask v (now (dom .entry)) (now (own .entry)) owns (r .wants) (r .meet)) ⌝ }
+    ensures { λ r. ⌜ Wanted (now (cl .entry)) o mask v (now (dom .entry)) (now (own .entry)) owns (r .wants) (r .meet) ⌝ }
 {
     let mut wants = owns;
     let mut meet = [cells::ALL_CODES; MAX_VERTICES];
@@ -151,7 +173,7 @@ fn wanted(
     while y < v {
         let l = numbering::label(cl, o, y) as usize;
         if dom[y] & own[l] == 0 {
-            let t = spread(bs, o, dom[y]);
+            let t = spread(mask, dom[y]);
             let m = meet[l] & t;
             meet[l] = m;
             wants[l] = more(owns[l], m);
@@ -575,7 +597,7 @@ pub fn settle(
 {
     let h = held(cl, bs, ms, v, j, o, codes);
     let owns = h.owns;
-    let w = wanted(cl, bs, v, o, dom, &h.own, owns);
+    let w = wanted(cl, ms[o], v, o, dom, &h.own, owns);
     let wants = w.wants;
     let spot = spots[o] as usize;
     let b = busiest(cl, base, o, &owns, &wants, spot);

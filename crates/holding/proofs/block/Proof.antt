@@ -1,49 +1,23 @@
-use Rattle.holding.specs.Blocks.{Blocked, blocked-start, blocked-in, blocked-out}
-use native.Mathlib.Omega.{arith}
-use Prim.Native.Nat.{_≤_, _-_}
-use mathlib.Core.Logic.{⊎-elim}
+use Rattle.holding.specs.Blocks.{spans-block}
 use borrow.Author.Needs.{needs}
 use Rattle.holding.proofs.block.Statement.{statement}
 use Rattle.holding.proofs.block.Tie as tie
 use Rattle.holding.proofs.block.Reads as reads
 use Rattle.holding.proofs.block.Lts as lts
-use Rattle.cells.proofs.with.Reads as with-reads
+use Rattle.cells.proofs.single.Reads as single-reads
+use Rattle.holding.proofs.spread.Reads as spread-reads
 
-abbrev Inv-loop : tie.InvT-loop
-Inv-loop mask c r₀ k₀ r k = (k ≤ 64) × Blocked mask c k r
+single-requires : tie.Need-single-requires
+single-requires c κs = c .pre
 
-abbrev μ-loop : tie.MeasureT-loop
-μ-loop mask c r₀ k₀ r k = 64 - k
+spread-requires : tie.Need-spread-requires
+spread-requires c κs = search needs
 
-loop-holds : tie.Need-loop-holds Inv-loop μ-loop
-loop-holds c = (omega arith, blocked-start (c .args .mask) (c .args .c))
-
-with-requires : tie.Need-with-requires Inv-loop μ-loop
-with-requires c κs = search needs
-
-add-k : tie.Need-add-k Inv-loop μ-loop
-add-k c = search needs
-
-loop-less : tie.Need-loop-less Inv-loop μ-loop
-loop-less c = search needs
-
-loop-again : tie.Need-loop-again Inv-loop μ-loop
-loop-again c =
-    let loop-test = c .before .loop-test in
-    let loop = c .before .before .loop in
-    let args = c .before .before .before .args in
-    let h = loop-test .taken in (
-      omega arith,
-      ⊎-elim
-          (λ w. blocked-in (args .mask) (args .c) (loop .k) (loop .r) _ _ (w .0 .taken) (w .1 .ensures) (w .2) (loop .inv .1))
-          (λ w. blocked-out (args .mask) (args .c) (loop .k) (loop .r) _ (w .0 .left) (w .1) (loop .inv .1))
-          (c .if1 .came),
-    )
-
-returns : tie.Need-returns Inv-loop μ-loop
-returns c = λ i h. c .before .loop .inv .1 .below i (let z = c .loop-test .left in omega arith)
+returns : tie.Need-returns
+returns c =
+    let args = c .before .before .args in
+    let single = c .before .single in
+    spans-block (args .mask) (args .c) (single .result) (c .spread .result) (c .before .before .pre) (single .ensures) (c .spread .ensures)
 
 pub block-spec : {M : Type 1} → statement M
-block-spec =
-    tie.close
-    (tie.spec Inv-loop μ-loop loop-holds with-requires add-k loop-less loop-again returns)
+block-spec = tie.close (tie.spec single-requires spread-requires returns)

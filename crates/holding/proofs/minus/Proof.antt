@@ -1,9 +1,6 @@
 use Rattle.holding.specs.Blocks.{minus-of}
-use borrow.Author.Needs.{needs}
 use Rattle.holding.proofs.minus.Statement.{statement}
 use Rattle.holding.proofs.minus.Tie as tie
-use Rattle.holding.proofs.minus.Reads as reads
-use Rattle.holding.proofs.minus.Lts as lts
 
 returns : tie.Need-returns
 returns c = minus-of (c .args .d) (c .args .b) (c .fits .b .fits)

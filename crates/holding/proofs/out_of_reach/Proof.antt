@@ -1,12 +1,7 @@
 use Rattle.bits.specs.LogicLaws.{true-false}
 use mathlib.Core.Path.{sym}
-use borrow.Author.Needs.{needs}
 use Rattle.holding.proofs.out_of_reach.Statement.{statement}
 use Rattle.holding.proofs.out_of_reach.Tie as tie
-use Rattle.holding.proofs.out_of_reach.Reads as reads
-use Rattle.holding.proofs.out_of_reach.Lts as lts
-use Rattle.holding.proofs.fewer_blocks.Reads as fewer-blocks-reads
-use Rattle.holding.proofs.reach.Reads as reach-reads
 
 returns : tie.Need-returns
 returns c = λ e. absurd (true-false (sym e))

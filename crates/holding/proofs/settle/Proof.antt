@@ -3,10 +3,10 @@ use Rattle.holding.specs.Narrow.{settled-none, settled-tight, kept-start
 use Rattle.holding.specs.Wants.{wanted-held}
 use Rattle.numbering.specs.Given.{item}
 use native.Mathlib.Omega.{arith}
-use Prim.Native.Nat.{_-_}
 use mathlib.Core.Path.{refl, sym, _∙_}
 use Rattle.bits.specs.LogicLaws.{true-false}
-use borrow.Author.Needs.{needs}
+use mir.Syntax.{w8, w64}
+use borrow.Author.Needs.{needs, elem-fits}
 use Rattle.holding.proofs.settle.Statement.{statement}
 use Rattle.holding.proofs.settle.Tie as tie
 use Rattle.holding.proofs.settle.Reads as reads
@@ -20,13 +20,20 @@ use Rattle.holding.proofs.wanted.Reads as wanted-reads
 held-requires : tie.Need-held-requires
 held-requires c κs = search needs
 
+array-read-wanted : tie.Need-array-read-wanted
+array-read-wanted c =
+    let p = c .before .before .before .before .before .before .before .pre in
+    let a = p .4 in
+    let b = p .5 in
+    search needs
+
 wanted-requires : tie.Need-wanted-requires
 wanted-requires c κs =
     let p = c .before .before .before .before .before .before .before .before .before .before .before .pre in
     let h = c .before .before .before .before .before .held .ensures in
     let a = p .4 in
     let b = p .5 in
-    (p .0, p .2 .long, p .3, omega arith, p .7, h .own-long, λ l k. let z = h .less l k in let w = p .3 in omega arith)
+    (p .0, p .3, omega arith, p .7, h .own-long, λ l k. let z = h .less l k in let w = p .3 in omega arith)
 
 array-read-spot : tie.Need-array-read-spot
 array-read-spot c =
@@ -36,7 +43,10 @@ array-read-spot c =
     search needs
 
 cast-spot : tie.Need-cast-spot
-cast-spot c = let g = c .before .before .before .before .before .before .before .before .before .before .before .before .before .good .1 .1 .1 .1 .1 .0 in search needs
+cast-spot c =
+    let start = c .before .before .before .before .before .before .before .before .before .before .before .before .before in
+    let spots = start .good .1 .1 .1 .1 .1 .0 in
+    elem-fits w8 w64 (start .args .t6) (spots .0) (start .args .o) (spots .1 .1) tt
 
 slice-aggregate-busiest : tie.Need-slice-aggregate-busiest
 slice-aggregate-busiest c = search needs
@@ -51,7 +61,7 @@ busiest-requires c κs =
     let b = p .4 in
     let d = p .5 in
     let w = c .before .before .before .wanted in
-    let i = w .ensures (item (a .ms) (a .o)) (λ k l. p .2 .each (a .o) k (p .5) l) in
+    let i = w .ensures in
     let h = c .before .before .before .before .before .before .before .before .before .held .ensures in
     (p .0, p .1, omega arith, wanted-held _ _ _ _ _ _ _ (w .result .wants) (w .result .meet) i, h .owns-long, i .long)
 
@@ -68,12 +78,12 @@ returns c =
     let w = c .before .before .before .before .before .before .wanted in
     let b = c .before .before .busiest in
     let s = c .before .before .before .before .before .before .before .before .before .before .before .before .held .ensures in
-    let i = w .ensures (item (a .ms) (a .o)) (λ k l. p .2 .each (a .o) k (p .5) l) in
+    let i = w .ensures in
     let e = b .ensures .0 .whole in
     let h = c .if1 .taken in (
-      kept-start (a .cl .now) (a .base .now) (a .ms) _ _ (a .v) (a .j) _ _,
+      kept-start (a .cl .now) (a .base .now) (a .t4) _ _ (a .v) (a .j) _ _,
       p .7,
-      λ q. settled-none (a .cl .now) (a .base .now) (a .ms) _ _ (a .v) (a .j) (a .o) _ _ _ _ (p .0) (p .3) (p .4)
+      λ q. settled-none (a .cl .now) (a .base .now) (a .t4) _ _ (a .v) (a .j) (a .o) _ _ _ _ (p .0) (p .3) (p .4)
           (p .5) s (w .result .wants) (w .result .meet) (b .result .part) i (omega arith),
     )
 
@@ -95,7 +105,7 @@ out-of-reach-requires c κs =
     let far = c .before .before .before .before .before .before .before .before .before .before .before .before in
     let a = far .before .before .before .before .before .before .before .before .before .before .before .before .args in
     let p = far .before .before .before .before .before .before .before .before .before .before .before .before .pre in
-    let w = far .wanted .ensures (item (a .ms) (a .o)) (λ k l. p .2 .each (a .o) k (p .5) l) in
+    let w = far .wanted .ensures in
     let h = far .before .before .before .before .before .before .held .ensures in
     let m = p .4 in
     let b = p .5 in
@@ -113,11 +123,11 @@ returns-2 c =
     let b = c .before .before .before .before .before .before .before .before .before .before .busiest in
     let s = far .before .before .before .before .before .before .before .before .held .ensures in
     let r = c .before .out-of-reach .ensures (c .if2 .taken) in
-    let i = w .ensures (item (a .ms) (a .o)) (λ k l. p .2 .each (a .o) k (p .5) l) in
-    let q = r .1 (item (a .ms) (a .o)) (λ k l. p .2 .each (a .o) k (p .5) l) in
-    let none = settled-reach (a .cl .now) (a .base .now) (a .ms) _ _ (a .v) (a .j) (a .o) _ _ _ _ (p .0) (p .3) (p .4) (p .5) s
+    let i = w .ensures in
+    let q = r .1 (item (a .t4) (a .o)) (λ k l. p .2 .each (a .o) k (p .5) l) in
+    let none = settled-reach (a .cl .now) (a .base .now) (a .t4) _ _ (a .v) (a .j) (a .o) _ _ _ _ (p .0) (p .3) (p .4) (p .5) s
     (w .result .wants) (w .result .meet) (b .result .part) (b .result .total) (b .result .news) i (r .0) (b .ensures .0) q in
-    (kept-start (a .cl .now) (a .base .now) (a .ms) _ _ (a .v) (a .j) _ _, p .7, λ e. none)
+    (kept-start (a .cl .now) (a .base .now) (a .t4) _ _ (a .v) (a .j) _ _, p .7, λ e. none)
 
 same-length-3 : tie.Need-same-length-3
 same-length-3 c = search needs
@@ -126,7 +136,7 @@ returns-3 : tie.Need-returns-3
 returns-3 c =
     let far = c .before .before .before .before .before .before .before .before .before .before .before .before .before .before .before .before .before .before .before .before .before .before in
     let a = far .before .before .before .before .before .args in
-    (kept-start (a .cl .now) (a .base .now) (a .ms) _ _ (a .v) (a .j) _ _, far .before .before .before .before .before .pre .7, λ e. absurd (true-false e))
+    (kept-start (a .cl .now) (a .base .now) (a .t4) _ _ (a .v) (a .j) _ _, far .before .before .before .before .before .pre .7, λ e. absurd (true-false e))
 
 slice-aggregate-narrow : tie.Need-slice-aggregate-narrow
 slice-aggregate-narrow c =
@@ -138,7 +148,7 @@ slice-aggregate-narrow-2 c =
     let far = c .before .before .before .before .before .before .before .before .before .before .before .before .before .before .before .before .before .before .before .before .before .before in
     let a = far .before .before .before .before .before .before .before .before .before .before .before .before .before .args in
     let p = far .before .before .before .before .before .before .before .before .before .before .before .before .before .pre in
-    let w = far .before .wanted .ensures (item (a .ms) (a .o)) (λ k l. p .2 .each (a .o) k (p .5) l) in
+    let w = far .before .wanted .ensures in
     sym (w .long)
 
 narrow-requires : tie.Need-narrow-requires
@@ -149,7 +159,7 @@ narrow-requires c κs =
     let m = p .4 in
     let b = p .5 in
     let h = far .before .before .before .before .before .before .before .before .held .ensures in
-    let w = far .before .before .wanted .ensures (item (a .ms) (a .o)) (λ k l. p .2 .each (a .o) k (p .5) l) in
+    let w = far .before .before .wanted .ensures in
     (p .0, p .1, p .3, omega arith, h .own-long, w .meet-long, λ l k. let z = h .less l k in let y = p .3 in omega arith, p .6, p .7, h .owns-long, w .long)
 
 same-length-4 : tie.Need-same-length-4
@@ -165,9 +175,9 @@ returns-4 c =
     let w = far .before .before .before .before .before .wanted in
     let b = far .before .busiest in
     let s = far .before .before .before .before .before .before .before .before .before .before .before .held .ensures in
-    let i = w .ensures (item (a .ms) (a .o)) (λ k l. p .2 .each (a .o) k (p .5) l) in
+    let i = w .ensures in
     let n = c .before .before .narrow .ensures in
-    let kept = settled-tight (a .cl .now) (a .base .now) (a .ms) _ _ (a .v) (a .j) (a .o) _ _ _ _ (p .0) (p .3) (p .4) (p .5) s
+    let kept = settled-tight (a .cl .now) (a .base .now) (a .t4) _ _ (a .v) (a .j) (a .o) _ _ _ _ (p .0) (p .3) (p .4) (p .5) s
     (w .result .wants) (w .result .meet) _ _ (b .result .tight) i (b .ensures .1) refl n in
     (kept, n .long, λ e. absurd (true-false e))
 
@@ -176,6 +186,7 @@ settle-spec =
     tie.close
     (tie.spec
     held-requires
+    array-read-wanted
     wanted-requires
     array-read-spot
     cast-spot

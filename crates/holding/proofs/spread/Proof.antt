@@ -1,66 +1,59 @@
-use mathlib.Core.Path.{_≡_, refl, sym, ap, _∙_, subst}
-use Prim.Native.Nat.{ℕ, _<_, _≤_, _+_, _-_, _*_}
+use mathlib.Core.Path.{_≡_, sym, _∙_, subst}
+use mathlib.Core.Logic.{⊎-elim}
+use Prim.Native.Nat.{ℕ, _-_, _≤_}
 use native.Mathlib.Omega.{arith}
-use lib.ListN.{length, getD}
-use Rattle.numbering.specs.Given.{Block}
-use Rattle.holding.specs.Blocks.{Spanning, spanning-start, spanning-more, spanning-end}
+use borrow.Author.Tests.{not-true, not-false}
+use Rattle.holding.specs.Joined.{Spreading, spreading-start, spreading-same, spreading-more, spreading-end}
 use borrow.Author.Needs.{needs}
 use Rattle.holding.proofs.spread.Statement.{statement}
 use Rattle.holding.proofs.spread.Tie as tie
 use Rattle.holding.proofs.spread.Reads as reads
 use Rattle.holding.proofs.spread.Lts as lts
-use Rattle.cells.proofs.lowest.Reads as lowest-reads
-use Rattle.cells.proofs.without.Reads as without-reads
-use Rattle.holding.proofs.minus.Reads as minus-reads
+use Rattle.cells.proofs.in_set.Reads as in-set-reads
+use Rattle.holding.proofs.joined.Reads as joined-reads
 
 abbrev Inv-loop : tie.InvT-loop
-Inv-loop bs o d r₀ rest₀ r rest = (mask : ℕ) → ((c : ℕ) → c < 64 → Block mask c (getD bs (o * 64 + c) 0)) → Spanning mask d rest r
+Inv-loop mask d r₀ i₀ r i = (i ≤ 6) × Spreading mask d i r
 
 abbrev μ-loop : tie.MeasureT-loop
-μ-loop bs o d r₀ rest₀ r rest = rest
+μ-loop mask d r₀ i₀ r i = 6 - i
 
 loop-holds : tie.Need-loop-holds Inv-loop μ-loop
-loop-holds c = λ mask b. spanning-start mask (c .before .args .d)
+loop-holds c = (omega arith, spreading-start (c .args .mask) (c .args .d))
 
-lowest-requires : tie.Need-lowest-requires Inv-loop μ-loop
-lowest-requires c κs = c .loop-test .taken
+in-set-requires : tie.Need-in-set-requires Inv-loop μ-loop
+in-set-requires c κs = let h = c .loop-test .taken in omega arith
 
-mul-b : tie.Need-mul-b Inv-loop μ-loop
-mul-b c = let z = c .before .before .before .before .pre .1 in search needs
+joined-requires : tie.Need-joined-requires Inv-loop μ-loop
+joined-requires c κs = c .before .before .loop-test .taken
 
-cast-b : tie.Need-cast-b Inv-loop μ-loop
-cast-b c = search needs
-
-add-b : tie.Need-add-b Inv-loop μ-loop
-add-b c = let z = c .before .before .before .before .pre .1 in let l = c .lowest .ensures .0 in search needs
-
-mul-b-2 : tie.Need-mul-b-2 Inv-loop μ-loop
-mul-b-2 c = let z = c .before .before .before .before .pre .1 in let l = c .lowest .ensures .0 in let e = c .before .before .before .before .pre .0 in search needs
-
-shared-slice-read-b : tie.Need-shared-slice-read-b Inv-loop μ-loop
-shared-slice-read-b c = let z = c .before .before .before .before .before .pre .1 in let l = c .before .lowest .ensures .0 in let e = c .before .before .before .before .before .pre .0 in search needs
-
-without-requires : tie.Need-without-requires Inv-loop μ-loop
-without-requires c κs = c .before .lowest .ensures .0
-
-minus-requires : tie.Need-minus-requires Inv-loop μ-loop
-minus-requires c κs = search needs
+add-i : tie.Need-add-i Inv-loop μ-loop
+add-i c = search needs
 
 loop-less : tie.Need-loop-less Inv-loop μ-loop
-loop-less c = let a = c .minus .ensures .less in let b = c .before .without .ensures .less (c .before .before .before .lowest .ensures .1) in omega arith
+loop-less c = search needs
 
 loop-again : tie.Need-loop-again Inv-loop μ-loop
 loop-again c =
-    let minus = c .minus in
-    let without = c .before .without in
-    let lowest = c .before .before .before .lowest in
-    let loop = c .before .before .before .before .before .loop in
-    let args = c .before .before .before .before .before .before .before .args in
-    λ mask b. spanning-more mask (args .d) (loop .rest) (loop .r) (lowest .result) _ (without .result) (minus .result) (lowest .ensures .0) (b (lowest .result) (lowest .ensures .0))
-    (without .ensures) (minus .ensures) (loop .inv mask b)
+    let in-set = c .before .in-set in
+    let h = c .before .before .loop-test .taken in
+    let loop = c .before .before .before .loop in
+    let args = c .before .before .before .before .args in (
+      omega arith,
+      ⊎-elim
+          (λ w. spreading-more (args .mask) (args .d) (loop .i) (loop .r) _ (w .1 .result) h (sym (in-set .ensures) ∙ not-true _ (w .0 .taken)) (w .1 .ensures) (w .2) (loop .inv .1))
+          (λ w. spreading-same (args .mask) (args .d) (loop .i) (loop .r) _ (sym (in-set .ensures) ∙ not-false _ (w .0 .left)) (w .1) (loop .inv .1))
+          (c .if1 .came),
+    )
 
 returns : tie.Need-returns Inv-loop μ-loop
-returns c = λ mask b. spanning-end mask (c .before .before .before .args .d) (c .before .loop .rest) (c .before .loop .r) (c .loop-test .left) (c .before .loop .inv mask b)
+returns c =
+    let loop = c .before .loop in
+    let args = c .before .before .args in
+    let h = c .loop-test .left in
+    let z = loop .inv .0 in
+    let e : loop .i ≡ 6 = omega arith in
+    spreading-end (args .mask) (args .d) (loop .r) (c .before .before .fits .mask .fits) (subst (λ (n : ℕ). Spreading (args .mask) (args .d) n (loop .r)) e (loop .inv .1))
 
 pub spread-spec : {M : Type 1} → statement M
 spread-spec =
@@ -69,14 +62,9 @@ spread-spec =
     Inv-loop
     μ-loop
     loop-holds
-    lowest-requires
-    mul-b
-    cast-b
-    add-b
-    mul-b-2
-    shared-slice-read-b
-    without-requires
-    minus-requires
+    in-set-requires
+    joined-requires
+    add-i
     loop-less
     loop-again
     returns)

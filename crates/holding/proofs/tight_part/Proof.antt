@@ -4,15 +4,10 @@ use Rattle.bits.specs.Logic.{orb}
 use borrow.Author.Tests.{eqb-true}
 use lib.Dec.{eqb}
 use native.Mathlib.Omega.{arith}
-use Prim.Native.Nat.{_-_}
 use mathlib.Core.Bool.{Bool}
 use mathlib.Core.Path.{sym, ap, _∙_}
-use borrow.Author.Needs.{needs}
 use Rattle.holding.proofs.tight_part.Statement.{statement}
 use Rattle.holding.proofs.tight_part.Tie as tie
-use Rattle.holding.proofs.tight_part.Reads as reads
-use Rattle.holding.proofs.tight_part.Lts as lts
-use Rattle.cells.proofs.with.Reads as with-reads
 
 with-requires : tie.Need-with-requires
 with-requires c κs = let h = c .before .pre in omega arith
