@@ -110,7 +110,7 @@ joined-of d i s low p e = record { digit = λ k h. on-or (bitOr d up) down k ∙
     above : (k : ℕ) → on k i ≡ false → across i k ≡ s + k
     above k q = across-above i k q ∙ ap (λ (z : ℕ). z + k) (sym p)
 
-    -- a code with cell i is s above one without
+    -- a code that is s below one without cell i has cell i
     has-cell : (m : ℕ) → on (s + m) i ≡ false → on m i ≡ true
     has-cell m q = true-where (on m i) (λ f. never-both (across-here i m ∙ ap not f) (ap (λ (z : ℕ). on z i) (above m f) ∙ q))
 
@@ -134,18 +134,18 @@ joined-of d i s low p e = record { digit = λ k h. on-or (bitOr d up) down k ∙
         ∙ ap (λ (b : Bool). orb b (on d (across i k))) (or-off (on d k))
 
 -- ======== joining cell by cell
--- the cells that count after cell i count at it
+-- codes that match from cell i on match from the next cell on
 fewer : (mask i c k : ℕ) → Matches mask i c k → Matches mask (i + 1) c k
 fewer mask i c k f j s = f j (⊎-elim inl (λ l. inr (omega arith)) s)
 
--- cell i counts too
+-- and the other way round, where they are the same in cell i
 one-more : (mask i c k : ℕ) → on c i ≡ on k i → Matches mask (i + 1) c k → Matches mask i c k
 one-more mask i c k e f j s = elim (ℕ-discrete j i) as (λ _. on c j ≡ on k j) [
   | yes q ↦ subst (λ (z : ℕ). on c z ≡ on k z) (sym q) e
   | no q ↦ f j (⊎-elim inl (λ l. inr (omega arith)) s)
 ]
 
--- cell i does not count
+-- crossing a cell outside the mask changes no cell of the mask, and no later cell
 across-same : (mask i k j : ℕ) → on mask i ≡ false → (on mask j ≡ true) ⊎ (i + 1 ≤ j) → on (across i k) j ≡ on k j
 across-same mask i k j e s = across-other i k j (λ q. ⊎-elim (λ m. never-both m (ap (on mask) q ∙ e)) (λ l. omega arith) s)
 

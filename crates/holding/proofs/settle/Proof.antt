@@ -57,7 +57,6 @@ slice-aggregate-busiest-2 c = search needs
 busiest-requires : tie.Need-busiest-requires
 busiest-requires c κs =
     let p = c .before .before .before .before .before .before .before .before .before .before .before .before .before .before .before .pre in
-    let a = c .before .before .before .before .before .before .before .before .before .before .before .before .before .before .before .args in
     let b = p .4 in
     let d = p .5 in
     let w = c .before .before .before .wanted in
@@ -103,7 +102,6 @@ slice-aggregate-out-of-reach-2 c = search needs
 out-of-reach-requires : tie.Need-out-of-reach-requires
 out-of-reach-requires c κs =
     let far = c .before .before .before .before .before .before .before .before .before .before .before .before in
-    let a = far .before .before .before .before .before .before .before .before .before .before .before .before .args in
     let p = far .before .before .before .before .before .before .before .before .before .before .before .before .pre in
     let w = far .wanted .ensures in
     let h = far .before .before .before .before .before .before .held .ensures in
@@ -146,8 +144,6 @@ slice-aggregate-narrow c =
 slice-aggregate-narrow-2 : tie.Need-slice-aggregate-narrow-2
 slice-aggregate-narrow-2 c =
     let far = c .before .before .before .before .before .before .before .before .before .before .before .before .before .before .before .before .before .before .before .before .before .before in
-    let a = far .before .before .before .before .before .before .before .before .before .before .before .before .before .args in
-    let p = far .before .before .before .before .before .before .before .before .before .before .before .before .before .pre in
     let w = far .before .wanted .ensures in
     sym (w .long)
 
@@ -155,7 +151,6 @@ narrow-requires : tie.Need-narrow-requires
 narrow-requires c κs =
     let far = c .before .before .before .before .before .before .before .before .before .before .before .before .before .before .before .before .before .before .before .before .before .before in
     let p = far .before .before .before .before .before .before .before .before .before .before .before .before .before .before .pre in
-    let a = far .before .before .before .before .before .before .before .before .before .before .before .before .before .before .args in
     let m = p .4 in
     let b = p .5 in
     let h = far .before .before .before .before .before .before .before .before .held .ensures in
