@@ -375,12 +375,31 @@ fn tight_parts(ts: &[usize], spot: usize) -> u64
     r
 }
 
-// A part of output o that holds or needs most, what it holds or needs and what it lacks, and the parts that hold or need spot.
+// A part of output o that holds or needs most, what it holds or needs and what it lacks, the parts that hold or need spot, and
+// the other parts that hold or need blocks.
 pub struct Busy {
     pub part: u8,
     pub total: u16,
     pub news: u16,
     pub tight: u64,
+    pub others: u64,
+}
+
+// The parts other than q whose number is not 0.
+fn others_of(ts: &[usize], q: u8) -> u64
+    requires { ⌜ length (now ts) ≡ maxVertices ⌝ }
+{
+    let mut r: u64 = 0;
+    let mut p: u8 = 0;
+    while p < CLASSES {
+        if p != q {
+            if ts[p as usize] != 0 {
+                r = cells::with(r, p);
+            }
+        }
+        p += 1;
+    }
+    r
 }
 
 fn busiest(cl: &[u8], base: &[u8], o: usize, owns: &[u8], wants: &[u8], spot: usize) -> Busy
@@ -398,6 +417,7 @@ fn busiest(cl: &[u8], base: &[u8], o: usize, owns: &[u8], wants: &[u8], spot: us
             total: a.total,
             news: a.news,
             tight: one,
+            others: 0,
         };
     }
     let ts = totals(cl, base, o, wants);
@@ -409,6 +429,7 @@ fn busiest(cl: &[u8], base: &[u8], o: usize, owns: &[u8], wants: &[u8], spot: us
         total: b.total,
         news: b.news,
         tight,
+        others: others_of(&ts, q),
     }
 }
 
@@ -506,6 +527,57 @@ fn out_of_reach(
     }
     let d = reach(cl, base, v, o, p, owns, wants, codes, dom, own);
     fewer_blocks(bs, o, d, news)
+}
+
+// Whether that is so of some part of the set others.
+fn others_out_of_reach(
+    cl: &[u8],
+    base: &[u8],
+    bs: &[u64],
+    v: usize,
+    o: usize,
+    cap: u8,
+    others: u64,
+    owns: &[u8],
+    wants: &[u8],
+    codes: &[u8],
+    dom: &[u64],
+    own: &[u64],
+) -> bool
+    requires { ⌜ Labels (now cl) × (length (now base) ≡ labelCount) × (length (now bs) ≡ blockCount) × (v ≤ maxVertices) × (o < searchOutputs)
+        × (length (now dom) ≡ maxVertices) × (length (now own) ≡ maxVertices) × (length (now codes) ≡ maxVertices) × (length (now owns) ≡ maxVertices) × (length (now wants) ≡ maxVertices)
+        × ((l : ℕ) → l < maxVertices → item (now owns) l ≤ item (now wants) l) ⌝ }
+    ensures { λ r. ⌜ (r ≡ true → (cap ≤ 1) × ((p : ℕ) × (total : ℕ) × (news : ℕ) × Lacks (now (cl .entry)) (now (owns .entry)) (now (wants .entry)) (now (base .entry)) o p maxVertices total news
+        × ((mask : ℕ) → ((c : ℕ) → c < maxCodes → Block mask c (getD (now (bs .entry)) (o * maxCodes + c) 0))
+        → Lost (now (cl .entry)) (now (base .entry)) (now (owns .entry)) (now (wants .entry)) (now (codes .entry)) (now (dom .entry)) (now (own .entry)) o p mask v news))) ⌝ }
+{
+    if cap != 1 {
+        return false;
+    }
+    let mut rest = others;
+    while rest != 0 {
+        let p = cells::lowest(rest);
+        rest = cells::without(rest, p);
+        let a = lacks(cl, base, o, p, owns, wants);
+        if out_of_reach(
+            cl,
+            base,
+            bs,
+            v,
+            o,
+            cap,
+            p,
+            a.news,
+            owns,
+            wants,
+            codes,
+            dom,
+            own,
+        ) {
+            return true;
+        }
+    }
+    false
 }
 
 // The codes that a class keeps to where no place is left.
@@ -614,6 +686,22 @@ pub fn settle(
         caps[o],
         b.part,
         b.news,
+        &owns,
+        &wants,
+        codes,
+        dom,
+        &h.own,
+    ) {
+        return false;
+    }
+    if others_out_of_reach(
+        cl,
+        base,
+        bs,
+        v,
+        o,
+        caps[o],
+        b.others,
         &owns,
         &wants,
         codes,

@@ -1,19 +1,9 @@
 use Rattle.holding.specs.Reach.{tight-one}
 use Rattle.holding.specs.Wants.{filled-tight}
 use native.Mathlib.Omega.{arith}
-use Prim.Native.Nat.{_-_}
 use borrow.Author.Needs.{needs}
 use Rattle.holding.proofs.busiest.Statement.{statement}
 use Rattle.holding.proofs.busiest.Tie as tie
-use Rattle.holding.proofs.busiest.Reads as reads
-use Rattle.holding.proofs.busiest.Lts as lts
-use Rattle.holding.proofs.lacks.Reads as lacks-reads
-use Rattle.holding.proofs.largest.Reads as largest-reads
-use Rattle.holding.proofs.one_part.Reads as one-part-reads
-use Rattle.holding.proofs.tight_part.Reads as tight-part-reads
-use Rattle.holding.proofs.tight_parts.Reads as tight-parts-reads
-use Rattle.holding.proofs.totals.Reads as totals-reads
-use Rattle.numbering.proofs.class_part.Reads as class-part-reads
 
 class-part-requires : tie.Need-class-part-requires
 class-part-requires c κs = let p = c .before .before .before .before .pre in (p .0, p .2, omega arith)
@@ -60,12 +50,19 @@ slice-aggregate-tight-parts c = search needs
 tight-parts-requires : tie.Need-tight-parts-requires
 tight-parts-requires c κs = search needs
 
+slice-aggregate-others-of : tie.Need-slice-aggregate-others-of
+slice-aggregate-others-of c = search needs
+
+others-of-requires : tie.Need-others-of-requires
+others-of-requires c κs = search needs
+
 returns-2 : tie.Need-returns-2
 returns-2 c =
-    let a = c .before .before .before .before .before .before .before .before .before .before .before .before .before .args in
-    let t = c .before .before .before .before .before .totals in
-    let f = c .tight-parts in
-    (c .before .before .lacks2 .ensures, filled-tight (a .cl .now) (a .wants .now) (a .base .now) (a .o) (a .spot) (t .result) (f .result) (t .ensures) (f .ensures))
+    let a = c .before .before .before .before .before .before .before .before .before .before .before .before .before .before .before .args in
+    let t = c .before .before .before .before .before .before .before .totals in
+    let f = c .before .before .tight-parts in
+    let s = c .before .before .before .before .lacks2 .ensures in
+    (s, filled-tight (a .cl .now) (a .wants .now) (a .base .now) (a .o) (a .spot) (t .result) (f .result) (t .ensures) (f .ensures))
 
 pub busiest-spec : {M : Type 1} → statement M
 busiest-spec =
@@ -84,4 +81,6 @@ busiest-spec =
     lacks-requires-2
     slice-aggregate-tight-parts
     tight-parts-requires
+    slice-aggregate-others-of
+    others-of-requires
     returns-2)

@@ -127,29 +127,92 @@ returns-2 c =
     (w .result .wants) (w .result .meet) (b .result .part) (b .result .total) (b .result .news) i (r .0) (b .ensures .0) q in
     (kept-start (a .cl .now) (a .base .now) (a .t4) _ _ (a .v) (a .j) _ _, p .7, λ e. none)
 
+array-read-others-out-of-reach : tie.Need-array-read-others-out-of-reach
+array-read-others-out-of-reach c =
+    let far = c .before .before .before .before .before .before .before .before .before .before .before .before .before .before in
+    let p = far .before .before .before .before .before .before .before .before .before .before .before .before .pre in
+    let a = p .4 in
+    let b = p .5 in
+    search needs
+
+slice-aggregate-others-out-of-reach : tie.Need-slice-aggregate-others-out-of-reach
+slice-aggregate-others-out-of-reach c =
+    let h = c .before .before .before .before .before .before .before .before .before .before .before .before .before .before .before .before .before .before .before .before .before .held in
+    sym (h .ensures .owns-long)
+
+slice-aggregate-others-out-of-reach-2 : tie.Need-slice-aggregate-others-out-of-reach-2
+slice-aggregate-others-out-of-reach-2 c =
+    let far = c .before .before .before .before .before .before .before .before .before .before .before .before .before .before .before .before in
+    let w = far .wanted .ensures in
+    sym (w .long)
+
+others-out-of-reach-requires : tie.Need-others-out-of-reach-requires
+others-out-of-reach-requires c κs =
+    let far = c .before .before .before .before .before .before .before .before .before .before .before .before .before .before .before .before .before .before .before .before in
+    let p = far .before .before .before .before .before .before .before .before .before .before .before .before .pre in
+    let w = far .wanted in
+    let i = w .ensures in
+    let h = far .before .before .before .before .before .before .held .ensures in
+    let m = p .4 in
+    let b = p .5 in (
+      p .0,
+      p .1,
+      p .2 .long,
+      p .3,
+      omega arith,
+      p .7,
+      h .own-long,
+      p .6,
+      h .owns-long,
+      i .long,
+      wanted-held _ _ _ _ _ _ _ (w .result .wants) (w .result .meet) i,
+    )
+
 same-length-3 : tie.Need-same-length-3
 same-length-3 c = search needs
 
 returns-3 : tie.Need-returns-3
 returns-3 c =
     let far = c .before .before .before .before .before .before .before .before .before .before .before .before .before .before .before .before .before .before .before .before .before .before in
+    let p = far .before .before .before .before .before .before .before .before .before .before .before .before .pre in
+    let a = far .before .before .before .before .before .before .before .before .before .before .before .before .args in
+    let w = far .wanted in
+    let s = far .before .before .before .before .before .before .held .ensures in
+    let r = c .before .others-out-of-reach .ensures (c .if3 .taken) in
+    let lost = r .1 in
+    let i = w .ensures in
+    let q = lost .4 (item (a .t4) (a .o)) (λ k l. p .2 .each (a .o) k (p .5) l) in
+    let none = settled-reach (a .cl .now) (a .base .now) (a .t4) _ _ (a .v) (a .j) (a .o) _ _ _ _ (p .0) (p .3) (p .4) (p .5) s
+    (w .result .wants) (w .result .meet) (lost .0) (lost .1) (lost .2) i (r .0) (lost .3) q in
+    (kept-start (a .cl .now) (a .base .now) (a .t4) _ _ (a .v) (a .j) _ _, p .7, λ e. none)
+
+same-length-4 : tie.Need-same-length-4
+same-length-4 c = search needs
+
+returns-4 : tie.Need-returns-4
+returns-4 c =
+    let near = c .before .before .before .before .before .before .before .before in
+    let far = near .before .before .before .before .before .before .before .before .before .before .before .before .before .before .before .before .before .before .before .before .before .before in
     let a = far .before .before .before .before .before .args in
     (kept-start (a .cl .now) (a .base .now) (a .t4) _ _ (a .v) (a .j) _ _, far .before .before .before .before .before .pre .7, λ e. absurd (true-false e))
 
 slice-aggregate-narrow : tie.Need-slice-aggregate-narrow
 slice-aggregate-narrow c =
-    let far = c .before .before .before .before .before .before .before .before .before .before .before .before in
+    let near = c .before .before .before .before .before .before .before .before in
+    let far = near .before .before .before .before .before .before .before .before .before .before .before .before in
     sym (far .before .before .before .before .before .before .before .before .before .before .before .before .before .before .before .before .held .ensures .owns-long)
 
 slice-aggregate-narrow-2 : tie.Need-slice-aggregate-narrow-2
 slice-aggregate-narrow-2 c =
-    let far = c .before .before .before .before .before .before .before .before .before .before .before .before .before .before .before .before .before .before .before .before .before .before in
+    let near = c .before .before .before .before .before .before .before .before in
+    let far = near .before .before .before .before .before .before .before .before .before .before .before .before .before .before .before .before .before .before .before .before .before .before in
     let w = far .before .wanted .ensures in
     sym (w .long)
 
 narrow-requires : tie.Need-narrow-requires
 narrow-requires c κs =
-    let far = c .before .before .before .before .before .before .before .before .before .before .before .before .before .before .before .before .before .before .before .before .before .before in
+    let near = c .before .before .before .before .before .before .before .before in
+    let far = near .before .before .before .before .before .before .before .before .before .before .before .before .before .before .before .before .before .before .before .before .before .before in
     let p = far .before .before .before .before .before .before .before .before .before .before .before .before .before .before .pre in
     let m = p .4 in
     let b = p .5 in
@@ -157,14 +220,16 @@ narrow-requires c κs =
     let w = far .before .before .wanted .ensures in
     (p .0, p .1, p .3, omega arith, h .own-long, w .meet-long, λ l k. let z = h .less l k in let y = p .3 in omega arith, p .6, p .7, h .owns-long, w .long)
 
-same-length-4 : tie.Need-same-length-4
-same-length-4 c =
-    let far = c .before .before .before .before .before .before .before .before .before .before .before .before .before .before .before .before .before .before .before .before .before .before in
+same-length-5 : tie.Need-same-length-5
+same-length-5 c =
+    let near = c .before .before .before .before .before .before .before .before in
+    let far = near .before .before .before .before .before .before .before .before .before .before .before .before .before .before .before .before .before .before .before .before .before .before in
     c .before .before .narrow .ensures .long ∙ sym (far .before .before .before .before .before .before .before .before .before .before .before .before .before .before .before .before .before .pre .7)
 
-returns-4 : tie.Need-returns-4
-returns-4 c =
-    let far = c .before .before .before .before .before .before .before .before .before .before .before .before .before .before .before .before .before .before .before .before .before .before in
+returns-5 : tie.Need-returns-5
+returns-5 c =
+    let near = c .before .before .before .before .before .before .before .before in
+    let far = near .before .before .before .before .before .before .before .before .before .before .before .before .before .before .before .before .before .before .before .before .before .before in
     let p = far .before .before .before .before .before .before .before .before .before .before .before .before .before .before .before .before .before .pre in
     let a = far .before .before .before .before .before .before .before .before .before .before .before .before .before .before .before .before .before .args in
     let w = far .before .before .before .before .before .wanted in
@@ -197,10 +262,16 @@ settle-spec =
     out-of-reach-requires
     same-length-2
     returns-2
+    array-read-others-out-of-reach
+    slice-aggregate-others-out-of-reach
+    slice-aggregate-others-out-of-reach-2
+    others-out-of-reach-requires
     same-length-3
     returns-3
+    same-length-4
+    returns-4
     slice-aggregate-narrow
     slice-aggregate-narrow-2
     narrow-requires
-    same-length-4
-    returns-4)
+    same-length-5
+    returns-5)
