@@ -9,7 +9,7 @@ use Prim.Native.Nat.{ℕ, zero, suc, _+_, _-_, _*_, _/_, _%_, _^_, _≤_, _<_, m
 use native.Mathlib.Decide.{ℕ-discrete, decLt}
 use native.Mathlib.Omega.{arith}
 use native.Mathlib.Nat.{mod-eq-of-lt, mod-lt, div-eq-of-lt, add-mul-div-left, add-mul-mod-self-left, div-lt-iff-lt-mul, mul-comm, mul-suc, mul-le-mul-left, pow-suc, one-mul}
-use lib.Bits.{bitAnd, bitOr, bitXor, and-le-r, and-mask}
+use lib.Bits.{bitAnd, bitOr, bitXor, and-le-r}
 use lib.Count.{ones, ones-step}
 use lib.Dec.{eqb}
 use lib.ListN.{length, set, length-set}
@@ -29,14 +29,11 @@ use Rattle.numbering.specs.Given.{item, Fixed}
 use Rattle.coding.specs.Limit.{Sure}
 use Rattle.relation.specs.Relation.{Left}
 use Rattle.questions.specs.Question.{openOf, givenOf, Barred, Settled}
+use Rattle.questions.specs.QuestionLaws.{on-open}
 use Rattle.memory.specs.MemoryLaws.{barred-among}
 use Rattle.choosing.specs.Choice.{RowFits, numbered, firstOutputs, Core, Rows, Alike, Agree, Found, Lost, Chosen, disorder, Suits, stillAlike, Next}
 
 -- ======== digits of rows
--- the open cells of a row are its first digits
-on-open : (row i : ℕ) → i < 6 → on (row % 64) i ≡ on row i
-on-open row i h = ap (λ (z : ℕ). on z i) (sym (and-mask row 6)) ∙ on-and row 63 i ∙ ap (andb (on row i)) (on-ones 6 i h) ∙ and-on (on row i)
-
 on-given : (row i : ℕ) → on row (6 + i) ≡ on (row / 64) i
 unfolding on digit
 on-given row i = ap (λ (z : ℕ). eqb (z % 2) 1) (sym (shr-shr row 6 i))

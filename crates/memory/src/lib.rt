@@ -107,6 +107,46 @@ pub fn forget(mem: &mut [u16])
     }
 }
 
+// Whether some row of entry i reads cell 0.
+fn reads_cell_0(mem: &[u16], i: usize) -> bool
+    requires { ⌜ (length (now mem) ≡ entryCount * entrySize) × (i < entryCount) ⌝ }
+    ensures { λ r. ⌜ (r ≡ false → (o : ℕ) → o < searchOutputs → on (rowAt (now (mem .entry)) i o) 0 ≡ false) ⌝ }
+{
+    let mut all: u16 = 0;
+    let mut o: usize = 0;
+    while o < SEARCH_OUTPUTS {
+        all = all | mem[i * ENTRY + (o + 1)];
+        o += 1;
+    }
+    all % 2 == 1
+}
+
+// The memory without what it says of questions that read cell 0. What it says of the others holds whatever is known of cell 0.
+pub fn keep_unread(mem: &mut [u16])
+    requires { ⌜ length (now mem) ≡ entryCount * entrySize ⌝ }
+    ensures { λ r. ⌜ ((cl given : List ℕ) (kn val kn' val' v : ℕ) → (on kn 0 ≡ true → on val 0 ≡ false) → Honest cl given kn val v (now (mem .entry)) → Honest cl given kn' val' v (now (mem .exit))) ⌝ }
+{
+    let mut i: usize = 0;
+    while i < ENTRIES {
+        if reads_cell_0(mem, i) {
+            mem[i * ENTRY] = 0;
+        }
+        i += 1;
+    }
+}
+
+// The memory without anything.
+pub fn clear(mem: &mut [u16])
+    requires { ⌜ length (now mem) ≡ entryCount * entrySize ⌝ }
+    ensures { λ r. ⌜ ((cl given : List ℕ) (kn val v : ℕ) → Honest cl given kn val v (now (mem .exit))) ⌝ }
+{
+    let mut i: usize = 0;
+    while i < ENTRIES {
+        mem[i * ENTRY] = 0;
+        i += 1;
+    }
+}
+
 // Whether some codes may answer a question, and how often the search gave a vertex a code: not at all where the answer was
 // known.
 pub struct Reply {
@@ -155,13 +195,14 @@ fn between(a: u8, with: u8, among: u8) -> bool
     with & !a == 0
 }
 
-// Whether a set of outputs of among, those of with among them, is known to have no codes for the rows.
+// Whether a set of outputs of among, those of with among them, is known to have no codes for the rows. A set that is part of
+// among is no larger as a number.
 pub fn known_bad(mem: &[u16], rows: [u16; SEARCH_OUTPUTS], with: u8, among: u8, known: bool) -> bool
     requires { ⌜ length (now mem) ≡ entryCount * entrySize ⌝ }
     ensures { λ r. ⌜ ((cl given : List ℕ) (kn val v : ℕ) → (known ≡ false → kn ≡ 0) → Honest cl given kn val v (now (mem .entry)) → r ≡ true → Barred cl given kn val v among (item rows)) ⌝ }
 {
     let mut a: usize = 1;
-    while a < SETS {
+    while a <= among as usize {
         if between(a as u8, with, among) {
             let asks = questions::question(rows, a as u8, known);
             if is_bad(mem, a as u8, asks) {
@@ -172,9 +213,6 @@ pub fn known_bad(mem: &[u16], rows: [u16; SEARCH_OUTPUTS], with: u8, among: u8, 
     }
     false
 }
-
-// The sets of outputs.
-const SETS: usize = 1 << SEARCH_OUTPUTS;
 
 // Whether the sets of n outputs of among, those of with among them, may have codes for the rows.
 pub fn settle(
@@ -195,7 +233,7 @@ pub fn settle(
 {
     let mut nodes: u64 = 0;
     let mut a: usize = 1;
-    while a < SETS {
+    while a <= among as usize {
         if u64::count_ones(a as u64) == n {
             if between(a as u8, with, among) {
                 let t = tell(cl, given, mem, v, kn, val, a as u8, rows, limit);

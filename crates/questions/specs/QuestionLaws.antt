@@ -1,14 +1,21 @@
 -- Laws of questions: what no codes answer stays so where more outputs are asked about, and rows say the same where they are
 -- equal. Assumes nothing.
-use mathlib.Core.Path.{_≡_, subst}
+use mathlib.Core.Path.{_≡_, sym, ap, _∙_, subst}
 use mathlib.Core.Bool.{Bool, true, false}
 use mathlib.Core.List.{List}
-use Prim.Native.Nat.{ℕ, _<_}
-use lib.Bits.{bitAnd}
+use Prim.Native.Nat.{ℕ, _%_, _<_}
+use lib.Bits.{bitAnd, and-mask}
 use Rattle.limits.specs.Limits.{searchOutputs}
+use Rattle.bits.specs.Logic.{andb}
 use Rattle.bits.specs.Digit.{on}
+use Rattle.bits.specs.DigitLaws.{on-and, on-ones}
+use Rattle.cells.specs.Lists.{and-on}
 use Rattle.relation.specs.Relation.{Left}
 use Rattle.questions.specs.Question.{openOf, givenOf, Answers, Barred, Settled}
+
+-- the open cells of a row are its first digits
+pub on-open : (row i : ℕ) → i < 6 → on (row % 64) i ≡ on row i
+on-open row i h = ap (λ (z : ℕ). on z i) (sym (and-mask row 6)) ∙ on-and row 63 i ∙ ap (andb (on row i)) (on-ones 6 i h) ∙ and-on (on row i)
 
 module _ (cl given : List ℕ) (kn val v : ℕ) where
   -- codes that answer a question answer each question about fewer outputs, with the same rows for these

@@ -1,7 +1,6 @@
 use Rattle.memory.specs.MemoryLaws.{within-of}
 use Rattle.bits.specs.LogicLaws.{true-false}
 use mathlib.Core.Path.{sym}
-use borrow.Author.Needs.{needs}
 use Rattle.memory.proofs.between.Statement.{statement}
 use Rattle.memory.proofs.between.Tie as tie
 use Rattle.memory.proofs.between.Reads as reads

@@ -1,4 +1,4 @@
-use Rattle.memory.specs.Memory.{headAt, rowAt}
+use Rattle.memory.specs.Memory.{rowAt}
 use Rattle.numbering.specs.Given.{item}
 use Rattle.cells.specs.Lists.{less-or-equal}
 use Rattle.bits.specs.LogicLaws.{true-false}

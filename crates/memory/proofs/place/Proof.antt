@@ -1,5 +1,5 @@
 use native.Mathlib.Omega.{arith}
-use Prim.Native.Nat.{_<_, _≤_, _-_, _%_}
+use Prim.Native.Nat.{_<_, _≤_, _-_}
 use borrow.Author.Needs.{needs}
 use Rattle.memory.proofs.place.Statement.{statement}
 use Rattle.memory.proofs.place.Tie as tie

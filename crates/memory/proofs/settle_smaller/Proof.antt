@@ -1,7 +1,6 @@
 use Rattle.memory.specs.Memory.{Honest}
 use Rattle.bits.specs.LogicLaws.{true-false}
 use borrow.Author.Tests.{not-true}
-use native.Mathlib.Omega.{arith}
 use Prim.Native.Nat.{_-_}
 use mathlib.Core.Path.{sym, _∙_}
 use borrow.Author.Needs.{needs}
