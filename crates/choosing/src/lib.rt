@@ -164,9 +164,72 @@ fn next(cl: &[u8], given: &[u16], p: Problem, done: u8, same: u8) -> usize
     best
 }
 
+// Whether a count leaves it open that the rows of the outputs of the set done, n among them, have codes. Where there are given
+// tables a count for n alone comes first: it is quick and rules out most rows.
+fn possible(
+    cl: &[u8],
+    given: &[u16],
+    p: Problem,
+    rows: [u16; SEARCH_OUTPUTS],
+    done: u8,
+    n: usize,
+) -> bool
+    requires { ⌜ Classes (now cl) × (length (now given) ≡ maxVertices) × (p .vertices ≤ maxVertices) × (n < searchOutputs) × (on done n ≡ true) ⌝ }
+    ensures { λ r. ⌜ (r ≡ false → Barred (now (cl .entry)) (now (given .entry)) (p .kn) (p .val) (p .vertices) done (item rows)) ⌝ }
+{
+    if p.tables != 0 {
+        if !questions::possible(cl, given, p.vertices, with(0, n), rows) {
+            return false;
+        }
+    }
+    questions::possible(cl, given, p.vertices, done, rows)
+}
+
+// Whether the questions about n alone and about n and one other of the set done may have codes. One about n alone is asked where
+// cell 0 has known digits: else a count has shown that it has codes. Two outputs that are all are asked about at the end.
+fn small_questions(
+    cl: &[u8],
+    given: &[u16],
+    mem: &mut [u16],
+    p: Problem,
+    rows: [u16; SEARCH_OUTPUTS],
+    done: u8,
+    n: usize,
+) -> memory::Reply
+    requires { ⌜ Classes (now cl) × (length (now given) ≡ maxVertices) × (p .vertices ≤ maxVertices) × (n < searchOutputs)
+        × Honest (now cl) (now given) (p .kn) (p .val) (p .vertices) (now mem) ⌝ }
+    ensures { λ r. ⌜ Honest (now (cl .entry)) (now (given .entry)) (p .kn) (p .val) (p .vertices) (now (mem .exit))
+        × (r .ok ≡ false → Barred (now (cl .entry)) (now (given .entry)) (p .kn) (p .val) (p .vertices) done (item rows)) ⌝ }
+{
+    let last = with(0, n);
+    let mut nodes: u64 = 0;
+    let mut size: u32 = if p.kn != 0 { 1 } else { 2 };
+    let end: u32 = if p.outputs == 2 { 2 } else { 3 };
+    while size < end {
+        let a = memory::settle(
+            cl,
+            given,
+            mem,
+            p.vertices,
+            p.kn,
+            p.val,
+            size,
+            last,
+            done,
+            rows,
+            p.limit,
+        );
+        nodes = std::num::wrapping_add_u64(nodes, a.nodes);
+        if !a.ok {
+            return memory::Reply { ok: false, nodes };
+        }
+        size += 1;
+    }
+    memory::Reply { ok: true, nodes }
+}
+
 // Whether the rows of the outputs of the set done, n among them, may go on: nothing rules them out that a count, the memory or a
-// question about n and one other of them shows. A count for n alone comes first: it is quick and rules out most rows. Sets
-// without n were looked up before.
+// question about n, or n and one other of them, shows. Sets without n were looked up before.
 fn alive(
     cl: &[u8],
     given: &[u16],
@@ -181,38 +244,19 @@ fn alive(
     ensures { λ r. ⌜ Honest (now (cl .entry)) (now (given .entry)) (p .kn) (p .val) (p .vertices) (now (mem .exit))
         × (r .ok ≡ false → Barred (now (cl .entry)) (now (given .entry)) (p .kn) (p .val) (p .vertices) done (item rows)) ⌝ }
 {
-    let last = with(0, n);
-    if !questions::possible(cl, given, p.vertices, last, rows) {
+    if !possible(cl, given, p, rows, done, n) {
         return memory::Reply {
             ok: false,
             nodes: 0,
         };
     }
-    if !questions::possible(cl, given, p.vertices, done, rows) {
+    if memory::known_bad(mem, rows, with(0, n), done, p.kn != 0) {
         return memory::Reply {
             ok: false,
             nodes: 0,
         };
     }
-    if memory::known_bad(mem, rows, last, done, p.kn != 0) {
-        return memory::Reply {
-            ok: false,
-            nodes: 0,
-        };
-    }
-    memory::settle(
-        cl,
-        given,
-        mem,
-        p.vertices,
-        p.kn,
-        p.val,
-        2,
-        last,
-        done,
-        rows,
-        p.limit,
-    )
+    small_questions(cl, given, mem, p, rows, done, n)
 }
 
 // Which of the rows, in the order in which they are tried, has given tables that leave no conflict of output n: then codes need

@@ -1,37 +1,23 @@
-use Rattle.choosing.specs.ChoiceLaws.{barred-alone, known-or-none}
-use Rattle.numbering.specs.Given.{item}
+use Rattle.choosing.specs.ChoiceLaws.{known-or-none}
 use borrow.Author.Tests.{not-true}
 use borrow.Author.Needs.{needs}
 use Rattle.choosing.proofs.alive.Statement.{statement}
 use Rattle.choosing.proofs.alive.Tie as tie
 use Rattle.choosing.proofs.alive.Reads as reads
 use Rattle.choosing.proofs.alive.Lts as lts
+use Rattle.choosing.proofs.possible.Reads as possible-reads
+use Rattle.choosing.proofs.small_questions.Reads as small-questions-reads
 use Rattle.choosing.proofs.with.Reads as with-reads
 use Rattle.memory.proofs.known_bad.Reads as known-bad-reads
-use Rattle.memory.proofs.settle.Reads as settle-reads
-use Rattle.questions.proofs.possible.Reads as possible-reads
-
-with-requires : tie.Need-with-requires
-with-requires c κs = search needs
 
 possible-requires : tie.Need-possible-requires
 possible-requires c κs = search needs
 
 returns : tie.Need-returns
-returns c =
-    let a = c .before .before .before .before .before .before .args in
-    let q = c .before .before .before .before .before .before .pre in
-    let w = c .before .before .with in
-    let none = c .before .possible .ensures (not-true _ (c .if1 .taken)) (a .p .kn) (a .p .val) in
-    (q .5, λ e. barred-alone (a .cl .now) (a .given .now) (a .p .kn) (a .p .val) (a .p .vertices) (a .done) (a .n) (w .result) (item (a .rows)) (w .ensures) (q .4) none)
+returns c = (c .before .before .before .before .before .pre .5, λ e. c .before .possible .ensures (not-true _ (c .if1 .taken)))
 
-possible-requires-2 : tie.Need-possible-requires-2
-possible-requires-2 c κs = search needs
-
-returns-2 : tie.Need-returns-2
-returns-2 c =
-    let a = c .before .before .before .before .before .before .before .before .args in
-    (c .before .before .before .before .before .before .before .before .pre .5, λ e. c .before .possible2 .ensures (not-true _ (c .if2 .taken)) (a .p .kn) (a .p .val))
+with-requires : tie.Need-with-requires
+with-requires c κs = search needs
 
 known-bad-requires : tie.Need-known-bad-requires
 known-bad-requires c κs = search needs
@@ -39,33 +25,31 @@ known-bad-requires c κs = search needs
 same-length : tie.Need-same-length
 same-length c = search needs
 
-returns-3 : tie.Need-returns-3
-returns-3 c =
-    let a = c .before .before .before .before .before .before .before .before .before .before .before .before .args in
-    let h = c .before .before .before .before .before .before .before .before .before .before .before .before .pre .5 in
-    (h, λ e. c .before .known-bad .ensures (a .cl .now) (a .given .now) (a .p .kn) (a .p .val) (a .p .vertices) (known-or-none (a .p .kn)) h (c .if3 .taken))
+returns-2 : tie.Need-returns-2
+returns-2 c =
+    let a = c .before .before .before .before .before .before .before .before .before .before .args in
+    let h = c .before .before .before .before .before .before .before .before .before .before .pre .5 in
+    (h, λ e. c .before .known-bad .ensures (a .cl .now) (a .given .now) (a .p .kn) (a .p .val) (a .p .vertices) (known-or-none (a .p .kn)) h (c .if2 .taken))
 
-settle-requires : tie.Need-settle-requires
-settle-requires c κs = search needs
+small-questions-requires : tie.Need-small-questions-requires
+small-questions-requires c κs = let q = c .before .before .before .before .before .before .before .before .before .before .before .pre in (q .0, q .1, q .2, q .3, q .5)
 
 same-length-2 : tie.Need-same-length-2
 same-length-2 c = search needs
 
-returns-4 : tie.Need-returns-4
-returns-4 c = search needs
+returns-3 : tie.Need-returns-3
+returns-3 c = c .before .before .small-questions .ensures
 
 pub alive-spec : {M : Type 1} → statement M
 alive-spec =
     tie.close
     (tie.spec
-    with-requires
     possible-requires
     returns
-    possible-requires-2
-    returns-2
+    with-requires
     known-bad-requires
     same-length
-    returns-3
-    settle-requires
+    returns-2
+    small-questions-requires
     same-length-2
-    returns-4)
+    returns-3)
