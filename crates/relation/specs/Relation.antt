@@ -33,3 +33,7 @@ pub record Leaves (cl given from gs : List ℕ) (n v : ℕ) (r : List ℕ) : Typ
 -- the given tables of the set g leave no conflict of output o at the first v vertices
 pub record NoneLeft (cl given : List ℕ) (g o v : ℕ) : Type 0 where
   pub none : (x y : ℕ) → x < v → y < v → Left cl given g o x y → ⊥
+
+-- of the first v vertices output o has to tell apart none that output q need not tell apart
+pub record Inside (cl : List ℕ) (o q v : ℕ) : Type 0 where
+  pub inside : (x y : ℕ) → x < v → y < v → Conflict cl o x y → Conflict cl q x y

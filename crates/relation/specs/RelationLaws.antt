@@ -1,5 +1,6 @@
--- Laws of what given tables leave: a conflict can be decided and has no order, no given table leaves every conflict, and codes
--- tell apart what is left exactly when they tell the labels and parts apart. Assumes nothing.
+-- Laws of what given tables leave: a conflict can be decided and has no order, no given table leaves every conflict, codes tell
+-- apart what is left exactly when they tell the labels and parts apart, and one output has to tell apart no more than another
+-- where that is so at each vertex for the vertices before it. Assumes nothing.
 use mathlib.Core.Path.{_≡_, refl, sym, _∙_, subst}
 use mathlib.Core.List.{List, [], _∷_}
 use mathlib.Core.Logic.{_⊎_, inl, inr}
@@ -11,7 +12,7 @@ use Rattle.cells.specs.Lists.{less-or-equal}
 use Rattle.cells.specs.Cut.{Within}
 use Rattle.cells.specs.Codes.{Coded}
 use Rattle.numbering.specs.Given.{labelAt, partAt, item}
-use Rattle.relation.specs.Relation.{Conflict, Left, Leaves, NoneLeft}
+use Rattle.relation.specs.Relation.{Conflict, Left, Leaves, NoneLeft, Inside}
 
 pub conflict-or-not : (cl : List ℕ) (o x y : ℕ) → Conflict cl o x y ⊎ (Conflict cl o x y → ⊥)
 unfolding Conflict
@@ -24,6 +25,23 @@ conflict-or-not cl o x y = go (ℕ-discrete (labelAt cl o x) (labelAt cl o y))
 pub conflict-sym : (cl : List ℕ) (o x y : ℕ) → Conflict cl o x y → Conflict cl o y x
 unfolding Conflict
 conflict-sym cl o x y c e = c (sym e)
+
+conflict-self : (cl : List ℕ) (o x : ℕ) → Conflict cl o x x → ⊥
+unfolding Conflict
+conflict-self cl o x c = c refl
+
+pub different-conflict : (cl : List ℕ) (o x y : ℕ) → (labelAt cl o x ≡ labelAt cl o y → ⊥) → Conflict cl o x y
+unfolding Conflict
+different-conflict cl o x y d = d
+
+pub equal-no-conflict : (cl : List ℕ) (o x y : ℕ) → labelAt cl o x ≡ labelAt cl o y → Conflict cl o x y → ⊥
+unfolding Conflict
+equal-no-conflict cl o x y e c = c e
+
+-- labels that are those of another output are in conflict where that output's are
+pub same-labels-conflict : (cl cl' : List ℕ) (o q x y : ℕ) → labelAt cl o x ≡ labelAt cl' q x → labelAt cl o y ≡ labelAt cl' q y → Conflict cl o x y → Conflict cl' q x y
+unfolding Conflict
+same-labels-conflict cl cl' o q x y a b c e = c (a ∙ e ∙ sym b)
 
 pub left-none-conflict : (cl given : List ℕ) (o x y : ℕ) → Left cl given 0 o x y → Conflict cl o x y
 left-none-conflict cl given o x y l = l .conflict
@@ -43,12 +61,10 @@ left-sym : (cl given : List ℕ) (g o x y : ℕ) → Left cl given g o x y → L
 left-sym cl given g o x y l = record { conflict = conflict-sym cl o x y (l .conflict); agree = sym (l .agree) }
 
 left-self : (cl given : List ℕ) (g o x : ℕ) → Left cl given g o x x → ⊥
-unfolding Conflict
-left-self cl given g o x l = l .conflict refl
+left-self cl given g o x l = conflict-self cl o x (l .conflict)
 
 pub equal-not-left : (cl given : List ℕ) (g o x y : ℕ) → labelAt cl o x ≡ labelAt cl o y → Left cl given g o x y → ⊥
-unfolding Conflict
-equal-not-left cl given g o x y e l = l .conflict e
+equal-not-left cl given g o x y e l = equal-no-conflict cl o x y e (l .conflict)
 
 pub none-left-start : (cl given : List ℕ) (g o : ℕ) → NoneLeft cl given g o 0
 none-left-start cl given g o = record { none = λ x y h. absurd (omega arith) }
@@ -64,6 +80,22 @@ none-left-more cl given g o x new s = record { none = λ a b h k. at a b (less-o
     at a b (inr h) (inl k) l = new b k (subst (λ (a : ℕ). L a b) h l)
     at a b (inl h) (inr k) l = new a h (left-sym cl given g o a x (subst (L a) k l))
     at a b (inr h) (inr k) l = left-self cl given g o x (subst (L x) k (subst (λ (a : ℕ). L a b) h l))
+
+-- ======== no conflict that another output does not have
+pub inside-start : (cl : List ℕ) (o q : ℕ) → Inside cl o q 0
+inside-start cl o q = record { inside = λ x y h. absurd (omega arith) }
+
+pub inside-more : (cl : List ℕ) (o q x : ℕ) → ((y : ℕ) → y < x → Conflict cl o x y → Conflict cl q x y) → Inside cl o q x → Inside cl o q (x + 1)
+inside-more cl o q x new s = record { inside = λ a b h k. at a b (less-or-equal a x (omega arith)) (less-or-equal b x (omega arith)) }
+  where
+    T : ℕ → ℕ → Type 0
+    T a b = Conflict cl o a b → Conflict cl q a b
+
+    at : (a b : ℕ) → (a < x) ⊎ (a ≡ x) → (b < x) ⊎ (b ≡ x) → T a b
+    at a b (inl h) (inl k) = s .inside a b h k
+    at a b (inr h) (inl k) = subst (λ (a : ℕ). T a b) (sym h) (new b k)
+    at a b (inl h) (inr k) = subst (T a) (sym k) (λ c. conflict-sym cl q x a (new a h (conflict-sym cl o a x c)))
+    at a b (inr h) (inr k) = subst (T a) (sym k) (subst (λ (a : ℕ). T a x) (sym h) (λ c. absurd (conflict-self cl o x c)))
 
 -- ======== a worked example
 -- Classes 0 1 1 0 at four vertices, and given tables 0 0 1 1 and 0 1 0 1: the first leaves the pairs 0 1 and 2 3, but not 0 2.

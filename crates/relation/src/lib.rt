@@ -7,7 +7,7 @@ ghost use Prim.Native.Nat.{ℕ, _*_, _<_, _≤_};
 ghost use lib.ListN.{length};
 ghost use Rattle.limits.specs.Limits.{searchOutputs, maxVertices};
 ghost use Rattle.numbering.specs.Given.{item, Labels};
-ghost use Rattle.relation.specs.Relation.{Classes, Left, Leaves, NoneLeft};
+ghost use Rattle.relation.specs.Relation.{Classes, Conflict, Left, Leaves, NoneLeft, Inside};
 ghost use Rattle.relation.specs.Refining.{Valued, Paired, First, Numbers, Fine, Placed, RefinedAt, Copied};
 use limits::LABELS;
 use limits::MAX_VERTICES;
@@ -195,6 +195,40 @@ pub fn none_left(cl: &[u8], given: &[u16], o: usize, g: u16, v: usize) -> bool
     let mut x = 0;
     while x < v {
         if !told(cl, given, o, g, x) {
+            return false;
+        }
+        x += 1;
+    }
+    true
+}
+
+// Whether output q has to tell vertex x from all vertices before it from which output o has to tell it.
+fn inside_at(cl: &[u8], o: usize, q: usize, x: usize) -> bool
+    requires { ⌜ Classes (now cl) × (o < searchOutputs) × (q < searchOutputs) × (x < maxVertices) ⌝ }
+    ensures { λ r. ⌜ (r ≡ true → (y : ℕ) → y < x → Conflict (now (cl .entry)) o x y → Conflict (now (cl .entry)) q x y) ⌝ }
+{
+    let a = numbering::label(cl, o, x);
+    let b = numbering::label(cl, q, x);
+    let mut y = 0;
+    while y < x {
+        if numbering::label(cl, q, y) == b {
+            if numbering::label(cl, o, y) != a {
+                return false;
+            }
+        }
+        y += 1;
+    }
+    true
+}
+
+// Whether output o has to tell apart no vertices of the first v that output q need not tell apart.
+pub fn inside(cl: &[u8], o: usize, q: usize, v: usize) -> bool
+    requires { ⌜ Classes (now cl) × (o < searchOutputs) × (q < searchOutputs) × (v ≤ maxVertices) ⌝ }
+    ensures { λ r. ⌜ (r ≡ true → Inside (now (cl .entry)) o q v) ⌝ }
+{
+    let mut x = 0;
+    while x < v {
+        if !inside_at(cl, o, q, x) {
             return false;
         }
         x += 1;
