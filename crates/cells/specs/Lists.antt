@@ -8,7 +8,8 @@ use Prim.Native.Nat.{ℕ, zero, suc, _+_, _≤_, _<_}
 use native.Mathlib.Decide.{decLt}
 use native.Mathlib.Omega.{arith}
 use native.Mathlib.Numerals.{add-one}
-use lib.ListN.{length, getD}
+use lib.ListN.{length, getD, set}
+use lib.Seq.{getD-set-same, getD-set-other}
 use Rattle.bits.specs.Logic.{andb, orb}
 use Rattle.bits.specs.LogicLaws.{true-false}
 use Rattle.cells.specs.Core.{bit}
@@ -50,6 +51,13 @@ bit-le false = omega arith
 
 pub less-or-equal : (z n : ℕ) → z < suc n → (z < n) ⊎ (z ≡ n)
 less-or-equal z n h = elim (decLt z n) as (λ _. (z < n) ⊎ (z ≡ n)) [ yes l ↦ inl l | no g ↦ inr (omega arith) ]
+
+-- what holds of the first n entries of an array and of the one that is written next holds of the first n + 1
+pub filled-more : (P : ℕ → ℕ → Type 0) (n x : ℕ) (r : List ℕ) → n < length r → P n x → ((k : ℕ) → k < n → P k (getD r k 0)) → (k : ℕ) → k < n + 1 → P k (getD (set r n x) k 0)
+filled-more P n x r b p s k h = ⊎-elim
+    (λ l. subst (P k) (sym (getD-set-other r n k x 0 (λ e. let z : k ≡ n = e in omega arith))) (s k l))
+    (λ e. subst (λ (i : ℕ). P i (getD (set r n x) i 0)) (sym e) (subst (P n) (sym (getD-set-same r n x 0 b)) p))
+    (less-or-equal k n (omega arith))
 
 pub and-on : (b : Bool) → andb b true ≡ b
 and-on true = refl

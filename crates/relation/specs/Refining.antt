@@ -10,7 +10,7 @@ use lib.Bits.{bitAnd, and-zero-r}
 use lib.ListN.{length, getD, set, length-set}
 use lib.Seq.{getD-set-same, getD-set-other}
 use Rattle.limits.specs.Limits.{searchOutputs, maxVertices, labelCount}
-use Rattle.cells.specs.Lists.{less-or-equal}
+use Rattle.cells.specs.Lists.{less-or-equal, filled-more}
 use Rattle.numbering.specs.Given.{labelAt, partAt, partOf, item, Labels}
 use Rattle.relation.specs.Relation.{Classes, Conflict, Leaves}
 
@@ -87,13 +87,6 @@ pub record Cutting (cl given from gs : List ℕ) (n v i : ℕ) (r : List ℕ) : 
   pub rest : (q z : ℕ) → i ≤ q → q < n → z < maxVertices → (labelAt r q z ≡ labelAt cl (item from q) z) × (partAt r q z ≡ 0)
 
 -- ======== keys
--- one more entry of an array: what holds of the first x entries and of the new one holds of the first x + 1
-filled-more : (P : ℕ → ℕ → Type 0) (x k : ℕ) (r : List ℕ) → x < length r → P x k → ((y : ℕ) → y < x → P y (item r y)) → (y : ℕ) → y < x + 1 → P y (item (set r x k) y)
-filled-more P x k r b p s y h = ⊎-elim
-    (λ l. subst (P y) (sym (getD-set-other r x y k 0 (λ e. let z : y ≡ x = e in omega arith))) (s y l))
-    (λ e. subst (λ (i : ℕ). P i (item (set r x k) i)) (sym e) (subst (P x) (sym (getD-set-same r x k 0 b)) p))
-    (less-or-equal y x (omega arith))
-
 pub valued-more : (given : List ℕ) (g x k : ℕ) (r : List ℕ) → x < 32 → k ≡ bitAnd (item given x) g → Valued given g x r → Valued given g (x + 1) (set r x k)
 valued-more given g x k r b e s = record {
   long = length-set r x k ∙ s .long;
