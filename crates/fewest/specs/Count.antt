@@ -9,27 +9,24 @@ use native.Mathlib.Decide.{decLt}
 use native.Mathlib.Omega.{arith}
 use lib.Bits.{bitXor}
 use lib.ListN.{length, set, length-set}
-use lib.Seq.{getD-set-same, getD-set-other}
 use Rattle.limits.specs.Limits.{maxVertices, searchOutputs}
 use Rattle.bits.specs.Logic.{xorb}
 use Rattle.bits.specs.LogicLaws.{true-false}
 use Rattle.bits.specs.Digit.{on}
 use Rattle.bits.specs.DigitLaws.{on-xor, on-none, on-zero}
 use Rattle.cells.specs.Core.{Cell, Apart, bit, reading, Differ, Serves, Answer, cellsFrom, coreOf}
-use Rattle.cells.specs.Lists.{count, less-or-equal, never-both}
+use Rattle.cells.specs.Lists.{count, less-or-equal, filled-more, never-both}
 use Rattle.cells.specs.Codes.{cells-length, cells-zero}
 use Rattle.cells.specs.FullSize.{readBy}
 use Rattle.numbering.specs.Given.{labelAt, item}
 use Rattle.relation.specs.Relation.{Conflict}
 use Rattle.questions.specs.Question.{openOf}
-use Rattle.seeking.specs.Seeking.{Tables, Known, openCells, givenCells, Sought}
+use Rattle.seeking.specs.Seeking.{Tables, Known, Lacks, openCells, givenCells, Sought}
 use Rattle.seeking.specs.SeekingLaws.{fit-open}
+use Rattle.dominance.specs.Kept.{StandFor}
+use Rattle.dominance.specs.KeptLaws.{kept-lacks}
 
 -- ======== definitions
--- the rounds that may give up a complete choice
-abbrev pub roundCount : ℕ
-roundCount = 7
-
 -- r has the first n codes with every table complemented where it is 1 at vertex 0
 pub record Zeroed (codes : List ℕ) (n : ℕ) (r : List ℕ) : Type 0 where
   pub long : length r ≡ maxVertices
@@ -40,9 +37,9 @@ pub record Opened (rows : List ℕ) (n : ℕ) (r : List ℕ) : Type 0 where
   pub long : length r ≡ searchOutputs
   pub done : (o : ℕ) → o < n → item r o ≡ openOf (item rows o)
 
--- every core that serves has at least u cells
-pub record AtLeast (cl budgets : List ℕ) (v m u : ℕ) : Type 0 where
-  pub enough : (k : List Cell) → Serves v m (Differ (labelAt cl)) (item budgets) k → u ≤ length k
+-- no fewer than u cells serve
+pub record NoFewer (cl given budgets : List ℕ) (v m u : ℕ) : Type 0 where
+  pub none : (w : ℕ) → w < u → Lacks cl given budgets 0 0 v m w 0
 
 -- What `fewest` answers: Theorem B, and that each output reads as many of the cells as its budget and their number allow.
 pub record Answered (cl budgets : List ℕ) (v m limit : ℕ) (found : Bool) (u : ℕ) (rows codes : List ℕ) : Type 0 where
@@ -56,15 +53,13 @@ pub record Answered (cl budgets : List ℕ) (v m limit : ℕ) (found : Bool) (u 
 pub zeroed-more : (codes : List ℕ) (n : ℕ) (r : List ℕ) (x : ℕ) → n < 32 → x ≡ bitXor (item codes n) (item codes 0) → Zeroed codes n r → Zeroed codes (n + 1) (set r n x)
 zeroed-more codes n r x h e s = record {
   long = length-set r n x ∙ s .long;
-  done = λ k i. ⊎-elim (λ a. getD-set-other r n k x 0 (λ q. let z : k ≡ n = q in omega arith) ∙ s .done k a)
-      (λ q. subst (λ (k : ℕ). item (set r n x) k ≡ bitXor (item codes k) (item codes 0)) (sym q) (getD-set-same r n x 0 (let z = s .long in omega arith) ∙ e)) (less-or-equal k n (omega arith));
+  done = filled-more (λ k z. z ≡ bitXor (item codes k) (item codes 0)) n x r (let z = s .long in omega arith) e (s .done);
 }
 
 pub opened-more : (rows : List ℕ) (n : ℕ) (r : List ℕ) (f : ℕ) → n < 8 → f ≡ openOf (item rows n) → Opened rows n r → Opened rows (n + 1) (set r n f)
 opened-more rows n r f h e s = record {
   long = length-set r n f ∙ s .long;
-  done = λ k i. ⊎-elim (λ a. getD-set-other r n k f 0 (λ q. let z : k ≡ n = q in omega arith) ∙ s .done k a)
-      (λ q. subst (λ (k : ℕ). item (set r n f) k ≡ openOf (item rows k)) (sym q) (getD-set-same r n f 0 (let z = s .long in omega arith) ∙ e)) (less-or-equal k n (omega arith));
+  done = filled-more (λ k z. z ≡ openOf (item rows k)) n f r (let z = s .long in omega arith) e (s .done);
 }
 
 xor-same : (a b c : Bool) → xorb a c ≡ xorb b c → a ≡ b
@@ -134,24 +129,35 @@ unfolding readBy
 none-read l rows = append-nil l
 
 -- ---- the count
-pub atleast-start : (cl budgets : List ℕ) (v m : ℕ) → AtLeast cl budgets v m 0
-atleast-start cl budgets v m = record { enough = λ k s. omega arith }
+pub no-fewer-start : (cl given budgets : List ℕ) (v m : ℕ) → NoFewer cl given budgets v m 0
+no-fewer-start cl given budgets v m = record { none = λ w h. absurd (omega arith) }
 
-pub atleast-more : (cl given budgets : List ℕ) (v m u : ℕ) (rows codes : List ℕ) (ok : Bool) → ok ≡ false
-    → Sought cl given budgets 0 0 v m u 0 ok rows codes → AtLeast cl budgets v m u → AtLeast cl budgets v m (u + 1)
-atleast-more cl given budgets v m u rows codes true e c a = absurd (true-false e)
-atleast-more cl given budgets v m u rows codes false e c a = record {
-  enough = λ k s. elim (decLt u (length k)) as (λ _. u + 1 ≤ length k) [
-    | yes h ↦ omega arith
-    | no h ↦ absurd (let n = a .enough k s in c .none k [] (omega arith) (no-tables given v) (nothing-known 0 v k)
-        (subst (Serves v m (Conflict cl) (item budgets)) (sym (append-nil k)) (serves-conflict cl v m (item budgets) k s)))
-  ];
+pub no-fewer-more : (cl given budgets : List ℕ) (v m u : ℕ) (rows codes : List ℕ) (ok : Bool) → ok ≡ false
+    → Sought cl given budgets 0 0 v m u 0 ok rows codes → NoFewer cl given budgets v m u → NoFewer cl given budgets v m (u + 1)
+no-fewer-more cl given budgets v m u rows codes ok e c a = record {
+  none = λ w h. ⊎-elim (a .none w) (λ q. subst (λ (w : ℕ). Lacks cl given budgets 0 0 v m w 0) (sym q) lacks) (less-or-equal w u (omega arith));
 }
+  where
+    lacks : Lacks cl given budgets 0 0 v m u 0
+    lacks = subst (λ (b : Bool). Sought cl given budgets 0 0 v m u 0 b rows codes) e c
+
+-- where no fewer serve the outputs kept, no fewer serve all
+pub no-fewer-kept : (cl given budgets : List ℕ) (v m : ℕ) (labels budgets' : List ℕ) (n : ℕ) (by : List ℕ) (u : ℕ)
+    → StandFor cl budgets v m labels budgets' n by → NoFewer labels given budgets' v n u → NoFewer cl given budgets v m u
+no-fewer-kept cl given budgets v m labels budgets' n by u s a = record { none = λ w h. kept-lacks cl given budgets labels budgets' 0 0 v m n w 0 by s (a .none w h) }
+
+no-fewer-length : (cl given budgets : List ℕ) (v m u : ℕ) (k : List Cell) → NoFewer cl given budgets v m u → Serves v m (Differ (labelAt cl)) (item budgets) k → u ≤ length k
+no-fewer-length cl given budgets v m u k a s = go (decLt (length k) u)
+  where
+    go : Dec (length k < u) → u ≤ length k
+    go (yes h) = absurd (a .none (length k) h .none k [] refl (no-tables given v) (nothing-known 0 v k)
+        (subst (Serves v m (Conflict cl) (item budgets)) (sym (append-nil k)) (serves-conflict cl v m (item budgets) k s)))
+    go (no h) = omega arith
 
 -- Theorem B, found
 pub answer-found : (cl given budgets : List ℕ) (v m u limit : ℕ) (rows codes fs r : List ℕ) (ok : Bool) → v ≤ 32 → m ≤ 8 → limit ≤ 6
     → u ≤ limit → ok ≡ true → Sought cl given budgets 0 0 v m u 0 ok rows codes → Opened rows 8 fs → Zeroed codes 32 r
-    → AtLeast cl budgets v m u → Answered cl budgets v m limit true u fs r
+    → NoFewer cl given budgets v m u → Answered cl budgets v m limit true u fs r
 answer-found cl given budgets v m u limit rows codes fs r false few outs cells h e c f z a = absurd (true-false (sym e))
 answer-found cl given budgets v m u limit rows codes fs r true few outs cells h e c f z a = record {
   few = h;
@@ -163,15 +169,15 @@ answer-found cl given budgets v m u limit rows codes fs r true few outs cells h 
       serves = conflict-serves cl v m (item budgets) (coreOf u (item fs) (item r)) (zeroed-serves v m (Conflict cl) (item budgets) u rows codes fs r few outs f z
           (subst (Serves v m (Conflict cl) (item budgets)) (none-read (openCells u rows codes) rows) (c .serves [] (no-tables given v))));
       zero = cells-zero u 0 (item fs) (item r) (z .done 0 (omega arith) ∙ xor-self (item codes 0));
-      fewest = λ k s. rw (cells-length u 0 (item fs) (item r)) (a .enough k s);
+      fewest = λ k s. rw (cells-length u 0 (item fs) (item r)) (no-fewer-length cl given budgets v m u k a s);
     },
   );
 }
 
 -- Theorem B, not found
-pub answer-none : (cl budgets : List ℕ) (v m u limit : ℕ) (rows codes : List ℕ) → limit < u → AtLeast cl budgets v m u → Answered cl budgets v m limit false 0 rows codes
-answer-none cl budgets v m u limit rows codes h a = record {
-  answer = λ k s. (let z = a .enough k s in omega arith);
+pub answer-none : (cl given budgets : List ℕ) (v m u limit : ℕ) (rows codes : List ℕ) → limit < u → NoFewer cl given budgets v m u → Answered cl budgets v m limit false 0 rows codes
+answer-none cl given budgets v m u limit rows codes h a = record {
+  answer = λ k s. (let z = no-fewer-length cl given budgets v m u k a s in omega arith);
   few = omega arith;
   low = λ e. absurd (true-false (sym e));
   full = λ e. absurd (true-false (sym e));

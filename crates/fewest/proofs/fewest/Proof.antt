@@ -1,62 +1,137 @@
-use Rattle.fewest.specs.Outputs.{answered-back, taken-classes}
-use mathlib.Core.Path.{sym}
+use mathlib.Core.Path.{_≡_, refl, sym}
+use mathlib.Core.Logic.{inl}
+use Prim.Native.Nat.{_≤_, _+_, _-_}
+use native.Mathlib.Omega.{arith}
+use lib.ListN.{length}
+use Rattle.cells.specs.Lists.{zeros-are}
+use Rattle.memory.specs.Memory.{Honest}
+use Rattle.memory.specs.MemoryLaws.{honest-start}
+use Rattle.dominance.specs.KeptLaws.{kept-sought}
+use Rattle.fewest.specs.Count.{NoFewer, no-fewer-start, no-fewer-more, no-fewer-kept, answer-found, answer-none}
+use borrow.Author.Needs.{needs}
 use Rattle.fewest.proofs.fewest.Statement.{statement}
 use Rattle.fewest.proofs.fewest.Tie as tie
 use Rattle.fewest.proofs.fewest.Reads as reads
 use Rattle.fewest.proofs.fewest.Lts as lts
-use Rattle.fewest.proofs.labels.Reads as labels-reads
-use Rattle.fewest.proofs.least.Reads as least-reads
-use Rattle.fewest.proofs.picked.Reads as picked-reads
-use Rattle.fewest.proofs.returned.Reads as returned-reads
-use Rattle.fewest.proofs.sizes.Reads as sizes-reads
-use Rattle.orders.proofs.falling.Reads as falling-reads
+use Rattle.dominance.proofs.kept.Reads as kept-reads
+use Rattle.dominance.proofs.placed.Reads as placed-reads
+use Rattle.fewest.proofs.opened.Reads as opened-reads
+use Rattle.fewest.proofs.zero_first.Reads as zero-first-reads
+use Rattle.seeking.proofs.seek.Reads as seek-reads
 
-sizes-requires : tie.Need-sizes-requires
-sizes-requires c κs = let p = c .before .pre in (p .0, p .1, p .2)
+abbrev Inv-loop : tie.InvT-loop
+Inv-loop cl v m limit kept asked by given mem₀ nodes₀ u₀ mem nodes u =
+    (u ≤ limit + 1) × (length given ≡ 32) × NoFewer (kept .labels) given asked v (kept .outputs) u × Honest (kept .labels) given 0 0 v mem
 
-falling-requires : tie.Need-falling-requires
-falling-requires c κs = c .before .before .pre .2
+abbrev μ-loop : tie.MeasureT-loop
+μ-loop cl v m limit kept asked by given mem₀ nodes₀ u₀ mem nodes u = limit + 1 - u
 
-labels-requires : tie.Need-labels-requires
-labels-requires c κs = (c .before .before .before .pre .0 .long, c .falling .ensures .1)
+kept-requires : tie.Need-kept-requires Inv-loop μ-loop
+kept-requires c κs = let p = c .before .pre in (p .0, p .1, p .2)
 
-picked-requires : tie.Need-picked-requires
-picked-requires c κs = c .before .falling .ensures .1
+loop-holds : tie.Need-loop-holds Inv-loop μ-loop
+loop-holds c =
+    let a = c .before .before .before .before .args in
+    let k = c .before .before .kept .result in (
+      omega arith,
+      refl,
+      no-fewer-start (k .labels) _ (k .budgets) (a .v) (k .outputs),
+      honest-start (k .labels) _ 0 0 (a .v) _ refl (zeros-are 18432),
+    )
 
-slice-aggregate-least : tie.Need-slice-aggregate-least
-slice-aggregate-least c = sym (c .before .before .labels .ensures .long)
+slice-aggregate-seek : tie.Need-slice-aggregate-seek Inv-loop μ-loop
+slice-aggregate-seek c = sym (c .before .before .before .before .before .loop .inv .1)
 
-least-requires : tie.Need-least-requires
-least-requires c κs =
-    let a = c .before .before .before .before .before .before .args in
-    let p = c .before .before .before .before .before .before .pre in
-    let f = c .before .before .before .falling in
-    let t = c .before .before .labels in
-    (taken-classes (a .cl .now) (f .result) (t .result) (t .ensures) (p .0) (f .ensures .1 .small), p .1, p .2, p .3)
+slice-aggregate-seek-2 : tie.Need-slice-aggregate-seek-2 Inv-loop μ-loop
+slice-aggregate-seek-2 c = sym (c .before .before .before .before .before .before .loop .inv .3 .long)
 
-returned-requires : tie.Need-returned-requires
-returned-requires c κs = (c .before .before .before .before .before .before .before .before .before .pre .2, c .before .before .before .before .before .before .falling .ensures .1)
+seek-requires : tie.Need-seek-requires Inv-loop μ-loop
+seek-requires c κs =
+    let p = c .before .before .before .before .before .before .before .before .before .before .before .pre in
+    let k = c .before .before .before .before .before .before .before .before .before .kept .ensures in
+    let l = c .before .before .before .before .before .before .loop in
+    let b = p .3 in
+    let h = c .before .before .before .before .before .loop-test .taken in
+    (k .classes, l .inv .1, p .1, k .few, omega arith, omega arith, inl refl, l .inv .3)
 
-returns : tie.Need-returns
+placed-requires : tie.Need-placed-requires Inv-loop μ-loop
+placed-requires c κs =
+    let p = c .before .before .before .before .before .before .before .before .before .before .before .before .before .before .before .before .pre in
+    let k = c .before .before .before .before .before .before .before .before .before .before .before .before .before .before .kept .ensures in
+    let n = k .few in
+    (p .2, λ o h. let z = k .below o h in omega arith)
+
+opened-requires : tie.Need-opened-requires Inv-loop μ-loop
+opened-requires c κs = search needs
+
+zero-first-requires : tie.Need-zero-first-requires Inv-loop μ-loop
+zero-first-requires c κs = search needs
+
+returns : tie.Need-returns Inv-loop μ-loop
 returns c =
-    let a = c .before .before .before .before .before .before .before .before .before .before .args in
-    let p = c .before .before .before .before .before .before .before .before .before .before .pre in
-    let f = c .before .before .before .before .before .before .before .falling in
-    let t = c .before .before .before .before .before .before .labels in
-    let b = c .before .before .before .before .before .picked in
-    let l = c .before .before .before .least in
-    answered-back (a .cl .now) (t .result) (a .budgets) (b .result) (f .result) (l .result .rows) (c .returned .result) (l .result .codes) (a .v) (a .m) (a .limit) (l .result .count)
-    (p .1) (p .2) (f .ensures .0) (t .ensures) (b .ensures) (c .returned .ensures) (l .result .found) (l .ensures)
+    let a = c .before .before .before .before .before .before .before .before .before .before .before .before .before .before .before .before .before .before .before .args in
+    let p = c .before .before .before .before .before .before .before .before .before .before .before .before .before .before .before .before .before .before .before .pre in
+    let cl = a .cl .now in
+    let k = c .before .before .before .before .before .before .before .before .before .before .before .before .before .before .before .before .before .kept in
+    let l = c .before .before .before .before .before .before .before .before .before .before .before .before .before .before .loop in
+    let s = c .before .before .before .before .before .before .before .seek in
+    let r = c .before .before .placed in
+    let f = c .before .opened in
+    let z = c .zero-first in
+    let h = c .before .before .before .before .before .before .before .before .before .before .before .before .before .loop-test .taken in
+    let t = c .before .before .before .before .before .if1 .taken in
+    let found = kept-sought cl _ (a .budgets) (k .result .labels) (k .result .budgets) 0 0 (a .v) (a .m) (k .result .outputs) (l .u) 0 (k .result .by) (k .ensures)
+    (s .result .rows) (r .result) (s .result .codes) (r .ensures) (s .result .ok) (s .ensures .0) in
+    answer-found cl _ (a .budgets) (a .v) (a .m) (l .u) (a .limit) (r .result) (s .result .codes) (f .result) (z .result) (s .result .ok)
+    (p .1) (p .2) (p .3) h t found (f .ensures) (z .ensures)
+    (no-fewer-kept cl _ (a .budgets) (a .v) (a .m) (k .result .labels) (k .result .budgets) (k .result .outputs) (k .result .by) (l .u) (k .ensures) (l .inv .2))
+
+add-u : tie.Need-add-u Inv-loop μ-loop
+add-u c =
+    let h = c .before .before .before .before .before .before .before .before .loop-test .taken in
+    let b = c .before .before .before .before .before .before .before .before .before .before .before .before .before .before .pre .3 in
+    omega arith
+
+loop-less : tie.Need-loop-less Inv-loop μ-loop
+loop-less c = search needs
+
+loop-again : tie.Need-loop-again Inv-loop μ-loop
+loop-again c =
+    let a = c .before .before .before .before .before .before .before .before .before .before .before .before .before .before .args in
+    let k = c .before .before .before .before .before .before .before .before .before .before .before .before .kept .result in
+    let l = c .before .before .before .before .before .before .before .before .before .loop in
+    let s = c .before .before .seek in
+    let h = c .before .before .before .before .before .before .before .before .loop-test .taken in (
+      omega arith,
+      refl,
+      no-fewer-more (k .labels) _ (k .budgets) (a .v) (k .outputs) (l .u) (s .result .rows) (s .result .codes) (s .result .ok) (c .if1 .left) (s .ensures .0) (l .inv .2),
+      s .ensures .1,
+    )
+
+returns-2 : tie.Need-returns-2 Inv-loop μ-loop
+returns-2 c =
+    let a = c .before .before .before .before .before .before .args in
+    let k = c .before .before .before .before .kept in
+    let l = c .before .loop in
+    answer-none (a .cl .now) _ (a .budgets) (a .v) (a .m) (l .u) (a .limit) _ _ (c .loop-test .left)
+    (no-fewer-kept (a .cl .now) _ (a .budgets) (a .v) (a .m) (k .result .labels) (k .result .budgets) (k .result .outputs) (k .result .by) (l .u) (k .ensures) (l .inv .2))
 
 pub fewest-spec : {M : Type 1} → statement M
 fewest-spec =
     tie.close
     (tie.spec
-    sizes-requires
-    falling-requires
-    labels-requires
-    picked-requires
-    slice-aggregate-least
-    least-requires
-    returned-requires
-    returns)
+    Inv-loop
+    μ-loop
+    kept-requires
+    loop-holds
+    slice-aggregate-seek
+    slice-aggregate-seek-2
+    seek-requires
+    placed-requires
+    opened-requires
+    zero-first-requires
+    returns
+    add-u
+    loop-less
+    loop-again
+    returns-2)

@@ -1,12 +1,13 @@
-use Rattle.fewest.specs.Outputs.{Picked, picked-more}
+use Rattle.dominance.specs.Dominance.{Picked}
+use Rattle.dominance.specs.DominanceLaws.{picked-more}
 use mathlib.Core.Path.{refl, subst}
 use Prim.Native.Nat.{ℕ, _≤_, _-_}
 use native.Mathlib.Omega.{arith}
 use borrow.Author.Needs.{needs}
-use Rattle.fewest.proofs.picked.Statement.{statement}
-use Rattle.fewest.proofs.picked.Tie as tie
-use Rattle.fewest.proofs.picked.Reads as reads
-use Rattle.fewest.proofs.picked.Lts as lts
+use Rattle.dominance.proofs.picked.Statement.{statement}
+use Rattle.dominance.proofs.picked.Tie as tie
+use Rattle.dominance.proofs.picked.Reads as reads
+use Rattle.dominance.proofs.picked.Lts as lts
 
 abbrev Inv-loop : tie.InvT-loop
 Inv-loop budgets from r₀ i₀ r i = (i ≤ 8) × Picked budgets from i r
@@ -14,41 +15,41 @@ Inv-loop budgets from r₀ i₀ r i = (i ≤ 8) × Picked budgets from i r
 abbrev μ-loop : tie.MeasureT-loop
 μ-loop budgets from r₀ i₀ r i = 8 - i
 
--- src/lib.rt:248:5
 loop-holds : tie.Need-loop-holds Inv-loop μ-loop
 loop-holds c = (omega arith, record { long = refl; done = λ k h. absurd (omega arith) })
 
--- src/lib.rt:249:24
 array-read-r : tie.Need-array-read-r Inv-loop μ-loop
 array-read-r c = search needs
 
--- src/lib.rt:249:24
 cast-r : tie.Need-cast-r Inv-loop μ-loop
 cast-r c = let z = c .before .before .pre .small (c .before .loop .i) (c .loop-test .taken) in record { fits = omega arith }
 
--- src/lib.rt:249:16
 array-read-r-2 : tie.Need-array-read-r-2 Inv-loop μ-loop
 array-read-r-2 c = let z = c .before .before .pre .small (c .before .loop .i) (c .loop-test .taken) in search needs
 
--- src/lib.rt:249:9
 array-write-r : tie.Need-array-write-r Inv-loop μ-loop
 array-write-r c = let h = c .loop-test .taken in let l = c .before .loop .inv .1 .long in search needs
 
--- src/lib.rt:250:9
 add-i : tie.Need-add-i Inv-loop μ-loop
 add-i c = search needs
 
--- src/lib.rt:248:5
 loop-less : tie.Need-loop-less Inv-loop μ-loop
 loop-less c = search needs
 
--- src/lib.rt:248:5
 loop-again : tie.Need-loop-again Inv-loop μ-loop
-loop-again c = let h = c .loop-test .taken in (omega arith, picked-more (c .before .before .args .t1) (c .before .before .args .t2) (c .before .loop .i) _ (c .before .loop .r) h refl (c .before .loop .inv .1))
+loop-again c =
+    let a = c .before .before .args in
+    let l = c .before .loop in
+    let h = c .loop-test .taken in
+    (omega arith, picked-more (a .t1) (a .t2) (l .i) _ (l .r) h refl (l .inv .1))
 
--- src/lib.rt:242:1
 returns : tie.Need-returns Inv-loop μ-loop
-returns c = subst (λ (z : ℕ). Picked (c .before .before .args .t1) (c .before .before .args .t2) z (c .before .loop .r)) (let h = c .loop-test .left in let z = c .before .loop .inv .0 in omega arith) (c .before .loop .inv .1)
+returns c =
+    let a = c .before .before .args in
+    let l = c .before .loop in
+    let h = c .loop-test .left in
+    let z = l .inv .0 in
+    subst (λ (z : ℕ). Picked (a .t1) (a .t2) z (l .r)) (omega arith) (l .inv .1)
 
 pub picked-spec : {M : Type 1} → statement M
 picked-spec =

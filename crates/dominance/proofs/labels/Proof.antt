@@ -1,12 +1,13 @@
-use Rattle.fewest.specs.Outputs.{Taken, taken-more}
+use Rattle.dominance.specs.Dominance.{Taken}
+use Rattle.dominance.specs.DominanceLaws.{taken-more}
 use mathlib.Core.Path.{refl, subst}
 use Prim.Native.Nat.{ℕ, _≤_, _-_, _/_}
 use native.Mathlib.Omega.{arith}
 use borrow.Author.Needs.{needs}
-use Rattle.fewest.proofs.labels.Statement.{statement}
-use Rattle.fewest.proofs.labels.Tie as tie
-use Rattle.fewest.proofs.labels.Reads as reads
-use Rattle.fewest.proofs.labels.Lts as lts
+use Rattle.dominance.proofs.labels.Statement.{statement}
+use Rattle.dominance.proofs.labels.Tie as tie
+use Rattle.dominance.proofs.labels.Reads as reads
+use Rattle.dominance.proofs.labels.Lts as lts
 use Rattle.numbering.proofs.label.Reads as label-reads
 
 abbrev Inv-loop : tie.InvT-loop

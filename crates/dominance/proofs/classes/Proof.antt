@@ -1,12 +1,11 @@
 use mathlib.Core.Logic.{⊎-elim}
 use Prim.Native.Nat.{_≤_, _+_, _-_, _*_}
 use native.Mathlib.Omega.{arith}
-use lib.ListN.{set}
 use borrow.Author.Needs.{needs}
-use Rattle.fewest.proofs.classes.Statement.{statement}
-use Rattle.fewest.proofs.classes.Tie as tie
-use Rattle.fewest.proofs.classes.Reads as reads
-use Rattle.fewest.proofs.classes.Lts as lts
+use Rattle.dominance.proofs.classes.Statement.{statement}
+use Rattle.dominance.proofs.classes.Tie as tie
+use Rattle.dominance.proofs.classes.Reads as reads
+use Rattle.dominance.proofs.classes.Lts as lts
 use Rattle.cells.proofs.in_set.Reads as in-set-reads
 use Rattle.cells.proofs.with.Reads as with-reads
 use Rattle.numbering.proofs.label.Reads as label-reads

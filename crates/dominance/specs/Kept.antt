@@ -1,0 +1,23 @@
+-- What is kept of the outputs of a problem, so that an answer for those kept is one for all. Assumes nothing.
+use mathlib.Core.Path.{_≡_}
+use mathlib.Core.List.{List}
+use Prim.Native.Nat.{ℕ, _≤_, _<_}
+use lib.ListN.{length}
+use Rattle.limits.specs.Limits.{searchOutputs}
+use Rattle.numbering.specs.Given.{item}
+use Rattle.relation.specs.Relation.{Classes, Conflict}
+
+-- n outputs with these labels and budgets stand for the m outputs of cl: output o of cl has to tell apart no more than output
+-- item by o of them and has its budget, and each of them has to tell apart no more than some output of cl and has its budget
+pub record StandFor (cl budgets : List ℕ) (v m : ℕ) (labels budgets' : List ℕ) (n : ℕ) (by : List ℕ) : Type 0 where
+  pub classes : Classes labels
+  pub few : n ≤ searchOutputs
+  pub below : (o : ℕ) → o < m → item by o < n
+  pub inside : (o x y : ℕ) → o < m → x < v → y < v → Conflict cl o x y → Conflict labels (item by o) x y
+  pub budget : (o : ℕ) → o < m → item budgets o ≡ item budgets' (item by o)
+  pub from : (i : ℕ) → i < n → (o : ℕ) × (o < m) × ((x y : ℕ) → x < v → y < v → Conflict labels i x y → Conflict cl o x y) × (item budgets' i ≡ item budgets o)
+
+-- the first m rows of r are those of the outputs kept for them
+pub record Placed (rows by : List ℕ) (m : ℕ) (r : List ℕ) : Type 0 where
+  pub long : length r ≡ searchOutputs
+  pub done : (o : ℕ) → o < m → item r o ≡ item rows (item by o)
