@@ -8,8 +8,7 @@ pub mod Codes
 pub mod Cut
 pub mod Shared
 pub mod Sets
-pub mod Renumbered
 pub mod Swap
 pub mod Reorder
-pub mod Weaker
 pub mod FullSize
+pub mod Renumbered
