@@ -1,1 +1,4 @@
+-- Line has the form of a line and what is read from it, Lists two lists compared, Recalled what a memory says of the next problem.
 pub mod Line
+pub mod Lists
+pub mod Recalled

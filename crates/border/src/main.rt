@@ -4,13 +4,18 @@
 // found, the rows of the outputs and the codes of the vertices; and the time in all. A problem is a line: its name, the number of
 // vertices in 2 digits, the numbers of outputs and the limit in a digit each, a digit for each budget or - where none fits, the
 // label of each output at each vertex, the number of given tables in 2 digits, what they are at each vertex, and the known digits
-// of the first open cell or . at each vertex. Where something is known vertex 0 counts as known to be 0.
+// of the first open cell or . at each vertex. Where something is known vertex 0 counts as known to be 0. A problem that differs
+// from the one before in its known digits and limit alone is asked with what was remembered of questions that do not read the
+// first open cell.
 ghost use mathlib.Core.Path.{_≡_};
+ghost use mathlib.Core.Bool.{true};
 ghost use mathlib.Core.Logic.{_⊎_};
-ghost use Prim.Native.Nat.{_+_, _<_, _≤_};
+ghost use Prim.Native.Nat.{ℕ, _+_, _<_, _≤_};
 ghost use lib.ListN.{length};
-ghost use Rattle.limits.specs.Limits.{searchOutputs, maxVertices};
+ghost use Rattle.limits.specs.Limits.{searchOutputs, maxVertices, labelCount};
+ghost use Rattle.numbering.specs.Given.{item};
 ghost use Rattle.relation.specs.Relation.{Classes};
+ghost use Rattle.memory.specs.Memory.{Honest};
 ghost use Rattle.choosing.specs.Choice.{maxGiven};
 ghost use Rattle.border.specs.Line.{lineLength, ZeroFirst};
 use choosing::MAX_GIVEN;
@@ -252,6 +257,69 @@ fn least_cells(kn: u32) -> u8
     if kn == 0 { 0 } else { 1 }
 }
 
+// Whether two lists of labels are the same.
+fn same_labels(a: &[u8], b: &[u8]) -> bool
+    requires { ⌜ (length (now a) ≡ labelCount) × (length (now b) ≡ labelCount) ⌝ }
+    ensures { λ r. ⌜ (r ≡ true → now (a .entry) ≡ now (b .entry)) ⌝ }
+{
+    let mut i = 0;
+    while i < LABELS {
+        if a[i] != b[i] {
+            return false;
+        }
+        i += 1;
+    }
+    true
+}
+
+// Whether two lists of what given tables are at the vertices are the same.
+fn same_tables(a: &[u16], b: &[u16]) -> bool
+    requires { ⌜ (length (now a) ≡ maxVertices) × (length (now b) ≡ maxVertices) ⌝ }
+    ensures { λ r. ⌜ (r ≡ true → now (a .entry) ≡ now (b .entry)) ⌝ }
+{
+    let mut i = 0;
+    while i < MAX_VERTICES {
+        if a[i] != b[i] {
+            return false;
+        }
+        i += 1;
+    }
+    true
+}
+
+// The problem that the memory is about, but for its budgets: the labels of the outputs that are asked about, the given tables,
+// the number of vertices, and the known digits.
+struct Past {
+    labels: [u8; LABELS],
+    tables: [u16; MAX_VERTICES],
+    vertices: usize,
+    kn: u32,
+    val: u32,
+}
+
+// What is remembered of the problem before is kept where it holds for one with these labels, given tables and vertices, whatever
+// its known digits are.
+fn recall(past: Past, labels: &[u8], tables: &[u16], vertices: usize, mem: &mut [u16])
+    requires { ⌜ (length (now labels) ≡ labelCount) × (length (now tables) ≡ maxVertices) × ZeroFirst (past .kn) (past .val)
+        × Honest (past .labels) (past .tables) (past .kn) (past .val) (past .vertices) (now mem) ⌝ }
+    ensures { λ r. ⌜ ((kn val : ℕ) → Honest (now (labels .entry)) (now (tables .entry)) kn val vertices (now (mem .exit))) ⌝ }
+{
+    if past.vertices == vertices {
+        if same_labels(&past.labels, labels) {
+            if same_tables(&past.tables, tables) {
+                memory::keep_unread(mem);
+                return;
+            }
+        }
+    }
+    memory::clear(mem);
+}
+
+// Every output has a budget, or none has.
+fn fit(all: bool) -> u8 {
+    if all { (OUTPUT_SETS - 1) as u8 } else { 0 }
+}
+
 // Whether some cells serve and the fewest of them, the nodes of the search and its microseconds.
 struct Answer {
     found: bool,
@@ -260,15 +328,24 @@ struct Answer {
     time: u64,
 }
 
-// The answer to the problem of a line; writes what standard error gets but for the time in all. What is remembered with few
-// cells holds with more.
-fn solve(line: &[u8], asks: seeking::Problem, fits: u8) -> Answer
-    requires { ⌜ (length (now line) ≡ lineLength) × (asks .vertices ≤ maxVertices) × (asks .outputs ≤ searchOutputs) × (asks .tables ≤ maxGiven) × ZeroFirst (asks .kn) (asks .val) ⌝ }
+// The answer to a line's problem, of which asks has what is asked about the outputs kept; by says which of these stands for each
+// of the m outputs. Writes what standard error gets but for the time in all. What is remembered with few cells holds with more.
+fn solve(
+    line: &[u8],
+    labels: &[u8],
+    tables: &[u16],
+    asks: seeking::Problem,
+    by: [u8; SEARCH_OUTPUTS],
+    m: usize,
+    fits: u8,
+    mem: &mut [u16],
+) -> Answer
+    requires { ⌜ (length (now line) ≡ lineLength) × Classes (now labels) × (length (now tables) ≡ maxVertices) × (asks .vertices ≤ maxVertices) × (asks .outputs ≤ searchOutputs)
+        × (asks .tables ≤ maxGiven) × ZeroFirst (asks .kn) (asks .val) × (m ≤ searchOutputs) × ((o : ℕ) → o < m → item by o < searchOutputs)
+        × Honest (now labels) (now tables) (asks .kn) (asks .val) (asks .vertices) (now mem) ⌝ }
+    ensures { λ r. ⌜ Honest (now (labels .entry)) (now (tables .entry)) (asks .kn) (asks .val) (asks .vertices) (now (mem .exit)) ⌝ }
 {
-    let cl = labels(line);
-    let tables = given(line);
     let most = at_most(digit(line[LIMIT]), cells::MAX_CELLS);
-    let mut mem = [0u16; memory::SIZE];
     let mut nodes: u64 = 0;
     let mut time: u64 = 0;
     let mut u = least_cells(asks.kn);
@@ -276,7 +353,7 @@ fn solve(line: &[u8], asks: seeking::Problem, fits: u8) -> Answer
         let mut p = asks;
         p.cells = u;
         let start = microseconds();
-        let c = seeking::seek_where(&cl, &tables, &mut mem, p, fits, nodes);
+        let c = seeking::seek_where(labels, tables, mem, p, fits, nodes);
         let took = std::num::wrapping_sub_u64(microseconds(), start);
         put_step(line, u, std::num::wrapping_sub_u64(c.nodes, nodes), took);
         nodes = c.nodes;
@@ -284,7 +361,7 @@ fn solve(line: &[u8], asks: seeking::Problem, fits: u8) -> Answer
         if c.ok {
             let rows = c.rows;
             let codes = c.codes;
-            put_core(line, rows, codes);
+            put_core(line, dominance::placed(rows, by, m), codes);
             return Answer {
                 found: true,
                 cells: u,
@@ -303,11 +380,9 @@ fn solve(line: &[u8], asks: seeking::Problem, fits: u8) -> Answer
 }
 
 // Writes a line's name and the answer to its problem.
-fn report(line: &[u8])
+fn put_answer(line: &[u8], a: Answer)
     requires { ⌜ length (now line) ≡ lineLength ⌝ }
 {
-    let asks = asked(line);
-    let a = solve(line, asks, fitting(line));
     put_name(line, STDOUT_FILENO);
     if a.found {
         io::print_decimal(STDOUT_FILENO, a.cells as u64);
@@ -322,15 +397,61 @@ fn report(line: &[u8])
     io::write_all(STDERR_FILENO, b" us\n");
 }
 
+// Answers the problem of a line after that of past, which the memory is about. The problem that it is about then.
+fn report(line: &[u8], past: Past, mem: &mut [u16]) -> Past
+    requires { ⌜ (length (now line) ≡ lineLength) × ZeroFirst (past .kn) (past .val) × Honest (past .labels) (past .tables) (past .kn) (past .val) (past .vertices) (now mem) ⌝ }
+    ensures { λ r. ⌜ ZeroFirst (r .kn) (r .val) × Honest (r .labels) (r .tables) (r .kn) (r .val) (r .vertices) (now (mem .exit)) ⌝ }
+{
+    let whole = asked(line);
+    let m = whole.outputs;
+    let v = whole.vertices;
+    let all_budgets = whole.budgets;
+    let cl = labels(line);
+    let tables = given(line);
+    let kept = dominance::kept(&cl, all_budgets, v, m);
+    let classes = kept.labels;
+    let budgets = kept.budgets;
+    let by = kept.by;
+    recall(past, &classes, &tables, v, mem);
+    let asks = seeking::Problem {
+        budgets,
+        vertices: v,
+        outputs: kept.outputs,
+        cells: 0,
+        tables: whole.tables,
+        kn: whole.kn,
+        val: whole.val,
+    };
+    let fits = fit(seeking::all_fit(fitting(line), m));
+    let a = solve(line, &classes, &tables, asks, by, m, fits, mem);
+    put_answer(line, a);
+    Past {
+        labels: classes,
+        tables,
+        vertices: v,
+        kn: whole.kn,
+        val: whole.val,
+    }
+}
+
 fn main() {
     let mut line = [0u8; LINE];
+    let mut mem = [0u16; memory::SIZE];
+    let mut past = Past {
+        labels: [0u8; LABELS],
+        tables: [0u16; MAX_VERTICES],
+        vertices: 0,
+        kn: 0,
+        val: 0,
+    };
     let mut i: usize = 0;
     while i < LINES {
         let got = io::read_full(STDIN_FILENO, &mut line);
         if got < LINE {
             return;
         }
-        report(&line);
+        let next = report(&line, past, &mut mem);
+        past = next;
         i += 1;
     }
 }

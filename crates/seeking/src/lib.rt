@@ -93,7 +93,7 @@ pub fn seek(cl: &[u8], given: &[u16], mem: &mut [u16], p: Problem, nodes: u64) -
 }
 
 // Whether the first m outputs are all in the set fits.
-fn all_fit(fits: u8, m: usize) -> bool
+pub fn all_fit(fits: u8, m: usize) -> bool
     requires { ⌜ m ≤ searchOutputs ⌝ }
     ensures { λ r. ⌜ (r ≡ true → AllFit fits m) × (r ≡ false → AllFit fits m → ⊥) ⌝ }
 {
