@@ -24,9 +24,11 @@ loop-holds c = let a = c .before .args in (omega arith, inside-start (a .cl .now
 inside-at-requires : tie.Need-inside-at-requires Inv-loop μ-loop
 inside-at-requires c κs =
     let p = c .before .before .before .pre in
-    let z = p .3 in
+    let o = p .1 in
+    let q = p .2 in
+    let v = p .3 in
     let h = c .loop-test .taken in
-    (p .0, p .1, p .2, omega arith)
+    (p .0, omega arith, omega arith, omega arith)
 
 returns : tie.Need-returns Inv-loop μ-loop
 returns c = λ e. absurd (true-false (sym e))
