@@ -83,7 +83,7 @@ returns c =
     let found = kept-sought cl _ (a .budgets) (k .result .labels) (k .result .budgets) 0 0 (a .v) (a .m) (k .result .outputs) (l .u) 0 (k .result .by) (k .ensures)
     (s .result .rows) (r .result) (s .result .codes) (r .ensures) (s .result .ok) (s .ensures .0) in
     answer-found cl _ (a .budgets) (a .v) (a .m) (l .u) (a .limit) (r .result) (s .result .codes) (f .result) (z .result) (s .result .ok)
-    (p .1) (p .2) (p .3) h t found (f .ensures) (z .ensures)
+    (p .1) (p .2) (p .3) (omega arith) t found (f .ensures) (z .ensures)
     (no-fewer-kept cl _ (a .budgets) (a .v) (a .m) (k .result .labels) (k .result .budgets) (k .result .outputs) (k .result .by) (l .u) (k .ensures) (l .inv .2))
 
 add-u : tie.Need-add-u Inv-loop μ-loop
