@@ -3,10 +3,10 @@
 // says that the answer is right: codes that tell the classes apart, or no solution goes on from what was given. The order of
 // vertices and codes is free.
 ghost use mathlib.Core.Path.{_≡_};
-ghost use mathlib.Core.Bool.{Bool, true, false};
+ghost use mathlib.Core.Bool.{true, false};
 ghost use mathlib.Core.List.{List};
 ghost use Prim.Native.Nat.{ℕ, _+_, _*_, _<_, _≤_};
-ghost use lib.ListN.{length, getD};
+ghost use lib.ListN.{length};
 ghost use Rattle.limits.specs.Limits.{searchOutputs, maxVertices, labelCount, blockCount, maxCodes};
 ghost use Rattle.numbering.specs.Given.{noVertex, Labels, Blocks, Plan, Kept, Hopeless, Knows, Told, item};
 ghost use Rattle.holding.specs.Search.{Seeking, Empty};
@@ -49,24 +49,26 @@ fn empty(dom: &[u64], v: usize) -> bool
 fn bar_all(
     cl: &[u8],
     bs: &[u64],
-    caps: [u8; SEARCH_OUTPUTS],
-    v: usize,
-    j: usize,
+    p: numbering::Problem,
     codes: &[u8],
     dom: &mut [u64],
     c: u8,
     x: usize,
 )
-    requires { ⌜ Labels (now cl) × (length (now bs) ≡ blockCount) × (v ≤ maxVertices) × (j ≤ searchOutputs) × (c < maxCodes) × (x < maxVertices)
+    requires { ⌜ Labels (now cl) × (length (now bs) ≡ blockCount) × (p .vertices ≤ maxVertices) × (p .outputs ≤ searchOutputs) × (c < maxCodes) × (x < maxVertices)
         × (length (now codes) ≡ maxVertices) × (length (now dom) ≡ maxVertices) ⌝ }
-    ensures { λ r. ⌜ ((base ms spots : List ℕ) → Blocks ms (now (bs .entry)) j → Kept (now (cl .entry)) base ms caps spots v j (now (codes .entry)) (now (dom .entry)) (now (dom .exit)))
+    ensures { λ r. ⌜ ((base ms spots : List ℕ) → Blocks ms (now (bs .entry)) (p .outputs)
+        → Kept (now (cl .entry)) base ms (p .caps) spots (p .vertices) (p .outputs) (now (codes .entry)) (now (dom .entry)) (now (dom .exit)))
         × (length (now (dom .exit)) ≡ maxVertices) ⌝ }
 {
+    let caps = p.caps;
+    let v = p.vertices;
+    let j = p.outputs;
     let mut o = 0;
     while o < j {
         let b = bs[o * MAX_CODES + c as usize];
-        let p = numbering::part(cl, o, x);
-        let k = holding::crowd(cl, v, o, p, codes, b);
+        let part = numbering::part(cl, o, x);
+        let k = holding::crowd(cl, v, o, part, codes, b);
         if caps[o] <= k.count {
             holding::shut(cl, v, o, k.seen, codes, dom, b);
         }
@@ -80,28 +82,27 @@ pub fn settle_all(
     cl: &[u8],
     base: &[u8],
     bs: &[u64],
-    ms: [u8; SEARCH_OUTPUTS],
-    caps: [u8; SEARCH_OUTPUTS],
-    spots: [u8; SEARCH_OUTPUTS],
-    v: usize,
-    j: usize,
+    p: numbering::Problem,
     codes: &[u8],
     dom: &mut [u64],
     c: u8,
     x: usize,
 ) -> bool
-    requires { ⌜ Labels (now cl) × (length (now base) ≡ labelCount) × Blocks ms (now bs) j × (v ≤ maxVertices) × (j ≤ searchOutputs) × (c < maxCodes) × (x < maxVertices)
-        × (length (now codes) ≡ maxVertices) × (length (now dom) ≡ maxVertices) ⌝ }
-    ensures { λ r. ⌜ Kept (now (cl .entry)) (now (base .entry)) ms caps spots v j (now (codes .entry)) (now (dom .entry)) (now (dom .exit)) × (length (now (dom .exit)) ≡ maxVertices)
-        × (r ≡ false → (kn val : ℕ) → Hopeless (now (cl .entry)) (now (base .entry)) ms caps spots v j kn val (now (codes .entry)) (now (dom .entry))) ⌝ }
+    requires { ⌜ Labels (now cl) × (length (now base) ≡ labelCount) × Blocks (p .ms) (now bs) (p .outputs) × (p .vertices ≤ maxVertices) × (p .outputs ≤ searchOutputs)
+        × (c < maxCodes) × (x < maxVertices) × (length (now codes) ≡ maxVertices) × (length (now dom) ≡ maxVertices) ⌝ }
+    ensures { λ r. ⌜ Kept (now (cl .entry)) (now (base .entry)) (p .ms) (p .caps) (p .spots) (p .vertices) (p .outputs) (now (codes .entry)) (now (dom .entry)) (now (dom .exit))
+        × (length (now (dom .exit)) ≡ maxVertices)
+        × (r ≡ false → (kn val : ℕ) → Hopeless (now (cl .entry)) (now (base .entry)) (p .ms) (p .caps) (p .spots) (p .vertices) (p .outputs) kn val (now (codes .entry)) (now (dom .entry))) ⌝ }
 {
-    bar_all(cl, bs, caps, v, j, codes, dom, c, x);
+    bar_all(cl, bs, p, codes, dom, c, x);
+    let v = p.vertices;
+    let j = p.outputs;
     let mut o = 0;
     while o < j {
         if empty(dom, v) {
             return false;
         }
-        if !holding::settle(cl, base, bs, ms, caps, spots, v, j, o, codes, dom) {
+        if !holding::settle(cl, base, bs, p, o, codes, dom) {
             return false;
         }
         o += 1;
@@ -256,24 +257,16 @@ pub struct Search {
     pub nodes: u64,
 }
 
-// Codes for all v vertices that go on from those given. dom has room for every solution that does; all has the codes over the
-// cells that two outputs read, gb the blocks of some groups of these, and used their values in use. met has the classes of the
-// vertices with codes, for the order in which the others are given theirs. The nodes so far count towards the limit. Cell 0
-// is known at the vertices of kn, where it has the digits of val.
+// Codes for all vertices of p that go on from those given. dom has room for every solution that does; all has the codes over
+// the cells that two outputs read, gb the blocks of some groups of these, and used their values in use. met has the classes of
+// the vertices with codes, for the order in which the others are given theirs. The nodes so far count towards the limit.
 pub fn find(
     cl: &[u8],
     base: &[u8],
     bs: &[u64],
     gb: &[u64],
     all: u64,
-    ms: [u8; SEARCH_OUTPUTS],
-    ps: [u8; SEARCH_OUTPUTS],
-    caps: [u8; SEARCH_OUTPUTS],
-    spots: [u8; SEARCH_OUTPUTS],
-    v: usize,
-    j: usize,
-    kn: u32,
-    val: u32,
+    p: numbering::Problem,
     codes: [u8; MAX_VERTICES],
     dom: [u64; MAX_VERTICES],
     used: [u64; GROUPS],
@@ -281,14 +274,16 @@ pub fn find(
     limit: u64,
     nodes: u64,
 ) -> Search
-    requires { ⌜ Labels (now cl) × (length (now base) ≡ labelCount) × Blocks ms (now bs) j × (v ≤ maxVertices) × (j ≤ searchOutputs) × Plan ms ps caps j
-        × Valued ms (now gb) all j kn codes v used × Covers (now cl) (now base) ms caps spots v j kn val codes dom × Knows kn val ps codes v j ⌝ }
-    ensures { λ r. ⌜ Sure limit (r .unsure) (Told (now (cl .entry)) (now (base .entry)) ms ps caps spots v j kn val codes dom (r .ok) (r .codes)) ⌝ }
+    requires { ⌜ Labels (now cl) × (length (now base) ≡ labelCount) × Blocks (p .ms) (now bs) (p .outputs) × (p .vertices ≤ maxVertices) × (p .outputs ≤ searchOutputs)
+        × Plan (p .ms) (p .ps) (p .caps) (p .outputs) × Valued (p .ms) (now gb) all (p .outputs) (p .kn) codes (p .vertices) used
+        × Covers (now cl) (now base) (p .ms) (p .caps) (p .spots) (p .vertices) (p .outputs) (p .kn) (p .val) codes dom × Knows (p .kn) (p .val) (p .ps) codes (p .vertices) (p .outputs) ⌝ }
+    ensures { λ r. ⌜ Sure limit (r .unsure)
+        (Told (now (cl .entry)) (now (base .entry)) (p .ms) (p .ps) (p .caps) (p .spots) (p .vertices) (p .outputs) (p .kn) (p .val) codes dom (r .ok) (r .codes)) ⌝ }
 {
     let can = allowed(gb, all, used);
-    let x = pick(cl, j, &met, &dom, &codes, v, can);
+    let x = pick(cl, p.outputs, &met, &dom, &codes, p.vertices, can);
     if x == numbering::NO_VERTEX {
-        let f = numbering::finish(cl, j, ms, ps, caps, v, codes);
+        let f = numbering::finish(cl, p, codes);
         let all_codes = f.codes;
         return Search {
             ok: f.ok,
@@ -298,7 +293,7 @@ pub fn find(
         };
     }
     let mut total = nodes;
-    let fit = fitting(kn, val, x);
+    let fit = fitting(p.kn, p.val, x);
     let mut left = dom[x] & can & fit;
     while left != 0 {
         if spent(limit, total) {
@@ -315,30 +310,10 @@ pub fn find(
         let mut next = codes;
         next[x] = c;
         let mut d = dom;
-        if settle_all(cl, base, bs, ms, caps, spots, v, j, &next, &mut d, c, x) {
+        if settle_all(cl, base, bs, p, &next, &mut d, c, x) {
             let m = mark(gb, used, c);
-            let known = meet(cl, j, met, x);
-            let r = find(
-                cl,
-                base,
-                bs,
-                gb,
-                all,
-                ms,
-                ps,
-                caps,
-                spots,
-                v,
-                j,
-                kn,
-                val,
-                next,
-                d,
-                m,
-                known,
-                limit,
-                total,
-            );
+            let known = meet(cl, p.outputs, met, x);
+            let r = find(cl, base, bs, gb, all, p, next, d, m, known, limit, total);
             if r.ok {
                 return r;
             }

@@ -1,8 +1,7 @@
 // What the classes of one output hold while vertices take codes, and the sets of codes of the others narrowed by it. A rule
 // that prunes is one law of specs/Rules, specs/Full or specs/Reach: what it takes away is in no solution.
 ghost use mathlib.Core.Path.{_≡_};
-ghost use mathlib.Core.Bool.{Bool, true, false, not};
-ghost use mathlib.Core.List.{List};
+ghost use mathlib.Core.Bool.{true, false, not};
 ghost use Prim.Native.Nat.{ℕ, _+_, _*_, _<_, _≤_, max};
 ghost use lib.Dec.{eqb};
 ghost use Rattle.bits.specs.Logic.{pick};
@@ -653,21 +652,22 @@ pub fn settle(
     cl: &[u8],
     base: &[u8],
     bs: &[u64],
-    ms: [u8; SEARCH_OUTPUTS],
-    caps: [u8; SEARCH_OUTPUTS],
-    spots: [u8; SEARCH_OUTPUTS],
-    v: usize,
-    j: usize,
+    p: numbering::Problem,
     o: usize,
     codes: &[u8],
     dom: &mut [u64],
 ) -> bool
-    requires { ⌜ Labels (now cl) × (length (now base) ≡ labelCount) × Blocks ms (now bs) j × (v ≤ maxVertices) × (j ≤ searchOutputs) × (o < j)
-        × (length (now codes) ≡ maxVertices) × (length (now dom) ≡ maxVertices) ⌝ }
-    ensures { λ r. ⌜ Kept (now (cl .entry)) (now (base .entry)) ms caps spots v j (now (codes .entry)) (now (dom .entry)) (now (dom .exit)) × (length (now (dom .exit)) ≡ maxVertices)
-        × (r ≡ false → (kn val : ℕ) → Hopeless (now (cl .entry)) (now (base .entry)) ms caps spots v j kn val (now (codes .entry)) (now (dom .entry))) ⌝ }
+    requires { ⌜ Labels (now cl) × (length (now base) ≡ labelCount) × Blocks (p .ms) (now bs) (p .outputs) × (p .vertices ≤ maxVertices) × (p .outputs ≤ searchOutputs)
+        × (o < p .outputs) × (length (now codes) ≡ maxVertices) × (length (now dom) ≡ maxVertices) ⌝ }
+    ensures { λ r. ⌜ Kept (now (cl .entry)) (now (base .entry)) (p .ms) (p .caps) (p .spots) (p .vertices) (p .outputs) (now (codes .entry)) (now (dom .entry)) (now (dom .exit))
+        × (length (now (dom .exit)) ≡ maxVertices)
+        × (r ≡ false → (kn val : ℕ) → Hopeless (now (cl .entry)) (now (base .entry)) (p .ms) (p .caps) (p .spots) (p .vertices) (p .outputs) kn val (now (codes .entry)) (now (dom .entry))) ⌝ }
 {
-    let h = held(cl, bs, ms, v, j, o, codes);
+    let ms = p.ms;
+    let caps = p.caps;
+    let spots = p.spots;
+    let v = p.vertices;
+    let h = held(cl, bs, ms, v, p.outputs, o, codes);
     let owns = h.owns;
     let w = wanted(cl, ms[o], v, o, dom, &h.own, owns);
     let wants = w.wants;

@@ -2,10 +2,10 @@
 // the numbers are spread over the digits of its private cells. It rests on the laws of specs/Number. From here up to readers
 // vertices are plain numbers, whatever they stand for: the crate joint hands in joint classes.
 ghost use mathlib.Core.Path.{_≡_};
-ghost use mathlib.Core.Bool.{Bool, true, false};
+ghost use mathlib.Core.Bool.{true, false};
 ghost use Prim.Native.Nat.{ℕ, _+_, _*_, _<_, _≤_};
 ghost use mathlib.Core.List.{List};
-ghost use lib.ListN.{length, getD};
+ghost use lib.ListN.{length};
 ghost use Rattle.limits.specs.Limits.{searchOutputs, maxVertices, labelCount, maxCodes, maxCells};
 ghost use Rattle.bits.specs.Digit.{on};
 ghost use Rattle.numbering.specs.Given.{labelAt, partAt, partOf, item, Labels, Plan, Knows, Told};
@@ -149,19 +149,32 @@ fn write(nums: [u8; MAX_VERTICES], cap: u8, p: u8, v: usize, codes: [u8; MAX_VER
     Codes { ok: true, codes: r }
 }
 
+// What a search for codes is asked for: for each output its shared and its private cells, and 2 to the number of the private
+// ones and of all that it reads; the numbers of vertices and outputs; and the vertices where cell 0 has known digits, and
+// these digits.
+pub struct Problem {
+    pub ms: [u8; SEARCH_OUTPUTS],
+    pub ps: [u8; SEARCH_OUTPUTS],
+    pub caps: [u8; SEARCH_OUTPUTS],
+    pub spots: [u8; SEARCH_OUTPUTS],
+    pub vertices: usize,
+    pub outputs: usize,
+    pub kn: u32,
+    pub val: u32,
+}
+
 // Codes over all cells from codes over the shared ones, unless some block has too many classes.
-pub fn finish(
-    cl: &[u8],
-    j: usize,
-    ms: [u8; SEARCH_OUTPUTS],
-    ps: [u8; SEARCH_OUTPUTS],
-    caps: [u8; SEARCH_OUTPUTS],
-    v: usize,
-    codes: [u8; MAX_VERTICES],
-) -> Codes
-    requires { ⌜ Labels (now cl) × (j ≤ searchOutputs) × (v ≤ maxVertices) × Plan ms ps caps j × ((x : ℕ) → x < v → item codes x < maxCodes) ⌝ }
-    ensures { λ r. ⌜ ((base spots dom : List ℕ) (kn val : ℕ) → Knows kn val ps codes v j → Told (now (cl .entry)) base ms ps caps spots v j kn val codes dom (r .ok) (r .codes)) ⌝ }
+pub fn finish(cl: &[u8], p: Problem, codes: [u8; MAX_VERTICES]) -> Codes
+    requires { ⌜ Labels (now cl) × (p .outputs ≤ searchOutputs) × (p .vertices ≤ maxVertices) × Plan (p .ms) (p .ps) (p .caps) (p .outputs)
+        × ((x : ℕ) → x < p .vertices → item codes x < maxCodes) ⌝ }
+    ensures { λ r. ⌜ ((base spots dom : List ℕ) (kn val : ℕ) → Knows kn val (p .ps) codes (p .vertices) (p .outputs)
+        → Told (now (cl .entry)) base (p .ms) (p .ps) (p .caps) spots (p .vertices) (p .outputs) kn val codes dom (r .ok) (r .codes)) ⌝ }
 {
+    let ms = p.ms;
+    let ps = p.ps;
+    let caps = p.caps;
+    let v = p.vertices;
+    let j = p.outputs;
     let mut r = codes;
     let mut o = 0;
     while o < j {

@@ -2,13 +2,10 @@
 // groups, and the search for codes is started with code 0 at vertex 0. Digits of cell 0 may be known. The answer is right: codes
 // that tell the classes apart and have the known digits, or there are none with code 0 at vertex 0.
 ghost use mathlib.Core.Path.{_≡_};
-ghost use mathlib.Core.Bool.{Bool, true, false};
-ghost use mathlib.Core.List.{List};
-ghost use Prim.Native.Nat.{ℕ, _+_, _*_, _<_, _≤_, _^_};
-ghost use lib.ListN.{length, getD};
+ghost use mathlib.Core.Bool.{true, false};
+ghost use Prim.Native.Nat.{ℕ, _<_, _≤_};
 ghost use Rattle.limits.specs.Limits.{searchOutputs, maxVertices, maxCodes, maxCells};
 ghost use Rattle.bits.specs.Digit.{on};
-ghost use Rattle.cells.specs.Lists.{count};
 ghost use Rattle.numbering.specs.Given.{Labels, item};
 ghost use Rattle.coding.specs.Exchange.{Uniform};
 ghost use Rattle.coding.specs.Limit.{Sure};
@@ -114,17 +111,17 @@ fn written(kn: u32, val: u32, v: usize, codes: [u8; MAX_VERTICES]) -> [u8; MAX_V
     r
 }
 
-// For each output its shared and its private cells, and 2 to the number of the private ones and of all that it reads.
-pub struct Sets {
-    pub ms: [u8; SEARCH_OUTPUTS],
-    pub ps: [u8; SEARCH_OUTPUTS],
-    pub caps: [u8; SEARCH_OUTPUTS],
-    pub spots: [u8; SEARCH_OUTPUTS],
-}
-
-fn plan(rows: [u8; SEARCH_OUTPUTS], j: usize, sh: u8) -> Sets
+// The problem with these reading sets: the cells of sh are shared, and the others that an output reads are its own.
+fn plan(
+    v: usize,
+    j: usize,
+    rows: [u8; SEARCH_OUTPUTS],
+    kn: u32,
+    val: u32,
+    sh: u8,
+) -> numbering::Problem
     requires { ⌜ j ≤ searchOutputs ⌝ }
-    ensures { λ r. ⌜ Planned rows sh j (r .ms) (r .ps) (r .caps) (r .spots) ⌝ }
+    ensures { λ r. ⌜ Planned rows sh j (r .ms) (r .ps) (r .caps) (r .spots) × (r .vertices ≡ v) × (r .outputs ≡ j) × (r .kn ≡ kn) × (r .val ≡ val) ⌝ }
 {
     let mut ms = [0u8; SEARCH_OUTPUTS];
     let mut ps = [0u8; SEARCH_OUTPUTS];
@@ -143,11 +140,15 @@ fn plan(rows: [u8; SEARCH_OUTPUTS], j: usize, sh: u8) -> Sets
         spots[o] = b;
         o += 1;
     }
-    Sets {
+    numbering::Problem {
         ms,
         ps,
         caps,
         spots,
+        vertices: v,
+        outputs: j,
+        kn,
+        val,
     }
 }
 
@@ -282,7 +283,7 @@ pub fn possible(cl: &[u8], v: usize, j: usize, rows: [u8; SEARCH_OUTPUTS]) -> bo
     ensures { λ r. ⌜ (r ≡ false → (kn val : ℕ) → Decided (now (cl .entry)) v j rows kn val false rows) ⌝ }
 {
     let sh = shared(rows, j);
-    let p = plan(rows, j, sh);
+    let p = plan(v, j, rows, 0, 0, sh);
     let spots = p.spots;
     let base = bounds::bases(cl, v, j, rows);
     let mut o = 0;
@@ -310,17 +311,14 @@ fn search(
     ensures { λ r. ⌜ Sure limit (r .unsure) (Decided (now (cl .entry)) v j rows kn val (r .ok) (r .codes)) ⌝ }
 {
     let sh = searched(rows, j, kn);
-    let p = plan(rows, j, sh);
+    let p = plan(v, j, rows, kn, val, sh);
     let ms = p.ms;
-    let ps = p.ps;
-    let caps = p.caps;
-    let spots = p.spots;
-    let bs = holding::blocks(ms, j);
-    let base = bounds::bases(cl, v, j, rows);
-    let b = begin(kn, val);
+    let bs = holding::blocks(ms, p.outputs);
+    let base = bounds::bases(cl, p.vertices, p.outputs, rows);
+    let b = begin(p.kn, p.val);
     let codes = b.codes;
     let mut d = b.dom;
-    if !coding::settle_all(cl, &base, &bs, ms, caps, spots, v, j, &codes, &mut d, 0, 0) {
+    if !coding::settle_all(cl, &base, &bs, p, &codes, &mut d, 0, 0) {
         return coding::Search {
             ok: false,
             unsure: false,
@@ -329,7 +327,7 @@ fn search(
         };
     }
     if sh == 0 {
-        let f = numbering::finish(cl, j, ms, ps, caps, v, [0u8; MAX_VERTICES]);
+        let f = numbering::finish(cl, p, [0u8; MAX_VERTICES]);
         if f.ok {
             let written = f.codes;
             return coding::Search {
@@ -340,32 +338,12 @@ fn search(
             };
         }
     }
-    let rest = groupable(sh, kn);
-    let gb = holding::blocks(groups(ms, j, rest), GROUPS);
+    let rest = groupable(sh, p.kn);
+    let gb = holding::blocks(groups(ms, p.outputs, rest), GROUPS);
     let used = coding::mark(&gb, [0u64; GROUPS], 0);
     let all = holding::block(!sh, 0);
-    let met = coding::meet(cl, j, [0u64; SEARCH_OUTPUTS], 0);
-    coding::find(
-        cl,
-        &base,
-        &bs,
-        &gb,
-        all,
-        ms,
-        ps,
-        caps,
-        spots,
-        v,
-        j,
-        kn,
-        val,
-        codes,
-        d,
-        used,
-        met,
-        limit,
-        0,
-    )
+    let met = coding::meet(cl, p.outputs, [0u64; SEARCH_OUTPUTS], 0);
+    coding::find(cl, &base, &bs, &gb, all, p, codes, d, used, met, limit, 0)
 }
 
 // Codes for v vertices that tell the classes of each part of the first j outputs apart, each reading its row of cells, and that

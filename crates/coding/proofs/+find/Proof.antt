@@ -1,17 +1,14 @@
-use Rattle.coding.specs.Tried.{Covers, Trying, covers-more, trying-start, trying-more, trying-end}
-use Rattle.coding.specs.Values.{Valued, valued-more, knows-more}
+use Rattle.coding.specs.Tried.{Trying, covers-more, trying-start, trying-more, trying-end}
+use Rattle.coding.specs.Values.{valued-more, knows-more}
 use Rattle.holding.specs.Search.{uncoded, uncoded-less, told-found, told-lost}
 use Rattle.holding.specs.Narrow.{kept-start}
 use Rattle.numbering.specs.Given.{item}
 use Rattle.bits.specs.LogicLaws.{true-false}
-use borrow.Author.Tests.{not-true, not-false}
-use lib.ListN.{length, getD, set, length-set}
+use lib.ListN.{length, set, length-set}
 use native.Mathlib.Omega.{arith}
-use Prim.Native.Nat.{ℕ, _<_, _≤_, _+_, _-_, _*_}
-use mathlib.Core.Bool.{Bool, true, false}
+use Prim.Native.Nat.{ℕ, _<_, _≤_}
 use mathlib.Core.Path.{_≡_, refl, sym, _∙_}
 use borrow.Author.Needs.{needs}
-use Prim.Native.Nat.{ℕ, _<_}
 use borrow.Fn.Kinds.{In}
 use borrow.Fn.PlainCycle.{Measures, is, falls, and}
 use Rattle.coding.proofs.find.Reads as find
@@ -32,7 +29,7 @@ use Rattle.coding.proofs.+find.{statement}
 use Rattle.coding.proofs.+find.Tie.{close}
 
 abbrev μ-find : Measures 4 find-kinds.ps ℕ
-μ-find κs a = uncoded (a .1 .1 .1 .1 .1 .1 .1 .1 .1 .1 .1 .1 .1 .0) (a .1 .1 .1 .1 .1 .1 .1 .1 .1 .0)
+μ-find κs a = uncoded (a .1 .1 .1 .1 .1 .1 .0) (a .1 .1 .1 .1 .1 .0 .vertices)
 
 abbrev find-at : ℕ → In 4 find-kinds.ps
 find-at t = and 4 find-kinds.ps (is 4 find-kinds.ps μ-find t) find.Pre
@@ -40,975 +37,9 @@ find-at t = and 4 find-kinds.ps (is 4 find-kinds.ps μ-find t) find.Pre
 abbrev find-below : ℕ → In 4 find-kinds.ps
 find-below t = and 4 find-kinds.ps (falls 4 find-kinds.ps _<_ μ-find t) find.Pre
 
-abbrev find-Inv-loop : find-lts.InvT-loop
-find-Inv-loop cl base bs gb all ms ps caps spots v j kn val used limit nodes codes dom met can x fit total₀ left₀ total left =
-    (length codes ≡ 32) × (x < v) × (64 ≤ item codes x) × Trying cl base ms caps spots v j kn val codes dom x can left
-
-abbrev find-μ-loop : find-lts.MeasureT-loop
-find-μ-loop cl base bs gb all ms ps caps spots v j kn val used limit nodes codes dom met can x fit total₀ left₀ total left =
-    left
-
-find-allowed-requires : (t : ℕ) → find-lts.Need-allowed-requires (
-  allowed-reads.Asked,
-  allowed-reads.Learnt,
-  pick-reads.Asked,
-  pick-reads.Learnt,
-  finish-reads.Asked,
-  finish-reads.Learnt,
-  fitting-reads.Asked,
-  fitting-reads.Learnt,
-  spent-reads.Asked,
-  spent-reads.Learnt,
-  lowest-reads.Asked,
-  lowest-reads.Learnt,
-  without-reads.Asked,
-  without-reads.Learnt,
-  wrapping-add-u64-reads.Asked,
-  wrapping-add-u64-reads.Learnt,
-  settle-all-reads.Asked,
-  settle-all-reads.Learnt,
-  mark-reads.Asked,
-  mark-reads.Learnt,
-  meet-reads.Asked,
-  meet-reads.Learnt,
-  find-below t,
-  find.Post,
-) (find-at t) find.Post find-Inv-loop find-μ-loop
-find-allowed-requires t c κs = c .before .before .before .before .pre .1 .6 .blocks .long
-
-find-slice-aggregate-pick : (t : ℕ) → find-lts.Need-slice-aggregate-pick (
-  allowed-reads.Asked,
-  allowed-reads.Learnt,
-  pick-reads.Asked,
-  pick-reads.Learnt,
-  finish-reads.Asked,
-  finish-reads.Learnt,
-  fitting-reads.Asked,
-  fitting-reads.Learnt,
-  spent-reads.Asked,
-  spent-reads.Learnt,
-  lowest-reads.Asked,
-  lowest-reads.Learnt,
-  without-reads.Asked,
-  without-reads.Learnt,
-  wrapping-add-u64-reads.Asked,
-  wrapping-add-u64-reads.Learnt,
-  settle-all-reads.Asked,
-  settle-all-reads.Learnt,
-  mark-reads.Asked,
-  mark-reads.Learnt,
-  meet-reads.Asked,
-  meet-reads.Learnt,
-  find-below t,
-  find.Post,
-) (find-at t) find.Post find-Inv-loop find-μ-loop
-find-slice-aggregate-pick t c = search needs
-
-find-slice-aggregate-pick-2 : (t : ℕ) → find-lts.Need-slice-aggregate-pick-2 (
-  allowed-reads.Asked,
-  allowed-reads.Learnt,
-  pick-reads.Asked,
-  pick-reads.Learnt,
-  finish-reads.Asked,
-  finish-reads.Learnt,
-  fitting-reads.Asked,
-  fitting-reads.Learnt,
-  spent-reads.Asked,
-  spent-reads.Learnt,
-  lowest-reads.Asked,
-  lowest-reads.Learnt,
-  without-reads.Asked,
-  without-reads.Learnt,
-  wrapping-add-u64-reads.Asked,
-  wrapping-add-u64-reads.Learnt,
-  settle-all-reads.Asked,
-  settle-all-reads.Learnt,
-  mark-reads.Asked,
-  mark-reads.Learnt,
-  meet-reads.Asked,
-  meet-reads.Learnt,
-  find-below t,
-  find.Post,
-) (find-at t) find.Post find-Inv-loop find-μ-loop
-find-slice-aggregate-pick-2 t c = search needs
-
-find-slice-aggregate-pick-3 : (t : ℕ) → find-lts.Need-slice-aggregate-pick-3 (
-  allowed-reads.Asked,
-  allowed-reads.Learnt,
-  pick-reads.Asked,
-  pick-reads.Learnt,
-  finish-reads.Asked,
-  finish-reads.Learnt,
-  fitting-reads.Asked,
-  fitting-reads.Learnt,
-  spent-reads.Asked,
-  spent-reads.Learnt,
-  lowest-reads.Asked,
-  lowest-reads.Learnt,
-  without-reads.Asked,
-  without-reads.Learnt,
-  wrapping-add-u64-reads.Asked,
-  wrapping-add-u64-reads.Learnt,
-  settle-all-reads.Asked,
-  settle-all-reads.Learnt,
-  mark-reads.Asked,
-  mark-reads.Learnt,
-  meet-reads.Asked,
-  meet-reads.Learnt,
-  find-below t,
-  find.Post,
-) (find-at t) find.Post find-Inv-loop find-μ-loop
-find-slice-aggregate-pick-3 t c = search needs
-
-find-pick-requires : (t : ℕ) → find-lts.Need-pick-requires (
-  allowed-reads.Asked,
-  allowed-reads.Learnt,
-  pick-reads.Asked,
-  pick-reads.Learnt,
-  finish-reads.Asked,
-  finish-reads.Learnt,
-  fitting-reads.Asked,
-  fitting-reads.Learnt,
-  spent-reads.Asked,
-  spent-reads.Learnt,
-  lowest-reads.Asked,
-  lowest-reads.Learnt,
-  without-reads.Asked,
-  without-reads.Learnt,
-  wrapping-add-u64-reads.Asked,
-  wrapping-add-u64-reads.Learnt,
-  settle-all-reads.Asked,
-  settle-all-reads.Learnt,
-  mark-reads.Asked,
-  mark-reads.Learnt,
-  meet-reads.Asked,
-  meet-reads.Learnt,
-  find-below t,
-  find.Post,
-) (find-at t) find.Post find-Inv-loop find-μ-loop
-find-pick-requires t c κs =
-    let p = c .before .before .before .before .before .before .before .before .pre .1 in
-    let d = c .before .before .before .before .before .before .before .before .good .1 .1 .1 .1 .1 .1 .1 .1 .1 .1 .1 .1 .1 .1 .0 in
-    let k = c .before .before .before .before .before .before .before .before .good .1 .1 .1 .1 .1 .1 .1 .1 .1 .1 .1 .1 .1 .0 in
-    let m = c .before .before .before .before .before .before .before .before .good .1 .1 .1 .1 .1 .1 .1 .1 .1 .1 .1 .1 .1 .1 .1 .1 .0 in
-    (p .0, p .4, p .3, search needs, search needs, search needs)
-
-find-finish-requires : (t : ℕ) → find-lts.Need-finish-requires (
-  allowed-reads.Asked,
-  allowed-reads.Learnt,
-  pick-reads.Asked,
-  pick-reads.Learnt,
-  finish-reads.Asked,
-  finish-reads.Learnt,
-  fitting-reads.Asked,
-  fitting-reads.Learnt,
-  spent-reads.Asked,
-  spent-reads.Learnt,
-  lowest-reads.Asked,
-  lowest-reads.Learnt,
-  without-reads.Asked,
-  without-reads.Learnt,
-  wrapping-add-u64-reads.Asked,
-  wrapping-add-u64-reads.Learnt,
-  settle-all-reads.Asked,
-  settle-all-reads.Learnt,
-  mark-reads.Asked,
-  mark-reads.Learnt,
-  meet-reads.Asked,
-  meet-reads.Learnt,
-  find-below t,
-  find.Post,
-) (find-at t) find.Post find-Inv-loop find-μ-loop
-find-finish-requires t c κs =
-    let p = c .before .before .before .before .before .before .before .before .before .before .pre .1 in
-    (p .0, p .4, p .3, p .5, λ x h. c .before .pick .ensures .none (c .if1 .taken) x h)
-
-find-returns : (t : ℕ) → find-lts.Need-returns (
-  allowed-reads.Asked,
-  allowed-reads.Learnt,
-  pick-reads.Asked,
-  pick-reads.Learnt,
-  finish-reads.Asked,
-  finish-reads.Learnt,
-  fitting-reads.Asked,
-  fitting-reads.Learnt,
-  spent-reads.Asked,
-  spent-reads.Learnt,
-  lowest-reads.Asked,
-  lowest-reads.Learnt,
-  without-reads.Asked,
-  without-reads.Learnt,
-  wrapping-add-u64-reads.Asked,
-  wrapping-add-u64-reads.Learnt,
-  settle-all-reads.Asked,
-  settle-all-reads.Learnt,
-  mark-reads.Asked,
-  mark-reads.Learnt,
-  meet-reads.Asked,
-  meet-reads.Learnt,
-  find-below t,
-  find.Post,
-) (find-at t) find.Post find-Inv-loop find-μ-loop
-find-returns t c =
-    let a = c .before .before .before .before .before .before .before .before .before .before .before .before .args in
-    let p = c .before .before .before .before .before .before .before .before .before .before .before .before .pre .1 in
-    record { sure = λ e. c .before .finish .ensures (a .base .now) (a .spots) (a .t15) (a .kn) (a .val) (p .8); never = λ e. refl }
-
-find-fitting-requires : (t : ℕ) → find-lts.Need-fitting-requires (
-  allowed-reads.Asked,
-  allowed-reads.Learnt,
-  pick-reads.Asked,
-  pick-reads.Learnt,
-  finish-reads.Asked,
-  finish-reads.Learnt,
-  fitting-reads.Asked,
-  fitting-reads.Learnt,
-  spent-reads.Asked,
-  spent-reads.Learnt,
-  lowest-reads.Asked,
-  lowest-reads.Learnt,
-  without-reads.Asked,
-  without-reads.Learnt,
-  wrapping-add-u64-reads.Asked,
-  wrapping-add-u64-reads.Learnt,
-  settle-all-reads.Asked,
-  settle-all-reads.Learnt,
-  mark-reads.Asked,
-  mark-reads.Learnt,
-  meet-reads.Asked,
-  meet-reads.Learnt,
-  find-below t,
-  find.Post,
-) (find-at t) find.Post find-Inv-loop find-μ-loop
-find-fitting-requires t c κs =
-    let p = c .before .pick .ensures .some (c .if1 .left) .0 in
-    let b = c .before .before .before .before .before .before .before .before .before .before .pre .1 .3 in
-    omega arith
-
-find-mul-left : (t : ℕ) → find-lts.Need-mul-left (
-  allowed-reads.Asked,
-  allowed-reads.Learnt,
-  pick-reads.Asked,
-  pick-reads.Learnt,
-  finish-reads.Asked,
-  finish-reads.Learnt,
-  fitting-reads.Asked,
-  fitting-reads.Learnt,
-  spent-reads.Asked,
-  spent-reads.Learnt,
-  lowest-reads.Asked,
-  lowest-reads.Learnt,
-  without-reads.Asked,
-  without-reads.Learnt,
-  wrapping-add-u64-reads.Asked,
-  wrapping-add-u64-reads.Learnt,
-  settle-all-reads.Asked,
-  settle-all-reads.Learnt,
-  mark-reads.Asked,
-  mark-reads.Learnt,
-  meet-reads.Asked,
-  meet-reads.Learnt,
-  find-below t,
-  find.Post,
-) (find-at t) find.Post find-Inv-loop find-μ-loop
-find-mul-left t c =
-    let a = c .before .before .pick .ensures .some (c .before .if1 .left) .0 in
-    let b = c .before .before .before .before .before .before .before .before .before .before .before .pre .1 .3 in
-    search needs
-
-find-array-read-left : (t : ℕ) → find-lts.Need-array-read-left (
-  allowed-reads.Asked,
-  allowed-reads.Learnt,
-  pick-reads.Asked,
-  pick-reads.Learnt,
-  finish-reads.Asked,
-  finish-reads.Learnt,
-  fitting-reads.Asked,
-  fitting-reads.Learnt,
-  spent-reads.Asked,
-  spent-reads.Learnt,
-  lowest-reads.Asked,
-  lowest-reads.Learnt,
-  without-reads.Asked,
-  without-reads.Learnt,
-  wrapping-add-u64-reads.Asked,
-  wrapping-add-u64-reads.Learnt,
-  settle-all-reads.Asked,
-  settle-all-reads.Learnt,
-  mark-reads.Asked,
-  mark-reads.Learnt,
-  meet-reads.Asked,
-  meet-reads.Learnt,
-  find-below t,
-  find.Post,
-) (find-at t) find.Post find-Inv-loop find-μ-loop
-find-array-read-left t c =
-    let a = c .before .before .pick .ensures .some (c .before .if1 .left) .0 in
-    let b = c .before .before .before .before .before .before .before .before .before .before .before .pre .1 .3 in
-    search needs
-
-find-loop-holds : (t : ℕ) → find-lts.Need-loop-holds (
-  allowed-reads.Asked,
-  allowed-reads.Learnt,
-  pick-reads.Asked,
-  pick-reads.Learnt,
-  finish-reads.Asked,
-  finish-reads.Learnt,
-  fitting-reads.Asked,
-  fitting-reads.Learnt,
-  spent-reads.Asked,
-  spent-reads.Learnt,
-  lowest-reads.Asked,
-  lowest-reads.Learnt,
-  without-reads.Asked,
-  without-reads.Learnt,
-  wrapping-add-u64-reads.Asked,
-  wrapping-add-u64-reads.Learnt,
-  settle-all-reads.Asked,
-  settle-all-reads.Learnt,
-  mark-reads.Asked,
-  mark-reads.Learnt,
-  meet-reads.Asked,
-  meet-reads.Learnt,
-  find-below t,
-  find.Post,
-) (find-at t) find.Post find-Inv-loop find-μ-loop
-find-loop-holds t c =
-    let p = c .before .before .pick .ensures .some (c .before .if1 .left) in
-    let a = c .before .before .before .before .before .before .before .before .before .before .before .args in
-    let good = c .before .before .before .before .before .before .before .before .before .before .before .good .1 .1 .1 .1 .1 .1 .1 .1 .1 .1 .1 .1 .1 .0 in
-    let start = trying-start (a .cl .now) (a .base .now) (a .ms) (a .caps) (a .spots) (a .v) (a .j) (a .kn) (a .val) (a .t14) (a .t15) in
-    (search needs, p .0, p .1, start (c .before .before .pick .result) (c .before .before .before .before .before .before .allowed .result) (p .0) (c .fitting .result) (c .fitting .ensures))
-
-find-spent-requires : (t : ℕ) → find-lts.Need-spent-requires (
-  allowed-reads.Asked,
-  allowed-reads.Learnt,
-  pick-reads.Asked,
-  pick-reads.Learnt,
-  finish-reads.Asked,
-  finish-reads.Learnt,
-  fitting-reads.Asked,
-  fitting-reads.Learnt,
-  spent-reads.Asked,
-  spent-reads.Learnt,
-  lowest-reads.Asked,
-  lowest-reads.Learnt,
-  without-reads.Asked,
-  without-reads.Learnt,
-  wrapping-add-u64-reads.Asked,
-  wrapping-add-u64-reads.Learnt,
-  settle-all-reads.Asked,
-  settle-all-reads.Learnt,
-  mark-reads.Asked,
-  mark-reads.Learnt,
-  meet-reads.Asked,
-  meet-reads.Learnt,
-  find-below t,
-  find.Post,
-) (find-at t) find.Post find-Inv-loop find-μ-loop
-find-spent-requires t c κs = search needs
-
-find-returns-2 : (t : ℕ) → find-lts.Need-returns-2 (
-  allowed-reads.Asked,
-  allowed-reads.Learnt,
-  pick-reads.Asked,
-  pick-reads.Learnt,
-  finish-reads.Asked,
-  finish-reads.Learnt,
-  fitting-reads.Asked,
-  fitting-reads.Learnt,
-  spent-reads.Asked,
-  spent-reads.Learnt,
-  lowest-reads.Asked,
-  lowest-reads.Learnt,
-  without-reads.Asked,
-  without-reads.Learnt,
-  wrapping-add-u64-reads.Asked,
-  wrapping-add-u64-reads.Learnt,
-  settle-all-reads.Asked,
-  settle-all-reads.Learnt,
-  mark-reads.Asked,
-  mark-reads.Learnt,
-  meet-reads.Asked,
-  meet-reads.Learnt,
-  find-below t,
-  find.Post,
-) (find-at t) find.Post find-Inv-loop find-μ-loop
-find-returns-2 t c = record { sure = λ e. absurd (true-false e); never = λ e. sym (c .if2 .taken) ∙ c .before .spent .ensures e }
-
-find-lowest-requires : (t : ℕ) → find-lts.Need-lowest-requires (
-  allowed-reads.Asked,
-  allowed-reads.Learnt,
-  pick-reads.Asked,
-  pick-reads.Learnt,
-  finish-reads.Asked,
-  finish-reads.Learnt,
-  fitting-reads.Asked,
-  fitting-reads.Learnt,
-  spent-reads.Asked,
-  spent-reads.Learnt,
-  lowest-reads.Asked,
-  lowest-reads.Learnt,
-  without-reads.Asked,
-  without-reads.Learnt,
-  wrapping-add-u64-reads.Asked,
-  wrapping-add-u64-reads.Learnt,
-  settle-all-reads.Asked,
-  settle-all-reads.Learnt,
-  mark-reads.Asked,
-  mark-reads.Learnt,
-  meet-reads.Asked,
-  meet-reads.Learnt,
-  find-below t,
-  find.Post,
-) (find-at t) find.Post find-Inv-loop find-μ-loop
-find-lowest-requires t c κs = c .before .before .loop-test .taken
-
-find-without-requires : (t : ℕ) → find-lts.Need-without-requires (
-  allowed-reads.Asked,
-  allowed-reads.Learnt,
-  pick-reads.Asked,
-  pick-reads.Learnt,
-  finish-reads.Asked,
-  finish-reads.Learnt,
-  fitting-reads.Asked,
-  fitting-reads.Learnt,
-  spent-reads.Asked,
-  spent-reads.Learnt,
-  lowest-reads.Asked,
-  lowest-reads.Learnt,
-  without-reads.Asked,
-  without-reads.Learnt,
-  wrapping-add-u64-reads.Asked,
-  wrapping-add-u64-reads.Learnt,
-  settle-all-reads.Asked,
-  settle-all-reads.Learnt,
-  mark-reads.Asked,
-  mark-reads.Learnt,
-  meet-reads.Asked,
-  meet-reads.Learnt,
-  find-below t,
-  find.Post,
-) (find-at t) find.Post find-Inv-loop find-μ-loop
-find-without-requires t c κs = c .lowest .ensures .0
-
-find-wrapping-add-u64-requires : (t : ℕ) → find-lts.Need-wrapping-add-u64-requires (
-  allowed-reads.Asked,
-  allowed-reads.Learnt,
-  pick-reads.Asked,
-  pick-reads.Learnt,
-  finish-reads.Asked,
-  finish-reads.Learnt,
-  fitting-reads.Asked,
-  fitting-reads.Learnt,
-  spent-reads.Asked,
-  spent-reads.Learnt,
-  lowest-reads.Asked,
-  lowest-reads.Learnt,
-  without-reads.Asked,
-  without-reads.Learnt,
-  wrapping-add-u64-reads.Asked,
-  wrapping-add-u64-reads.Learnt,
-  settle-all-reads.Asked,
-  settle-all-reads.Learnt,
-  mark-reads.Asked,
-  mark-reads.Learnt,
-  meet-reads.Asked,
-  meet-reads.Learnt,
-  find-below t,
-  find.Post,
-) (find-at t) find.Post find-Inv-loop find-μ-loop
-find-wrapping-add-u64-requires t c κs = search needs
-
-find-array-write-next : (t : ℕ) → find-lts.Need-array-write-next (
-  allowed-reads.Asked,
-  allowed-reads.Learnt,
-  pick-reads.Asked,
-  pick-reads.Learnt,
-  finish-reads.Asked,
-  finish-reads.Learnt,
-  fitting-reads.Asked,
-  fitting-reads.Learnt,
-  spent-reads.Asked,
-  spent-reads.Learnt,
-  lowest-reads.Asked,
-  lowest-reads.Learnt,
-  without-reads.Asked,
-  without-reads.Learnt,
-  wrapping-add-u64-reads.Asked,
-  wrapping-add-u64-reads.Learnt,
-  settle-all-reads.Asked,
-  settle-all-reads.Learnt,
-  mark-reads.Asked,
-  mark-reads.Learnt,
-  meet-reads.Asked,
-  meet-reads.Learnt,
-  find-below t,
-  find.Post,
-) (find-at t) find.Post find-Inv-loop find-μ-loop
-find-array-write-next t c =
-    let a = c .before .before .before .before .before .before .loop .inv .1 in
-    let b = c .before .before .before .before .before .before .before .before .before .before .before .before .before .before .before .before .before .before .pre .1 .3 in
-    search needs
-
-find-slice-aggregate-settle-all : (t : ℕ) → find-lts.Need-slice-aggregate-settle-all (
-  allowed-reads.Asked,
-  allowed-reads.Learnt,
-  pick-reads.Asked,
-  pick-reads.Learnt,
-  finish-reads.Asked,
-  finish-reads.Learnt,
-  fitting-reads.Asked,
-  fitting-reads.Learnt,
-  spent-reads.Asked,
-  spent-reads.Learnt,
-  lowest-reads.Asked,
-  lowest-reads.Learnt,
-  without-reads.Asked,
-  without-reads.Learnt,
-  wrapping-add-u64-reads.Asked,
-  wrapping-add-u64-reads.Learnt,
-  settle-all-reads.Asked,
-  settle-all-reads.Learnt,
-  mark-reads.Asked,
-  mark-reads.Learnt,
-  meet-reads.Asked,
-  meet-reads.Learnt,
-  find-below t,
-  find.Post,
-) (find-at t) find.Post find-Inv-loop find-μ-loop
-find-slice-aggregate-settle-all t c = search needs
-
-find-slice-aggregate-settle-all-2 : (t : ℕ) → find-lts.Need-slice-aggregate-settle-all-2 (
-  allowed-reads.Asked,
-  allowed-reads.Learnt,
-  pick-reads.Asked,
-  pick-reads.Learnt,
-  finish-reads.Asked,
-  finish-reads.Learnt,
-  fitting-reads.Asked,
-  fitting-reads.Learnt,
-  spent-reads.Asked,
-  spent-reads.Learnt,
-  lowest-reads.Asked,
-  lowest-reads.Learnt,
-  without-reads.Asked,
-  without-reads.Learnt,
-  wrapping-add-u64-reads.Asked,
-  wrapping-add-u64-reads.Learnt,
-  settle-all-reads.Asked,
-  settle-all-reads.Learnt,
-  mark-reads.Asked,
-  mark-reads.Learnt,
-  meet-reads.Asked,
-  meet-reads.Learnt,
-  find-below t,
-  find.Post,
-) (find-at t) find.Post find-Inv-loop find-μ-loop
-find-slice-aggregate-settle-all-2 t c =
-    let far = c .before .before .before .before .before .before .before .before .before .before .before .before in
-    let d = far .before .before .before .before .before .before .before .before .good .1 .1 .1 .1 .1 .1 .1 .1 .1 .1 .1 .1 .1 .1 .0 in
-    search needs
-
-find-settle-all-requires : (t : ℕ) → find-lts.Need-settle-all-requires (
-  allowed-reads.Asked,
-  allowed-reads.Learnt,
-  pick-reads.Asked,
-  pick-reads.Learnt,
-  finish-reads.Asked,
-  finish-reads.Learnt,
-  fitting-reads.Asked,
-  fitting-reads.Learnt,
-  spent-reads.Asked,
-  spent-reads.Learnt,
-  lowest-reads.Asked,
-  lowest-reads.Learnt,
-  without-reads.Asked,
-  without-reads.Learnt,
-  wrapping-add-u64-reads.Asked,
-  wrapping-add-u64-reads.Learnt,
-  settle-all-reads.Asked,
-  settle-all-reads.Learnt,
-  mark-reads.Asked,
-  mark-reads.Learnt,
-  meet-reads.Asked,
-  meet-reads.Learnt,
-  find-below t,
-  find.Post,
-) (find-at t) find.Post find-Inv-loop find-μ-loop
-find-settle-all-requires t c κs =
-    let far = c .before .before .before .before .before .before .before .before .before .before .before .before in
-    let p = far .before .before .before .before .before .before .before .before .pre .1 in
-    let few = p .3 in
-    let i = c .before .before .before .before .before .before .before .before .loop .inv .1 in
-    let d = far .before .before .before .before .before .before .before .before .good .1 .1 .1 .1 .1 .1 .1 .1 .1 .1 .1 .1 .1 .1 .0 in
-    let long = length-set (far .before .before .before .before .before .before .before .before .args .t14)
-    (c .before .before .before .before .before .before .before .before .before .before .before .pick .result) (c .before .before .before .before .lowest .result)
-    ∙ c .before .before .before .before .before .before .before .before .loop .inv .0 in
-    (p .0, p .1, p .2, p .3, p .4, c .before .before .before .before .lowest .ensures .0, omega arith, long, search needs)
-
-find-mark-requires : (t : ℕ) → find-lts.Need-mark-requires (
-  allowed-reads.Asked,
-  allowed-reads.Learnt,
-  pick-reads.Asked,
-  pick-reads.Learnt,
-  finish-reads.Asked,
-  finish-reads.Learnt,
-  fitting-reads.Asked,
-  fitting-reads.Learnt,
-  spent-reads.Asked,
-  spent-reads.Learnt,
-  lowest-reads.Asked,
-  lowest-reads.Learnt,
-  without-reads.Asked,
-  without-reads.Learnt,
-  wrapping-add-u64-reads.Asked,
-  wrapping-add-u64-reads.Learnt,
-  settle-all-reads.Asked,
-  settle-all-reads.Learnt,
-  mark-reads.Asked,
-  mark-reads.Learnt,
-  meet-reads.Asked,
-  meet-reads.Learnt,
-  find-below t,
-  find.Post,
-) (find-at t) find.Post find-Inv-loop find-μ-loop
-find-mark-requires t c κs =
-    let far = c .before .before .before .before .before .before .before .before .before .before .before .before .before .before .before .before .before .before .before .before .before .before in
-    (far .before .pre .1 .6 .blocks .long, c .before .before .before .before .before .before .before .lowest .ensures .0)
-
-find-meet-requires : (t : ℕ) → find-lts.Need-meet-requires (
-  allowed-reads.Asked,
-  allowed-reads.Learnt,
-  pick-reads.Asked,
-  pick-reads.Learnt,
-  finish-reads.Asked,
-  finish-reads.Learnt,
-  fitting-reads.Asked,
-  fitting-reads.Learnt,
-  spent-reads.Asked,
-  spent-reads.Learnt,
-  lowest-reads.Asked,
-  lowest-reads.Learnt,
-  without-reads.Asked,
-  without-reads.Learnt,
-  wrapping-add-u64-reads.Asked,
-  wrapping-add-u64-reads.Learnt,
-  settle-all-reads.Asked,
-  settle-all-reads.Learnt,
-  mark-reads.Asked,
-  mark-reads.Learnt,
-  meet-reads.Asked,
-  meet-reads.Learnt,
-  find-below t,
-  find.Post,
-) (find-at t) find.Post find-Inv-loop find-μ-loop
-find-meet-requires t c κs =
-    let far = c .before .before .before .before .before .before .before .before .before .before .before .before in
-    let p = far .before .before .before .before .before .before .before .before .before .before .before .before .pre .1 in
-    let a = far .loop .inv .1 in
-    let b = p .3 in
-    (p .0, p .4, omega arith)
-
-find-find-requires : (t : ℕ) → find-lts.Need-find-requires (
-  allowed-reads.Asked,
-  allowed-reads.Learnt,
-  pick-reads.Asked,
-  pick-reads.Learnt,
-  finish-reads.Asked,
-  finish-reads.Learnt,
-  fitting-reads.Asked,
-  fitting-reads.Learnt,
-  spent-reads.Asked,
-  spent-reads.Learnt,
-  lowest-reads.Asked,
-  lowest-reads.Learnt,
-  without-reads.Asked,
-  without-reads.Learnt,
-  wrapping-add-u64-reads.Asked,
-  wrapping-add-u64-reads.Learnt,
-  settle-all-reads.Asked,
-  settle-all-reads.Learnt,
-  mark-reads.Asked,
-  mark-reads.Learnt,
-  meet-reads.Asked,
-  meet-reads.Learnt,
-  find-below t,
-  find.Post,
-) (find-at t) find.Post find-Inv-loop find-μ-loop
-find-find-requires t c κs =
-    let far = c .before .before .before .before .before .before .before .before .before .before .before .before in
-    let p = far .before .before .before .before .before .before .before .before .before .before .before .before .before .pre .1 in
-    let m = far .before .before .before .before .before .before .before .before .before .before .before .before .before .pre .0 in
-    let i = far .before .loop .inv in
-    let a = far .before .before .before .before .before .before .before .before .before .before .before .before .before .args in
-    let x = far .before .before .before .before .pick .result in
-    let l = c .before .before .before .before .before .before .before .before .before .lowest .ensures .0 in
-    let n = c .before .before .before .before .before .before .before .before .before .lowest .result in
-    let w = uncoded-less (a .t14) (a .v) x n (i .0) (p .3) (i .1) (i .2) l in
-    let q = valued-more (a .t14) (a .v) x n (i .0) (p .3) (i .1) (a .ms) (a .gb .now) (a .all) (a .j) (a .kn) (a .used) (c .before .mark .result) l (c .before .mark .ensures) (p .6) in
-    let s = c .before .before .before .before .settle-all in
-    let k = covers-more (a .t14) (a .v) x n (i .0) (p .3) (i .1) (a .cl .now) (a .base .now) (a .ms) (a .caps) (a .spots) (a .j) (a .kn) (a .val) (a .t15) _ (i .2) (s .ensures .0) (p .7) in
-    let y = c .before .before .before .before .before .before .before .before .before .lowest .ensures .1 in
-    let d = knows-more (a .t14) (a .v) x n (i .0) (p .3) (i .1) (a .kn) (a .val) (a .ps) (a .j) (i .3 .digit n l y) (p .8) in
-    (omega arith, (p .0, p .1, p .2, p .3, p .4, p .5, q, k, d))
-
-find-returns-3 : (t : ℕ) → find-lts.Need-returns-3 (
-  allowed-reads.Asked,
-  allowed-reads.Learnt,
-  pick-reads.Asked,
-  pick-reads.Learnt,
-  finish-reads.Asked,
-  finish-reads.Learnt,
-  fitting-reads.Asked,
-  fitting-reads.Learnt,
-  spent-reads.Asked,
-  spent-reads.Learnt,
-  lowest-reads.Asked,
-  lowest-reads.Learnt,
-  without-reads.Asked,
-  without-reads.Learnt,
-  wrapping-add-u64-reads.Asked,
-  wrapping-add-u64-reads.Learnt,
-  settle-all-reads.Asked,
-  settle-all-reads.Learnt,
-  mark-reads.Asked,
-  mark-reads.Learnt,
-  meet-reads.Asked,
-  meet-reads.Learnt,
-  find-below t,
-  find.Post,
-) (find-at t) find.Post find-Inv-loop find-μ-loop
-find-returns-3 t c =
-    let far = c .before .before .before .before .before .before .before .before .before .before .before .before in
-    let a = far .before .before .before .before .before .before .before .before .before .before .before .before .before .before .before .args in
-    let s = c .before .before .before .before .before .before .settle-all in
-    let next = set (a .t14) (far .before .before .before .before .before .before .pick .result)
-    (c .before .before .before .before .before .before .before .before .before .before .before .lowest .result) in
-    let r = c .before .find .ensures in
-    record {
-      sure = λ e. told-found (a .cl .now) (a .base .now) (a .ms) (a .ps) (a .caps) (a .spots) (a .v) (a .j) (a .kn) (a .val) (a .t14) (a .t15) next _ _ _ (c .if4 .taken) (r .sure e);
-      never = r .never;
-    }
-
-find-returns-4 : (t : ℕ) → find-lts.Need-returns-4 (
-  allowed-reads.Asked,
-  allowed-reads.Learnt,
-  pick-reads.Asked,
-  pick-reads.Learnt,
-  finish-reads.Asked,
-  finish-reads.Learnt,
-  fitting-reads.Asked,
-  fitting-reads.Learnt,
-  spent-reads.Asked,
-  spent-reads.Learnt,
-  lowest-reads.Asked,
-  lowest-reads.Learnt,
-  without-reads.Asked,
-  without-reads.Learnt,
-  wrapping-add-u64-reads.Asked,
-  wrapping-add-u64-reads.Learnt,
-  settle-all-reads.Asked,
-  settle-all-reads.Learnt,
-  mark-reads.Asked,
-  mark-reads.Learnt,
-  meet-reads.Asked,
-  meet-reads.Learnt,
-  find-below t,
-  find.Post,
-) (find-at t) find.Post find-Inv-loop find-μ-loop
-find-returns-4 t c = record { sure = λ e. absurd (true-false (sym (c .if5 .taken) ∙ e)); never = c .before .before .find .ensures .never }
-
-find-loop-less : (t : ℕ) → find-lts.Need-loop-less (
-  allowed-reads.Asked,
-  allowed-reads.Learnt,
-  pick-reads.Asked,
-  pick-reads.Learnt,
-  finish-reads.Asked,
-  finish-reads.Learnt,
-  fitting-reads.Asked,
-  fitting-reads.Learnt,
-  spent-reads.Asked,
-  spent-reads.Learnt,
-  lowest-reads.Asked,
-  lowest-reads.Learnt,
-  without-reads.Asked,
-  without-reads.Learnt,
-  wrapping-add-u64-reads.Asked,
-  wrapping-add-u64-reads.Learnt,
-  settle-all-reads.Asked,
-  settle-all-reads.Learnt,
-  mark-reads.Asked,
-  mark-reads.Learnt,
-  meet-reads.Asked,
-  meet-reads.Learnt,
-  find-below t,
-  find.Post,
-) (find-at t) find.Post find-Inv-loop find-μ-loop
-find-loop-less t c =
-    let far = c .before .before .before .before .before .before .before .before .before .before .before .before in
-    c .before .before .before .before .before .before .before .before .before .before .before .without .ensures .less (far .lowest .ensures .1)
-
-find-loop-again : (t : ℕ) → find-lts.Need-loop-again (
-  allowed-reads.Asked,
-  allowed-reads.Learnt,
-  pick-reads.Asked,
-  pick-reads.Learnt,
-  finish-reads.Asked,
-  finish-reads.Learnt,
-  fitting-reads.Asked,
-  fitting-reads.Learnt,
-  spent-reads.Asked,
-  spent-reads.Learnt,
-  lowest-reads.Asked,
-  lowest-reads.Learnt,
-  without-reads.Asked,
-  without-reads.Learnt,
-  wrapping-add-u64-reads.Asked,
-  wrapping-add-u64-reads.Learnt,
-  settle-all-reads.Asked,
-  settle-all-reads.Learnt,
-  mark-reads.Asked,
-  mark-reads.Learnt,
-  meet-reads.Asked,
-  meet-reads.Learnt,
-  find-below t,
-  find.Post,
-) (find-at t) find.Post find-Inv-loop find-μ-loop
-find-loop-again t c =
-    let far = c .before .before .before .before .before .before .before .before .before .before .before .before in
-    let i = far .before .before .before .before .loop .inv in
-    let p = far .before .before .before .before .before .before .before .before .before .before .before .before .before .before .before .before .pre .1 in
-    let a = far .before .before .before .before .before .before .before .before .before .before .before .before .before .before .before .before .args in
-    let x = far .before .before .before .before .before .before .before .pick .result in
-    let n = far .lowest .result in
-    let y = far .lowest .ensures .1 in
-    let s = c .before .before .before .before .before .before .before .settle-all in
-    let w = c .before .before .before .before .before .before .before .before .before .before .before .without in
-    let r = c .before .before .find .ensures .sure (c .if5 .left) in
-    let lost = told-lost (a .cl .now) (a .base .now) (a .ms) (a .ps) (a .caps) (a .spots) (a .v) (a .j) (a .kn) (a .val) (set (a .t14) x n) _ (a .t14) (a .t15)
-    _ _ (c .before .if4 .left) r in
-    let left = far .before .before .before .before .loop .left in
-    let can = far .before .before .before .before .before .before .before .before .before .before .before .allowed .result in (
-      i .0,
-      i .1,
-      i .2,
-      trying-more (a .cl .now) (a .base .now) (a .ms) (a .caps) (a .spots) (a .v) (a .j) (a .kn) (a .val) (a .t14) (a .t15) x can (i .1)
-          left n (w .result) _ (i .0) (p .3) (w .ensures) y (s .ensures .0) lost (i .3),
-    )
-
-find-loop-less-2 : (t : ℕ) → find-lts.Need-loop-less-2 (
-  allowed-reads.Asked,
-  allowed-reads.Learnt,
-  pick-reads.Asked,
-  pick-reads.Learnt,
-  finish-reads.Asked,
-  finish-reads.Learnt,
-  fitting-reads.Asked,
-  fitting-reads.Learnt,
-  spent-reads.Asked,
-  spent-reads.Learnt,
-  lowest-reads.Asked,
-  lowest-reads.Learnt,
-  without-reads.Asked,
-  without-reads.Learnt,
-  wrapping-add-u64-reads.Asked,
-  wrapping-add-u64-reads.Learnt,
-  settle-all-reads.Asked,
-  settle-all-reads.Learnt,
-  mark-reads.Asked,
-  mark-reads.Learnt,
-  meet-reads.Asked,
-  meet-reads.Learnt,
-  find-below t,
-  find.Post,
-) (find-at t) find.Post find-Inv-loop find-μ-loop
-find-loop-less-2 t c = c .before .before .before .before .before .before .without .ensures .less (c .before .before .before .before .before .before .before .lowest .ensures .1)
-
-find-loop-again-2 : (t : ℕ) → find-lts.Need-loop-again-2 (
-  allowed-reads.Asked,
-  allowed-reads.Learnt,
-  pick-reads.Asked,
-  pick-reads.Learnt,
-  finish-reads.Asked,
-  finish-reads.Learnt,
-  fitting-reads.Asked,
-  fitting-reads.Learnt,
-  spent-reads.Asked,
-  spent-reads.Learnt,
-  lowest-reads.Asked,
-  lowest-reads.Learnt,
-  without-reads.Asked,
-  without-reads.Learnt,
-  wrapping-add-u64-reads.Asked,
-  wrapping-add-u64-reads.Learnt,
-  settle-all-reads.Asked,
-  settle-all-reads.Learnt,
-  mark-reads.Asked,
-  mark-reads.Learnt,
-  meet-reads.Asked,
-  meet-reads.Learnt,
-  find-below t,
-  find.Post,
-) (find-at t) find.Post find-Inv-loop find-μ-loop
-find-loop-again-2 t c =
-    let far = c .before .before .before .before .before .before .before .before .before .before .before .before in
-    let i = c .before .before .before .before .before .before .before .before .before .before .before .loop .inv in
-    let p = far .before .before .before .before .before .before .before .before .before .before .before .pre .1 in
-    let a = far .before .before .before .before .before .before .before .before .before .before .before .args in
-    let x = far .before .before .pick .result in
-    let n = c .before .before .before .before .before .before .before .lowest .result in
-    let y = c .before .before .before .before .before .before .before .lowest .ensures .1 in
-    let s = c .before .before .settle-all in
-    let w = c .before .before .before .before .before .before .without in
-    let lost = s .ensures .2 (c .if3 .left) (a .kn) (a .val) in
-    let kept = kept-start (a .cl .now) (a .base .now) (a .ms) (a .caps) (a .spots) (a .v) (a .j) (set (a .t14) x n) (a .t15) in
-    let left = c .before .before .before .before .before .before .before .before .before .before .before .loop .left in
-    let can = far .before .before .before .before .before .before .allowed .result in (
-      i .0,
-      i .1,
-      i .2,
-      trying-more (a .cl .now) (a .base .now) (a .ms) (a .caps) (a .spots) (a .v) (a .j) (a .kn) (a .val) (a .t14) (a .t15) x can (i .1)
-          left n (w .result) (a .t15) (i .0) (p .3) (w .ensures) y kept lost (i .3),
-    )
-
-find-returns-5 : (t : ℕ) → find-lts.Need-returns-5 (
-  allowed-reads.Asked,
-  allowed-reads.Learnt,
-  pick-reads.Asked,
-  pick-reads.Learnt,
-  finish-reads.Asked,
-  finish-reads.Learnt,
-  fitting-reads.Asked,
-  fitting-reads.Learnt,
-  spent-reads.Asked,
-  spent-reads.Learnt,
-  lowest-reads.Asked,
-  lowest-reads.Learnt,
-  without-reads.Asked,
-  without-reads.Learnt,
-  wrapping-add-u64-reads.Asked,
-  wrapping-add-u64-reads.Learnt,
-  settle-all-reads.Asked,
-  settle-all-reads.Learnt,
-  mark-reads.Asked,
-  mark-reads.Learnt,
-  meet-reads.Asked,
-  meet-reads.Learnt,
-  find-below t,
-  find.Post,
-) (find-at t) find.Post find-Inv-loop find-μ-loop
-find-returns-5 t c =
-    let p = c .before .before .before .before .before .before .before .before .before .before .before .before .before .pre .1 in
-    let a = c .before .before .before .before .before .before .before .before .before .before .before .before .before .args in
-    let i = c .before .loop .inv in
-    let n = c .before .before .before .before .before .before .before .before .allowed in
-    let end = trying-end (a .cl .now) (a .base .now) (a .ms) (a .caps) (a .spots) (a .v) (a .j) (a .kn) (a .val) (a .t14) (a .t15)
-    (c .before .before .before .before .pick .result) (n .result) (i .1) in
-    record { sure = λ e. end (a .gb .now) (a .used) (a .all) (c .before .loop .left) (i .2) (c .loop-test .left) (p .6) (n .ensures) (p .7) (i .3); never = λ e. refl }
-
-pub +find-spec : {M : Type 1} → statement M
-+find-spec = close μ-find λ t. find-lts.spec (
+-- what is known of the functions called
+abbrev find-claims : ℕ → find-lts.Claims
+find-claims t = (
   allowed-reads.Asked,
   allowed-reads.Learnt,
   pick-reads.Asked,
@@ -1034,6 +65,236 @@ pub +find-spec : {M : Type 1} → statement M
   find-below t,
   find.Post,
 )
+
+abbrev find-Inv-loop : find-lts.InvT-loop
+find-Inv-loop cl base bs gb all p used limit nodes codes dom met can x fit total₀ left₀ total left =
+    (length codes ≡ 32)
+    × (x < p .vertices)
+    × (64 ≤ item codes x)
+    × Trying cl base (p .ms) (p .caps) (p .spots) (p .vertices) (p .outputs) (p .kn) (p .val) codes dom x can left
+
+abbrev find-μ-loop : find-lts.MeasureT-loop
+find-μ-loop cl base bs gb all p used limit nodes codes dom met can x fit total₀ left₀ total left =
+    left
+
+find-allowed-requires : (t : ℕ) → find-lts.Need-allowed-requires (find-claims t) (find-at t) find.Post find-Inv-loop find-μ-loop
+find-allowed-requires t c κs = c .before .before .before .before .pre .1 .6 .blocks .long
+
+find-slice-aggregate-pick : (t : ℕ) → find-lts.Need-slice-aggregate-pick (find-claims t) (find-at t) find.Post find-Inv-loop find-μ-loop
+find-slice-aggregate-pick t c = search needs
+
+find-slice-aggregate-pick-2 : (t : ℕ) → find-lts.Need-slice-aggregate-pick-2 (find-claims t) (find-at t) find.Post find-Inv-loop find-μ-loop
+find-slice-aggregate-pick-2 t c = search needs
+
+find-slice-aggregate-pick-3 : (t : ℕ) → find-lts.Need-slice-aggregate-pick-3 (find-claims t) (find-at t) find.Post find-Inv-loop find-μ-loop
+find-slice-aggregate-pick-3 t c = search needs
+
+find-pick-requires : (t : ℕ) → find-lts.Need-pick-requires (find-claims t) (find-at t) find.Post find-Inv-loop find-μ-loop
+find-pick-requires t c κs =
+    let pre = c .before .before .before .before .before .before .before .before .pre .1 in
+    let d = c .before .before .before .before .before .before .before .before .good .1 .1 .1 .1 .1 .1 .1 .0 in
+    let k = c .before .before .before .before .before .before .before .before .good .1 .1 .1 .1 .1 .1 .0 in
+    let m = c .before .before .before .before .before .before .before .before .good .1 .1 .1 .1 .1 .1 .1 .1 .1 .0 in
+    (pre .0, pre .4, pre .3, search needs, search needs, search needs)
+
+find-finish-requires : (t : ℕ) → find-lts.Need-finish-requires (find-claims t) (find-at t) find.Post find-Inv-loop find-μ-loop
+find-finish-requires t c κs =
+    let pre = c .before .before .before .before .before .before .before .before .before .before .pre .1 in
+    (pre .0, pre .4, pre .3, pre .5, λ x h. c .before .pick .ensures .none (c .if1 .taken) x h)
+
+find-returns : (t : ℕ) → find-lts.Need-returns (find-claims t) (find-at t) find.Post find-Inv-loop find-μ-loop
+find-returns t c =
+    let a = c .before .before .before .before .before .before .before .before .before .before .before .before .args in
+    let p = a .p in
+    let pre = c .before .before .before .before .before .before .before .before .before .before .before .before .pre .1 in
+    record { sure = λ e. c .before .finish .ensures (a .base .now) (p .spots) (a .t8) (p .kn) (p .val) (pre .8); never = λ e. refl }
+
+find-fitting-requires : (t : ℕ) → find-lts.Need-fitting-requires (find-claims t) (find-at t) find.Post find-Inv-loop find-μ-loop
+find-fitting-requires t c κs =
+    let p = c .before .pick .ensures .some (c .if1 .left) .0 in
+    let b = c .before .before .before .before .before .before .before .before .before .before .pre .1 .3 in
+    omega arith
+
+find-mul-left : (t : ℕ) → find-lts.Need-mul-left (find-claims t) (find-at t) find.Post find-Inv-loop find-μ-loop
+find-mul-left t c =
+    let a = c .before .before .pick .ensures .some (c .before .if1 .left) .0 in
+    let b = c .before .before .before .before .before .before .before .before .before .before .before .pre .1 .3 in
+    search needs
+
+find-array-read-left : (t : ℕ) → find-lts.Need-array-read-left (find-claims t) (find-at t) find.Post find-Inv-loop find-μ-loop
+find-array-read-left t c =
+    let a = c .before .before .pick .ensures .some (c .before .if1 .left) .0 in
+    let b = c .before .before .before .before .before .before .before .before .before .before .before .pre .1 .3 in
+    search needs
+
+find-loop-holds : (t : ℕ) → find-lts.Need-loop-holds (find-claims t) (find-at t) find.Post find-Inv-loop find-μ-loop
+find-loop-holds t c =
+    let some = c .before .before .pick .ensures .some (c .before .if1 .left) in
+    let a = c .before .before .before .before .before .before .before .before .before .before .before .args in
+    let p = a .p in
+    let good = c .before .before .before .before .before .before .before .before .before .before .before .good .1 .1 .1 .1 .1 .1 .0 in
+    let start = trying-start (a .cl .now) (a .base .now) (p .ms) (p .caps) (p .spots) (p .vertices) (p .outputs) (p .kn) (p .val) (a .t7) (a .t8) in
+    (search needs, some .0, some .1, start (c .before .before .pick .result) (c .before .before .before .before .before .before .allowed .result) (some .0) (c .fitting .result) (c .fitting .ensures))
+
+find-spent-requires : (t : ℕ) → find-lts.Need-spent-requires (find-claims t) (find-at t) find.Post find-Inv-loop find-μ-loop
+find-spent-requires t c κs = search needs
+
+find-returns-2 : (t : ℕ) → find-lts.Need-returns-2 (find-claims t) (find-at t) find.Post find-Inv-loop find-μ-loop
+find-returns-2 t c = record { sure = λ e. absurd (true-false e); never = λ e. sym (c .if2 .taken) ∙ c .before .spent .ensures e }
+
+find-lowest-requires : (t : ℕ) → find-lts.Need-lowest-requires (find-claims t) (find-at t) find.Post find-Inv-loop find-μ-loop
+find-lowest-requires t c κs = c .before .before .loop-test .taken
+
+find-without-requires : (t : ℕ) → find-lts.Need-without-requires (find-claims t) (find-at t) find.Post find-Inv-loop find-μ-loop
+find-without-requires t c κs = c .lowest .ensures .0
+
+find-wrapping-add-u64-requires : (t : ℕ) → find-lts.Need-wrapping-add-u64-requires (find-claims t) (find-at t) find.Post find-Inv-loop find-μ-loop
+find-wrapping-add-u64-requires t c κs = search needs
+
+find-array-write-next : (t : ℕ) → find-lts.Need-array-write-next (find-claims t) (find-at t) find.Post find-Inv-loop find-μ-loop
+find-array-write-next t c =
+    let a = c .before .before .before .before .before .before .loop .inv .1 in
+    let b = c .before .before .before .before .before .before .before .before .before .before .before .before .before .before .before .before .before .before .pre .1 .3 in
+    search needs
+
+find-slice-aggregate-settle-all : (t : ℕ) → find-lts.Need-slice-aggregate-settle-all (find-claims t) (find-at t) find.Post find-Inv-loop find-μ-loop
+find-slice-aggregate-settle-all t c = search needs
+
+find-slice-aggregate-settle-all-2 : (t : ℕ) → find-lts.Need-slice-aggregate-settle-all-2 (find-claims t) (find-at t) find.Post find-Inv-loop find-μ-loop
+find-slice-aggregate-settle-all-2 t c =
+    let far = c .before .before .before .before .before .before .before .before .before .before .before .before in
+    let d = far .before .before .before .before .before .before .before .before .good .1 .1 .1 .1 .1 .1 .1 .0 in
+    search needs
+
+find-settle-all-requires : (t : ℕ) → find-lts.Need-settle-all-requires (find-claims t) (find-at t) find.Post find-Inv-loop find-μ-loop
+find-settle-all-requires t c κs =
+    let far = c .before .before .before .before .before .before .before .before .before .before .before .before in
+    let pre = far .before .before .before .before .before .before .before .before .pre .1 in
+    let few = pre .3 in
+    let i = c .before .before .before .before .before .before .before .before .loop .inv .1 in
+    let d = far .before .before .before .before .before .before .before .before .good .1 .1 .1 .1 .1 .1 .1 .0 in
+    let long = length-set (far .before .before .before .before .before .before .before .before .args .t7)
+    (c .before .before .before .before .before .before .before .before .before .before .before .pick .result) (c .before .before .before .before .lowest .result)
+    ∙ c .before .before .before .before .before .before .before .before .loop .inv .0 in
+    (pre .0, pre .1, pre .2, pre .3, pre .4, c .before .before .before .before .lowest .ensures .0, omega arith, long, search needs)
+
+find-mark-requires : (t : ℕ) → find-lts.Need-mark-requires (find-claims t) (find-at t) find.Post find-Inv-loop find-μ-loop
+find-mark-requires t c κs =
+    let far = c .before .before .before .before .before .before .before .before .before .before .before .before .before .before .before .before .before .before .before .before .before .before in
+    (far .before .pre .1 .6 .blocks .long, c .before .before .before .before .before .before .before .lowest .ensures .0)
+
+find-meet-requires : (t : ℕ) → find-lts.Need-meet-requires (find-claims t) (find-at t) find.Post find-Inv-loop find-μ-loop
+find-meet-requires t c κs =
+    let far = c .before .before .before .before .before .before .before .before .before .before .before .before in
+    let pre = far .before .before .before .before .before .before .before .before .before .before .before .before .pre .1 in
+    let a = far .loop .inv .1 in
+    let b = pre .3 in
+    (pre .0, pre .4, omega arith)
+
+find-find-requires : (t : ℕ) → find-lts.Need-find-requires (find-claims t) (find-at t) find.Post find-Inv-loop find-μ-loop
+find-find-requires t c κs =
+    let far = c .before .before .before .before .before .before .before .before .before .before .before .before in
+    let pre = far .before .before .before .before .before .before .before .before .before .before .before .before .before .pre .1 in
+    let m = far .before .before .before .before .before .before .before .before .before .before .before .before .before .pre .0 in
+    let i = far .before .loop .inv in
+    let a = far .before .before .before .before .before .before .before .before .before .before .before .before .before .args in
+    let p = a .p in
+    let x = far .before .before .before .before .pick .result in
+    let l = c .before .before .before .before .before .before .before .before .before .lowest .ensures .0 in
+    let n = c .before .before .before .before .before .before .before .before .before .lowest .result in
+    let w = uncoded-less (a .t7) (p .vertices) x n (i .0) (pre .3) (i .1) (i .2) l in
+    let q = valued-more (a .t7) (p .vertices) x n (i .0) (pre .3) (i .1) (p .ms) (a .gb .now) (a .all) (p .outputs) (p .kn) (a .used) (c .before .mark .result) l (c .before .mark .ensures) (pre .6) in
+    let s = c .before .before .before .before .settle-all in
+    let k = covers-more (a .t7) (p .vertices) x n (i .0) (pre .3) (i .1) (a .cl .now) (a .base .now) (p .ms) (p .caps) (p .spots) (p .outputs) (p .kn) (p .val) (a .t8)
+    _ (i .2) (s .ensures .0) (pre .7) in
+    let y = c .before .before .before .before .before .before .before .before .before .lowest .ensures .1 in
+    let d = knows-more (a .t7) (p .vertices) x n (i .0) (pre .3) (i .1) (p .kn) (p .val) (p .ps) (p .outputs) (i .3 .digit n l y) (pre .8) in
+    (omega arith, (pre .0, pre .1, pre .2, pre .3, pre .4, pre .5, q, k, d))
+
+find-returns-3 : (t : ℕ) → find-lts.Need-returns-3 (find-claims t) (find-at t) find.Post find-Inv-loop find-μ-loop
+find-returns-3 t c =
+    let far = c .before .before .before .before .before .before .before .before .before .before .before .before in
+    let a = far .before .before .before .before .before .before .before .before .before .before .before .before .before .before .before .args in
+    let p = a .p in
+    let next = set (a .t7) (far .before .before .before .before .before .before .pick .result)
+    (c .before .before .before .before .before .before .before .before .before .before .before .lowest .result) in
+    let r = c .before .find .ensures in
+    record {
+      sure = λ e. told-found (a .cl .now) (a .base .now) (p .ms) (p .ps) (p .caps) (p .spots) (p .vertices) (p .outputs) (p .kn) (p .val) (a .t7) (a .t8) next _ _ _ (c .if4 .taken) (r .sure e);
+      never = r .never;
+    }
+
+find-returns-4 : (t : ℕ) → find-lts.Need-returns-4 (find-claims t) (find-at t) find.Post find-Inv-loop find-μ-loop
+find-returns-4 t c = record { sure = λ e. absurd (true-false (sym (c .if5 .taken) ∙ e)); never = c .before .before .find .ensures .never }
+
+find-loop-less : (t : ℕ) → find-lts.Need-loop-less (find-claims t) (find-at t) find.Post find-Inv-loop find-μ-loop
+find-loop-less t c =
+    let far = c .before .before .before .before .before .before .before .before .before .before .before .before in
+    c .before .before .before .before .before .before .before .before .before .before .before .without .ensures .less (far .lowest .ensures .1)
+
+find-loop-again : (t : ℕ) → find-lts.Need-loop-again (find-claims t) (find-at t) find.Post find-Inv-loop find-μ-loop
+find-loop-again t c =
+    let far = c .before .before .before .before .before .before .before .before .before .before .before .before in
+    let i = far .before .before .before .before .loop .inv in
+    let pre = far .before .before .before .before .before .before .before .before .before .before .before .before .before .before .before .before .pre .1 in
+    let a = far .before .before .before .before .before .before .before .before .before .before .before .before .before .before .before .before .args in
+    let p = a .p in
+    let x = far .before .before .before .before .before .before .before .pick .result in
+    let n = far .lowest .result in
+    let y = far .lowest .ensures .1 in
+    let s = c .before .before .before .before .before .before .before .settle-all in
+    let w = c .before .before .before .before .before .before .before .before .before .before .before .without in
+    let r = c .before .before .find .ensures .sure (c .if5 .left) in
+    let lost = told-lost (a .cl .now) (a .base .now) (p .ms) (p .ps) (p .caps) (p .spots) (p .vertices) (p .outputs) (p .kn) (p .val) (set (a .t7) x n) _ (a .t7) (a .t8)
+    _ _ (c .before .if4 .left) r in
+    let left = far .before .before .before .before .loop .left in
+    let can = far .before .before .before .before .before .before .before .before .before .before .before .allowed .result in (
+      i .0,
+      i .1,
+      i .2,
+      trying-more (a .cl .now) (a .base .now) (p .ms) (p .caps) (p .spots) (p .vertices) (p .outputs) (p .kn) (p .val) (a .t7) (a .t8) x can (i .1)
+          left n (w .result) _ (i .0) (pre .3) (w .ensures) y (s .ensures .0) lost (i .3),
+    )
+
+find-loop-less-2 : (t : ℕ) → find-lts.Need-loop-less-2 (find-claims t) (find-at t) find.Post find-Inv-loop find-μ-loop
+find-loop-less-2 t c = c .before .before .before .before .before .before .without .ensures .less (c .before .before .before .before .before .before .before .lowest .ensures .1)
+
+find-loop-again-2 : (t : ℕ) → find-lts.Need-loop-again-2 (find-claims t) (find-at t) find.Post find-Inv-loop find-μ-loop
+find-loop-again-2 t c =
+    let far = c .before .before .before .before .before .before .before .before .before .before .before .before in
+    let i = c .before .before .before .before .before .before .before .before .before .before .before .loop .inv in
+    let pre = far .before .before .before .before .before .before .before .before .before .before .before .pre .1 in
+    let a = far .before .before .before .before .before .before .before .before .before .before .before .args in
+    let p = a .p in
+    let x = far .before .before .pick .result in
+    let n = c .before .before .before .before .before .before .before .lowest .result in
+    let y = c .before .before .before .before .before .before .before .lowest .ensures .1 in
+    let s = c .before .before .settle-all in
+    let w = c .before .before .before .before .before .before .without in
+    let lost = s .ensures .2 (c .if3 .left) (p .kn) (p .val) in
+    let kept = kept-start (a .cl .now) (a .base .now) (p .ms) (p .caps) (p .spots) (p .vertices) (p .outputs) (set (a .t7) x n) (a .t8) in
+    let left = c .before .before .before .before .before .before .before .before .before .before .before .loop .left in
+    let can = far .before .before .before .before .before .before .allowed .result in (
+      i .0,
+      i .1,
+      i .2,
+      trying-more (a .cl .now) (a .base .now) (p .ms) (p .caps) (p .spots) (p .vertices) (p .outputs) (p .kn) (p .val) (a .t7) (a .t8) x can (i .1)
+          left n (w .result) (a .t8) (i .0) (pre .3) (w .ensures) y kept lost (i .3),
+    )
+
+find-returns-5 : (t : ℕ) → find-lts.Need-returns-5 (find-claims t) (find-at t) find.Post find-Inv-loop find-μ-loop
+find-returns-5 t c =
+    let pre = c .before .before .before .before .before .before .before .before .before .before .before .before .before .pre .1 in
+    let a = c .before .before .before .before .before .before .before .before .before .before .before .before .before .args in
+    let p = a .p in
+    let i = c .before .loop .inv in
+    let n = c .before .before .before .before .before .before .before .before .allowed in
+    let end = trying-end (a .cl .now) (a .base .now) (p .ms) (p .caps) (p .spots) (p .vertices) (p .outputs) (p .kn) (p .val) (a .t7) (a .t8)
+    (c .before .before .before .before .pick .result) (n .result) (i .1) in
+    record { sure = λ e. end (a .gb .now) (a .used) (a .all) (c .before .loop .left) (i .2) (c .loop-test .left) (pre .6) (n .ensures) (pre .7) (i .3); never = λ e. refl }
+
+pub +find-spec : {M : Type 1} → statement M
++find-spec = close μ-find λ t. find-lts.spec (find-claims t)
     (find-at t)
     find.Post
     find-Inv-loop

@@ -16,18 +16,20 @@ use Rattle.coding.proofs.empty.Reads as empty-reads
 use Rattle.holding.proofs.settle.Reads as settle-reads
 
 abbrev Inv-loop : tie.InvT-loop
-Inv-loop cl base bs ms caps spots v j codes dom₀ c x o₀ dom o = (o ≤ j) × (length dom ≡ 32) × Kept cl base ms caps spots v j codes dom₀ dom
+Inv-loop cl base bs p codes dom₀ c x v j o₀ dom o =
+    (o ≤ p .outputs) × (length dom ≡ 32) × Kept cl base (p .ms) (p .caps) (p .spots) (p .vertices) (p .outputs) codes dom₀ dom
 
 abbrev μ-loop : tie.MeasureT-loop
-μ-loop cl base bs ms caps spots v j codes dom₀ c x o₀ dom o = j - o
+μ-loop cl base bs p codes dom₀ c x v j o₀ dom o = p .outputs - o
 
 bar-all-requires : tie.Need-bar-all-requires Inv-loop μ-loop
-bar-all-requires c κs = let p = c .before .before .before .before .before .before .pre in (p .0, p .2 .long, p .3, p .4, p .5, p .6, p .7, p .8)
+bar-all-requires c κs = let pre = c .before .before .before .before .before .before .pre in (pre .0, pre .2 .long, pre .3, pre .4, pre .5, pre .6, pre .7, pre .8)
 
 loop-holds : tie.Need-loop-holds Inv-loop μ-loop
 loop-holds c =
     let a = c .before .before .before .before .before .before .before .before .before .args in
-    (omega arith, c .before .before .bar-all .ensures .1, kept-start (a .cl .now) (a .base .now) (a .ms) (a .caps) (a .spots) (a .v) (a .j) (a .codes .now) _)
+    let p = a .p in
+    (omega arith, c .before .before .bar-all .ensures .1, kept-start (a .cl .now) (a .base .now) (p .ms) (p .caps) (p .spots) (p .vertices) (p .outputs) (a .codes .now) _)
 
 empty-requires : tie.Need-empty-requires Inv-loop μ-loop
 empty-requires c κs = (c .before .before .before .before .before .before .before .before .before .before .before .before .pre .3, c .before .before .loop .inv .1)
@@ -38,19 +40,20 @@ same-length c = c .before .before .before .before .loop .inv .1 ∙ sym (c .befo
 returns : tie.Need-returns Inv-loop μ-loop
 returns c =
     let a = c .before .before .before .before .before .before .before .before .before .before .before .before .before .before .args in
-    let p = c .before .before .before .before .before .before .before .before .before .before .before .before .before .before .pre in
+    let p = a .p in
+    let pre = c .before .before .before .before .before .before .before .before .before .before .before .before .before .before .pre in
     let b = c .before .before .before .before .before .before .before .bar-all in
     let l = c .before .before .before .before .loop in
-    let k = kept-more (a .cl .now) (a .base .now) (a .ms) (a .caps) (a .spots) (a .v) (a .j) (a .codes .now) (a .dom .now) _ (l .dom) (b .ensures .0 (a .base .now) (a .ms) (a .spots) (p .2))
-    (l .inv .2) in
-    let before = hopeless-before (a .cl .now) (a .base .now) (a .ms) (a .caps) (a .spots) (a .v) (a .j) (a .codes .now) (a .dom .now) (l .dom) k in
+    let barred = b .ensures .0 (a .base .now) (p .ms) (p .spots) (pre .2) in
+    let k = kept-more (a .cl .now) (a .base .now) (p .ms) (p .caps) (p .spots) (p .vertices) (p .outputs) (a .codes .now) (a .dom .now) _ (l .dom) barred (l .inv .2) in
+    let before = hopeless-before (a .cl .now) (a .base .now) (p .ms) (p .caps) (p .spots) (p .vertices) (p .outputs) (a .codes .now) (a .dom .now) (l .dom) k in
     let e = c .before .empty .ensures (c .if1 .taken) in
-    (k, l .inv .1, λ q kn val. before kn val (empty-hopeless (a .cl .now) (a .base .now) (a .ms) (a .caps) (a .spots) (a .v) (a .j) kn val (a .codes .now) (l .dom) e))
+    (k, l .inv .1, λ q kn val. before kn val (empty-hopeless (a .cl .now) (a .base .now) (p .ms) (p .caps) (p .spots) (p .vertices) (p .outputs) kn val (a .codes .now) (l .dom) e))
 
 settle-requires : tie.Need-settle-requires Inv-loop μ-loop
 settle-requires c κs =
-    let p = c .before .before .before .before .before .before .before .before .before .before .before .before .before .before .before .pre in
-    (p .0, p .1, p .2, p .3, p .4, c .before .before .before .before .loop-test .taken, p .7, c .before .before .before .before .before .loop .inv .1)
+    let pre = c .before .before .before .before .before .before .before .before .before .before .before .before .before .before .before .pre in
+    (pre .0, pre .1, pre .2, pre .3, pre .4, c .before .before .before .before .loop-test .taken, pre .7, c .before .before .before .before .before .loop .inv .1)
 
 same-length-2 : tie.Need-same-length-2 Inv-loop μ-loop
 same-length-2 c =
@@ -60,14 +63,15 @@ same-length-2 c =
 returns-2 : tie.Need-returns-2 Inv-loop μ-loop
 returns-2 c =
     let a = c .before .before .before .before .before .before .before .before .before .before .before .before .before .before .before .before .before .before .before .args in
-    let p = c .before .before .before .before .before .before .before .before .before .before .before .before .before .before .before .before .before .before .before .pre in
+    let p = a .p in
+    let pre = c .before .before .before .before .before .before .before .before .before .before .before .before .before .before .before .before .before .before .before .pre in
     let b = c .before .before .before .before .before .before .before .before .before .before .before .before .bar-all in
     let l = c .before .before .before .before .before .before .before .before .before .loop in
-    let k = kept-more (a .cl .now) (a .base .now) (a .ms) (a .caps) (a .spots) (a .v) (a .j) (a .codes .now) (a .dom .now) _ (l .dom) (b .ensures .0 (a .base .now) (a .ms) (a .spots) (p .2))
-    (l .inv .2) in
-    let before = hopeless-before (a .cl .now) (a .base .now) (a .ms) (a .caps) (a .spots) (a .v) (a .j) (a .codes .now) (a .dom .now) (l .dom) k in
+    let barred = b .ensures .0 (a .base .now) (p .ms) (p .spots) (pre .2) in
+    let k = kept-more (a .cl .now) (a .base .now) (p .ms) (p .caps) (p .spots) (p .vertices) (p .outputs) (a .codes .now) (a .dom .now) _ (l .dom) barred (l .inv .2) in
+    let before = hopeless-before (a .cl .now) (a .base .now) (p .ms) (p .caps) (p .spots) (p .vertices) (p .outputs) (a .codes .now) (a .dom .now) (l .dom) k in
     let s = c .before .before .before .settle .ensures in (
-      kept-more (a .cl .now) (a .base .now) (a .ms) (a .caps) (a .spots) (a .v) (a .j) (a .codes .now) (a .dom .now) (l .dom) _ k (s .0),
+      kept-more (a .cl .now) (a .base .now) (p .ms) (p .caps) (p .spots) (p .vertices) (p .outputs) (a .codes .now) (a .dom .now) (l .dom) _ k (s .0),
       s .1,
       λ q kn val. before kn val
           (s .2 (not-true _ (c .if2 .taken)) kn val),
@@ -82,10 +86,11 @@ loop-less c = search needs
 loop-again : tie.Need-loop-again Inv-loop μ-loop
 loop-again c =
     let a = c .before .before .before .before .before .before .before .before .before .before .before .before .before .before .before .before .before .before .before .args in
+    let p = a .p in
     let h = c .before .before .before .before .before .before .before .before .loop-test .taken in
     let l = c .before .before .before .before .before .before .before .before .before .loop in
     let s = c .before .before .before .settle .ensures in
-    (omega arith, s .1, kept-more (a .cl .now) (a .base .now) (a .ms) (a .caps) (a .spots) (a .v) (a .j) (a .codes .now) _ (l .dom) _ (l .inv .2) (s .0))
+    (omega arith, s .1, kept-more (a .cl .now) (a .base .now) (p .ms) (p .caps) (p .spots) (p .vertices) (p .outputs) (a .codes .now) _ (l .dom) _ (l .inv .2) (s .0))
 
 empty-requires-2 : tie.Need-empty-requires-2 Inv-loop μ-loop
 empty-requires-2 c κs = (c .before .before .before .before .before .before .before .before .before .before .before .before .pre .3, c .before .before .loop .inv .1)
@@ -96,15 +101,16 @@ same-length-3 c = c .before .before .before .loop .inv .1 ∙ sym (c .before .be
 returns-3 : tie.Need-returns-3 Inv-loop μ-loop
 returns-3 c =
     let a = c .before .before .before .before .before .before .before .before .before .before .before .before .before .args in
-    let p = c .before .before .before .before .before .before .before .before .before .before .before .before .before .pre in
+    let p = a .p in
+    let pre = c .before .before .before .before .before .before .before .before .before .before .before .before .before .pre in
     let b = c .before .before .before .before .before .before .bar-all in
     let l = c .before .before .before .loop in
-    let k = kept-more (a .cl .now) (a .base .now) (a .ms) (a .caps) (a .spots) (a .v) (a .j) (a .codes .now) (a .dom .now) _ (l .dom) (b .ensures .0 (a .base .now) (a .ms) (a .spots) (p .2))
-    (l .inv .2) in
-    let before = hopeless-before (a .cl .now) (a .base .now) (a .ms) (a .caps) (a .spots) (a .v) (a .j) (a .codes .now) (a .dom .now) (l .dom) k in (
+    let barred = b .ensures .0 (a .base .now) (p .ms) (p .spots) (pre .2) in
+    let k = kept-more (a .cl .now) (a .base .now) (p .ms) (p .caps) (p .spots) (p .vertices) (p .outputs) (a .codes .now) (a .dom .now) _ (l .dom) barred (l .inv .2) in
+    let before = hopeless-before (a .cl .now) (a .base .now) (p .ms) (p .caps) (p .spots) (p .vertices) (p .outputs) (a .codes .now) (a .dom .now) (l .dom) k in (
       k,
       l .inv .1,
-      λ q kn val. before kn val (empty-hopeless (a .cl .now) (a .base .now) (a .ms) (a .caps) (a .spots) (a .v) (a .j) kn val (a .codes .now) (l .dom)
+      λ q kn val. before kn val (empty-hopeless (a .cl .now) (a .base .now) (p .ms) (p .caps) (p .spots) (p .vertices) (p .outputs) kn val (a .codes .now) (l .dom)
           (c .empty2 .ensures (not-false _ q))),
     )
 

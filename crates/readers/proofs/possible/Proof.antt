@@ -3,7 +3,8 @@ use native.Mathlib.Omega.{arith}
 use Rattle.bits.specs.LogicLaws.{true-false}
 use Rattle.readers.specs.Needs.{bounds-of}
 use Rattle.readers.specs.Answer.{decided-crowded}
-use borrow.Author.Needs.{needs}
+use mir.Syntax.{w8, w64}
+use borrow.Author.Needs.{needs, elem-fits-field}
 use Rattle.readers.proofs.possible.Statement.{statement}
 use Rattle.readers.proofs.possible.Tie as tie
 use Rattle.readers.proofs.possible.Reads as reads
@@ -47,7 +48,9 @@ array-read-if1 : tie.Need-array-read-if1 Inv-loop μ-loop
 array-read-if1 c = let h = c .before .before .before .loop-test .taken in let z = c .before .before .before .before .before .before .before .before .before .before .pre .2 in search needs
 
 cast-if1 : tie.Need-cast-if1 Inv-loop μ-loop
-cast-if1 c = search needs
+cast-if1 c =
+    let plan = c .before .before .before .before .before .before .before .plan in
+    elem-fits-field w8 w64 (plan .result .spots) _ (c .before .before .before .before .loop .o) (plan .ok .1 .1 .1 .1 .1 .0 .1 .1) tt
 
 returns : tie.Need-returns Inv-loop μ-loop
 returns c = λ e kn val.
@@ -56,8 +59,8 @@ returns c = λ e kn val.
     let sh = c .before .before .before .before .before .before .before .before .before .shared in
     let plan = c .before .before .before .before .before .before .before .before .plan in
     let bases = c .before .before .before .before .before .before .bases in
-    let bounds = bounds-of (a .cl .now) (a .rows) (sh .result) (a .v) (a .j) _ _ _ _ (bases .result) (p .3) (sh .ensures) (plan .ensures) (bases .ensures) in
-    decided-crowded (a .cl .now) (bases .result) (a .rows) (sh .result) (a .v) (a .j) _ _ _ _ (p .1) (p .3) (sh .ensures) (plan .ensures) bounds
+    let bounds = bounds-of (a .cl .now) (a .rows) (sh .result) (a .v) (a .j) _ _ _ _ (bases .result) (p .3) (sh .ensures) (plan .ensures .0) (bases .ensures) in
+    decided-crowded (a .cl .now) (bases .result) (a .rows) (sh .result) (a .v) (a .j) _ _ _ _ (p .1) (p .3) (sh .ensures) (plan .ensures .0) bounds
     (c .before .before .before .before .before .loop .o) (c .before .total .ensures .0) kn val (a .rows) (c .before .before .before .before .loop-test .taken)
     (let e = c .before .total .ensures .1 in let h = c .if1 .taken in omega arith)
 
