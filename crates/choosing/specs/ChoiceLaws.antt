@@ -26,7 +26,6 @@ use Rattle.cells.specs.Codes.{Coded, on-half, count-shift}
 use Rattle.cells.specs.Sets.{on-power-other}
 use Rattle.cells.specs.Reorder.{Exchangeable, InOrder, Exchanged, in-order-none, reordered}
 use Rattle.numbering.specs.Given.{item, Fixed}
-use Rattle.coding.specs.Limit.{Sure}
 use Rattle.relation.specs.Relation.{Left}
 use Rattle.questions.specs.Question.{openOf, givenOf, Barred, Settled}
 use Rattle.questions.specs.QuestionLaws.{on-open}
@@ -435,24 +434,6 @@ barred-alone cl given kn val v done n one rows e h = barred-among cl given kn va
 -- where cell 0 may have known digits
 pub known-or-none : (kn : ℕ) → not (eqb kn 0) ≡ false → kn ≡ 0
 known-or-none kn e = eqb-true kn 0 (not-false (eqb kn 0) e)
-
--- ======== what searches with a limit say
-pub sure-now : (limit : ℕ) (unsure : Bool) (A : Type 0) → unsure ≡ false → A → Sure limit unsure A
-sure-now limit unsure A e a = record { sure = λ d. a; never = λ d. e }
-
-pub sure-then : (limit : ℕ) (unsure : Bool) (A B : Type 0) → (A → B) → Sure limit unsure A → Sure limit unsure B
-sure-then limit unsure A B f s = record { sure = λ e. f (s .sure e); never = s .never }
-
-pub sure-both : (limit : ℕ) (p q : Bool) (A B C : Type 0) → (A → B → C) → Sure limit p A → Sure limit q B → Sure limit (orb p q) C
-sure-both limit p q A B C f s t = record { sure = λ e. f (s .sure (left p q e)) (t .sure (right p q e)); never = λ e. ap₂ orb (s .never e) (t .never e) }
-  where
-    left : (p q : Bool) → orb p q ≡ false → p ≡ false
-    left false q e = refl
-    left true q e = e
-
-    right : (p q : Bool) → orb p q ≡ false → q ≡ false
-    right false q e = e
-    right true q e = absurd (true-false e)
 
 -- ======== shifts
 pub shifted : (w k : ℕ) → k < w → 1 * 2 ^ k % 2 ^ w ≡ 2 ^ k

@@ -5,12 +5,13 @@ use mathlib.Core.Logic.{⊎-elim}
 use native.Mathlib.Omega.{arith}
 use lib.ListN.{set}
 use Rattle.choosing.specs.ChoiceLaws.{Tried, tried-start, tried-all, step-less, step-fits, step-rows, step-alike, step-lost, step-dead, step-unfit}
-use Rattle.choosing.specs.ChoiceLaws.{chosen-end, chosen-found, chosen-lost, chosen-none, done-lost, known-or-none, number-room, on-with-same, sure-now, sure-then, sure-both}
+use Rattle.choosing.specs.ChoiceLaws.{chosen-end, chosen-found, chosen-lost, chosen-none, done-lost, known-or-none, number-room, on-with-same}
 use Rattle.choosing.specs.ServedLaws.{served-chosen}
 use Rattle.choosing.specs.Choice.{Lost, Chosen}
 use Rattle.cells.specs.Lists.{count}
 use Rattle.bits.specs.Digit.{on}
 use Rattle.coding.specs.Limit.{Sure}
+use Rattle.coding.specs.LimitLaws.{sure-now, sure-then, sure-both}
 use Rattle.relation.specs.Relation.{NoneLeft}
 use Rattle.questions.specs.Question.{givenOf}
 use Rattle.memory.specs.Memory.{Honest}

@@ -1,5 +1,6 @@
-use Rattle.choosing.specs.ChoiceLaws.{settled-none, sure-now}
+use Rattle.choosing.specs.ChoiceLaws.{settled-none}
 use Rattle.coding.specs.Limit.{Sure}
+use Rattle.coding.specs.LimitLaws.{sure-now}
 use Rattle.questions.specs.Question.{Barred, Settled}
 use Rattle.numbering.specs.Given.{item}
 use Prim.Native.Nat.{ℕ}
