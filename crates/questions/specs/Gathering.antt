@@ -10,7 +10,7 @@ use lib.Bits.{bitAnd, bitOr, and-le-r}
 use lib.ListN.{length, set, length-set}
 use lib.Seq.{getD-set-same, getD-set-other}
 use borrow.Author.Tests.{eq-eqb, ne-eqb}
-use Rattle.limits.specs.Limits.{searchOutputs, maxCodes, maxCells}
+use Rattle.limits.specs.Limits.{searchOutputs, maxCells}
 use Rattle.bits.specs.Logic.{andb, orb}
 use Rattle.bits.specs.Digit.{on}
 use Rattle.bits.specs.DigitLaws.{on-and, on-zero, on-ones, equal-digits}

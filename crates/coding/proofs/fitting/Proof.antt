@@ -1,4 +1,4 @@
-use mathlib.Core.Path.{_≡_, sym, _∙_}
+use mathlib.Core.Path.{sym, _∙_}
 use borrow.Author.Tests.{not-true, not-false}
 use Rattle.coding.specs.Known.{fitting-any, fitting-one, fitting-zero}
 use borrow.Author.Needs.{needs}

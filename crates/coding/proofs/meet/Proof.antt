@@ -1,7 +1,5 @@
-use mathlib.Core.Path.{_≡_}
 use Prim.Native.Nat.{_≤_, _+_, _-_, _*_}
 use native.Mathlib.Omega.{arith}
-use lib.ListN.{length, set}
 use borrow.Author.Needs.{needs}
 use Rattle.coding.proofs.meet.Statement.{statement}
 use Rattle.coding.proofs.meet.Tie as tie

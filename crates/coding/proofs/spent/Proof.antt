@@ -1,4 +1,3 @@
-use native.Mathlib.Omega.{arith}
 use borrow.Author.Needs.{needs}
 use Rattle.coding.proofs.spent.Statement.{statement}
 use Rattle.coding.proofs.spent.Tie as tie

@@ -2,7 +2,6 @@ use Rattle.questions.specs.Gathering.{Gathered, gathered-start, gathered
 use Rattle.cells.specs.Lists.{zeros-are}
 use native.Mathlib.Omega.{arith}
 use Prim.Native.Nat.{ℕ, _+_, _≤_, _-_}
-use mathlib.Core.List.{List}
 use mathlib.Core.Logic.{⊎-elim}
 use mathlib.Core.Path.{refl, sym, _∙_, subst}
 use borrow.Author.Needs.{needs}

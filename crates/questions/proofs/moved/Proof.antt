@@ -3,7 +3,6 @@ use mathlib.Core.Path.{sym, _∙_, subst}
 use mathlib.Core.Logic.{⊎-elim}
 use Prim.Native.Nat.{ℕ, _≤_, _-_}
 use native.Mathlib.Omega.{arith}
-use lib.ListN.{set}
 use borrow.Author.Needs.{needs}
 use Rattle.questions.proofs.moved.Statement.{statement}
 use Rattle.questions.proofs.moved.Tie as tie

@@ -1,7 +1,5 @@
 use mathlib.Core.Bool.{false}
 use Rattle.questions.specs.Gathering.{gathered-short, settled-of}
-use native.Mathlib.Omega.{arith}
-use mathlib.Core.Path.{refl}
 use borrow.Author.Needs.{needs}
 use Rattle.questions.proofs.possible.Statement.{statement}
 use Rattle.questions.proofs.possible.Tie as tie

@@ -1,6 +1,5 @@
 use Prim.Native.Nat.{_≤_, _-_}
 use native.Mathlib.Omega.{arith}
-use lib.ListN.{set}
 use borrow.Author.Needs.{needs}
 use Rattle.questions.proofs.readers.Statement.{statement}
 use Rattle.questions.proofs.readers.Tie as tie

@@ -1,4 +1,4 @@
-use mathlib.Core.Path.{_≡_, refl, subst}
+use mathlib.Core.Path.{refl, subst}
 use Prim.Native.Nat.{ℕ}
 use Rattle.readers.specs.Known.{decided-asked, decided-contrary, decided-written}
 use Rattle.readers.specs.Masks.{Decided}

@@ -1,5 +1,4 @@
 use Rattle.readers.specs.Known.{groupable-all, groupable-less}
-use borrow.Author.Needs.{needs}
 use Rattle.readers.proofs.groupable.Statement.{statement}
 use Rattle.readers.proofs.groupable.Tie as tie
 use Rattle.readers.proofs.groupable.Reads as reads

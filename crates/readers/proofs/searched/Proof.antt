@@ -1,5 +1,4 @@
 use Rattle.readers.specs.Known.{public-none, public-more, common-more}
-use borrow.Author.Needs.{needs}
 use Rattle.readers.proofs.searched.Statement.{statement}
 use Rattle.readers.proofs.searched.Tie as tie
 use Rattle.readers.proofs.searched.Reads as reads

@@ -1,6 +1,5 @@
 use borrow.Author.Tests.{not-true}
 use Rattle.readers.specs.Known.{digit-unknown, digit-one, digit-zero}
-use borrow.Author.Needs.{needs}
 use Rattle.readers.proofs.with_digit.Statement.{statement}
 use Rattle.readers.proofs.with_digit.Tie as tie
 use Rattle.readers.proofs.with_digit.Reads as reads

@@ -1,5 +1,5 @@
 use native.Mathlib.Omega.{arith}
-use Prim.Native.Nat.{ℕ, _≤_, _-_}
+use Prim.Native.Nat.{_≤_, _-_}
 use mathlib.Core.Path.{sym, subst}
 use Rattle.bits.specs.LogicLaws.{true-false}
 use Rattle.relation.specs.Relation.{NoneLeft}
