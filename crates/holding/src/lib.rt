@@ -97,9 +97,9 @@ pub fn blocks(ms: [u8; SEARCH_OUTPUTS], n: usize) -> [u64; BLOCKS]
 }
 
 // The codes of the blocks that each class holds, and how many blocks.
-pub struct Hold {
-    pub own: [u64; MAX_VERTICES],
-    pub owns: [u8; MAX_VERTICES],
+struct Hold {
+    own: [u64; MAX_VERTICES],
+    owns: [u8; MAX_VERTICES],
 }
 
 fn held(
@@ -148,9 +148,9 @@ fn more(n: u8, m: u64) -> u8
 
 // The blocks that each class holds, one more where one of its vertices can take none of them, and two more where such vertices
 // have no block in common; and the codes that they have in common, block by block.
-pub struct Wants {
-    pub wants: [u8; MAX_VERTICES],
-    pub meet: [u64; MAX_VERTICES],
+struct Wants {
+    wants: [u8; MAX_VERTICES],
+    meet: [u64; MAX_VERTICES],
 }
 
 fn wanted(
@@ -325,9 +325,9 @@ fn counted(q: u8, p: u8, n: u8) -> u8
 }
 
 // What the classes of part p of output o hold or need, and how many of these blocks they lack.
-pub struct Lack {
-    pub total: u16,
-    pub news: u16,
+struct Lack {
+    total: u16,
+    news: u16,
 }
 
 fn lacks(cl: &[u8], base: &[u8], o: usize, p: u8, owns: &[u8], wants: &[u8]) -> Lack
@@ -376,12 +376,12 @@ fn tight_parts(ts: &[usize], spot: usize) -> u64
 
 // A part of output o that holds or needs most, what it holds or needs and what it lacks, the parts that hold or need spot, and
 // the other parts that hold or need blocks.
-pub struct Busy {
-    pub part: u8,
-    pub total: u16,
-    pub news: u16,
-    pub tight: u64,
-    pub others: u64,
+struct Busy {
+    part: u8,
+    total: u16,
+    news: u16,
+    tight: u64,
+    others: u64,
 }
 
 // The parts other than q whose number is not 0.

@@ -20,7 +20,7 @@ use numbering::LABELS_AND_PARTS;
 
 // The number of a joint class of the outputs in question: vertices that have the same class for each of them, and of which the
 // same is known of cell 0.
-pub struct JointClass(pub usize);
+struct JointClass(usize);
 
 // What stands for a digit of cell 0 that is not known.
 const UNKNOWN: u8 = 2;
@@ -82,10 +82,10 @@ fn class_of(
 }
 
 // The number of joint classes, the first vertex of each class, and the class of each vertex.
-pub struct Classes {
-    pub count: usize,
-    pub first: [Vertex; MAX_VERTICES],
-    pub place: [JointClass; MAX_VERTICES],
+struct Classes {
+    count: usize,
+    first: [Vertex; MAX_VERTICES],
+    place: [JointClass; MAX_VERTICES],
 }
 
 fn merge(cl: &[u8], v: usize, j: usize, kn: u32, val: u32) -> Classes

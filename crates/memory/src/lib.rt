@@ -15,11 +15,11 @@ use limits::SEARCH_OUTPUTS;
 
 // The entries of a memory, the largest prime below their number, and the numbers that each entry has: its head and a row for
 // each output.
-pub const ENTRIES: usize = 2048;
+const ENTRIES: usize = 2048;
 
 const PRIME: u64 = 2039;
 
-pub const ENTRY: usize = SEARCH_OUTPUTS + 1;
+const ENTRY: usize = SEARCH_OUTPUTS + 1;
 
 pub const SIZE: usize = ENTRIES * ENTRY;
 

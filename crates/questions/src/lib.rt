@@ -110,11 +110,11 @@ pub fn question(rows: [u16; SEARCH_OUTPUTS], asked: u8, known: bool) -> [u16; SE
 }
 
 // The outputs that are asked about, and the open cells and given tables that each of them reads.
-pub struct Outputs {
-    pub count: usize,
-    pub from: [u8; SEARCH_OUTPUTS],
-    pub cells: [u8; SEARCH_OUTPUTS],
-    pub tables: [u16; SEARCH_OUTPUTS],
+struct Outputs {
+    count: usize,
+    from: [u8; SEARCH_OUTPUTS],
+    cells: [u8; SEARCH_OUTPUTS],
+    tables: [u16; SEARCH_OUTPUTS],
 }
 
 fn gather(asked: u8, rows: [u16; SEARCH_OUTPUTS]) -> Outputs

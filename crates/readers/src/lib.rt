@@ -262,9 +262,9 @@ fn fitting_sets(kn: u32, val: u32) -> [u64; MAX_VERTICES]
 }
 
 // Where the search starts: vertex 0 has code 0, and any code with the known digit may be taken.
-pub struct State {
-    pub codes: [u8; MAX_VERTICES],
-    pub dom: [u64; MAX_VERTICES],
+struct State {
+    codes: [u8; MAX_VERTICES],
+    dom: [u64; MAX_VERTICES],
 }
 
 fn begin(kn: u32, val: u32) -> State
