@@ -3,11 +3,9 @@ use borrow.Author.Needs.{needs}
 use Rattle.bounds.proofs.power.Statement.{statement}
 use Rattle.bounds.proofs.power.Tie as tie
 
--- src/lib.rt:31:5
 shl-result : tie.Need-shl-result
 shl-result c = search needs
 
--- src/lib.rt:27:1
 returns : tie.Need-returns
 returns c = power-is (c .args .k) (c .pre)
 

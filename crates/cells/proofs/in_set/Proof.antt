@@ -9,11 +9,9 @@ use Rattle.cells.proofs.in_set.Tie as tie
 use Rattle.cells.proofs.in_set.Reads as reads
 use Rattle.cells.proofs.in_set.Lts as lts
 
--- src/lib.rt:14:6
 shr-result : tie.Need-shr-result
 shr-result c = search needs
 
--- src/lib.rt:10:1
 returns : tie.Need-returns
 unfolding on digit
 returns c = ap (λ (y : ℕ). eqb y 1) (and-mask (c .args .s / 2 ^ c .args .c) 1)

@@ -6,11 +6,9 @@ use Rattle.cells.proofs.lowest.Tie as tie
 use Rattle.cells.proofs.lowest.Reads as reads
 use Rattle.cells.proofs.lowest.Lts as lts
 
--- src/lib.rt:46:5
 cast-result : tie.Need-cast-result
 cast-result c = let r = lowest-on 64 (c .args .s) (c .pre) (c .fits .s .fits) in let z = r .0 in record { fits = omega arith }
 
--- src/lib.rt:42:1
 returns : tie.Need-returns
 returns c = lowest-on 64 (c .args .s) (c .pre) (c .fits .s .fits)
 

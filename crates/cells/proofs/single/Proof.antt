@@ -6,11 +6,9 @@ use Rattle.cells.proofs.single.Tie as tie
 use Rattle.cells.proofs.single.Reads as reads
 use Rattle.cells.proofs.single.Lts as lts
 
--- src/lib.rt:22:5
 shl-result : tie.Need-shl-result
 shl-result c = search needs
 
--- src/lib.rt:18:1
 returns : tie.Need-returns
 returns c = rw one-mul (mod-eq-of-lt (pow-lt (c .pre)))
 

@@ -9,11 +9,9 @@ use Rattle.cells.proofs.with.Reads as reads
 use Rattle.cells.proofs.with.Lts as lts
 use Rattle.cells.proofs.single.Reads as single-reads
 
--- src/lib.rt:30:9
 single-requires : tie.Need-single-requires
 single-requires c κs = search needs
 
--- src/lib.rt:26:1
 returns : tie.Need-returns
 returns c = subst (λ (z : ℕ). With (c .before .args .s) (c .before .args .k) (bitOr (c .before .args .s) z)) (sym (c .single .ensures)) (with-power (c .before .args .s) (c .before .args .k))
 

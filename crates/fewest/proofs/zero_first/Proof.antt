@@ -15,35 +15,27 @@ Inv-loop codes first r₀ x₀ r x = (x ≤ 32) × (first ≡ getD codes 0 0) ×
 abbrev μ-loop : tie.MeasureT-loop
 μ-loop codes first r₀ x₀ r x = 32 - x
 
--- src/lib.rt:92:17
 array-read-first : tie.Need-array-read-first Inv-loop μ-loop
 array-read-first c = search needs
 
--- src/lib.rt:95:5
 loop-holds : tie.Need-loop-holds Inv-loop μ-loop
 loop-holds c = (omega arith, refl, record { long = refl; done = λ k h. absurd (omega arith) })
 
--- src/lib.rt:96:16
 array-read-r : tie.Need-array-read-r Inv-loop μ-loop
 array-read-r c = search needs
 
--- src/lib.rt:96:9
 array-write-r : tie.Need-array-write-r Inv-loop μ-loop
 array-write-r c = search needs
 
--- src/lib.rt:97:9
 add-x : tie.Need-add-x Inv-loop μ-loop
 add-x c = search needs
 
--- src/lib.rt:95:5
 loop-less : tie.Need-loop-less Inv-loop μ-loop
 loop-less c = search needs
 
--- src/lib.rt:95:5
 loop-again : tie.Need-loop-again Inv-loop μ-loop
 loop-again c = let h = c .loop-test .taken in (omega arith, refl, zeroed-more (c .before .before .args .t1) (c .before .loop .x) (c .before .loop .r) _ h refl (c .before .loop .inv .2))
 
--- src/lib.rt:89:1
 returns : tie.Need-returns Inv-loop μ-loop
 returns c = subst (λ (z : ℕ). Zeroed (c .before .before .args .t1) z (c .before .loop .r)) (let h = c .loop-test .left in let z = c .before .loop .inv .0 in omega arith) (c .before .loop .inv .2)
 

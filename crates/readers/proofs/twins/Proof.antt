@@ -14,31 +14,24 @@ Inv-loop rows j i own r₀ k₀ r k = k ≤ 6
 abbrev μ-loop : tie.MeasureT-loop
 μ-loop rows j i own r₀ k₀ r k = 6 - k
 
--- src/lib.rt:108:9
 read-by-requires : tie.Need-read-by-requires Inv-loop μ-loop
 read-by-requires c κs = c .pre
 
--- src/lib.rt:111:5
 loop-holds : tie.Need-loop-holds Inv-loop μ-loop
 loop-holds c = search needs
 
--- src/lib.rt:113:12
 read-by-requires-2 : tie.Need-read-by-requires-2 Inv-loop μ-loop
 read-by-requires-2 c κs = let h = c .loop-test .taken in (c .before .before .before .pre .0, h)
 
--- src/lib.rt:116:9
 add-k : tie.Need-add-k Inv-loop μ-loop
 add-k c = search needs
 
--- src/lib.rt:111:5
 loop-less : tie.Need-loop-less Inv-loop μ-loop
 loop-less c = search needs
 
--- src/lib.rt:111:5
 loop-again : tie.Need-loop-again Inv-loop μ-loop
 loop-again c = search needs
 
--- src/lib.rt:105:1
 returns : tie.Need-returns Inv-loop μ-loop
 returns c = search needs
 
