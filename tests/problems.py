@@ -2,13 +2,15 @@
 """problems.py [--border PROGRAM] [COUNT [SEED]]: the search on random problems of each kind, against independent answers.
 
 The kinds: base; wires (given tables are the digits of the vertex number); given (given tables at random); budgets (other than
-widths, and none that fits); known (the first open cell has known digits); all of these together. COUNT small problems of each
+widths, and none that fits); known (the first open cell has known digits); all of these together; again (each such problem four
+times in a row, with other known digits, so that what border remembers of one is used for the next). COUNT small problems of each
 kind (20,000) of up to 8 vertices are drawn from SEED (1) and answered by the program border (`rt check border` builds it) and
 by problems.cpp, which tries every table; needs g++. COUNT / 500 problems of 16 to 32 vertices and up to 8 outputs follow for
 each kind: cadical (Debian package) has to say of the direct encoding (bench/direct.py) that no fewer cells serve, or none up to
 the limit. A problem that border or cadical does not end in 10 seconds is left out. Each core that is found is looked at: it
 tells the classes apart, keeps to the budgets and has the known digits."""
 import argparse
+import dataclasses
 import pathlib
 import random
 import shutil
@@ -22,7 +24,9 @@ sys.path.insert(0, str(border.ROOT / "bench"))
 import direct  # noqa: E402
 
 OUT = border.ROOT / "target" / "problems"
-KINDS = ["base", "wires", "given", "budgets", "known", "all"]
+KINDS = ["base", "wires", "given", "budgets", "known", "all", "again"]
+# how often a problem of the kind again is asked
+TIMES = 4
 BATCH = 1000
 SECONDS = 10
 # the cells for which every table of so many vertices can be tried
@@ -75,7 +79,7 @@ def problem(draw, kind, vertices, most, limit):
         row = classes(draw, vertices, most) if draw.random() < 0.4 else planted(draw, vertices, tables, draw.randint(1, 4))
         labels.append(border.numbered(row))
     p = border.Problem(vertices, limit, labels, [border.width(row) for row in labels])
-    together = kind == "all"
+    together = kind in ("all", "again")
     if kind == "wires" or together and draw.random() < 0.7:
         p.given = wires(draw, vertices)
     if kind == "given" or together and draw.random() < 0.5:
@@ -96,6 +100,17 @@ def small(draw, kind):
 
 def large(draw, kind):
     return problem(draw, kind, draw.randint(16, 32), draw.choice([3, 4, 5, 6, 9]), draw.randint(2, 6))
+
+
+def several(draw, kind, drawn, count):
+    problems = []
+    while len(problems) < count:
+        p = drawn(draw, kind)
+        if kind == "again":
+            problems += [dataclasses.replace(p, known=known_digits(draw, p.vertices)) for _ in range(TIMES)]
+        else:
+            problems.append(p)
+    return problems[:count]
 
 
 def text(p):
@@ -120,7 +135,7 @@ def small_ones(draw, kind, count, program, exhaustive):
     """how many were found and how many were not"""
     found = 0
     for start in range(0, count, BATCH):
-        problems = [small(draw, kind) for _ in range(min(BATCH, count - start))]
+        problems = several(draw, kind, small, min(BATCH, count - start))
         done = subprocess.run([exhaustive], input="".join(map(text, problems)), capture_output=True, text=True, check=True)
         for p, answer, wanted in zip(problems, border.answers(problems, program), done.stdout.split(), strict=True):
             if answer is None or wanted != ("inf" if answer.cells is None else str(answer.cells)):
@@ -145,8 +160,7 @@ def impossible(p, u):
 def large_ones(draw, kind, count, running):
     """how many were found, how many were not, and how many were left out"""
     found = none = left = 0
-    for _ in range(count):
-        p = large(draw, kind)
+    for p in several(draw, kind, large, count):
         answer = running.ask(p, SECONDS)
         if answer is None:
             left += 1
