@@ -20,22 +20,28 @@ Inv-loop x n₀ i₀ n i = (i ≤ 6) × (n ≤ i) × (n ≡ count (on x) i)
 abbrev μ-loop : tie.MeasureT-loop
 μ-loop x n₀ i₀ n i = 6 - i
 
+-- src/lib.rt:18:5
 loop-holds : tie.Need-loop-holds Inv-loop μ-loop
 unfolding count
 loop-holds c = (omega arith, omega arith, refl)
 
+-- src/lib.rt:19:12
 in-set-requires : tie.Need-in-set-requires Inv-loop μ-loop
 in-set-requires c κs = let h = c .loop-test .taken in omega arith
 
+-- src/lib.rt:20:13
 add-n : tie.Need-add-n Inv-loop μ-loop
 add-n c = search needs
 
+-- src/lib.rt:22:9
 add-i : tie.Need-add-i Inv-loop μ-loop
 add-i c = search needs
 
+-- src/lib.rt:18:5
 loop-less : tie.Need-loop-less Inv-loop μ-loop
 loop-less c = search needs
 
+-- src/lib.rt:18:5
 loop-again : tie.Need-loop-again Inv-loop μ-loop
 loop-again c =
     let h = c .before .before .loop-test .taken in
@@ -48,6 +54,7 @@ loop-again c =
           (c .if1 .came),
     )
 
+-- src/lib.rt:13:1
 returns : tie.Need-returns Inv-loop μ-loop
 returns c = let e : c .before .loop .i ≡ 6 = (let z = c .loop-test .left in let w = c .before .loop .inv .0 in omega arith) in (c .before .loop .inv .2 ∙ ap (count (on (c .before .before .args .x))) e, let z = c .before .loop .inv .1 in omega arith)
 
