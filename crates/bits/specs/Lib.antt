@@ -5,3 +5,5 @@ pub mod Digit
 pub mod DigitLaws
 pub mod Carry
 pub mod CarryLaws
+pub mod Values
+pub mod ValuesLaws

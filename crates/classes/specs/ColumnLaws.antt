@@ -8,8 +8,7 @@ use mathlib.Core.Bool.{Bool, true, false, not, _&&_, _||_, Bool·beq}
 use mathlib.Core.List.{List, [], _∷_, _++_}
 use Prim.Native.Nat.{ℕ, zero, suc, _+_, _<_}
 use native.Mathlib.Omega.{arith}
-use native.Mathlib.Numerals.{add-one}
-use lib.ListN.{length, length-append}
+use lib.ListN.{length}
 use borrow.Author.Tests.{not-true}
 use Rattle.bits.specs.Logic.{xorb}
 use Rattle.bits.specs.LogicLaws.{true-false, and-left, and-right, and-both}
@@ -17,7 +16,9 @@ use Rattle.rows.specs.EveryLaws.{last-or-below}
 use Rattle.names.specs.Name.{Name}
 use Rattle.sheet.specs.Examine.{Design}
 use Rattle.classes.specs.Cases.{either, not-both}
-use Rattle.classes.specs.Columns.{freeCount, valueAt, valuesUpto, column, sameValues, apart, conflict, alike, alikeUpto}
+use Rattle.classes.specs.Columns.{freeCount, valueAt, column, sameValues, apart, conflict, alike, alikeUpto}
+use Rattle.bits.specs.Values.{valuesUpto}
+use Rattle.bits.specs.ValuesLaws.{values-length, values-same}
 use Rattle.classes.specs.Seen.{sameColumn}
 use Rattle.classes.specs.ClassLaws.{Equivalence}
 
@@ -89,12 +90,6 @@ same-not-apart (u ∷ us) (v ∷ vs) n =
     equal-or-xor u v (sameValues us vs) (apart us vs) (same-not-apart us vs (omega arith))
 
 -- ---- two lists of values up to n
-pub length-values-upto : (f : ℕ → Bool) (n : ℕ) → length (valuesUpto f n) ≡ n
-unfolding valuesUpto
-length-values-upto f zero = refl
-length-values-upto f (suc n) =
-    length-append (valuesUpto f n) (f n ∷ []) ∙ ap (λ (m : ℕ). m + 1) (length-values-upto f n) ∙ add-one n
-
 -- a place at which two columns differ
 pub record Differ (f g : ℕ → Bool) (n : ℕ) : Type 0 where
   pub place : ℕ
@@ -105,17 +100,11 @@ module _ (f g : ℕ → Bool) where
   apart-more : (n : ℕ) → apart (valuesUpto f (suc n)) (valuesUpto g (suc n)) ≡ (apart (valuesUpto f n) (valuesUpto g n) || xorb (f n) (g n))
   unfolding valuesUpto
   apart-more n =
-      apart-last (valuesUpto f n) (valuesUpto g n) (f n) (g n) (length-values-upto f n ∙ sym (length-values-upto g n))
-
-  values-agree : (n : ℕ) → ((i : ℕ) → i < n → f i ≡ g i) → valuesUpto f n ≡ valuesUpto g n
-  unfolding valuesUpto
-  values-agree zero h = refl
-  values-agree (suc n) h =
-      ap₂ (λ (l : List Bool) (b : Bool). l ++ (b ∷ [])) (values-agree n (λ i l. h i (omega arith))) (h n (omega arith))
+      apart-last (valuesUpto f n) (valuesUpto g n) (f n) (g n) (values-length f n ∙ sym (values-length g n))
 
   -- columns that agree everywhere are not apart
   pub agree-apart : (n : ℕ) → ((i : ℕ) → i < n → f i ≡ g i) → apart (valuesUpto f n) (valuesUpto g n) ≡ false
-  agree-apart n h = rw (values-agree n h) (apart-self (valuesUpto g n))
+  agree-apart n h = rw (values-same f g n h) (apart-self (valuesUpto g n))
 
   pub apart-agree : (n : ℕ) → apart (valuesUpto f n) (valuesUpto g n) ≡ false → (i : ℕ) → i < n → f i ≡ g i
   apart-agree zero e i l = absurd (omega arith)
@@ -157,7 +146,7 @@ module _ (f : ℕ → ℕ → Bool) (n : ℕ) where
   pub column-not-apart : (x y : ℕ) → sameColumn f n x y ≡ not (apart (valuesUpto (f x) n) (valuesUpto (f y) n))
   unfolding sameColumn
   column-not-apart x y =
-      same-not-apart (valuesUpto (f x) n) (valuesUpto (f y) n) (length-values-upto (f x) n ∙ sym (length-values-upto (f y) n))
+      same-not-apart (valuesUpto (f x) n) (valuesUpto (f y) n) (values-length (f x) n ∙ sym (values-length (f y) n))
 
   pub same-agree : (x y : ℕ) → sameColumn f n x y ≡ true → (i : ℕ) → i < n → f x i ≡ f y i
   same-agree x y e =
@@ -182,7 +171,7 @@ pub same-columns : (f g : ℕ → ℕ → Bool) (n x y : ℕ) → ((i : ℕ) →
     → sameColumn f n x y ≡ sameColumn g n x y
 unfolding sameColumn
 same-columns f g n x y p q =
-    ap₂ sameValues (values-agree (f x) (g x) n p) (values-agree (f y) (g y) n q)
+    ap₂ sameValues (values-same (f x) (g x) n p) (values-same (f y) (g y) n q)
 
 -- related in two ways at once
 pub both-equivalence : (r s : ℕ → ℕ → Bool) → Equivalence r → Equivalence s → Equivalence (λ x y. r x y && s x y)

@@ -3,9 +3,10 @@
 -- "Rows of bound inputs (vertices) take the order of the `bound` line, free rows the order of the `in` line."
 -- Assumes nothing.
 use mathlib.Core.Bool.{Bool, true, false, _&&_, _||_, Bool·beq}
-use mathlib.Core.List.{List, [], _∷_, _++_, map}
+use mathlib.Core.List.{List, [], _∷_, map}
 use Prim.Native.Nat.{ℕ, zero, suc, _^_}
 use lib.ListN.{length}
+use Rattle.bits.specs.Values.{valuesUpto}
 use Rattle.bits.specs.Logic.{pick, xorb}
 use Rattle.names.specs.Name.{Name, among}
 use Rattle.rows.specs.Row.{rowOf}
@@ -47,10 +48,6 @@ unfoldable pub valueAt : Design → List Name → ℕ → ℕ → ℕ → Bool
 valueAt d bs o x y = outputOn d o (joinRow (d .inputs) bs x y)
 
 -- "The column of an output at a vertex is its list of values over all free rows."
-unfoldable pub valuesUpto : (ℕ → Bool) → ℕ → List Bool
-valuesUpto f zero = []
-valuesUpto f (suc n) = valuesUpto f n ++ (f n ∷ [])
-
 unfoldable pub column : Design → List Name → ℕ → ℕ → List Bool
 column d bs o x = valuesUpto (valueAt d bs o x) (freeCount (d .inputs) bs)
 

@@ -13,7 +13,8 @@ use Rattle.names.specs.Name.{Name, sameName, among}
 use Rattle.rows.specs.Row.{rowOf}
 use Rattle.rows.specs.Words.{rowOn}
 use Rattle.sheet.specs.Known.{position}
-use Rattle.classes.specs.Columns.{free, valuesUpto, sameValues}
+use Rattle.classes.specs.Columns.{free, sameValues}
+use Rattle.bits.specs.Values.{valuesUpto}
 use Rattle.classes.specs.Classes.{classCount, classOf}
 use Rattle.classes.specs.Proper.{Parted}
 

@@ -17,7 +17,8 @@ use Rattle.rows.specs.Row.{rowOf}
 use Rattle.sheet.specs.Examine.{Design}
 use Rattle.sheet.specs.WellFormed.{WellFormed}
 use Rattle.classes.specs.ProperLaws.{proper-of}
-use Rattle.classes.specs.Columns.{free, vertexCount, freeCount, conflict, valuesUpto}
+use Rattle.classes.specs.Columns.{free, vertexCount, freeCount, conflict}
+use Rattle.bits.specs.Values.{valuesUpto}
 use Rattle.classes.specs.Classes.{localClass}
 use Rattle.classes.specs.Width.{budget}
 use Rattle.classes.specs.VertexLaws.{local-no-conflict, no-conflict-local}
@@ -33,7 +34,8 @@ use Rattle.serving.specs.NetworkCore.{networkCore, ServesDesign}
 use Rattle.network.specs.Value.{lutAt}
 use Rattle.serving.specs.Tells.{core-length}
 use Rattle.serving.specs.Build.{numbers, codeIn, entryAt, entry, nodeBuilt, built}
-use Rattle.serving.specs.Compose.{values-length, values-at, lut-built, tables-at}
+use Rattle.serving.specs.Compose.{lut-built, tables-at}
+use Rattle.bits.specs.ValuesLaws.{values-length, values-at}
 use Rattle.serving.specs.TheoremA.{drawn-serves, built-luts, built-node, built-wellformed, built-within, built-computes, parts-of, columns-of}
 use Rattle.mapper.specs.Map.{Permitted}
 use Rattle.network.specs.Value.{codeAt}

@@ -3,7 +3,8 @@
 use Rattle.rows.specs.Row.{rowOf}
 use Rattle.text.specs.Line.{endsLine}
 use Rattle.sheet.specs.Computing as sheets
-use Rattle.classes.specs.Columns.{free, onParts, joinRow, vertexOf, freeRowOf, valueAt, valuesUpto, column, sameValues, apart, conflict, alike, alikeUpto}
+use Rattle.classes.specs.Columns.{free, onParts, joinRow, vertexOf, freeRowOf, valueAt, column, sameValues, apart, conflict, alike, alikeUpto}
+use Rattle.bits.specs.Values.{valuesUpto}
 use Rattle.classes.specs.Classes.{firstFrom, firstLike, classCount, classOf, localCount, globalCount}
 use Rattle.classes.specs.Width.{widthFrom, widthOf, width, budget}
 use Rattle.network.specs.Printer.{ledAll, lutName, printDigits, lutHead, printLut, nodeHead, printNode, printCount, lutLines, nodeLines, networkLines, printNetwork}

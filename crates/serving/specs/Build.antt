@@ -1,6 +1,6 @@
 -- The network of a core: its tables written out, and for each output the composition table that the columns ask for.
 -- "A composition entry whose code no vertex produces is 0." Assumes nothing.
-use mathlib.Core.Bool.{Bool, true, false}
+use mathlib.Core.Bool.{Bool, false}
 use mathlib.Core.List.{List, [], _∷_, map}
 use mathlib.Core.Option.{Option, some, none}
 use Prim.Native.Nat.{ℕ, zero, suc, _+_, _/_, _%_, _^_}
@@ -10,7 +10,8 @@ use Rattle.bits.specs.Logic.{pick}
 use Rattle.bits.specs.Digit.{on}
 use Rattle.rows.specs.Row.{rowOf}
 use Rattle.sheet.specs.Examine.{Design}
-use Rattle.classes.specs.Columns.{free, vertexCount, freeCount, valueAt, valuesUpto}
+use Rattle.classes.specs.Columns.{free, vertexCount, freeCount, valueAt}
+use Rattle.bits.specs.Values.{valuesUpto}
 use Rattle.network.specs.Network.{Network, Node}
 use Rattle.network.specs.Check.{firstOf}
 

@@ -7,12 +7,9 @@ use mathlib.Core.Logic.{_⊎_, ⊎-elim}
 use mathlib.Core.Option.{Option, some}
 use Prim.Native.Nat.{ℕ, zero, suc, _+_, _*_, _/_, _%_, _^_, _≤_, _<_}
 use native.Mathlib.Omega.{arith}
-use native.Mathlib.Decide.{ℕ-discrete}
 use native.Mathlib.Nat.{add-zero, add-mul, add-assoc, mul-assoc, zero-mul, zero-add}
-use native.Mathlib.Numerals.{add-one}
 use lib.Dec.{eqb}
-use lib.ListN.{length, getD, length-map, length-append, List·getD-append}
-use lib.Seq.{getD-at}
+use lib.ListN.{length, getD, length-map, length-append}
 use lib.Pow.{high, low, pow-add}
 use borrow.Author.Tests.{eq-eqb, eqb-true}
 use Rattle.bits.specs.Logic.{pick}
@@ -23,7 +20,9 @@ use Rattle.rows.specs.RowLaws.{row-lt, row-values, length-values, values-row}
 use Rattle.formula.specs.Value.{onRow}
 use Rattle.sheet.specs.Examine.{Design}
 use Rattle.sheet.specs.Value.{outputOn}
-use Rattle.classes.specs.Columns.{free, joinRow, vertexOf, freeRowOf, vertexCount, freeCount, valueAt, valuesUpto, conflict}
+use Rattle.classes.specs.Columns.{free, joinRow, vertexOf, freeRowOf, vertexCount, freeCount, valueAt, conflict}
+use Rattle.bits.specs.Values.{valuesUpto}
+use Rattle.bits.specs.ValuesLaws.{values-at}
 use Rattle.network.specs.Network.{Node}
 use Rattle.network.specs.Check.{firstOf}
 use Rattle.network.specs.Value.{networkOn}
@@ -44,27 +43,6 @@ row-append (v ∷ a) b =
   where
     regroup : (v p q r s : ℕ) → v * (p * q) + (r * q + s) ≡ (v * p + r) * q + s
     regroup v p q r s = sym (ap (λ (n : ℕ). n + s) (add-mul (v * p) r q ∙ ap (λ (n : ℕ). n + r * q) (mul-assoc v p q)) ∙ add-assoc (v * (p * q)) (r * q) s)
-
--- ---- lists of values
-pub values-length : (f : ℕ → Bool) (n : ℕ) → length (valuesUpto f n) ≡ n
-unfolding valuesUpto
-values-length f zero = refl
-values-length f (suc n) = length-append (valuesUpto f n) (f n ∷ []) ∙ ap (λ (k : ℕ). k + 1) (values-length f n) ∙ add-one n
-
-pub values-at : (f : ℕ → Bool) (n i : ℕ) → i < n → getD (valuesUpto f n) i false ≡ f i
-unfolding valuesUpto
-values-at f zero i h = absurd (omega arith)
-values-at f (suc n) i h =
-    elim (ℕ-discrete i n) as (λ _. getD (valuesUpto f n ++ (f n ∷ [])) i false ≡ f i) [
-      | yes e ↦ getD-at (valuesUpto f n) (f n) [] false i (values-length f n ∙ sym e) ∙ ap f (sym e)
-      | no g ↦ (let l = values-length f n in List·getD-append (valuesUpto f n) (f n ∷ []) false i (below i n h g l)) ∙ values-at f n i (less i n h g)
-    ]
-  where
-    less : (i n : ℕ) → i < suc n → (i ≡ n → ⊥) → i < n
-    less i n h g = omega arith
-
-    below : (i n : ℕ) → i < suc n → (i ≡ n → ⊥) → {m : ℕ} → m ≡ n → i < m
-    below i n h g e = omega arith
 
 -- ---- the first number that passes a test
 record First (f : ℕ → Bool) (k i : ℕ) : Type 0 where

@@ -30,7 +30,8 @@ use Rattle.serving.specs.NetworkCore.{has, networkCore, ServesDesign}
 use Rattle.serving.specs.Parts.{Parts, Columns}
 use Rattle.serving.specs.Tells.{network-serves}
 use Rattle.serving.specs.Build.{numbers, nodeBuilt, lutsBuilt, nodesBuilt, built, entry}
-use Rattle.serving.specs.Compose.{built-right, values-length, luts-length, node-built}
+use Rattle.serving.specs.Compose.{built-right, luts-length, node-built}
+use Rattle.bits.specs.ValuesLaws.{values-length}
 
 -- ---- rows and columns of a design
 pub parts-of : (ns bs : List Name) → Parted ns bs → Parts ns bs

@@ -6,7 +6,7 @@ use Rattle.limits.specs.Limits.{maxInputs, maxOutputs, maxCells}
 use Rattle.bits.specs.Digit.{on}
 use Rattle.names.specs.Pack.{nameOf}
 use Rattle.sheet.specs.Known.{tableAt}
-use Rattle.classes.specs.Columns.{valuesUpto}
+use Rattle.bits.specs.Values.{valuesUpto}
 use Rattle.network.specs.Printer.{printLut, printNode}
 use Rattle.serving.specs.Build.{numbers}
 use Rattle.listing.specs.Listed.{maxNames, shown, item}

@@ -1,5 +1,5 @@
 -- Digits put down one after the other, and what a digit of a composition table is. Assumes nothing.
-use mathlib.Core.Path.{_≡_, refl, sym, ap, ap₂, _∙_}
+use mathlib.Core.Path.{_≡_, sym, ap, ap₂, _∙_}
 use mathlib.Core.Bool.{Bool, true, false}
 use mathlib.Core.List.{List, [], _∷_, _++_, map, map-append, append-nil, append-assoc}
 use mathlib.Core.Option.{Option, some, none}
@@ -16,7 +16,8 @@ use Rattle.limits.specs.Limits.{maxCells, maxVertices, maxFreeRows, maxCodes}
 use Rattle.bits.specs.Logic.{pick}
 use Rattle.rows.specs.Digits.{digit}
 use Rattle.rows.specs.Words.{rowOn}
-use Rattle.classes.specs.Columns.{valuesUpto}
+use Rattle.bits.specs.Values.{valuesUpto}
+use Rattle.bits.specs.ValuesLaws.{values-same}
 use Rattle.classes.specs.Seen.{seen}
 use Rattle.limits.specs.declared.Vertex.{Vertex}
 use Rattle.network.specs.Printer.{printDigits}
@@ -30,12 +31,6 @@ use Rattle.writing.specs.Room.{entriesRoom}
 use Rattle.writing.specs.Lines.{chosen, entryBy, cellOn, cellBy}
 
 -- ---- one digit after the other
-pub values-same : (f g : ℕ → Bool) (n : ℕ) → ((i : ℕ) → i < n → f i ≡ g i) → valuesUpto f n ≡ valuesUpto g n
-unfolding valuesUpto
-values-same f g zero h = refl
-values-same f g (suc n) h =
-    ap₂ (λ (l : List Bool) (b : Bool). l ++ (b ∷ [])) (values-same f g n (λ i l. h i (omega arith))) (h n (omega arith))
-
 digits-more : (f : ℕ → Bool) (i : ℕ) → printDigits (valuesUpto f i) ++ (digit (f i) ∷ []) ≡ printDigits (valuesUpto f (i + 1))
 unfolding printDigits valuesUpto
 digits-more f i =

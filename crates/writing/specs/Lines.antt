@@ -12,7 +12,8 @@ use Rattle.bits.specs.Logic.{pick}
 use Rattle.text.specs.Bytes.{bytes, newline}
 use Rattle.names.specs.Name.{Name}
 use Rattle.sheet.specs.Lines.{endLine}
-use Rattle.classes.specs.Columns.{valuesUpto, joinRow, vertexCount, freeCount}
+use Rattle.classes.specs.Columns.{joinRow, vertexCount, freeCount}
+use Rattle.bits.specs.Values.{valuesUpto}
 use Rattle.classes.specs.Proper.{Parted}
 use Rattle.classes.specs.Seen.{seen}
 use Rattle.classes.specs.declared.Shape.{Shape}

@@ -16,7 +16,8 @@ use Rattle.bits.specs.Logic.{pick}
 use Rattle.rows.specs.Words.{rowOn, Rowwise}
 use Rattle.sheet.specs.Examine.{Design}
 use Rattle.sheet.specs.Value.{outputOn}
-use Rattle.classes.specs.Columns.{free, valuesUpto, joinRow, valueAt, vertexCount, freeCount}
+use Rattle.classes.specs.Columns.{free, joinRow, valueAt, vertexCount, freeCount}
+use Rattle.bits.specs.Values.{valuesUpto}
 use Rattle.classes.specs.Proper.{Parted}
 use Rattle.classes.specs.Seen.{seen}
 use Rattle.classes.specs.Answer.{ShapeIs}
@@ -25,7 +26,7 @@ use Rattle.classes.specs.declared.Shape.{Shape}
 use Rattle.network.specs.Check.{firstOf}
 use Rattle.serving.specs.Build.{codeIn, entry, entryAt, nodeBuilt}
 use Rattle.writing.specs.Lines.{chosen, entryBy, nodeBy, Bounded, Fitting}
-use Rattle.writing.specs.DigitLaws.{values-same}
+use Rattle.bits.specs.ValuesLaws.{values-same}
 
 -- what is chosen hangs only on the values at the vertices looked at
 picks : (b : Bool) (f : ℕ → Bool) (i : ℕ) (q : Option ℕ) → chosen f (pick b (some i) q) ≡ pick b (f i) (chosen f q)

@@ -11,13 +11,15 @@ use Rattle.limits.specs.Limits.{maxRows}
 use Rattle.rows.specs.Digits.{digit}
 use Rattle.rows.specs.Words.{rowOn}
 use Rattle.rows.specs.Step.{stepped}
-use Rattle.classes.specs.Columns.{free, valuesUpto, joinRow, vertexCount}
+use Rattle.classes.specs.Columns.{free, joinRow, vertexCount}
+use Rattle.bits.specs.Values.{valuesUpto}
+use Rattle.bits.specs.ValuesLaws.{values-same}
 use Rattle.classes.specs.JoinLaws.{join-small, join-sum}
 use Rattle.classes.specs.NextLaws.{next-row}
 use Rattle.network.specs.Printer.{printDigits}
 use Rattle.putting.specs.Written.{Written}
 use Rattle.writing.specs.Lines.{cellOn, Laid}
-use Rattle.writing.specs.DigitLaws.{Digits, digits-none, digits-put, digits-all, values-same, cell-past, cell-there}
+use Rattle.writing.specs.DigitLaws.{Digits, digits-none, digits-put, digits-all, cell-past, cell-there}
 use Rattle.writing.specs.Running.{VertexRow, rowAt}
 
 -- the number at free row z, and the digits of the free rows before

@@ -13,7 +13,8 @@ use Rattle.text.specs.EndedLaws.{ended-more, ended-append}
 use Rattle.names.specs.Name.{Name}
 use Rattle.sheet.specs.Lines.{Output, endLine}
 use Rattle.sheet.specs.Examine.{Design, outputNames}
-use Rattle.classes.specs.Columns.{free, valuesUpto, vertexCount}
+use Rattle.classes.specs.Columns.{free, vertexCount}
+use Rattle.bits.specs.Values.{valuesUpto}
 use Rattle.network.specs.Network.{Node}
 use Rattle.network.specs.Printer.{printLut, printNode, printCount, networkLine, lutLines, nodeLines, networkLines, printNetwork}
 use Rattle.serving.specs.Build.{numbers, nodeBuilt, lutsBuilt, nodesBuilt, built}

@@ -9,7 +9,7 @@ use Rattle.text.specs.Bytes.{bytes, newline, closeBracket}
 use Rattle.text.specs.FigureLaws.{print-digit}
 use Rattle.names.specs.Name.{Name}
 use Rattle.sheet.specs.Lines.{endLine}
-use Rattle.classes.specs.Columns.{valuesUpto}
+use Rattle.bits.specs.Values.{valuesUpto}
 use Rattle.limits.specs.declared.Vertex.{Vertex}
 use Rattle.network.specs.Network.{Node}
 use Rattle.network.specs.Printer.{ledAll, lutName, printDigits, lutHead, printLut, nodeHead, printNode, printCount}

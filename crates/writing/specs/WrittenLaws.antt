@@ -10,7 +10,8 @@ use Rattle.names.specs.Pack.{nameOf}
 use Rattle.sheet.specs.Examine.{Design, outputNames}
 use Rattle.sheet.specs.Known.{Holds, tableAt}
 use Rattle.sheet.specs.declared.Sheet.{Sheet}
-use Rattle.classes.specs.Columns.{free, valuesUpto}
+use Rattle.classes.specs.Columns.{free}
+use Rattle.bits.specs.Values.{valuesUpto}
 use Rattle.classes.specs.Proper.{Proper}
 use Rattle.classes.specs.Answer.{ShapeIs}
 use Rattle.classes.specs.declared.Shape.{Shape}

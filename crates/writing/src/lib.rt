@@ -11,7 +11,7 @@ ghost use Rattle.rows.specs.Words.{rowOn};
 ghost use Rattle.text.specs.Bytes.{bytes, newline};
 ghost use Rattle.names.specs.Pack.{nameOf};
 ghost use Rattle.sheet.specs.Known.{tableAt};
-ghost use Rattle.classes.specs.Columns.{valuesUpto};
+ghost use Rattle.bits.specs.Values.{valuesUpto};
 ghost use Rattle.network.specs.Printer.{ledAll, printDigits, lutHead, printLut, nodeHead, printNode};
 ghost use Rattle.serving.specs.Build.{numbers};
 ghost use Rattle.putting.specs.Written.{reach, Written};

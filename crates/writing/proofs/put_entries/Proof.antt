@@ -4,7 +4,7 @@ use native.Mathlib.Omega.{arith}
 use native.Mathlib.Nat.{mul-comm}
 use lib.ListN.{length}
 use borrow.Author.Needs.{needs}
-use Rattle.classes.specs.Columns.{valuesUpto}
+use Rattle.bits.specs.Values.{valuesUpto}
 use Rattle.network.specs.Printer.{printDigits}
 use Rattle.putting.specs.PutLaws.{put-length}
 use Rattle.putting.specs.UptoLaws.{Texts, texts-none, texts-put, texts-all}

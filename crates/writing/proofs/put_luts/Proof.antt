@@ -6,7 +6,7 @@ use borrow.Author.Needs.{needs}
 use Rattle.listing.specs.Listed.{shown, item}
 use Rattle.putting.specs.PutLaws.{put-length}
 use Rattle.network.specs.Printer.{printLut}
-use Rattle.classes.specs.Columns.{valuesUpto}
+use Rattle.bits.specs.Values.{valuesUpto}
 use Rattle.bits.specs.Digit.{on}
 use Rattle.putting.specs.UptoLaws.{Texts, texts-none, texts-put, texts-all}
 use Rattle.writing.specs.Lines.{ended}
