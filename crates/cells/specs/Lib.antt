@@ -1,5 +1,6 @@
 -- The definitions that contracts cite stand in Core; the other files hold laws.
 pub mod Core
+pub mod Written
 pub mod Lists
 pub mod Pigeon
 pub mod Free
