@@ -1,4 +1,5 @@
--- Lists of values: their length, the value at a place, and that tests which agree have the same list. Assumes nothing.
+-- Lists of values: their length, their first value, the value at a place, and that tests have the same list exactly where they
+-- agree. Assumes nothing.
 use mathlib.Core.Path.{_≡_, refl, sym, ap, ap₂, _∙_}
 use mathlib.Core.Bool.{Bool, false}
 use mathlib.Core.List.{List, [], _∷_, _++_}
@@ -35,3 +36,12 @@ unfolding valuesUpto
 values-same f g zero h = refl
 values-same f g (suc n) h =
     ap₂ (λ (l : List Bool) (b : Bool). l ++ (b ∷ [])) (values-same f g n (λ i l. h i (omega arith))) (h n (omega arith))
+
+-- and back: the same list, the same values
+pub same-values : (f g : ℕ → Bool) (n i : ℕ) → i < n → valuesUpto f n ≡ valuesUpto g n → f i ≡ g i
+same-values f g n i h e = sym (values-at f n i h) ∙ ap (λ (l : List Bool). getD l i false) e ∙ values-at g n i h
+
+pub values-first : (f : ℕ → Bool) (n : ℕ) → valuesUpto f (suc n) ≡ f 0 ∷ valuesUpto (λ (i : ℕ). f (suc i)) n
+unfolding valuesUpto
+values-first f zero = refl
+values-first f (suc n) = ap (λ (l : List Bool). l ++ (f (suc n) ∷ [])) (values-first f n)

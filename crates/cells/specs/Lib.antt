@@ -6,6 +6,7 @@ pub mod Pigeon
 pub mod Free
 pub mod Sorted
 pub mod Codes
+pub mod WrittenLaws
 pub mod Cut
 pub mod Shared
 pub mod Sets
