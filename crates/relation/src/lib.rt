@@ -2,7 +2,7 @@
 // the given tables that an output reads agree, and a label stands for a class inside a part. An output that reads no given
 // table keeps its classes as labels, all in part 0.
 ghost use mathlib.Core.Path.{_≡_};
-ghost use mathlib.Core.Bool.{true};
+ghost use mathlib.Core.Bool.{true, false};
 ghost use Prim.Native.Nat.{ℕ, _*_, _<_, _≤_};
 ghost use lib.ListN.{length};
 ghost use Rattle.limits.specs.Limits.{searchOutputs, maxVertices};
@@ -171,7 +171,8 @@ pub fn cut(
 // Whether the given tables of g tell vertex x from all vertices before it from which output o has to tell it.
 fn told(cl: &[u8], given: &[u16], o: usize, g: u16, x: usize) -> bool
     requires { ⌜ Classes (now cl) × (length (now given) ≡ maxVertices) × (o < searchOutputs) × (x < maxVertices) ⌝ }
-    ensures { λ r. ⌜ (r ≡ true → (y : ℕ) → y < x → Left (now (cl .entry)) (now (given .entry)) g o x y → ⊥) ⌝ }
+    ensures { λ r. ⌜ (r ≡ true → (y : ℕ) → y < x → Left (now (cl .entry)) (now (given .entry)) g o x y → ⊥)
+        × (r ≡ false → ((y : ℕ) → y < x → Left (now (cl .entry)) (now (given .entry)) g o x y → ⊥) → ⊥) ⌝ }
 {
     let value = given[x] & g;
     let label = numbering::label(cl, o, x);
@@ -190,7 +191,8 @@ fn told(cl: &[u8], given: &[u16], o: usize, g: u16, x: usize) -> bool
 // Whether the given tables of g leave no conflict of output o at the first v vertices.
 pub fn none_left(cl: &[u8], given: &[u16], o: usize, g: u16, v: usize) -> bool
     requires { ⌜ Classes (now cl) × (length (now given) ≡ maxVertices) × (o < searchOutputs) × (v ≤ maxVertices) ⌝ }
-    ensures { λ r. ⌜ (r ≡ true → NoneLeft (now (cl .entry)) (now (given .entry)) g o v) ⌝ }
+    ensures { λ r. ⌜ (r ≡ true → NoneLeft (now (cl .entry)) (now (given .entry)) g o v)
+        × (r ≡ false → NoneLeft (now (cl .entry)) (now (given .entry)) g o v → ⊥) ⌝ }
 {
     let mut x = 0;
     while x < v {

@@ -63,7 +63,7 @@ returns-2 c =
     let g = c .before .before .given-of in
     let full = c .before .before .before .before .suits .ensures .right (c .before .before .before .if2 .taken) in
     served-here (a .cl .now) (a .given .now) (p .vertices) (p .cells) (p .tables) (a .n) (a .want) (l .r) (row .result) (g .result)
-    (row .ensures) (g .ensures .0) full (c .before .none-left .ensures (c .if3 .taken))
+    (row .ensures) (g .ensures .0) full (c .before .none-left .ensures .0 (c .if3 .taken))
 
 add-r : tie.Need-add-r Inv-loop μ-loop
 add-r c = let h = c .before .before .before .loop-test .taken in let z = c .before .before .before .before .before .before .before .numbers .ensures .1 in omega arith

@@ -4,7 +4,7 @@ use mathlib.Core.Path.{sym, subst}
 use Rattle.bits.specs.LogicLaws.{true-false}
 use Rattle.relation.specs.Relation.{NoneLeft}
 use Rattle.relation.specs.RelationLaws.{none-left-start, none-left-more}
-use borrow.Author.Tests.{not-false}
+use borrow.Author.Tests.{not-false, not-true}
 use borrow.Author.Needs.{needs}
 use Rattle.relation.proofs.none_left.Statement.{statement}
 use Rattle.relation.proofs.none_left.Tie as tie
@@ -25,7 +25,12 @@ told-requires : tie.Need-told-requires Inv-loop μ-loop
 told-requires c κs = let q = c .before .before .before .before .pre in let z = q .3 in let h = c .loop-test .taken in (q .0, q .1, q .2, omega arith)
 
 returns : tie.Need-returns Inv-loop μ-loop
-returns c = λ e. absurd (true-false (sym e))
+returns c =
+    let l = c .before .before .before .loop in
+    let h = c .before .before .loop-test .taken in (
+      λ e. absurd (true-false (sym e)),
+      λ e s. c .before .told .ensures .1 (not-true _ (c .if1 .taken)) (λ y k. s .none (l .x) y h (omega arith)),
+    )
 
 add-x : tie.Need-add-x Inv-loop μ-loop
 add-x c = search needs
@@ -38,7 +43,7 @@ loop-again c =
     let a = c .before .before .before .before .before .before .args in
     let l = c .before .before .before .loop in
     let h = c .before .before .loop-test .taken in
-    (omega arith, none-left-more (a .cl .now) (a .given .now) (a .g) (a .o) (l .x) (c .before .told .ensures (not-false _ (c .if1 .left))) (l .inv .1))
+    (omega arith, none-left-more (a .cl .now) (a .given .now) (a .g) (a .o) (l .x) (c .before .told .ensures .0 (not-false _ (c .if1 .left))) (l .inv .1))
 
 returns-2 : tie.Need-returns-2 Inv-loop μ-loop
 returns-2 c =
@@ -46,7 +51,7 @@ returns-2 c =
     let l = c .before .loop in
     let h = c .loop-test .left in
     let z = l .inv .0 in
-    λ e. subst (NoneLeft (a .cl .now) (a .given .now) (a .g) (a .o)) (omega arith) (l .inv .1)
+    (λ e. subst (NoneLeft (a .cl .now) (a .given .now) (a .g) (a .o)) (omega arith) (l .inv .1), λ e. absurd (true-false e))
 
 pub none-left-spec : {M : Type 1} → statement M
 none-left-spec =

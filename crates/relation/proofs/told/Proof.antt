@@ -7,7 +7,7 @@ use Rattle.bits.specs.LogicLaws.{true-false}
 use Rattle.cells.specs.Lists.{less-or-equal}
 use Rattle.numbering.specs.Given.{item, labelAt}
 use Rattle.relation.specs.Relation.{Left}
-use Rattle.relation.specs.RelationLaws.{equal-not-left}
+use Rattle.relation.specs.RelationLaws.{different-conflict, equal-not-left}
 use borrow.Author.Needs.{needs}
 use Rattle.relation.proofs.told.Statement.{statement}
 use Rattle.relation.proofs.told.Tie as tie
@@ -44,7 +44,18 @@ label-requires-2 : tie.Need-label-requires-2 Inv-loop μ-loop
 label-requires-2 c κs = let z = c .before .before .before .before .before .before .before .before .pre .3 in search needs
 
 returns : tie.Need-returns Inv-loop μ-loop
-returns c = λ e. absurd (true-false (sym e))
+returns c =
+    let a = c .before .before .before .before .before .before .before .before .before .before .args in
+    let l = c .before .before .before .before .before .loop in
+    let i = l .inv in
+    let h = c .before .before .before .before .loop-test .taken in
+    let there = c .before .label2 in (
+      λ e. absurd (true-false (sym e)),
+      λ e none. none (l .y) h (record {
+        conflict = different-conflict (a .cl .now) (a .o) (a .x) (l .y) (λ q. c .if2 .taken (there .ensures ∙ sym q ∙ sym (i .2)));
+        agree = sym (i .1) ∙ sym (c .before .before .if1 .taken);
+      }),
+    )
 
 add-y : tie.Need-add-y Inv-loop μ-loop
 add-y c = search needs
@@ -70,7 +81,7 @@ loop-again c =
     )
 
 returns-2 : tie.Need-returns-2 Inv-loop μ-loop
-returns-2 c = let l = c .before .loop in λ e y h. l .inv .3 y (let w = c .loop-test .left in omega arith)
+returns-2 c = let l = c .before .loop in (λ e y h. l .inv .3 y (let w = c .loop-test .left in omega arith), λ e. absurd (true-false e))
 
 pub told-spec : {M : Type 1} → statement M
 told-spec =
