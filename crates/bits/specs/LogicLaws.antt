@@ -1,6 +1,6 @@
--- What a true conjunction says, and that true is not false. Assumes nothing.
+-- What a true conjunction and a true comparison say, and that true is not false. Assumes nothing.
 use mathlib.Core.Path.{_≡_, refl, sym}
-use mathlib.Core.Bool.{Bool, true, false}
+use mathlib.Core.Bool.{Bool, true, false, Bool·beq}
 use Prim.Native.Nat.{ℕ}
 use native.Mathlib.Omega.{arith}
 use Rattle.bits.specs.Logic.{andb}
@@ -21,3 +21,13 @@ and-right false b e = absurd (true-false (sym e))
 pub and-both : (a b : Bool) → a ≡ true → b ≡ true → andb a b ≡ true
 and-both true b e f = f
 and-both false b e f = e
+
+pub beq-self : (b : Bool) → Bool·beq b b ≡ true
+beq-self true = refl
+beq-self false = refl
+
+pub beq-equal : (a b : Bool) → Bool·beq a b ≡ true → a ≡ b
+beq-equal true true e = refl
+beq-equal true false e = sym e
+beq-equal false true e = e
+beq-equal false false e = refl

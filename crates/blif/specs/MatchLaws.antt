@@ -6,7 +6,7 @@ use mathlib.Core.List.{List, [], _∷_, map}
 use Prim.Native.Nat.{ℕ, zero, suc, _+_, _^_, _<_}
 use native.Mathlib.Omega.{arith}
 use lib.ListN.{length, getD}
-use Rattle.bits.specs.LogicLaws.{and-left, and-right, and-both}
+use Rattle.bits.specs.LogicLaws.{and-left, and-right, and-both, beq-self, beq-equal}
 use Rattle.rows.specs.Row.{rowOf, valuesOf}
 use Rattle.rows.specs.RowLaws.{values-row, length-values, row-values}
 use Rattle.cells.specs.Lists.{false-where}
@@ -15,16 +15,6 @@ use Rattle.blif.specs.Value.{matches, covers}
 use Rattle.blif.specs.Modelled.{coverOf}
 
 -- ---- a cover line
-beq-self : (b : Bool) → Bool·beq b b ≡ true
-beq-self true = refl
-beq-self false = refl
-
-beq-equal : (a b : Bool) → Bool·beq a b ≡ true → a ≡ b
-beq-equal true true e = refl
-beq-equal true false e = sym e
-beq-equal false true e = e
-beq-equal false false e = refl
-
 matches-self : (vs : List Bool) → matches (map must-be vs) vs ≡ true
 matches-self [] = refl
 matches-self (v ∷ vs) = and-both (Bool·beq v v) (matches (map must-be vs) vs) (beq-self v) (matches-self vs)
