@@ -1,20 +1,22 @@
--- Sets of numbers below 64 as the digits of one number: one more element, one less, and the lowest. Assumes nothing.
-use mathlib.Core.Path.{_≡_, refl, sym, ap, _∙_}
+-- Sets of numbers below 64 as the digits of one number: one more element, one less, the lowest, and how many there are.
+-- Assumes nothing.
+use mathlib.Core.Path.{_≡_, refl, sym, ap, ap₂, _∙_}
 use mathlib.Core.Bool.{Bool, true, false, not}
-use Prim.Native.Nat.{ℕ, zero, suc, _-_, _*_, _/_, _%_, _^_, _≤_, _<_}
+use Prim.Native.Nat.{ℕ, zero, suc, _+_, _-_, _*_, _/_, _%_, _^_, _≤_, _<_}
 use native.Mathlib.Decide.{ℕ-discrete, decLt}
 use native.Mathlib.Omega.{arith}
 use native.Mathlib.Nat.{pow-suc}
 use lib.Bits.{bitAnd, bitOr, and-le-l}
-use lib.Count.{trailingZeros, under}
+use lib.Count.{trailingZeros, under, ones, ones-step}
 use lib.Dec.{eqb}
 use lib.Pow.{pow-lt}
 use borrow.Author.Tests.{eq-eqb, ne-eqb}
 use Rattle.bits.specs.Logic.{andb, orb}
 use Rattle.bits.specs.Digit.{digit, on}
-use Rattle.bits.specs.DigitLaws.{on-and, on-or, on-zero, on-single, on-complement}
-use Rattle.cells.specs.Lists.{never-both, and-off, and-on}
-use Rattle.cells.specs.Codes.{on-half}
+use Rattle.bits.specs.DigitLaws.{Binary, is0, is1, binary, on-and, on-or, on-zero, on-single, on-complement}
+use Rattle.cells.specs.Core.{bit}
+use Rattle.cells.specs.Lists.{count, count-alike, never-both, and-off, and-on}
+use Rattle.cells.specs.Codes.{on-half, count-shift}
 
 -- ======== definitions
 -- the numbers that a set has room for: a word has a digit for each
@@ -72,3 +74,21 @@ lowest-on (suc d) n ne h = go (n % 2) refl
         → (under r (trailingZeros d (n / 2)) < suc d) × (on n (under r (trailingZeros d (n / 2))) ≡ true)
     go zero e ih = let r = ih e in ((let z = r .0 in omega arith), on-half n (trailingZeros d (n / 2)) ∙ r .1)
     go (suc r) e ih = ((omega arith), (let p : n / 1 % 2 ≡ 1 = omega arith in rw p refl))
+
+-- how many elements
+low-digit : (n : ℕ) → n % 2 ≡ bit (on n 0)
+unfolding on digit
+low-digit n = go (n / 1 % 2) (binary (n / 1 % 2) (omega arith)) (omega arith)
+  where
+    go : (d : ℕ) → Binary d → n % 2 ≡ d → n % 2 ≡ bit (eqb d 1)
+    go d is0 e = e
+    go d is1 e = e
+
+pub ones-count : (w n : ℕ) → n < 2 ^ w → ones n ≡ count (on n) w
+unfolding count ones
+ones-count zero n h = ap ones (let e : n ≡ 0 = omega arith in e)
+ones-count (suc w) n h =
+    ones-step n
+    ∙ ap₂ (λ (a b : ℕ). a + b) (low-digit n)
+    (ones-count w (n / 2) (let e = pow-suc 2 w in omega arith) ∙ count-alike (on (n / 2)) (λ (i : ℕ). on n (suc i)) w (λ i h. sym (on-half n i)))
+    ∙ sym (count-shift (on n) w)

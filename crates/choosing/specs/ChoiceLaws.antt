@@ -8,9 +8,8 @@ use mathlib.Core.Logic.{_⊎_, inl, inr, ⊎-elim}
 use Prim.Native.Nat.{ℕ, zero, suc, _+_, _-_, _*_, _/_, _%_, _^_, _≤_, _<_, min}
 use native.Mathlib.Decide.{ℕ-discrete, decLt}
 use native.Mathlib.Omega.{arith}
-use native.Mathlib.Nat.{mod-eq-of-lt, mod-lt, div-eq-of-lt, add-mul-div-left, add-mul-mod-self-left, div-lt-iff-lt-mul, mul-comm, mul-suc, mul-le-mul-left, pow-suc, one-mul}
+use native.Mathlib.Nat.{mod-eq-of-lt, mod-lt, div-eq-of-lt, add-mul-div-left, add-mul-mod-self-left, div-lt-iff-lt-mul, mul-comm, mul-suc, mul-le-mul-left, one-mul}
 use lib.Bits.{bitAnd, bitOr, bitXor, and-le-r}
-use lib.Count.{ones, ones-step}
 use lib.Dec.{eqb}
 use lib.ListN.{length, set, length-set}
 use lib.Pow.{pow-add, pow-mono, pow-pos, pow-lt, shr-shr}
@@ -19,10 +18,9 @@ use borrow.Author.Tests.{eqb-true, eqb-false, not-false}
 use Rattle.bits.specs.Logic.{andb, orb, xorb}
 use Rattle.bits.specs.LogicLaws.{true-false, and-left, and-right}
 use Rattle.bits.specs.Digit.{digit, on}
-use Rattle.bits.specs.DigitLaws.{Binary, is0, is1, binary, on-and, on-or, on-or-one, on-or-none, on-xor, on-ones, on-above, on-complement, on-single, on-none, on-zero, equal-digits}
-use Rattle.cells.specs.Core.{bit}
+use Rattle.bits.specs.DigitLaws.{on-and, on-or, on-or-one, on-or-none, on-xor, on-ones, on-above, on-complement, on-single, on-none, on-zero, equal-digits}
 use Rattle.cells.specs.Lists.{count, count-alike, count-drop, count-le, less-or-equal, never-both, and-on}
-use Rattle.cells.specs.Codes.{Coded, on-half, count-shift}
+use Rattle.cells.specs.Codes.{Coded, on-half}
 use Rattle.cells.specs.Sets.{on-power-other}
 use Rattle.cells.specs.Reorder.{Exchangeable, InOrder, Exchanged, in-order-none, reordered}
 use Rattle.numbering.specs.Given.{item, Fixed}
@@ -47,21 +45,6 @@ pub count-row : (row : ℕ) → count (on row) 16 ≡ count (on (row % 64)) 6 + 
 count-row row = count-sum (on row) 6 10 ∙ ap₂ (λ (a b : ℕ). a + b)
     (count-alike (on row) (on (row % 64)) 6 (λ i h. sym (on-open row i h)))
     (count-alike (λ (i : ℕ). on row (6 + i)) (on (row / 64)) 10 (λ i h. on-given row i))
-
-lowest : (n : ℕ) → n % 2 ≡ bit (on n 0)
-unfolding on digit
-lowest n = go (n / 1 % 2) (binary (n / 1 % 2) (omega arith)) (omega arith)
-  where
-    go : (d : ℕ) → Binary d → n % 2 ≡ d → n % 2 ≡ bit (eqb d 1)
-    go d is0 e = e
-    go d is1 e = e
-
-pub ones-count : (w n : ℕ) → n < 2 ^ w → ones n ≡ count (on n) w
-unfolding count ones
-ones-count zero n h = ap ones (let e : n ≡ 0 = omega arith in e)
-ones-count (suc w) n h =
-    ones-step n ∙ ap₂ (λ (a b : ℕ). a + b) (lowest n) (ones-count w (n / 2) (let e = pow-suc 2 w in omega arith) ∙ count-alike (on (n / 2)) (λ (i : ℕ). on n (suc i)) w (λ i h. sym (on-half n i)))
-    ∙ sym (count-shift (on n) w)
 
 -- ======== a row and its number
 -- the number of a row among u open cells

@@ -1,8 +1,9 @@
 use mathlib.Core.Path.{sym, subst}
 use Prim.Native.Nat.{ℕ}
 use lib.Dec.{eqb}
+use Rattle.cells.specs.Sets.{ones-count}
 use Rattle.choosing.specs.Choice.{Suits, disorder}
-use Rattle.choosing.specs.ChoiceLaws.{suits-count, suits-not, ones-count}
+use Rattle.choosing.specs.ChoiceLaws.{suits-count, suits-not}
 use lib.Count.{ones}
 use borrow.Author.Needs.{needs}
 use Rattle.choosing.proofs.suits.Statement.{statement}
