@@ -93,6 +93,17 @@ equal-where Ordering·gt e f = absurd (true-false f)
 pub neither-less : {A : Type 0} (c : A → A → Ordering) → Total c → (a b : A) → NotLess (c a b) → NotLess (c b a) → a ≡ b
 neither-less c t a b h k = t .equal a b (equal-where (c a b) (h .is-not) (sym (ap isLess (t .turned a b)) ∙ k .is-not))
 
+-- what is above a is not less than what a is not less than
+pub above-not-less : {A : Type 0} (c : A → A → Ordering) → Total c → (a b d : A) → isLess (c a b) ≡ true → NotLess (c a d) → NotLess (c b d)
+above-not-less c t a b d e h = go (c a b) refl e (c b d) refl
+  where
+    go : (o : Ordering) → c a b ≡ o → isLess o ≡ true → (p : Ordering) → c b d ≡ p → NotLess p
+    go Ordering·lt q k Ordering·lt r = absurd (not-less-lt (subst NotLess (t .chain a b d q r) h))
+    go Ordering·lt q k Ordering·eq r = not-less-eq
+    go Ordering·lt q k Ordering·gt r = not-less-gt
+    go Ordering·eq q k p r = absurd (true-false (sym k))
+    go Ordering·gt q k p r = absurd (true-false (sym k))
+
 -- ---- numbers
 compare-self : (a : ℕ) → compare a a ≡ Ordering·eq
 compare-self zero = compare·zero-zero

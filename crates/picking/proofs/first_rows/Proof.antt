@@ -1,0 +1,100 @@
+use mathlib.Core.Path.{_≡_, refl, sym, subst}
+use mathlib.Core.List.{List}
+use Prim.Native.Nat.{ℕ, _-_, _≤_}
+use native.Mathlib.Omega.{arith}
+use lib.ListN.{length}
+use Rattle.picking.specs.Picked.{Picked}
+use Rattle.picking.specs.Best.{Filled}
+use Rattle.picking.specs.BestLaws.{filled-one}
+use Rattle.picking.specs.PickedLaws.{picked-of}
+use borrow.Author.Needs.{needs}
+use Rattle.picking.proofs.first_rows.Statement.{statement}
+use Rattle.picking.proofs.first_rows.Tie as tie
+use Rattle.picking.proofs.first_rows.Reads as reads
+use Rattle.picking.proofs.first_rows.Lts as lts
+use Rattle.picking.proofs.first_row.Reads as first-row-reads
+use Rattle.picking.proofs.widened.Reads as widened-reads
+
+abbrev Inv-loop : tie.InvT-loop
+Inv-loop cl v m u budgets tables r₀ o₀ r o = (o ≤ m) × (length tables ≡ 32) × Filled cl tables budgets v u o r
+
+abbrev μ-loop : tie.MeasureT-loop
+μ-loop cl v m u budgets tables r₀ o₀ r o = m - o
+
+widened-requires : tie.Need-widened-requires Inv-loop μ-loop
+widened-requires c κs = search needs
+
+loop-holds : tie.Need-loop-holds Inv-loop μ-loop
+loop-holds c =
+    let long : length (c .widened .result) ≡ 32 = search needs in
+    (omega arith, long, record { long = refl; done = λ o h. absurd (omega arith) })
+
+slice-aggregate-first-row : tie.Need-slice-aggregate-first-row Inv-loop μ-loop
+slice-aggregate-first-row c = sym (c .before .before .loop .inv .1)
+
+array-read-first-row : tie.Need-array-read-first-row Inv-loop μ-loop
+array-read-first-row c =
+    let outs = c .before .before .before .before .before .pre .2 in
+    let h = c .before .loop-test .taken in
+    search needs
+
+first-row-requires : tie.Need-first-row-requires Inv-loop μ-loop
+first-row-requires c κs =
+    let p = c .before .before .before .before .before .pre in
+    let outs = p .2 in
+    let h = c .before .loop-test .taken in
+    (p .0, c .before .before .loop .inv .1, p .1, omega arith, p .3)
+
+array-write-r : tie.Need-array-write-r Inv-loop μ-loop
+array-write-r c =
+    let outs = c .before .before .before .before .before .before .pre .2 in
+    let h = c .before .before .loop-test .taken in
+    let long = c .before .before .before .loop .inv .2 .long in
+    search needs
+
+add-o : tie.Need-add-o Inv-loop μ-loop
+add-o c = let h = c .before .before .loop-test .taken in let outs = c .before .before .before .before .before .before .pre .2 in search needs
+
+loop-less : tie.Need-loop-less Inv-loop μ-loop
+loop-less c = let h = c .before .before .loop-test .taken in search needs
+
+loop-again : tie.Need-loop-again Inv-loop μ-loop
+loop-again c =
+    let a = c .before .before .before .before .before .before .args in
+    let outs = c .before .before .before .before .before .before .pre .2 in
+    let tables = c .before .before .before .before .widened .result in
+    let l = c .before .before .before .loop in
+    let h = c .before .before .loop-test .taken in (
+      omega arith,
+      l .inv .1,
+      filled-one (a .cl .now) tables (a .t3) (a .v) (a .u) (l .o) (l .r) _ (omega arith) (c .first-row .ensures) (l .inv .2),
+    )
+
+returns : tie.Need-returns Inv-loop μ-loop
+returns c =
+    let a = c .before .before .before .before .args in
+    let w = c .before .before .widened in
+    let l = c .before .loop in
+    let h = c .loop-test .left in
+    let z = l .inv .0 in
+    let all : Filled (a .cl .now) (w .result) (a .t3) (a .v) (a .u) (a .m) (l .r) =
+    subst (λ (n : ℕ). Filled (a .cl .now) (w .result) (a .t3) (a .v) (a .u) n (l .r)) (omega arith) (l .inv .2) in
+    subst (λ (codes : List ℕ). Picked (a .cl .now) (a .t3) (a .v) (a .m) (a .u) codes (l .r)) (w .ensures)
+    (picked-of (a .cl .now) (w .result) (a .t3) (a .v) (a .m) (a .u) (l .r) all)
+
+pub first-rows-spec : {M : Type 1} → statement M
+first-rows-spec =
+    tie.close
+    (tie.spec
+    Inv-loop
+    μ-loop
+    widened-requires
+    loop-holds
+    slice-aggregate-first-row
+    array-read-first-row
+    first-row-requires
+    array-write-r
+    add-o
+    loop-less
+    loop-again
+    returns)
