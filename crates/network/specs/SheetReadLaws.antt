@@ -129,7 +129,7 @@ module _ (d : Design) (h : Named d) where
       (node-unbroken n (freeOf d) u x (and-left (isName n) (allNames ns) a) frees-named (omega arith) (f 0 (omega arith) .rises))
       (nodes-unbroken ns xs u (and-right (isName n) (allNames ns) a) m (λ k i. f (suc k) (omega arith)))
 
-  lines-unbroken : (w : Network) → Wellformed d w → allUnbroken (networkLines d w) ≡ true
+  pub lines-unbroken : (w : Network) → Wellformed d w → allUnbroken (networkLines d w) ≡ true
   unfolding networkLines allUnbroken
   lines-unbroken w f =
       let u = length (w .luts) in

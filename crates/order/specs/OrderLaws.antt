@@ -3,14 +3,16 @@
 use mathlib.Core.Path.{_≡_, refl, sym, ap, ap₂, _∙_, subst}
 use mathlib.Core.Bool.{Bool, true, false}
 use mathlib.Core.List.{List, [], _∷_, _++_, map}
-use Prim.Native.Nat.{ℕ, zero, suc, _+_, _<_, Ordering, Ordering·lt, Ordering·eq, Ordering·gt, compare, compare·zero-zero, compare·zero-suc, compare·suc-zero, compare·suc-suc}
+use Prim.Native.Nat.{ℕ, zero, suc, _+_, _<_}
+use Prim.Native.Nat.{Ordering, Ordering·lt, Ordering·eq, Ordering·gt, compare, compare·zero-zero, compare·zero-suc, compare·suc-zero, compare·suc-suc}
 use native.Mathlib.Omega.{arith}
 use native.Mathlib.Nat.{zero-add, suc-add}
 use lib.ListN.{length}
 use Rattle.bits.specs.LogicLaws.{true-false}
 use Rattle.order.specs.Order.{then, listOrder, isLess, byteOrder, before, bitOrder, tableOrder, tablesOrder}
 
--- ---- the three answers
+-- ======== definitions
+-- the answer the other way round
 abbrev pub turn : Ordering → Ordering
 turn Ordering·lt = Ordering·gt
 turn Ordering·eq = Ordering·eq
@@ -20,6 +22,15 @@ turn Ordering·gt = Ordering·lt
 pub record NotLess (o : Ordering) : Type 0 where
   pub is-not : isLess o ≡ false
 
+-- a total order
+pub record Total {A : Type 0} (c : A → A → Ordering) : Type 0 where
+  pub self : (a : A) → c a a ≡ Ordering·eq
+  pub equal : (a b : A) → c a b ≡ Ordering·eq → a ≡ b
+  pub turned : (a b : A) → c b a ≡ turn (c a b)
+  pub chain : (a b d : A) → c a b ≡ Ordering·lt → c b d ≡ Ordering·lt → c a d ≡ Ordering·lt
+
+-- ======== laws
+-- ---- the three answers
 pub eq-not-lt : Ordering·eq ≡ Ordering·lt → ⊥
 eq-not-lt e = true-false (sym (ap isLess e))
 
@@ -77,13 +88,6 @@ pub then-second : (o p : Ordering) → NotLess (then o p) → o ≡ Ordering·eq
 then-second Ordering·lt p h e = absurd (lt-not-eq e)
 then-second Ordering·eq p h e = h
 then-second Ordering·gt p h e = absurd (gt-not-eq e)
-
--- ---- a total order
-pub record Total {A : Type 0} (c : A → A → Ordering) : Type 0 where
-  pub self : (a : A) → c a a ≡ Ordering·eq
-  pub equal : (a b : A) → c a b ≡ Ordering·eq → a ≡ b
-  pub turned : (a b : A) → c b a ≡ turn (c a b)
-  pub chain : (a b d : A) → c a b ≡ Ordering·lt → c b d ≡ Ordering·lt → c a d ≡ Ordering·lt
 
 equal-where : (o : Ordering) → isLess o ≡ false → isLess (turn o) ≡ false → o ≡ Ordering·eq
 equal-where Ordering·lt e f = absurd (true-false e)
@@ -298,25 +302,7 @@ unfolding before
 before-chain a b d e f =
     ap isLess (bytes-total .chain a b d (less-is (byteOrder a b) e) (less-is (byteOrder b d) f))
 
-pub before-front : (p a b : List ℕ) → before (p ++ a) (p ++ b) ≡ before a b
-unfolding before
-before-front p a b = ap isLess (same-front compare compare-total p a b)
-
--- beginnings of equal length that differ decide
-pub before-decided : (a b s t : List ℕ) → length a ≡ length b → (a ≡ b → ⊥) → before (a ++ s) (b ++ t) ≡ before a b
-unfolding before
-before-decided a b s t e h = ap isLess (front-first compare a b s t e) ∙ go (byteOrder a b) refl
-  where
-    go : (o : Ordering) → byteOrder a b ≡ o → isLess (then o (byteOrder s t)) ≡ isLess o
-    go Ordering·lt q = refl
-    go Ordering·eq q = absurd (h (bytes-total .equal a b q))
-    go Ordering·gt q = refl
-
 -- what is not before is not less
 pub before-not-less : (a b : List ℕ) → NotLess (byteOrder a b) → before a b ≡ false
 unfolding before
 before-not-less a b h = h .is-not
-
-pub not-less-before : (a b : List ℕ) → before a b ≡ false → NotLess (byteOrder a b)
-unfolding before
-not-less-before a b h = record { is-not = h }
