@@ -4,5 +4,6 @@ pub mod PrintOrder
 pub mod NodeOrder
 pub mod NodeDigits
 pub mod ReadingSets
+pub mod CoreDigits
 pub mod First
 pub mod Worked

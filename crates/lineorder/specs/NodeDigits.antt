@@ -48,13 +48,13 @@ found-or-none f c (suc n) =
         at x h e (no q) = g x (omega arith) e
 
 -- ---- lists with equal items
-pub equal-items : (a b : List Bool) → length a ≡ length b → ((j : ℕ) → getD a j false ≡ getD b j false) → a ≡ b
+pub equal-items : (a b : List Bool) → length a ≡ length b → ((j : ℕ) → j < length a → getD a j false ≡ getD b j false) → a ≡ b
 equal-items [] [] e h = refl
 equal-items [] (y ∷ b) e h = absurd (omega (arith, e))
 equal-items (x ∷ a) [] e h = absurd (omega (arith, e))
 equal-items (x ∷ a) (y ∷ b) e h =
-    ap₂ (λ (z : Bool) (l : List Bool). z ∷ l) (h 0)
-    (equal-items a b (let g : suc (length a) ≡ suc (length b) = e in omega arith) (λ j. h (suc j)))
+    ap₂ (λ (z : Bool) (l : List Bool). z ∷ l) (h 0 (omega arith))
+    (equal-items a b (let g : suc (length a) ≡ suc (length b) = e in omega arith) (λ j l. h (suc j) (omega arith)))
 
 -- ---- the digits of a node
 module _ (d : Design) (p : Parts (d .inputs) (d .bound)) where
@@ -90,7 +90,7 @@ module _ (d : Design) (p : Parts (d .inputs) (d .bound)) where
       → nodeAt (v .nodes) o .reads ≡ nodeAt (w .nodes) o .reads
       → length (nodeAt (v .nodes) o .digits) ≡ length (nodeAt (w .nodes) o .digits)
       → nodeAt (v .nodes) o .digits ≡ nodeAt (w .nodes) o .digits
-  digits-follow v w o cv cw bv bw h t r l = equal-items (nodeAt (v .nodes) o .digits) (nodeAt (w .nodes) o .digits) l at
+  digits-follow v w o cv cw bv bw h t r l = equal-items (nodeAt (v .nodes) o .digits) (nodeAt (w .nodes) o .digits) l (λ j _. at j)
     where
       one-code : (x : ℕ) → codeAt v (nodeAt (v .nodes) o .reads) x ≡ codeAt w (nodeAt (w .nodes) o .reads) x
       one-code x = ap₂ (λ (ts : List (List Bool)) (is : List ℕ). rowOf (map (λ i. getD (getD ts i []) x false) is)) t r

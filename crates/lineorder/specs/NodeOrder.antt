@@ -144,6 +144,15 @@ head-equal [] [] (j ∷ js) e = absurd (lt-not-eq e)
 head-equal [] (i ∷ is) [] e = absurd (gt-not-eq e)
 head-equal [] (i ∷ is) (j ∷ js) e = reads-equal (i ∷ is) (j ∷ js) e
 
+-- lists of one length compare by their tables alone
+pub head-alike : (fs : List Name) (is js : List ℕ) → length is ≡ length js → headOrder fs is js ≡ readsOrder is js
+unfolding headOrder readsOrder
+head-alike (f ∷ fs) is js e = refl
+head-alike [] [] [] e = refl
+head-alike [] [] (j ∷ js) e = absurd (omega (arith, e))
+head-alike [] (i ∷ is) [] e = absurd (omega (arith, e))
+head-alike [] (i ∷ is) (j ∷ js) e = refl
+
 name-letter : (c : ℕ) (n : Name) → isName (c ∷ n) ≡ true → letter c ≡ true
 unfolding isName
 name-letter c n h =

@@ -38,7 +38,7 @@ pub digits-order : (a b : List Bool) → byteOrder (printDigits a) (printDigits 
 unfolding printDigits
 digits-order a b = map-order bitOrder compare digit digit-order a b
 
-digits-alike : (a b : List Bool) → length a ≡ length b → length (printDigits a) ≡ length (printDigits b)
+pub digits-alike : (a b : List Bool) → length a ≡ length b → length (printDigits a) ≡ length (printDigits b)
 unfolding printDigits
 digits-alike a b e = length-map a digit ∙ e ∙ sym (length-map b digit)
 
