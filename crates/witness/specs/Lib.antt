@@ -1,5 +1,6 @@
--- Witness has what the crate answers for; Exchange has what its functions answer for. The other files hold laws.
+-- Witness has what the crate answers for; Filled and Exchange have what its functions answer for. The other files hold laws.
 pub mod Witness
+pub mod Filled
 pub mod Exchange
 pub mod ShiftLaws
 pub mod PartLaws

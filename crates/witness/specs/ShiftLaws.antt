@@ -1,8 +1,8 @@
 -- The digits of a number that is cut to a width, and of one that is shifted. Assumes nothing.
 use mathlib.Core.Path.{_≡_, sym, ap, _∙_}
-use mathlib.Core.Bool.{Bool, false}
+use mathlib.Core.Bool.{false}
 use Prim.Native.Nat.{ℕ, _+_, _-_, _*_, _/_, _%_, _^_, _<_}
-use lib.Bits.{bitAnd, and-mask, and-shifted}
+use lib.Bits.{and-mask, and-shifted}
 use lib.Dec.{eqb}
 use lib.Pow.{shl-shr, shr-shr, pow-lt}
 use Rattle.bits.specs.Logic.{andb}
