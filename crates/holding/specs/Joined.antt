@@ -7,15 +7,15 @@ use mathlib.Core.Logic.{_⊎_, inl, inr, ⊎-elim}
 use Prim.Native.Nat.{ℕ, _+_, _-_, _*_, _/_, _%_, _^_, _≤_, _<_}
 use native.Mathlib.Decide.{ℕ-discrete, decLt}
 use native.Mathlib.Omega.{arith}
-use lib.Bits.{bitAnd, bitOr, bitXor, and-mask, and-shifted, xor-add-and, xor-lt}
-use lib.Dec.{eqb}
-use lib.Pow.{pow-lt, shr-shr, shl-shr}
+use lib.Bits.{bitAnd, bitOr, bitXor, xor-add-and, xor-lt}
+use lib.Pow.{pow-lt}
 use Rattle.limits.specs.Limits.{maxCodes}
 use Rattle.bits.specs.Logic.{andb, orb, xorb}
-use Rattle.bits.specs.Digit.{digit, on}
-use Rattle.bits.specs.DigitLaws.{on-and, on-or, on-xor, on-zero, on-ones, on-above, on-single, equal-digits}
+use Rattle.bits.specs.Digit.{on}
+use Rattle.bits.specs.DigitLaws.{on-and, on-or, on-xor, on-zero, on-above, on-single, equal-digits}
 use Rattle.cells.specs.Lists.{never-both, and-on, and-off, or-on, or-off, true-where}
 use Rattle.cells.specs.Pigeon.{agree-and, and-agree}
+use Rattle.cells.specs.ShiftLaws.{on-cut, on-down, on-shifted, on-below-shifted}
 use Rattle.cells.specs.Sets.{on-power-other}
 use Rattle.holding.specs.Blocks.{Spans}
 
@@ -36,22 +36,6 @@ Matches mask i c k = (j : ℕ) → (on mask j ≡ true) ⊎ (i ≤ j) → on c j
 pub record Spreading (mask d i r : ℕ) : Type 0 where
   pub has : (c k : ℕ) → c < maxCodes → k < maxCodes → on d c ≡ true → Matches mask i c k → on r k ≡ true
   pub from : (k : ℕ) → k < maxCodes → on r k ≡ true → (c : ℕ) × (c < maxCodes) × (on d c ≡ true) × Matches mask i c k
-
--- ======== the digits of a shifted number
-on-low : (n k : ℕ) → k < 64 → on (n % 2 ^ 64) k ≡ on n k
-on-low n k h = ap (λ (z : ℕ). on z k) (sym (and-mask n 64)) ∙ on-and n (2 ^ 64 - 1) k ∙ ap (λ (b : Bool). andb (on n k) b) (on-ones 64 k h) ∙ and-on (on n k)
-
-on-down : (n s k : ℕ) → on (n / 2 ^ s) k ≡ on n (s + k)
-unfolding on digit
-on-down n s k = ap (λ (z : ℕ). eqb (z % 2) 1) (shr-shr n s k)
-
-on-up : (n s k : ℕ) → on (n * 2 ^ s) (s + k) ≡ on n k
-on-up n s k = sym (on-down (n * 2 ^ s) s k) ∙ ap (λ (z : ℕ). on z k) (shl-shr n s)
-
-on-up-low : (n s k : ℕ) → k < s → on (n * 2 ^ s) k ≡ false
-on-up-low n s k h =
-    sym (and-on (on (n * 2 ^ s) k)) ∙ ap (λ (b : Bool). andb (on (n * 2 ^ s) k) b) (sym (on-single k)) ∙ sym (on-and (n * 2 ^ s) (2 ^ k) k)
-    ∙ ap (λ (z : ℕ). on z k) (and-shifted n s (2 ^ k) (pow-lt h)) ∙ on-zero k
 
 -- ======== the code across a cell
 across-here : (i k : ℕ) → on (across i k) i ≡ not (on k i)
@@ -102,7 +86,7 @@ joined-of d i s low p e = record { digit = λ k h. on-or (bitOr d up) down k ∙
     comes-down k h = on-and (d / 2 ^ s) low k ∙ ap₂ andb (on-down d s k) (e k h)
 
     goes-up : (k : ℕ) → s + k < 64 → on up (s + k) ≡ andb (on d k) (not (on k i))
-    goes-up k h = on-low (bitAnd d low * 2 ^ s) (s + k) h ∙ on-up (bitAnd d low) s k ∙ on-and d low k ∙ ap (λ (b : Bool). andb (on d k) b) (e k (omega arith))
+    goes-up k h = on-cut 64 (bitAnd d low * 2 ^ s) (s + k) h ∙ on-shifted (bitAnd d low) s k ∙ on-and d low k ∙ ap (λ (b : Bool). andb (on d k) b) (e k (omega arith))
 
     below : (k : ℕ) → on k i ≡ true → s + across i k ≡ k
     below k q = ap (λ (z : ℕ). z + across i k) p ∙ across-below i k q
@@ -116,7 +100,7 @@ joined-of d i s low p e = record { digit = λ k h. on-or (bitOr d up) down k ∙
 
     -- nothing comes up to a code without cell i
     none-up : (k : ℕ) → k < 64 → on k i ≡ false → Dec (k < s) → on up k ≡ false
-    none-up k h q (yes l) = on-low (bitAnd d low * 2 ^ s) k h ∙ on-up-low (bitAnd d low) s k l
+    none-up k h q (yes l) = on-cut 64 (bitAnd d low * 2 ^ s) k h ∙ on-below-shifted (bitAnd d low) s k l
     none-up k h q (no l) =
         let at : s + (k - s) ≡ k = omega arith in
         ap (on up) (sym at) ∙ goes-up (k - s) (omega arith) ∙ ap (λ (b : Bool). andb (on d (k - s)) (not b)) (has-cell (k - s) (ap (λ (z : ℕ). on z i) at ∙ q)) ∙ and-off (on d (k - s))

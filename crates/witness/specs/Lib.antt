@@ -2,7 +2,6 @@
 pub mod Witness
 pub mod Filled
 pub mod Exchange
-pub mod ShiftLaws
 pub mod PartLaws
 pub mod SwapLaws
 pub mod ExchangeLaws

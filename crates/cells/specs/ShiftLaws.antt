@@ -8,12 +8,12 @@ use lib.Pow.{shl-shr, shr-shr, pow-lt}
 use Rattle.bits.specs.Logic.{andb}
 use Rattle.bits.specs.Digit.{digit, on}
 use Rattle.bits.specs.DigitLaws.{on-and, on-ones, on-single, on-zero}
 use Rattle.cells.specs.Lists.{and-on}
 
 pub on-cut : (w n k : ℕ) → k < w → on (n % 2 ^ w) k ≡ on n k
 on-cut w n k h = ap (λ (z : ℕ). on z k) (sym (and-mask n w)) ∙ on-and n (2 ^ w - 1) k ∙ ap (andb (on n k)) (on-ones w k h) ∙ and-on (on n k)
 
-on-down : (n s k : ℕ) → on (n / 2 ^ s) k ≡ on n (s + k)
+pub on-down : (n s k : ℕ) → on (n / 2 ^ s) k ≡ on n (s + k)
 unfolding on digit
 on-down n s k = ap (λ (z : ℕ). eqb (z % 2) 1) (shr-shr n s k)
 
