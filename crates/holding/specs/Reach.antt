@@ -4,7 +4,7 @@
 use mathlib.Core.Path.{_≡_, refl, sym, ap, _∙_, subst}
 use mathlib.Core.Bool.{Bool, true, false, not}
 use mathlib.Core.List.{List, [], _∷_, _++_}
-use mathlib.Core.Logic.{inl, inr, ⊎-elim}
+use mathlib.Core.Logic.{_⊎_, inl, inr, ⊎-elim}
 use Prim.Native.Nat.{ℕ, zero, suc, _+_, _-_, _*_, _≤_, _<_}
 use native.Mathlib.Decide.{ℕ-discrete, decLt}
 use native.Mathlib.Omega.{arith}
@@ -12,7 +12,7 @@ use lib.Bits.{bitAnd, bitOr}
 use lib.Dec.{eqb}
 use lib.ListN.{length, length-append, getD}
 use borrow.Author.Tests.{eq-eqb, ne-eqb, eqb-true}
-use Rattle.limits.specs.Limits.{maxCodes}
+use Rattle.limits.specs.Limits.{maxVertices, maxCodes}
 use Rattle.bits.specs.Logic.{pick}
 use Rattle.bits.specs.Digit.{on}
 use Rattle.bits.specs.DigitLaws.{on-zero}
@@ -24,7 +24,7 @@ use Rattle.holding.specs.Blocks.{Minus, minus-keeps, on-either}
 use Rattle.holding.specs.Held.{Held}
 use Rattle.holding.specs.Wants.{Wanted, Tight, need, share, needed}
 use Rattle.holding.specs.Rules.{need-group}
-use Rattle.holding.specs.Narrow.{sum-next}
+use Rattle.holding.specs.Narrow.{sum-next, settled-none}
 
 -- ======== definitions
 -- how many blocks class l of part p needs besides those that it holds; a class of another part none
@@ -59,6 +59,12 @@ pub record Left (mask d rest k : ℕ) : Type 0 where
 -- of what can be reached fewer than news are in different blocks
 abbrev pub Lost : List ℕ → List ℕ → List ℕ → List ℕ → List ℕ → List ℕ → List ℕ → ℕ → ℕ → ℕ → ℕ → ℕ → Type 0
 Lost cl base owns wants codes dom own o p mask v news = (un : ℕ) × Reached cl base owns wants codes dom own o p v un × Fewer mask un news
+
+-- some part of o needs more blocks than spot, or lacks more than its vertices can take, where a block has room for one class of
+-- each part; bs has the blocks
+abbrev pub NoRoom : List ℕ → List ℕ → List ℕ → List ℕ → List ℕ → List ℕ → List ℕ → List ℕ → ℕ → ℕ → ℕ → ℕ → Type 0
+NoRoom cl base owns wants codes dom own bs o v cap spot = (p total news : ℕ) × Lacks cl owns wants base o p maxVertices total news
+    × ((spot < total) ⊎ ((cap ≤ 1) × ((mask : ℕ) → ((c : ℕ) → c < maxCodes → Block mask c (getD bs (o * maxCodes + c) 0)) → Lost cl base owns wants codes dom own o p mask v news)))
 
 -- ======== lists of vertices in different blocks
 module _ (key : ℕ → ℕ) where
@@ -301,3 +307,11 @@ module _ (cl base ms caps spots : List ℕ) (v j o : ℕ) (codes dom own owns : 
     none = λ g f e d. reach-none cl base ms caps spots v j o codes dom own owns wants meet g h (λ x l. labels .low (o * 32 + x) (omega arith)) s want f e p single total news (lost .0)
         lacks (lost .1) (lost .2);
   }
+
+  pub settled-no-room : (wants meet bs : List ℕ) → Wanted cl o (item ms o) v dom own owns wants meet → ((c : ℕ) → c < 64 → Block (item ms o) c (getD bs (o * 64 + c) 0))
+      → NoRoom cl base owns wants codes dom own bs o v (item caps o) (item spots o)
+      → (kn val : ℕ) → Hopeless cl base ms caps spots v j kn val codes dom
+  settled-no-room wants meet bs want b (p, total, news, lacks, why) = ⊎-elim
+      (λ over. settled-none cl base ms caps spots v j o codes dom own owns labels few outs h s wants meet p want (let e = lacks .whole in omega arith))
+      (λ lost. settled-reach wants meet p total news want (lost .0) lacks (lost .1 (item ms o) b))
+      why

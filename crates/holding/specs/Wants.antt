@@ -135,8 +135,13 @@ module _ (cl : List ℕ) (o mask : ℕ) (dom own owns : List ℕ) where
   up-one : (y l w m : ℕ) → Each y l w m → Each (y + 1) l w m
   up-one y l w m = ⊎-elim inl (λ r. inr ((r .0 .0, (let z = r .0 .1 in omega arith), r .0 .2, r .0 .3), r .1))
 
-  pub wanted-start : (meet : List ℕ) → length owns ≡ 32 → length meet ≡ 32 → ((l : ℕ) → l < 32 → item meet l ≡ 2 ^ 64 - 1) → Wanted cl o mask 0 dom own owns owns meet
-  wanted-start meet e f a = record { long = e; meet-long = f; each = λ l h. inl refl; meets = λ l k h i q. ap (λ (z : ℕ). on z k) (a l h) ∙ on-ones 64 k i }
+  pub wanted-start : (wants meet : List ℕ) → wants ≡ owns → length owns ≡ 32 → length meet ≡ 32 → ((l : ℕ) → l < 32 → item meet l ≡ 2 ^ 64 - 1) → Wanted cl o mask 0 dom own owns wants meet
+  wanted-start wants meet w e f a = record {
+    long = ap length w ∙ e;
+    meet-long = f;
+    each = λ l h. inl (ap (λ (z : List ℕ). item z l) w);
+    meets = λ l k h i q. ap (λ (z : ℕ). on z k) (a l h) ∙ on-ones 64 k i;
+  }
 
   pub wanted-same : (y : ℕ) (wants meet wants' meet' : List ℕ) → wants' ≡ wants → meet' ≡ meet → Wanted cl o mask y dom own owns wants meet → Wanted cl o mask (y + 1) dom own owns wants' meet'
   wanted-same y wants meet wants' meet' a b s = subst (λ (z : List ℕ). Wanted cl o mask (y + 1) dom own owns z meet') (sym a) (subst (Wanted cl o mask (y + 1) dom own owns wants) (sym b) (record {

@@ -2,7 +2,7 @@
 // that prunes is one law of specs/Rules, specs/Full or specs/Reach: what it takes away is in no solution.
 ghost use mathlib.Core.Path.{_≡_};
 ghost use mathlib.Core.Bool.{true, false, not};
-ghost use Prim.Native.Nat.{ℕ, _+_, _*_, _<_, _≤_, max};
+ghost use Prim.Native.Nat.{ℕ, _+_, _-_, _*_, _^_, _<_, _≤_, max};
 ghost use lib.Dec.{eqb};
 ghost use Rattle.bits.specs.Logic.{pick};
 ghost use lib.ListN.{length, getD};
@@ -15,7 +15,7 @@ ghost use Rattle.holding.specs.Blocks.{Table, Minus, Spans};
 ghost use Rattle.holding.specs.Joined.{Joined};
 ghost use Rattle.holding.specs.Narrow.{Narrowed, Keeps, Stays};
 ghost use Rattle.holding.specs.Full.{Crowd, Free, Others};
-ghost use Rattle.holding.specs.Reach.{Lacks, Reached, Fewer, Lost};
+ghost use Rattle.holding.specs.Reach.{Lacks, Reached, Fewer, Lost, NoRoom};
 use limits::BLOCKS;
 use limits::MAX_CODES;
 use limits::MAX_VERTICES;
@@ -96,12 +96,7 @@ pub fn blocks(ms: [u8; SEARCH_OUTPUTS], n: usize) -> [u64; BLOCKS]
     r
 }
 
-// The codes of the blocks that each class holds, and how many blocks.
-struct Hold {
-    own: [u64; MAX_VERTICES],
-    owns: [u8; MAX_VERTICES],
-}
-
+// Into own the codes of the blocks that each class holds, and into owns how many blocks.
 fn held(
     cl: &[u8],
     bs: &[u64],
@@ -110,12 +105,14 @@ fn held(
     j: usize,
     o: usize,
     codes: &[u8],
-) -> Hold
-    requires { ⌜ Labels (now cl) × Blocks ms (now bs) j × (v ≤ maxVertices) × (j ≤ searchOutputs) × (o < j) × (length (now codes) ≡ maxVertices) ⌝ }
-    ensures { λ r. ⌜ Held (now (cl .entry)) (now (codes .entry)) o (item ms o) v (r .own) (r .owns) ⌝ }
+    own: &mut [u64],
+    owns: &mut [u8],
+)
+    requires { ⌜ Labels (now cl) × Blocks ms (now bs) j × (v ≤ maxVertices) × (j ≤ searchOutputs) × (o < j) × (length (now codes) ≡ maxVertices)
+        × (length (now own) ≡ maxVertices) × (length (now owns) ≡ maxVertices)
+        × ((l : ℕ) → l < maxVertices → item (now own) l ≡ 0) × ((l : ℕ) → l < maxVertices → item (now owns) l ≡ 0) ⌝ }
+    ensures { λ r. ⌜ Held (now (cl .entry)) (now (codes .entry)) o (item ms o) v (now (own .exit)) (now (owns .exit)) ⌝ }
 {
-    let mut own = [0u64; MAX_VERTICES];
-    let mut owns = [0u8; MAX_VERTICES];
     let mut y = 0;
     while y < v {
         let c = codes[y];
@@ -128,7 +125,6 @@ fn held(
         }
         y += 1;
     }
-    Hold { own, owns }
 }
 
 // d without b.
@@ -146,13 +142,8 @@ fn more(n: u8, m: u64) -> u8
     if m == 0 { n + 2 } else { n + 1 }
 }
 
-// The blocks that each class holds, one more where one of its vertices can take none of them, and two more where such vertices
-// have no block in common; and the codes that they have in common, block by block.
-struct Wants {
-    wants: [u8; MAX_VERTICES],
-    meet: [u64; MAX_VERTICES],
-}
-
+// Into wants the blocks that each class holds, one more where one of its vertices can take none of them, and two more where such
+// vertices have no block in common; and into meet the codes that they have in common, block by block.
 fn wanted(
     cl: &[u8],
     mask: u8,
@@ -160,14 +151,15 @@ fn wanted(
     o: usize,
     dom: &[u64],
     own: &[u64],
-    owns: [u8; MAX_VERTICES],
-) -> Wants
+    owns: &[u8],
+    wants: &mut [u8],
+    meet: &mut [u64],
+)
     requires { ⌜ Labels (now cl) × (v ≤ maxVertices) × (o < searchOutputs) × (length (now dom) ≡ maxVertices) × (length (now own) ≡ maxVertices)
-        × ((l : ℕ) → l < maxVertices → item owns l ≤ maxVertices) ⌝ }
-    ensures { λ r. ⌜ Wanted (now (cl .entry)) o mask v (now (dom .entry)) (now (own .entry)) owns (r .wants) (r .meet) ⌝ }
+        × (length (now owns) ≡ maxVertices) × ((l : ℕ) → l < maxVertices → item (now owns) l ≤ maxVertices) × (now wants ≡ now owns)
+        × (length (now meet) ≡ maxVertices) × ((l : ℕ) → l < maxVertices → item (now meet) l ≡ 2 ^ 64 - 1) ⌝ }
+    ensures { λ r. ⌜ Wanted (now (cl .entry)) o mask v (now (dom .entry)) (now (own .entry)) (now (owns .entry)) (now (wants .exit)) (now (meet .exit)) ⌝ }
 {
-    let mut wants = owns;
-    let mut meet = [cells::ALL_CODES; MAX_VERTICES];
     let mut y = 0;
     while y < v {
         let l = numbering::label(cl, o, y) as usize;
@@ -179,7 +171,6 @@ fn wanted(
         }
         y += 1;
     }
-    Wants { wants, meet }
 }
 
 // The larger of two numbers.
@@ -647,6 +638,120 @@ pub fn shut(cl: &[u8], v: usize, o: usize, seen: u64, codes: &[u8], dom: &mut [u
     }
 }
 
+// Whether some part of output o has no room: it needs more blocks than spot, or lacks more than its vertices can take. b is what
+// the busiest part needs and lacks.
+fn no_room(
+    cl: &[u8],
+    base: &[u8],
+    bs: &[u64],
+    v: usize,
+    o: usize,
+    cap: u8,
+    spot: usize,
+    b: Busy,
+    owns: &[u8],
+    wants: &[u8],
+    codes: &[u8],
+    dom: &[u64],
+    own: &[u64],
+) -> bool
+    requires { ⌜ Labels (now cl) × (length (now base) ≡ labelCount) × (length (now bs) ≡ blockCount) × (v ≤ maxVertices) × (o < searchOutputs)
+        × (length (now dom) ≡ maxVertices) × (length (now own) ≡ maxVertices) × (length (now codes) ≡ maxVertices) × (length (now owns) ≡ maxVertices) × (length (now wants) ≡ maxVertices)
+        × ((l : ℕ) → l < maxVertices → item (now owns) l ≤ item (now wants) l)
+        × Lacks (now cl) (now owns) (now wants) (now base) o (b .part) maxVertices (b .total) (b .news) ⌝ }
+    ensures { λ r. ⌜ (r ≡ true → NoRoom (now (cl .entry)) (now (base .entry)) (now (owns .entry)) (now (wants .entry)) (now (codes .entry)) (now (dom .entry)) (now (own .entry)) (now (bs .entry))
+        o v cap spot) ⌝ }
+{
+    let t = b.total as usize;
+    if spot < t {
+        return true;
+    }
+    if out_of_reach(
+        cl,
+        base,
+        bs,
+        v,
+        o,
+        cap,
+        b.part,
+        b.news,
+        owns,
+        wants,
+        codes,
+        dom,
+        own,
+    ) {
+        return true;
+    }
+    others_out_of_reach(
+        cl,
+        base,
+        bs,
+        v,
+        o,
+        cap,
+        b.others,
+        owns,
+        wants,
+        codes,
+        dom,
+        own,
+    )
+}
+
+// The sets are narrowed by what the classes of output o hold, own and owns, and need, wants and meet. False where no solution
+// keeps to them.
+fn narrow_by(
+    cl: &[u8],
+    base: &[u8],
+    bs: &[u64],
+    p: numbering::Problem,
+    o: usize,
+    own: &[u64],
+    meet: &[u64],
+    owns: &[u8],
+    wants: &[u8],
+    codes: &[u8],
+    dom: &mut [u64],
+) -> bool
+    requires { ⌜ Labels (now cl) × (length (now base) ≡ labelCount) × Blocks (p .ms) (now bs) (p .outputs) × (p .vertices ≤ maxVertices) × (p .outputs ≤ searchOutputs)
+        × (o < p .outputs) × (length (now codes) ≡ maxVertices) × (length (now dom) ≡ maxVertices)
+        × Held (now cl) (now codes) o (item (p .ms) o) (p .vertices) (now own) (now owns)
+        × Wanted (now cl) o (item (p .ms) o) (p .vertices) (now dom) (now own) (now owns) (now wants) (now meet) ⌝ }
+    ensures { λ r. ⌜ Kept (now (cl .entry)) (now (base .entry)) (p .ms) (p .caps) (p .spots) (p .vertices) (p .outputs) (now (codes .entry)) (now (dom .entry)) (now (dom .exit))
+        × (length (now (dom .exit)) ≡ maxVertices)
+        × (r ≡ false → (kn val : ℕ) → Hopeless (now (cl .entry)) (now (base .entry)) (p .ms) (p .caps) (p .spots) (p .vertices) (p .outputs) kn val (now (codes .entry)) (now (dom .entry))) ⌝ }
+{
+    let caps = p.caps;
+    let spots = p.spots;
+    let v = p.vertices;
+    let spot = spots[o] as usize;
+    let b = busiest(cl, base, o, owns, wants, spot);
+    let tight = b.tight;
+    if no_room(
+        cl,
+        base,
+        bs,
+        v,
+        o,
+        caps[o],
+        spot,
+        b,
+        owns,
+        wants,
+        codes,
+        dom,
+        own,
+    ) {
+        return false;
+    }
+    if tight == 0 {
+        return true;
+    }
+    narrow(cl, base, v, o, own, meet, owns, wants, tight, codes, dom);
+    true
+}
+
 // The sets are narrowed by what the classes of output o hold and need. False where no solution keeps to them.
 pub fn settle(
     cl: &[u8],
@@ -664,68 +769,12 @@ pub fn settle(
         × (r ≡ false → (kn val : ℕ) → Hopeless (now (cl .entry)) (now (base .entry)) (p .ms) (p .caps) (p .spots) (p .vertices) (p .outputs) kn val (now (codes .entry)) (now (dom .entry))) ⌝ }
 {
     let ms = p.ms;
-    let caps = p.caps;
-    let spots = p.spots;
     let v = p.vertices;
-    let h = held(cl, bs, ms, v, p.outputs, o, codes);
-    let owns = h.owns;
-    let w = wanted(cl, ms[o], v, o, dom, &h.own, owns);
-    let wants = w.wants;
-    let spot = spots[o] as usize;
-    let b = busiest(cl, base, o, &owns, &wants, spot);
-    let t = b.total as usize;
-    if spot < t {
-        return false;
-    }
-    if out_of_reach(
-        cl,
-        base,
-        bs,
-        v,
-        o,
-        caps[o],
-        b.part,
-        b.news,
-        &owns,
-        &wants,
-        codes,
-        dom,
-        &h.own,
-    ) {
-        return false;
-    }
-    if others_out_of_reach(
-        cl,
-        base,
-        bs,
-        v,
-        o,
-        caps[o],
-        b.others,
-        &owns,
-        &wants,
-        codes,
-        dom,
-        &h.own,
-    ) {
-        return false;
-    }
-    let tight = b.tight;
-    if tight == 0 {
-        return true;
-    }
-    narrow(
-        cl,
-        base,
-        v,
-        o,
-        &h.own,
-        &w.meet,
-        &owns,
-        &wants,
-        tight,
-        codes,
-        dom,
-    );
-    true
+    let mut own = [0u64; MAX_VERTICES];
+    let mut owns = [0u8; MAX_VERTICES];
+    held(cl, bs, ms, v, p.outputs, o, codes, &mut own, &mut owns);
+    let mut wants = owns;
+    let mut meet = [cells::ALL_CODES; MAX_VERTICES];
+    wanted(cl, ms[o], v, o, dom, &own, &owns, &mut wants, &mut meet);
+    narrow_by(cl, base, bs, p, o, &own, &meet, &owns, &wants, codes, dom)
 }

@@ -1,4 +1,3 @@
-use Rattle.cells.specs.Lists.{zeros-are}
 use Rattle.holding.specs.Held.{at-skip, at-old, at-new, Held, held-start}
 use Rattle.numbering.specs.Given.{item, Block}
 use borrow.Author.Tests.{not-true, not-false}
@@ -6,7 +5,7 @@ use lib.ListN.{getD}
 use native.Mathlib.Omega.{arith}
 use Prim.Native.Nat.{ℕ, _<_, _≤_, _+_, _-_, _*_}
 use mathlib.Core.Logic.{⊎-elim}
-use mathlib.Core.Path.{_≡_, refl, sym, _∙_, subst}
+use mathlib.Core.Path.{_≡_, sym, _∙_, subst}
 use borrow.Author.Needs.{needs}
 use Rattle.holding.proofs.held.Statement.{statement}
 use Rattle.holding.proofs.held.Tie as tie
@@ -23,144 +22,251 @@ abbrev μ-loop : tie.MeasureT-loop
 
 loop-holds : tie.Need-loop-holds Inv-loop μ-loop
 loop-holds c =
-    let args = c .before .before .before .args in
-    (omega arith, λ mask b. held-start (args .cl .now) (args .codes .now) (args .o) mask _ _ refl refl (λ l h. zeros-are 32 l) (λ l h. zeros-are 32 l))
+    let args = c .before .before .before .before .before .args in
+    let pre = c .before .before .before .before .before .pre in
+    (omega arith, λ mask b. held-start (args .cl .now) (args .codes .now) (args .o) mask _ _ (pre .6) (pre .7) (pre .8) (pre .9))
 
 shared-slice-read-c : tie.Need-shared-slice-read-c Inv-loop μ-loop
 shared-slice-read-c c =
-    let h = c .before .loop-test .taken in
-    let z = c .before .before .before .before .before .before .pre .2 in
-    let n = c .before .before .before .before .before .before .pre .5 in
+    let loop-test = c .before .loop-test in
+    let pre = c .before .before .before .before .before .before .before .before .pre in
+    let d = loop-test .taken in
+    let few = pre .2 in
+    let long = pre .5 in
     search needs
 
 label-requires : tie.Need-label-requires Inv-loop μ-loop
 label-requires c κs =
-    let h = c .before .before .loop-test .taken in
-    let z = c .before .before .before .before .before .before .before .pre .2 in
-    let a = c .before .before .before .before .before .before .before .pre .4 in
-    let b = c .before .before .before .before .before .before .before .pre .3 in
-    (let e = c .before .before .before .before .before .before .before .pre .0 .long in omega arith, omega arith, omega arith)
+    let loop-test = c .before .before .loop-test in
+    let pre = c .before .before .before .before .before .before .before .before .before .pre in
+    let d = loop-test .taken in
+    let few = pre .2 in
+    let outs = pre .3 in
+    let o = pre .4 in
+    let long = pre .0 .long in
+    (omega arith, omega arith, omega arith)
 
 cast-l : tie.Need-cast-l Inv-loop μ-loop
 cast-l c =
+    let label = c .label in
     let loop-test = c .before .before .before .loop-test in
     let loop = c .before .before .before .before .loop in
-    let args = c .before .before .before .before .before .before .before .before .args in
-    let pre = c .before .before .before .before .before .before .before .before .pre in
-    let q = pre .0 .low (args .o * 32 + loop .y) (let a = pre .4 in let b = pre .3 in let d = loop-test .taken in let f = pre .2 in omega arith) in let e = c .label .ensures in record
-    { fits = omega arith }
+    let pre = c .before .before .before .before .before .before .before .before .before .before .pre in
+    let args = c .before .before .before .before .before .before .before .before .before .before .args in
+    let few = pre .2 in
+    let outs = pre .3 in
+    let o = pre .4 in
+    let d = loop-test .taken in
+    let low = pre .0 .low (args .o * 32 + loop .y) (omega arith) in
+    let same = label .ensures in
+    record { fits = omega arith }
 
 mul-in-set : tie.Need-mul-in-set Inv-loop μ-loop
 mul-in-set c =
+    let label = c .label in
     let loop-test = c .before .before .before .loop-test in
     let loop = c .before .before .before .before .loop in
-    let args = c .before .before .before .before .before .before .before .before .args in
-    let pre = c .before .before .before .before .before .before .before .before .pre in
-    let q = pre .0 .low (args .o * 32 + loop .y) (let a = pre .4 in let b = pre .3 in let d = loop-test .taken in let f = pre .2 in omega arith) in let e = c .label .ensures in search needs
+    let pre = c .before .before .before .before .before .before .before .before .before .before .pre in
+    let args = c .before .before .before .before .before .before .before .before .before .before .args in
+    let few = pre .2 in
+    let outs = pre .3 in
+    let o = pre .4 in
+    let d = loop-test .taken in
+    let low = pre .0 .low (args .o * 32 + loop .y) (omega arith) in
+    let same = label .ensures in
+    let s = loop .inv .1 (item (args .ms) (args .o)) (λ k h. pre .1 .each (args .o) k o h) in
+    let own-long = s .own-long in
+    let owns-long = s .owns-long in
+    search needs
 
-array-read-in-set : tie.Need-array-read-in-set Inv-loop μ-loop
-array-read-in-set c =
-    let loop-test = c .before .before .before .loop-test in
-    let loop = c .before .before .before .before .loop in
-    let args = c .before .before .before .before .before .before .before .before .args in
-    let pre = c .before .before .before .before .before .before .before .before .pre in
-    let q = pre .0 .low (args .o * 32 + loop .y) (let a = pre .4 in let b = pre .3 in let d = loop-test .taken in let f = pre .2 in omega arith) in let e = c .label .ensures in search needs
+slice-read-in-set : tie.Need-slice-read-in-set Inv-loop μ-loop
+slice-read-in-set c =
+    let label = c .before .label in
+    let loop-test = c .before .before .before .before .loop-test in
+    let loop = c .before .before .before .before .before .loop in
+    let pre = c .before .before .before .before .before .before .before .before .before .before .before .pre in
+    let args = c .before .before .before .before .before .before .before .before .before .before .before .args in
+    let few = pre .2 in
+    let outs = pre .3 in
+    let o = pre .4 in
+    let d = loop-test .taken in
+    let low = pre .0 .low (args .o * 32 + loop .y) (omega arith) in
+    let same = label .ensures in
+    let s = loop .inv .1 (item (args .ms) (args .o)) (λ k h. pre .1 .each (args .o) k o h) in
+    let own-long = s .own-long in
+    let owns-long = s .owns-long in
+    search needs
 
 in-set-requires : tie.Need-in-set-requires Inv-loop μ-loop
-in-set-requires c κs = c .before .if1 .taken
+in-set-requires c κs =
+    let if1 = c .before .before .if1 in
+    if1 .taken
 
 mul-own : tie.Need-mul-own Inv-loop μ-loop
 mul-own c =
-    let label = c .before .before .label in
-    let loop-test = c .before .before .before .before .before .loop-test in
-    let loop = c .before .before .before .before .before .before .loop in
-    let args = c .before .before .before .before .before .before .before .before .before .before .args in
-    let pre = c .before .before .before .before .before .before .before .before .before .before .pre in
-    let q = pre .0 .low (args .o * 32 + loop .y) (let a = pre .4 in let b = pre .3 in let d = loop-test .taken in let f = pre .2 in omega arith) in let e = label .ensures in search needs
+    let label = c .before .before .before .label in
+    let loop-test = c .before .before .before .before .before .before .loop-test in
+    let loop = c .before .before .before .before .before .before .before .loop in
+    let pre = c .before .before .before .before .before .before .before .before .before .before .before .before .before .pre in
+    let args = c .before .before .before .before .before .before .before .before .before .before .before .before .before .args in
+    let few = pre .2 in
+    let outs = pre .3 in
+    let o = pre .4 in
+    let d = loop-test .taken in
+    let low = pre .0 .low (args .o * 32 + loop .y) (omega arith) in
+    let same = label .ensures in
+    let s = loop .inv .1 (item (args .ms) (args .o)) (λ k h. pre .1 .each (args .o) k o h) in
+    let own-long = s .own-long in
+    let owns-long = s .owns-long in
+    search needs
 
-array-read-own : tie.Need-array-read-own Inv-loop μ-loop
-array-read-own c =
-    let label = c .before .before .label in
-    let loop-test = c .before .before .before .before .before .loop-test in
-    let loop = c .before .before .before .before .before .before .loop in
-    let args = c .before .before .before .before .before .before .before .before .before .before .args in
-    let pre = c .before .before .before .before .before .before .before .before .before .before .pre in
-    let q = pre .0 .low (args .o * 32 + loop .y) (let a = pre .4 in let b = pre .3 in let d = loop-test .taken in let f = pre .2 in omega arith) in let e = label .ensures in search needs
+slice-read-own : tie.Need-slice-read-own Inv-loop μ-loop
+slice-read-own c =
+    let label = c .before .before .before .before .label in
+    let loop-test = c .before .before .before .before .before .before .before .loop-test in
+    let loop = c .before .before .before .before .before .before .before .before .loop in
+    let pre = c .before .before .before .before .before .before .before .before .before .before .before .before .before .before .pre in
+    let args = c .before .before .before .before .before .before .before .before .before .before .before .before .before .before .args in
+    let few = pre .2 in
+    let outs = pre .3 in
+    let o = pre .4 in
+    let d = loop-test .taken in
+    let low = pre .0 .low (args .o * 32 + loop .y) (omega arith) in
+    let same = label .ensures in
+    let s = loop .inv .1 (item (args .ms) (args .o)) (λ k h. pre .1 .each (args .o) k o h) in
+    let own-long = s .own-long in
+    let owns-long = s .owns-long in
+    search needs
 
 mul-own-2 : tie.Need-mul-own-2 Inv-loop μ-loop
 mul-own-2 c =
-    let pre = c .before .before .before .before .before .before .before .before .before .before .pre in
-    let a = pre .4 in let b = pre .3 in search needs
+    let pre = c .before .before .before .before .before .before .before .before .before .before .before .before .before .before .pre in
+    let outs = pre .3 in
+    let o = pre .4 in
+    search needs
 
 cast-own : tie.Need-cast-own Inv-loop μ-loop
 cast-own c = search needs
 
 add-own : tie.Need-add-own Inv-loop μ-loop
 add-own c =
-    let if1 = c .before .before .before .if1 in
-    let pre = c .before .before .before .before .before .before .before .before .before .before .pre in
-    let a = pre .4 in let b = pre .3 in let h = if1 .taken in search needs
+    let if1 = c .before .before .before .before .before .if1 in
+    let pre = c .before .before .before .before .before .before .before .before .before .before .before .before .before .before .pre in
+    let outs = pre .3 in
+    let o = pre .4 in
+    let code = if1 .taken in
+    search needs
 
 mul-own-3 : tie.Need-mul-own-3 Inv-loop μ-loop
 mul-own-3 c =
-    let if1 = c .before .before .before .if1 in
-    let pre = c .before .before .before .before .before .before .before .before .before .before .pre in
-    let a = pre .4 in let b = pre .3 in let h = if1 .taken in let z = pre .1 .long in search needs
+    let if1 = c .before .before .before .before .before .if1 in
+    let pre = c .before .before .before .before .before .before .before .before .before .before .before .before .before .before .pre in
+    let outs = pre .3 in
+    let o = pre .4 in
+    let code = if1 .taken in
+    let long = pre .1 .long in
+    search needs
 
 shared-slice-read-own : tie.Need-shared-slice-read-own Inv-loop μ-loop
 shared-slice-read-own c =
-    let if1 = c .before .before .before .before .if1 in
-    let pre = c .before .before .before .before .before .before .before .before .before .before .before .pre in
-    let a = pre .4 in let b = pre .3 in let h = if1 .taken in let z = pre .1 .long in search needs
+    let if1 = c .before .before .before .before .before .before .if1 in
+    let pre = c .before .before .before .before .before .before .before .before .before .before .before .before .before .before .before .pre in
+    let outs = pre .3 in
+    let o = pre .4 in
+    let code = if1 .taken in
+    let long = pre .1 .long in
+    search needs
 
 mul-own-4 : tie.Need-mul-own-4 Inv-loop μ-loop
 mul-own-4 c =
-    let label = c .before .before .before .label in
-    let loop-test = c .before .before .before .before .before .before .loop-test in
-    let loop = c .before .before .before .before .before .before .before .loop in
-    let args = c .before .before .before .before .before .before .before .before .before .before .before .args in
-    let pre = c .before .before .before .before .before .before .before .before .before .before .before .pre in
-    let q = pre .0 .low (args .o * 32 + loop .y) (let a = pre .4 in let b = pre .3 in let d = loop-test .taken in let f = pre .2 in omega arith) in let e = label .ensures in search needs
+    let label = c .before .before .before .before .before .label in
+    let loop-test = c .before .before .before .before .before .before .before .before .loop-test in
+    let loop = c .before .before .before .before .before .before .before .before .before .loop in
+    let pre = c .before .before .before .before .before .before .before .before .before .before .before .before .before .before .before .pre in
+    let args = c .before .before .before .before .before .before .before .before .before .before .before .before .before .before .before .args in
+    let few = pre .2 in
+    let outs = pre .3 in
+    let o = pre .4 in
+    let d = loop-test .taken in
+    let low = pre .0 .low (args .o * 32 + loop .y) (omega arith) in
+    let same = label .ensures in
+    let s = loop .inv .1 (item (args .ms) (args .o)) (λ k h. pre .1 .each (args .o) k o h) in
+    let own-long = s .own-long in
+    let owns-long = s .owns-long in
+    search needs
 
-array-write-own : tie.Need-array-write-own Inv-loop μ-loop
-array-write-own c =
-    let label = c .before .before .before .label in
-    let loop-test = c .before .before .before .before .before .before .loop-test in
-    let loop = c .before .before .before .before .before .before .before .loop in
-    let args = c .before .before .before .before .before .before .before .before .before .before .before .args in
-    let pre = c .before .before .before .before .before .before .before .before .before .before .before .pre in
-    let q = pre .0 .low (args .o * 32 + loop .y) (let a = pre .4 in let b = pre .3 in let d = loop-test .taken in let f = pre .2 in omega arith) in let e = label .ensures in search needs
+slice-write-own : tie.Need-slice-write-own Inv-loop μ-loop
+slice-write-own c =
+    let label = c .before .before .before .before .before .label in
+    let loop-test = c .before .before .before .before .before .before .before .before .loop-test in
+    let loop = c .before .before .before .before .before .before .before .before .before .loop in
+    let pre = c .before .before .before .before .before .before .before .before .before .before .before .before .before .before .before .pre in
+    let args = c .before .before .before .before .before .before .before .before .before .before .before .before .before .before .before .args in
+    let few = pre .2 in
+    let outs = pre .3 in
+    let o = pre .4 in
+    let d = loop-test .taken in
+    let low = pre .0 .low (args .o * 32 + loop .y) (omega arith) in
+    let same = label .ensures in
+    let s = loop .inv .1 (item (args .ms) (args .o)) (λ k h. pre .1 .each (args .o) k o h) in
+    let own-long = s .own-long in
+    let owns-long = s .owns-long in
+    search needs
 
-array-read-owns : tie.Need-array-read-owns Inv-loop μ-loop
-array-read-owns c =
-    let label = c .before .before .before .label in
-    let loop-test = c .before .before .before .before .before .before .loop-test in
-    let loop = c .before .before .before .before .before .before .before .loop in
-    let args = c .before .before .before .before .before .before .before .before .before .before .before .args in
-    let pre = c .before .before .before .before .before .before .before .before .before .before .before .pre in
-    let q = pre .0 .low (args .o * 32 + loop .y) (let a = pre .4 in let b = pre .3 in let d = loop-test .taken in let f = pre .2 in omega arith) in let e = label .ensures in search needs
+slice-read-owns : tie.Need-slice-read-owns Inv-loop μ-loop
+slice-read-owns c =
+    let label = c .before .before .before .before .before .before .label in
+    let loop-test = c .before .before .before .before .before .before .before .before .before .loop-test in
+    let loop = c .before .before .before .before .before .before .before .before .before .before .loop in
+    let pre = c .before .before .before .before .before .before .before .before .before .before .before .before .before .before .before .before .pre in
+    let args = c .before .before .before .before .before .before .before .before .before .before .before .before .before .before .before .before .args in
+    let few = pre .2 in
+    let outs = pre .3 in
+    let o = pre .4 in
+    let d = loop-test .taken in
+    let low = pre .0 .low (args .o * 32 + loop .y) (omega arith) in
+    let same = label .ensures in
+    let s = loop .inv .1 (item (args .ms) (args .o)) (λ k h. pre .1 .each (args .o) k o h) in
+    let own-long = s .own-long in
+    let owns-long = s .owns-long in
+    search needs
 
 add-owns : tie.Need-add-owns Inv-loop μ-loop
 add-owns c =
-    let label = c .before .before .before .label in
-    let loop-test = c .before .before .before .before .before .before .loop-test in
-    let loop = c .before .before .before .before .before .before .before .loop in
-    let args = c .before .before .before .before .before .before .before .before .before .before .before .args in
-    let pre = c .before .before .before .before .before .before .before .before .before .before .before .pre in
-    let q = pre .0 .low (args .o * 32 + loop .y) (let a = pre .4 in let b = pre .3 in let d = loop-test .taken in let f = pre .2 in omega arith) in let e = label .ensures in
-    let s = loop .inv .1 (item (args .ms) (args .o)) (λ k h. pre .1 .each (args .o) k (pre .4) h) in
+    let label = c .before .before .before .before .before .before .label in
+    let loop-test = c .before .before .before .before .before .before .before .before .before .loop-test in
+    let loop = c .before .before .before .before .before .before .before .before .before .before .loop in
+    let pre = c .before .before .before .before .before .before .before .before .before .before .before .before .before .before .before .before .pre in
+    let args = c .before .before .before .before .before .before .before .before .before .before .before .before .before .before .before .before .args in
+    let few = pre .2 in
+    let outs = pre .3 in
+    let o = pre .4 in
+    let d = loop-test .taken in
+    let low = pre .0 .low (args .o * 32 + loop .y) (omega arith) in
+    let same = label .ensures in
+    let s = loop .inv .1 (item (args .ms) (args .o)) (λ k h. pre .1 .each (args .o) k o h) in
+    let own-long = s .own-long in
+    let owns-long = s .owns-long in
     let w = s .less (label .result) (omega arith) in
-    let d = loop-test .taken in let f = pre .2 in
     omega arith
 
-array-write-owns : tie.Need-array-write-owns Inv-loop μ-loop
-array-write-owns c =
-    let label = c .before .before .before .label in
-    let loop-test = c .before .before .before .before .before .before .loop-test in
-    let loop = c .before .before .before .before .before .before .before .loop in
-    let args = c .before .before .before .before .before .before .before .before .before .before .before .args in
-    let pre = c .before .before .before .before .before .before .before .before .before .before .before .pre in
-    let q = pre .0 .low (args .o * 32 + loop .y) (let a = pre .4 in let b = pre .3 in let d = loop-test .taken in let f = pre .2 in omega arith) in let e = label .ensures in search needs
+slice-write-owns : tie.Need-slice-write-owns Inv-loop μ-loop
+slice-write-owns c =
+    let label = c .before .before .before .before .before .before .label in
+    let loop-test = c .before .before .before .before .before .before .before .before .before .loop-test in
+    let loop = c .before .before .before .before .before .before .before .before .before .before .loop in
+    let pre = c .before .before .before .before .before .before .before .before .before .before .before .before .before .before .before .before .pre in
+    let args = c .before .before .before .before .before .before .before .before .before .before .before .before .before .before .before .before .args in
+    let few = pre .2 in
+    let outs = pre .3 in
+    let o = pre .4 in
+    let d = loop-test .taken in
+    let low = pre .0 .low (args .o * 32 + loop .y) (omega arith) in
+    let same = label .ensures in
+    let s = loop .inv .1 (item (args .ms) (args .o)) (λ k h. pre .1 .each (args .o) k o h) in
+    let own-long = s .own-long in
+    let owns-long = s .owns-long in
+    search needs
 
 add-y : tie.Need-add-y Inv-loop μ-loop
 add-y c = search needs
@@ -170,31 +276,54 @@ loop-less c = search needs
 
 loop-again : tie.Need-loop-again Inv-loop μ-loop
 loop-again c =
+    let if1 = c .if1 in
     let loop-test = c .before .before .loop-test in
     let loop = c .before .before .before .loop in
-    let args = c .before .before .before .before .before .before .before .args in
-    let pre = c .before .before .before .before .before .before .before .pre in
-    let h = loop-test .taken in (
+    let pre = c .before .before .before .before .before .before .before .before .before .pre in
+    let args = c .before .before .before .before .before .before .before .before .before .args in
+    let few = pre .2 in
+    let outs = pre .3 in
+    let o = pre .4 in
+    let d = loop-test .taken in
+    let low = pre .0 .low (args .o * 32 + loop .y) (omega arith) in (
       omega arith,
       λ mask b.
-          let low = pre .0 .low (args .o * 32 + loop .y) (let a = pre .4 in let g = pre .3 in let f = pre .2 in omega arith) in
           ⊎-elim
           (λ w. at-new (args .cl .now) (args .codes .now) (args .o) mask (loop .y) (loop .own) (loop .owns) _ _ (w .1 .result) _ (w .1 .ensures) low (w .0 .taken)
-          (sym (not-true _ (w .3 .taken)) ∙ w .2 .ensures) (b (getD (args .codes .now) (loop .y) 0) (w .0 .taken)) (w .5) (w .6) (loop .inv .1 mask b))
+          (sym (not-true _ (w .4 .taken)) ∙ w .3 .ensures) (b (getD (args .codes .now) (loop .y) 0) (w .0 .taken)) (w .8) (w .9) (loop .inv .1 mask b))
           (⊎-elim
           (λ w. at-old (args .cl .now) (args .codes .now) (args .o) mask (loop .y) (loop .own) (loop .owns) _ _ (w .1 .result) (w .1 .ensures) low (w .0 .taken)
-          (sym (not-false _ (w .3 .left)) ∙ w .2 .ensures) (w .4) (w .5) (loop .inv .1 mask b))
+          (sym (not-false _ (w .4 .left)) ∙ w .3 .ensures) (w .5) (w .6) (loop .inv .1 mask b))
           (λ w. at-skip (args .cl .now) (args .codes .now) (args .o) mask (loop .y) (loop .own) (loop .owns) _ _ (w .0 .left) (w .1) (w .2) (loop .inv .1 mask b)))
-          (c .if1 .came),
+          (if1 .came),
     )
+
+same-length : tie.Need-same-length Inv-loop μ-loop
+same-length c =
+    let loop = c .before .loop in
+    let args = c .before .before .before .before .before .before .before .args in
+    let pre = c .before .before .before .before .before .before .before .pre in
+    let s = loop .inv .1 (item (args .ms) (args .o)) (λ k h. pre .1 .each (args .o) k (pre .4) h) in
+    s .own-long ∙ sym (pre .6)
+
+same-length-2 : tie.Need-same-length-2 Inv-loop μ-loop
+same-length-2 c =
+    let loop = c .before .loop in
+    let args = c .before .before .before .before .before .before .before .args in
+    let pre = c .before .before .before .before .before .before .before .pre in
+    let s = loop .inv .1 (item (args .ms) (args .o)) (λ k h. pre .1 .each (args .o) k (pre .4) h) in
+    s .owns-long ∙ sym (pre .7)
 
 returns : tie.Need-returns Inv-loop μ-loop
 returns c =
+    let loop-test = c .loop-test in
     let loop = c .before .loop in
-    let args = c .before .before .before .before .before .args in
-    let pre = c .before .before .before .before .before .pre in
-    let e : loop .y ≡ args .v = (let h = c .loop-test .left in let z = loop .inv .0 in omega arith) in
-    subst (λ (z : ℕ). Held (args .cl .now) (args .codes .now) (args .o) (item (args .ms) (args .o)) z (loop .own) (loop .owns)) e
+    let args = c .before .before .before .before .before .before .before .args in
+    let pre = c .before .before .before .before .before .before .before .pre in
+    let h = loop-test .left in
+    let z = loop .inv .0 in
+    let e : loop .y ≡ args .v = omega arith in
+    subst (λ (n : ℕ). Held (args .cl .now) (args .codes .now) (args .o) (item (args .ms) (args .o)) n (loop .own) (loop .owns)) e
     (loop .inv .1 (item (args .ms) (args .o)) (λ k h. pre .1 .each (args .o) k (pre .4) h))
 
 pub held-spec : {M : Type 1} → statement M
@@ -208,21 +337,23 @@ held-spec =
     label-requires
     cast-l
     mul-in-set
-    array-read-in-set
+    slice-read-in-set
     in-set-requires
     mul-own
-    array-read-own
+    slice-read-own
     mul-own-2
     cast-own
     add-own
     mul-own-3
     shared-slice-read-own
     mul-own-4
-    array-write-own
-    array-read-owns
+    slice-write-own
+    slice-read-owns
     add-owns
-    array-write-owns
+    slice-write-owns
     add-y
     loop-less
     loop-again
+    same-length
+    same-length-2
     returns)

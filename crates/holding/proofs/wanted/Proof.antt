@@ -1,8 +1,8 @@
-use mathlib.Core.Path.{_≡_, refl, subst}
+use mathlib.Core.Path.{_≡_, sym, ap, _∙_, subst}
 use Prim.Native.Nat.{ℕ, _≤_, _+_, _-_, _*_}
 use native.Mathlib.Omega.{arith}
 use mathlib.Core.Logic.{⊎-elim}
-use Rattle.holding.specs.Blocks.{all-ones}
+use lib.ListN.{length}
 use Rattle.holding.specs.Wants.{Wanted, wanted-start, wanted-same, wanted-more}
 use borrow.Author.Needs.{needs}
 use Rattle.holding.proofs.wanted.Statement.{statement}
@@ -21,56 +21,68 @@ abbrev μ-loop : tie.MeasureT-loop
 
 loop-holds : tie.Need-loop-holds Inv-loop μ-loop
 loop-holds c =
-    let args = c .before .before .before .args in
-    (omega arith, wanted-start (args .cl .now) (args .o) (args .mask) (args .dom .now) (args .own .now) (args .t7) _ (search needs) refl (all-ones 32))
+    let args = c .before .before .before .before .before .before .args in
+    let pre = c .before .before .before .before .before .before .pre in
+    (omega arith, wanted-start (args .cl .now) (args .o) (args .mask) (args .dom .now) (args .own .now) (args .owns .now) _ _ (pre .7) (pre .5) (pre .8) (pre .9))
 
 label-requires : tie.Need-label-requires Inv-loop μ-loop
-label-requires c κs = let h = c .loop-test .taken in let p = c .before .before .before .before .before .pre in let a = p .1 in (let e = p .0 .long in omega arith, p .2, omega arith)
+label-requires c κs =
+    let loop-test = c .loop-test in
+    let pre = c .before .before .before .before .before .before .before .before .pre in
+    let d = loop-test .taken in
+    let few = pre .1 in
+    let long = pre .0 .long in
+    (omega arith, pre .2, omega arith)
 
 cast-l : tie.Need-cast-l Inv-loop μ-loop
 cast-l c = search needs
 
 mul-if1 : tie.Need-mul-if1 Inv-loop μ-loop
 mul-if1 c =
-    let args = c .before .before .before .before .before .before .args in
-    let pre = c .before .before .before .before .before .before .pre in
-    let h = c .before .loop-test .taken in
-    let v = pre .1 in
+    let label = c .label in
+    let loop-test = c .before .loop-test in
+    let loop = c .before .before .loop in
+    let pre = c .before .before .before .before .before .before .before .before .before .pre in
+    let args = c .before .before .before .before .before .before .before .before .before .args in
+    let few = pre .1 in
     let o = pre .2 in
-    let dl = pre .3 in
-    let ol = pre .4 in
-    let l = pre .0 .low (args .o * 32 + c .before .before .loop .y) (omega arith) in
-    let e = c .label .ensures in
+    let d = loop-test .taken in
+    let low = pre .0 .low (args .o * 32 + loop .y) (omega arith) in
+    let same = label .ensures in
+    let dom-long = pre .3 in
+    let own-long = pre .4 in
     search needs
 
 shared-slice-read-if1 : tie.Need-shared-slice-read-if1 Inv-loop μ-loop
 shared-slice-read-if1 c =
+    let label = c .before .label in
     let loop-test = c .before .before .loop-test in
     let loop = c .before .before .before .loop in
-    let args = c .before .before .before .before .before .before .before .args in
-    let pre = c .before .before .before .before .before .before .before .pre in
-    let h = loop-test .taken in
-    let v = pre .1 in
+    let pre = c .before .before .before .before .before .before .before .before .before .before .pre in
+    let args = c .before .before .before .before .before .before .before .before .before .before .args in
+    let few = pre .1 in
     let o = pre .2 in
-    let dl = pre .3 in
-    let ol = pre .4 in
-    let l = pre .0 .low (args .o * 32 + loop .y) (omega arith) in
-    let e = c .before .label .ensures in
+    let d = loop-test .taken in
+    let low = pre .0 .low (args .o * 32 + loop .y) (omega arith) in
+    let same = label .ensures in
+    let dom-long = pre .3 in
+    let own-long = pre .4 in
     search needs
 
 mul-if1-2 : tie.Need-mul-if1-2 Inv-loop μ-loop
 mul-if1-2 c =
+    let label = c .before .label in
     let loop-test = c .before .before .loop-test in
     let loop = c .before .before .before .loop in
-    let args = c .before .before .before .before .before .before .before .args in
-    let pre = c .before .before .before .before .before .before .before .pre in
-    let h = loop-test .taken in
-    let v = pre .1 in
+    let pre = c .before .before .before .before .before .before .before .before .before .before .pre in
+    let args = c .before .before .before .before .before .before .before .before .before .before .args in
+    let few = pre .1 in
     let o = pre .2 in
-    let dl = pre .3 in
-    let ol = pre .4 in
-    let l = pre .0 .low (args .o * 32 + loop .y) (omega arith) in
-    let e = c .before .label .ensures in
+    let d = loop-test .taken in
+    let low = pre .0 .low (args .o * 32 + loop .y) (omega arith) in
+    let same = label .ensures in
+    let dom-long = pre .3 in
+    let own-long = pre .4 in
     search needs
 
 shared-slice-read-if1-2 : tie.Need-shared-slice-read-if1-2 Inv-loop μ-loop
@@ -78,15 +90,15 @@ shared-slice-read-if1-2 c =
     let label = c .before .before .label in
     let loop-test = c .before .before .before .loop-test in
     let loop = c .before .before .before .before .loop in
-    let args = c .before .before .before .before .before .before .before .before .args in
-    let pre = c .before .before .before .before .before .before .before .before .pre in
-    let h = loop-test .taken in
-    let v = pre .1 in
+    let pre = c .before .before .before .before .before .before .before .before .before .before .before .pre in
+    let args = c .before .before .before .before .before .before .before .before .before .before .before .args in
+    let few = pre .1 in
     let o = pre .2 in
-    let dl = pre .3 in
-    let ol = pre .4 in
-    let l = pre .0 .low (args .o * 32 + loop .y) (omega arith) in
-    let e = label .ensures in
+    let d = loop-test .taken in
+    let low = pre .0 .low (args .o * 32 + loop .y) (omega arith) in
+    let same = label .ensures in
+    let dom-long = pre .3 in
+    let own-long = pre .4 in
     search needs
 
 mul-spread : tie.Need-mul-spread Inv-loop μ-loop
@@ -94,15 +106,15 @@ mul-spread c =
     let label = c .before .before .before .label in
     let loop-test = c .before .before .before .before .loop-test in
     let loop = c .before .before .before .before .before .loop in
-    let args = c .before .before .before .before .before .before .before .before .before .args in
-    let pre = c .before .before .before .before .before .before .before .before .before .pre in
-    let h = loop-test .taken in
-    let v = pre .1 in
+    let pre = c .before .before .before .before .before .before .before .before .before .before .before .before .pre in
+    let args = c .before .before .before .before .before .before .before .before .before .before .before .before .args in
+    let few = pre .1 in
     let o = pre .2 in
-    let dl = pre .3 in
-    let ol = pre .4 in
-    let l = pre .0 .low (args .o * 32 + loop .y) (omega arith) in
-    let e = label .ensures in
+    let d = loop-test .taken in
+    let low = pre .0 .low (args .o * 32 + loop .y) (omega arith) in
+    let same = label .ensures in
+    let dom-long = pre .3 in
+    let own-long = pre .4 in
     search needs
 
 shared-slice-read-spread : tie.Need-shared-slice-read-spread Inv-loop μ-loop
@@ -110,15 +122,15 @@ shared-slice-read-spread c =
     let label = c .before .before .before .before .label in
     let loop-test = c .before .before .before .before .before .loop-test in
     let loop = c .before .before .before .before .before .before .loop in
-    let args = c .before .before .before .before .before .before .before .before .before .before .args in
-    let pre = c .before .before .before .before .before .before .before .before .before .before .pre in
-    let h = loop-test .taken in
-    let v = pre .1 in
+    let pre = c .before .before .before .before .before .before .before .before .before .before .before .before .before .pre in
+    let args = c .before .before .before .before .before .before .before .before .before .before .before .before .before .args in
+    let few = pre .1 in
     let o = pre .2 in
-    let dl = pre .3 in
-    let ol = pre .4 in
-    let l = pre .0 .low (args .o * 32 + loop .y) (omega arith) in
-    let e = label .ensures in
+    let d = loop-test .taken in
+    let low = pre .0 .low (args .o * 32 + loop .y) (omega arith) in
+    let same = label .ensures in
+    let dom-long = pre .3 in
+    let own-long = pre .4 in
     search needs
 
 spread-requires : tie.Need-spread-requires Inv-loop μ-loop
@@ -129,109 +141,115 @@ mul-m c =
     let label = c .before .before .before .before .before .label in
     let loop-test = c .before .before .before .before .before .before .loop-test in
     let loop = c .before .before .before .before .before .before .before .loop in
-    let args = c .before .before .before .before .before .before .before .before .before .before .before .args in
-    let pre = c .before .before .before .before .before .before .before .before .before .before .before .pre in
-    let h = loop-test .taken in
-    let v = pre .1 in
+    let pre = c .before .before .before .before .before .before .before .before .before .before .before .before .before .before .pre in
+    let args = c .before .before .before .before .before .before .before .before .before .before .before .before .before .before .args in
+    let few = pre .1 in
     let o = pre .2 in
-    let dl = pre .3 in
-    let ol = pre .4 in
-    let l = pre .0 .low (args .o * 32 + loop .y) (omega arith) in
-    let e = label .ensures in
+    let d = loop-test .taken in
+    let low = pre .0 .low (args .o * 32 + loop .y) (omega arith) in
+    let same = label .ensures in
+    let owns-long = pre .5 in
+    let wants-long = loop .inv .1 .long in
+    let meet-long = loop .inv .1 .meet-long in
     search needs
 
-array-read-m : tie.Need-array-read-m Inv-loop μ-loop
-array-read-m c =
-    let label = c .before .before .before .before .before .label in
-    let loop-test = c .before .before .before .before .before .before .loop-test in
-    let loop = c .before .before .before .before .before .before .before .loop in
-    let args = c .before .before .before .before .before .before .before .before .before .before .before .args in
-    let pre = c .before .before .before .before .before .before .before .before .before .before .before .pre in
-    let h = loop-test .taken in
-    let v = pre .1 in
+slice-read-m : tie.Need-slice-read-m Inv-loop μ-loop
+slice-read-m c =
+    let label = c .before .before .before .before .before .before .label in
+    let loop-test = c .before .before .before .before .before .before .before .loop-test in
+    let loop = c .before .before .before .before .before .before .before .before .loop in
+    let pre = c .before .before .before .before .before .before .before .before .before .before .before .before .before .before .before .pre in
+    let args = c .before .before .before .before .before .before .before .before .before .before .before .before .before .before .before .args in
+    let few = pre .1 in
     let o = pre .2 in
-    let dl = pre .3 in
-    let ol = pre .4 in
-    let l = pre .0 .low (args .o * 32 + loop .y) (omega arith) in
-    let e = label .ensures in
+    let d = loop-test .taken in
+    let low = pre .0 .low (args .o * 32 + loop .y) (omega arith) in
+    let same = label .ensures in
+    let owns-long = pre .5 in
+    let wants-long = loop .inv .1 .long in
+    let meet-long = loop .inv .1 .meet-long in
     search needs
 
 mul-meet : tie.Need-mul-meet Inv-loop μ-loop
 mul-meet c =
-    let label = c .before .before .before .before .before .label in
-    let loop-test = c .before .before .before .before .before .before .loop-test in
-    let loop = c .before .before .before .before .before .before .before .loop in
-    let args = c .before .before .before .before .before .before .before .before .before .before .before .args in
-    let pre = c .before .before .before .before .before .before .before .before .before .before .before .pre in
-    let h = loop-test .taken in
-    let v = pre .1 in
+    let label = c .before .before .before .before .before .before .label in
+    let loop-test = c .before .before .before .before .before .before .before .loop-test in
+    let loop = c .before .before .before .before .before .before .before .before .loop in
+    let pre = c .before .before .before .before .before .before .before .before .before .before .before .before .before .before .before .pre in
+    let args = c .before .before .before .before .before .before .before .before .before .before .before .before .before .before .before .args in
+    let few = pre .1 in
     let o = pre .2 in
-    let dl = pre .3 in
-    let ol = pre .4 in
-    let l = pre .0 .low (args .o * 32 + loop .y) (omega arith) in
-    let e = label .ensures in
+    let d = loop-test .taken in
+    let low = pre .0 .low (args .o * 32 + loop .y) (omega arith) in
+    let same = label .ensures in
+    let owns-long = pre .5 in
+    let wants-long = loop .inv .1 .long in
+    let meet-long = loop .inv .1 .meet-long in
     search needs
 
-array-write-meet : tie.Need-array-write-meet Inv-loop μ-loop
-array-write-meet c =
-    let label = c .before .before .before .before .before .label in
-    let loop-test = c .before .before .before .before .before .before .loop-test in
-    let loop = c .before .before .before .before .before .before .before .loop in
-    let args = c .before .before .before .before .before .before .before .before .before .before .before .args in
-    let pre = c .before .before .before .before .before .before .before .before .before .before .before .pre in
-    let h = loop-test .taken in
-    let v = pre .1 in
+slice-write-meet : tie.Need-slice-write-meet Inv-loop μ-loop
+slice-write-meet c =
+    let label = c .before .before .before .before .before .before .label in
+    let loop-test = c .before .before .before .before .before .before .before .loop-test in
+    let loop = c .before .before .before .before .before .before .before .before .loop in
+    let pre = c .before .before .before .before .before .before .before .before .before .before .before .before .before .before .before .pre in
+    let args = c .before .before .before .before .before .before .before .before .before .before .before .before .before .before .before .args in
+    let few = pre .1 in
     let o = pre .2 in
-    let dl = pre .3 in
-    let ol = pre .4 in
-    let l = pre .0 .low (args .o * 32 + loop .y) (omega arith) in
-    let e = label .ensures in
+    let d = loop-test .taken in
+    let low = pre .0 .low (args .o * 32 + loop .y) (omega arith) in
+    let same = label .ensures in
+    let owns-long = pre .5 in
+    let wants-long = loop .inv .1 .long in
+    let meet-long = loop .inv .1 .meet-long in
     search needs
 
-array-read-more : tie.Need-array-read-more Inv-loop μ-loop
-array-read-more c =
-    let label = c .before .before .before .before .before .label in
-    let loop-test = c .before .before .before .before .before .before .loop-test in
-    let loop = c .before .before .before .before .before .before .before .loop in
-    let args = c .before .before .before .before .before .before .before .before .before .before .before .args in
-    let pre = c .before .before .before .before .before .before .before .before .before .before .before .pre in
-    let h = loop-test .taken in
-    let v = pre .1 in
+shared-slice-read-more : tie.Need-shared-slice-read-more Inv-loop μ-loop
+shared-slice-read-more c =
+    let label = c .before .before .before .before .before .before .before .label in
+    let loop-test = c .before .before .before .before .before .before .before .before .loop-test in
+    let loop = c .before .before .before .before .before .before .before .before .before .loop in
+    let pre = c .before .before .before .before .before .before .before .before .before .before .before .before .before .before .before .before .pre in
+    let args = c .before .before .before .before .before .before .before .before .before .before .before .before .before .before .before .before .args in
+    let few = pre .1 in
     let o = pre .2 in
-    let dl = pre .3 in
-    let ol = pre .4 in
-    let l = pre .0 .low (args .o * 32 + loop .y) (omega arith) in
-    let e = label .ensures in
+    let d = loop-test .taken in
+    let low = pre .0 .low (args .o * 32 + loop .y) (omega arith) in
+    let same = label .ensures in
+    let owns-long = pre .5 in
+    let wants-long = loop .inv .1 .long in
+    let meet-long = loop .inv .1 .meet-long in
     search needs
 
 more-requires : tie.Need-more-requires Inv-loop μ-loop
 more-requires c κs =
-    let label = c .before .before .before .before .before .label in
-    let loop-test = c .before .before .before .before .before .before .loop-test in
-    let loop = c .before .before .before .before .before .before .before .loop in
-    let args = c .before .before .before .before .before .before .before .before .before .before .before .args in
-    let pre = c .before .before .before .before .before .before .before .before .before .before .before .pre in
-    let h = loop-test .taken in
-    let v = pre .1 in
+    let label = c .before .before .before .before .before .before .before .label in
+    let loop-test = c .before .before .before .before .before .before .before .before .loop-test in
+    let loop = c .before .before .before .before .before .before .before .before .before .loop in
+    let pre = c .before .before .before .before .before .before .before .before .before .before .before .before .before .before .before .before .pre in
+    let args = c .before .before .before .before .before .before .before .before .before .before .before .before .before .before .before .before .args in
+    let few = pre .1 in
     let o = pre .2 in
-    let l = pre .0 .low (args .o * 32 + loop .y) (omega arith) in
-    let e = label .ensures in
-    pre .5 (label .result) (omega arith)
+    let d = loop-test .taken in
+    let low = pre .0 .low (args .o * 32 + loop .y) (omega arith) in
+    let same = label .ensures in
+    pre .6 (label .result) (omega arith)
 
-array-write-wants : tie.Need-array-write-wants Inv-loop μ-loop
-array-write-wants c =
-    let label = c .before .before .before .before .before .before .label in
-    let loop-test = c .before .before .before .before .before .before .before .loop-test in
-    let loop = c .before .before .before .before .before .before .before .before .loop in
-    let args = c .before .before .before .before .before .before .before .before .before .before .before .before .args in
-    let pre = c .before .before .before .before .before .before .before .before .before .before .before .before .pre in
-    let h = loop-test .taken in
-    let v = pre .1 in
+slice-write-wants : tie.Need-slice-write-wants Inv-loop μ-loop
+slice-write-wants c =
+    let label = c .before .before .before .before .before .before .before .before .label in
+    let loop-test = c .before .before .before .before .before .before .before .before .before .loop-test in
+    let loop = c .before .before .before .before .before .before .before .before .before .before .loop in
+    let pre = c .before .before .before .before .before .before .before .before .before .before .before .before .before .before .before .before .before .pre in
+    let args = c .before .before .before .before .before .before .before .before .before .before .before .before .before .before .before .before .before .args in
+    let few = pre .1 in
     let o = pre .2 in
-    let dl = pre .3 in
-    let ol = pre .4 in
-    let l = pre .0 .low (args .o * 32 + loop .y) (omega arith) in
-    let e = label .ensures in
+    let d = loop-test .taken in
+    let low = pre .0 .low (args .o * 32 + loop .y) (omega arith) in
+    let same = label .ensures in
+    let owns-long = pre .5 in
+    let wants-long = loop .inv .1 .long in
+    let meet-long = loop .inv .1 .meet-long in
     search needs
 
 add-y : tie.Need-add-y Inv-loop μ-loop
@@ -242,31 +260,46 @@ loop-less c = search needs
 
 loop-again : tie.Need-loop-again Inv-loop μ-loop
 loop-again c =
+    let if1 = c .if1 in
     let label = c .before .before .before .label in
     let loop-test = c .before .before .before .before .loop-test in
     let loop = c .before .before .before .before .before .loop in
-    let args = c .before .before .before .before .before .before .before .before .before .args in
-    let pre = c .before .before .before .before .before .before .before .before .before .pre in
-    let h = loop-test .taken in
-    let v = pre .1 in
+    let pre = c .before .before .before .before .before .before .before .before .before .before .before .before .pre in
+    let args = c .before .before .before .before .before .before .before .before .before .before .before .before .args in
+    let few = pre .1 in
     let o = pre .2 in
+    let d = loop-test .taken in
     let low = pre .0 .low (args .o * 32 + loop .y) (omega arith) in
     let same = label .ensures in (
       omega arith,
-      ⊎-elim (λ w. wanted-more (args .cl .now) (args .o) (args .mask) (args .dom .now) (args .own .now) (args .t7) (loop .y) (label .result) (w .2 .result) (w .3 .result) (loop .wants)
-          (loop .meet) _ _ same (omega arith) (w .0 .taken) (λ k i n. w .2 .ensures .whole (n .0) k (n .1) i (n .2) (n .3)) (w .3 .ensures) (w .5) (w .4) (loop .inv .1))
-          (λ w. wanted-same (args .cl .now) (args .o) (args .mask) (args .dom .now) (args .own .now) (args .t7) (loop .y) (loop .wants) (loop .meet) _ _ (w .1) (w .2) (loop .inv .1))
-          (c .if1 .came),
+      ⊎-elim (λ w. wanted-more (args .cl .now) (args .o) (args .mask) (args .dom .now) (args .own .now) (args .owns .now) (loop .y) (label .result) (w .2 .result) (w .5 .result)
+          (loop .wants) (loop .meet) _ _ same (omega arith) (w .0 .taken) (λ k i n. w .2 .ensures .whole (n .0) k (n .1) i (n .2) (n .3)) (w .5 .ensures) (w .7) (w .6) (loop .inv .1))
+          (λ w. wanted-same (args .cl .now) (args .o) (args .mask) (args .dom .now) (args .own .now) (args .owns .now) (loop .y) (loop .wants) (loop .meet) _ _ (w .1) (w .2)
+          (loop .inv .1))
+          (if1 .came),
     )
+
+same-length : tie.Need-same-length Inv-loop μ-loop
+same-length c =
+    let loop = c .before .loop in
+    let pre = c .before .before .before .before .before .before .before .before .pre in
+    loop .inv .1 .long ∙ sym (ap length (pre .7) ∙ pre .5)
+
+same-length-2 : tie.Need-same-length-2 Inv-loop μ-loop
+same-length-2 c =
+    let loop = c .before .loop in
+    let pre = c .before .before .before .before .before .before .before .before .pre in
+    loop .inv .1 .meet-long ∙ sym (pre .8)
 
 returns : tie.Need-returns Inv-loop μ-loop
 returns c =
+    let loop-test = c .loop-test in
     let loop = c .before .loop in
-    let args = c .before .before .before .before .before .args in
-    let h = c .loop-test .left in
+    let args = c .before .before .before .before .before .before .before .before .args in
+    let h = loop-test .left in
     let z = loop .inv .0 in
     let e : loop .y ≡ args .v = omega arith in
-    subst (λ (n : ℕ). Wanted (args .cl .now) (args .o) (args .mask) n (args .dom .now) (args .own .now) (args .t7) (loop .wants) (loop .meet)) e (loop .inv .1)
+    subst (λ (n : ℕ). Wanted (args .cl .now) (args .o) (args .mask) n (args .dom .now) (args .own .now) (args .owns .now) (loop .wants) (loop .meet)) e (loop .inv .1)
 
 pub wanted-spec : {M : Type 1} → statement M
 wanted-spec =
@@ -285,13 +318,15 @@ wanted-spec =
     shared-slice-read-spread
     spread-requires
     mul-m
-    array-read-m
+    slice-read-m
     mul-meet
-    array-write-meet
-    array-read-more
+    slice-write-meet
+    shared-slice-read-more
     more-requires
-    array-write-wants
+    slice-write-wants
     add-y
     loop-less
     loop-again
+    same-length
+    same-length-2
     returns)
