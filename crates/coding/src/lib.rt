@@ -127,6 +127,7 @@ pub fn meet(cl: &[u8], j: usize, met: [u64; SEARCH_OUTPUTS], x: usize) -> [u64; 
 // How many of the first j outputs have a class at x that met has not.
 fn unmet(cl: &[u8], j: usize, met: &[u64], x: usize) -> u32
     requires { ⌜ Labels (now cl) × (j ≤ searchOutputs) × (x < maxVertices) × (length (now met) ≡ searchOutputs) ⌝ }
+    ensures { λ r. ⌜ r ≤ searchOutputs ⌝ }
 {
     let mut n: u32 = 0;
     let mut o = 0;
@@ -140,9 +141,18 @@ fn unmet(cl: &[u8], j: usize, met: &[u64], x: usize) -> u32
     n
 }
 
-// The rank of a vertex with so many codes left and so many outputs whose class at it no vertex with a code has.
-fn rank(left: u32, classes: u32) -> u64 {
-    left as u64 * (2 * SEARCH_OUTPUTS as u64) + classes as u64
+// The rank of a vertex with so many codes left and so many outputs whose class at it no vertex with a code has: few codes rank
+// first. Of equally few, few such outputs rank first where no digits of cell 0 are known, since such a vertex starts the fewest
+// blocks; where digits are known many do, which was measured to be quicker there.
+fn rank(left: u32, classes: u32, known: bool) -> u64
+    requires { ⌜ classes ≤ searchOutputs ⌝ }
+{
+    let second = if known {
+        SEARCH_OUTPUTS as u32 - classes
+    } else {
+        classes
+    };
+    left as u64 * (2 * SEARCH_OUTPUTS as u64) + second as u64
 }
 
 // Whether a vertex of rank n is to be preferred to the best so far; none so far is no vertex.
@@ -156,9 +166,18 @@ fn better(best: usize, least: u64, n: u64) -> bool
     }
 }
 
-// A vertex without a code that has the fewest codes left in can, or no vertex where all have a code. Of those with equally
-// few it is one with the fewest classes that met has not: such a vertex starts the fewest blocks.
-fn pick(cl: &[u8], j: usize, met: &[u64], dom: &[u64], codes: &[u8], v: usize, can: u64) -> usize
+// A vertex without a code that has the fewest codes left in can, or no vertex where all have a code. Among those with equally
+// few, the classes that met has not and whether digits of cell 0 are known decide.
+fn pick(
+    cl: &[u8],
+    j: usize,
+    met: &[u64],
+    dom: &[u64],
+    codes: &[u8],
+    v: usize,
+    can: u64,
+    known: bool,
+) -> usize
     requires { ⌜ Labels (now cl) × (j ≤ searchOutputs) × (v ≤ maxVertices) × (length (now dom) ≡ maxVertices) × (length (now codes) ≡ maxVertices)
         × (length (now met) ≡ searchOutputs) ⌝ }
     ensures { λ r. ⌜ Seeking (now (codes .entry)) v r ⌝ }
@@ -168,7 +187,7 @@ fn pick(cl: &[u8], j: usize, met: &[u64], dom: &[u64], codes: &[u8], v: usize, c
     let mut y = 0;
     while y < v {
         if codes[y] >= numbering::NO_CODE {
-            let n = rank(u64::count_ones(dom[y] & can), unmet(cl, j, met, y));
+            let n = rank(u64::count_ones(dom[y] & can), unmet(cl, j, met, y), known);
             if better(best, least, n) {
                 best = y;
                 least = n;
@@ -281,7 +300,8 @@ pub fn find(
         (Told (now (cl .entry)) (now (base .entry)) (p .ms) (p .ps) (p .caps) (p .spots) (p .vertices) (p .outputs) (p .kn) (p .val) codes dom (r .ok) (r .codes)) ⌝ }
 {
     let can = allowed(gb, all, used);
-    let x = pick(cl, p.outputs, &met, &dom, &codes, p.vertices, can);
+    let known = p.kn != 0;
+    let x = pick(cl, p.outputs, &met, &dom, &codes, p.vertices, can, known);
     if x == numbering::NO_VERTEX {
         let f = numbering::finish(cl, p, codes);
         let all_codes = f.codes;
@@ -312,8 +332,8 @@ pub fn find(
         let mut d = dom;
         if settle_all(cl, base, bs, p, &next, &mut d, c, x) {
             let m = mark(gb, used, c);
-            let known = meet(cl, p.outputs, met, x);
-            let r = find(cl, base, bs, gb, all, p, next, d, m, known, limit, total);
+            let met_now = meet(cl, p.outputs, met, x);
+            let r = find(cl, base, bs, gb, all, p, next, d, m, met_now, limit, total);
             if r.ok {
                 return r;
             }

@@ -67,14 +67,14 @@ find-claims t = (
 )
 
 abbrev find-Inv-loop : find-lts.InvT-loop
-find-Inv-loop cl base bs gb all p used limit nodes codes dom met can x fit total₀ left₀ total left =
+find-Inv-loop cl base bs gb all p used limit nodes codes dom met can known x fit total₀ left₀ total left =
     (length codes ≡ 32)
     × (x < p .vertices)
     × (64 ≤ item codes x)
     × Trying cl base (p .ms) (p .caps) (p .spots) (p .vertices) (p .outputs) (p .kn) (p .val) codes dom x can left
 
 abbrev find-μ-loop : find-lts.MeasureT-loop
-find-μ-loop cl base bs gb all p used limit nodes codes dom met can x fit total₀ left₀ total left =
+find-μ-loop cl base bs gb all p used limit nodes codes dom met can known x fit total₀ left₀ total left =
     left
 
 find-allowed-requires : (t : ℕ) → find-lts.Need-allowed-requires (find-claims t) (find-at t) find.Post find-Inv-loop find-μ-loop
@@ -91,50 +91,51 @@ find-slice-aggregate-pick-3 t c = search needs
 
 find-pick-requires : (t : ℕ) → find-lts.Need-pick-requires (find-claims t) (find-at t) find.Post find-Inv-loop find-μ-loop
 find-pick-requires t c κs =
-    let pre = c .before .before .before .before .before .before .before .before .pre .1 in
-    let d = c .before .before .before .before .before .before .before .before .good .1 .1 .1 .1 .1 .1 .1 .0 in
-    let k = c .before .before .before .before .before .before .before .before .good .1 .1 .1 .1 .1 .1 .0 in
-    let m = c .before .before .before .before .before .before .before .before .good .1 .1 .1 .1 .1 .1 .1 .1 .1 .0 in
+    let pre = c .before .before .before .before .before .before .before .before .before .pre .1 in
+    let d = c .before .before .before .before .before .before .before .before .before .good .1 .1 .1 .1 .1 .1 .1 .0 in
+    let k = c .before .before .before .before .before .before .before .before .before .good .1 .1 .1 .1 .1 .1 .0 in
+    let m = c .before .before .before .before .before .before .before .before .before .good .1 .1 .1 .1 .1 .1 .1 .1 .1 .0 in
     (pre .0, pre .4, pre .3, search needs, search needs, search needs)
 
 find-finish-requires : (t : ℕ) → find-lts.Need-finish-requires (find-claims t) (find-at t) find.Post find-Inv-loop find-μ-loop
 find-finish-requires t c κs =
-    let pre = c .before .before .before .before .before .before .before .before .before .before .pre .1 in
+    let pre = c .before .before .before .before .before .before .before .before .before .before .before .pre .1 in
     (pre .0, pre .4, pre .3, pre .5, λ x h. c .before .pick .ensures .none (c .if1 .taken) x h)
 
 find-returns : (t : ℕ) → find-lts.Need-returns (find-claims t) (find-at t) find.Post find-Inv-loop find-μ-loop
 find-returns t c =
-    let a = c .before .before .before .before .before .before .before .before .before .before .before .before .args in
+    let a = c .before .before .before .before .before .before .before .before .before .before .before .before .before .args in
     let p = a .p in
-    let pre = c .before .before .before .before .before .before .before .before .before .before .before .before .pre .1 in
+    let pre = c .before .before .before .before .before .before .before .before .before .before .before .before .before .pre .1 in
     record { sure = λ e. c .before .finish .ensures (a .base .now) (p .spots) (a .t8) (p .kn) (p .val) (pre .8); never = λ e. refl }
 
 find-fitting-requires : (t : ℕ) → find-lts.Need-fitting-requires (find-claims t) (find-at t) find.Post find-Inv-loop find-μ-loop
 find-fitting-requires t c κs =
     let p = c .before .pick .ensures .some (c .if1 .left) .0 in
-    let b = c .before .before .before .before .before .before .before .before .before .before .pre .1 .3 in
+    let b = c .before .before .before .before .before .before .before .before .before .before .before .pre .1 .3 in
     omega arith
 
 find-mul-left : (t : ℕ) → find-lts.Need-mul-left (find-claims t) (find-at t) find.Post find-Inv-loop find-μ-loop
 find-mul-left t c =
     let a = c .before .before .pick .ensures .some (c .before .if1 .left) .0 in
-    let b = c .before .before .before .before .before .before .before .before .before .before .before .pre .1 .3 in
+    let b = c .before .before .before .before .before .before .before .before .before .before .before .before .pre .1 .3 in
     search needs
 
 find-array-read-left : (t : ℕ) → find-lts.Need-array-read-left (find-claims t) (find-at t) find.Post find-Inv-loop find-μ-loop
 find-array-read-left t c =
     let a = c .before .before .pick .ensures .some (c .before .if1 .left) .0 in
-    let b = c .before .before .before .before .before .before .before .before .before .before .before .pre .1 .3 in
+    let b = c .before .before .before .before .before .before .before .before .before .before .before .before .pre .1 .3 in
     search needs
 
 find-loop-holds : (t : ℕ) → find-lts.Need-loop-holds (find-claims t) (find-at t) find.Post find-Inv-loop find-μ-loop
 find-loop-holds t c =
     let some = c .before .before .pick .ensures .some (c .before .if1 .left) in
-    let a = c .before .before .before .before .before .before .before .before .before .before .before .args in
+    let a = c .before .before .before .before .before .before .before .before .before .before .before .before .args in
     let p = a .p in
-    let good = c .before .before .before .before .before .before .before .before .before .before .before .good .1 .1 .1 .1 .1 .1 .0 in
+    let good = c .before .before .before .before .before .before .before .before .before .before .before .before .good .1 .1 .1 .1 .1 .1 .0 in
     let start = trying-start (a .cl .now) (a .base .now) (p .ms) (p .caps) (p .spots) (p .vertices) (p .outputs) (p .kn) (p .val) (a .t7) (a .t8) in
-    (search needs, some .0, some .1, start (c .before .before .pick .result) (c .before .before .before .before .before .before .allowed .result) (some .0) (c .fitting .result) (c .fitting .ensures))
+    let can = c .before .before .before .before .before .before .before .allowed .result in
+    (search needs, some .0, some .1, start (c .before .before .pick .result) can (some .0) (c .fitting .result) (c .fitting .ensures))
 
 find-spent-requires : (t : ℕ) → find-lts.Need-spent-requires (find-claims t) (find-at t) find.Post find-Inv-loop find-μ-loop
 find-spent-requires t c κs = search needs
@@ -154,7 +155,7 @@ find-wrapping-add-u64-requires t c κs = search needs
 find-array-write-next : (t : ℕ) → find-lts.Need-array-write-next (find-claims t) (find-at t) find.Post find-Inv-loop find-μ-loop
 find-array-write-next t c =
     let a = c .before .before .before .before .before .before .loop .inv .1 in
-    let b = c .before .before .before .before .before .before .before .before .before .before .before .before .before .before .before .before .before .before .pre .1 .3 in
+    let b = c .before .before .before .before .before .before .before .before .before .before .before .before .before .before .before .before .before .before .before .pre .1 .3 in
     search needs
 
 find-slice-aggregate-settle-all : (t : ℕ) → find-lts.Need-slice-aggregate-settle-all (find-claims t) (find-at t) find.Post find-Inv-loop find-μ-loop
@@ -163,17 +164,17 @@ find-slice-aggregate-settle-all t c = search needs
 find-slice-aggregate-settle-all-2 : (t : ℕ) → find-lts.Need-slice-aggregate-settle-all-2 (find-claims t) (find-at t) find.Post find-Inv-loop find-μ-loop
 find-slice-aggregate-settle-all-2 t c =
     let far = c .before .before .before .before .before .before .before .before .before .before .before .before in
-    let d = far .before .before .before .before .before .before .before .before .good .1 .1 .1 .1 .1 .1 .1 .0 in
+    let d = far .before .before .before .before .before .before .before .before .before .good .1 .1 .1 .1 .1 .1 .1 .0 in
     search needs
 
 find-settle-all-requires : (t : ℕ) → find-lts.Need-settle-all-requires (find-claims t) (find-at t) find.Post find-Inv-loop find-μ-loop
 find-settle-all-requires t c κs =
     let far = c .before .before .before .before .before .before .before .before .before .before .before .before in
-    let pre = far .before .before .before .before .before .before .before .before .pre .1 in
+    let pre = far .before .before .before .before .before .before .before .before .before .pre .1 in
     let few = pre .3 in
     let i = c .before .before .before .before .before .before .before .before .loop .inv .1 in
-    let d = far .before .before .before .before .before .before .before .before .good .1 .1 .1 .1 .1 .1 .1 .0 in
-    let long = length-set (far .before .before .before .before .before .before .before .before .args .t7)
+    let d = far .before .before .before .before .before .before .before .before .before .good .1 .1 .1 .1 .1 .1 .1 .0 in
+    let long = length-set (far .before .before .before .before .before .before .before .before .before .args .t7)
     (c .before .before .before .before .before .before .before .before .before .before .before .pick .result) (c .before .before .before .before .lowest .result)
     ∙ c .before .before .before .before .before .before .before .before .loop .inv .0 in
     (pre .0, pre .1, pre .2, pre .3, pre .4, c .before .before .before .before .lowest .ensures .0, omega arith, long, search needs)
@@ -181,12 +182,12 @@ find-settle-all-requires t c κs =
 find-mark-requires : (t : ℕ) → find-lts.Need-mark-requires (find-claims t) (find-at t) find.Post find-Inv-loop find-μ-loop
 find-mark-requires t c κs =
     let far = c .before .before .before .before .before .before .before .before .before .before .before .before .before .before .before .before .before .before .before .before .before .before in
-    (far .before .pre .1 .6 .blocks .long, c .before .before .before .before .before .before .before .lowest .ensures .0)
+    (far .before .before .pre .1 .6 .blocks .long, c .before .before .before .before .before .before .before .lowest .ensures .0)
 
 find-meet-requires : (t : ℕ) → find-lts.Need-meet-requires (find-claims t) (find-at t) find.Post find-Inv-loop find-μ-loop
 find-meet-requires t c κs =
     let far = c .before .before .before .before .before .before .before .before .before .before .before .before in
-    let pre = far .before .before .before .before .before .before .before .before .before .before .before .before .pre .1 in
+    let pre = far .before .before .before .before .before .before .before .before .before .before .before .before .before .pre .1 in
     let a = far .loop .inv .1 in
     let b = pre .3 in
     (pre .0, pre .4, omega arith)
@@ -194,10 +195,10 @@ find-meet-requires t c κs =
 find-find-requires : (t : ℕ) → find-lts.Need-find-requires (find-claims t) (find-at t) find.Post find-Inv-loop find-μ-loop
 find-find-requires t c κs =
     let far = c .before .before .before .before .before .before .before .before .before .before .before .before in
-    let pre = far .before .before .before .before .before .before .before .before .before .before .before .before .before .pre .1 in
-    let m = far .before .before .before .before .before .before .before .before .before .before .before .before .before .pre .0 in
+    let pre = far .before .before .before .before .before .before .before .before .before .before .before .before .before .before .pre .1 in
+    let m = far .before .before .before .before .before .before .before .before .before .before .before .before .before .before .pre .0 in
     let i = far .before .loop .inv in
-    let a = far .before .before .before .before .before .before .before .before .before .before .before .before .before .args in
+    let a = far .before .before .before .before .before .before .before .before .before .before .before .before .before .before .args in
     let p = a .p in
     let x = far .before .before .before .before .pick .result in
     let l = c .before .before .before .before .before .before .before .before .before .lowest .ensures .0 in
@@ -214,7 +215,7 @@ find-find-requires t c κs =
 find-returns-3 : (t : ℕ) → find-lts.Need-returns-3 (find-claims t) (find-at t) find.Post find-Inv-loop find-μ-loop
 find-returns-3 t c =
     let far = c .before .before .before .before .before .before .before .before .before .before .before .before in
-    let a = far .before .before .before .before .before .before .before .before .before .before .before .before .before .before .before .args in
+    let a = far .before .before .before .before .before .before .before .before .before .before .before .before .before .before .before .before .args in
     let p = a .p in
     let next = set (a .t7) (far .before .before .before .before .before .before .pick .result)
     (c .before .before .before .before .before .before .before .before .before .before .before .lowest .result) in
@@ -236,8 +237,8 @@ find-loop-again : (t : ℕ) → find-lts.Need-loop-again (find-claims t) (find-a
 find-loop-again t c =
     let far = c .before .before .before .before .before .before .before .before .before .before .before .before in
     let i = far .before .before .before .before .loop .inv in
-    let pre = far .before .before .before .before .before .before .before .before .before .before .before .before .before .before .before .before .pre .1 in
-    let a = far .before .before .before .before .before .before .before .before .before .before .before .before .before .before .before .before .args in
+    let pre = far .before .before .before .before .before .before .before .before .before .before .before .before .before .before .before .before .before .pre .1 in
+    let a = far .before .before .before .before .before .before .before .before .before .before .before .before .before .before .before .before .before .args in
     let p = a .p in
     let x = far .before .before .before .before .before .before .before .pick .result in
     let n = far .lowest .result in
@@ -248,7 +249,7 @@ find-loop-again t c =
     let lost = told-lost (a .cl .now) (a .base .now) (p .ms) (p .ps) (p .caps) (p .spots) (p .vertices) (p .outputs) (p .kn) (p .val) (set (a .t7) x n) _ (a .t7) (a .t8)
     _ _ (c .before .if4 .left) r in
     let left = far .before .before .before .before .loop .left in
-    let can = far .before .before .before .before .before .before .before .before .before .before .before .allowed .result in (
+    let can = far .before .before .before .before .before .before .before .before .before .before .before .before .allowed .result in (
       i .0,
       i .1,
       i .2,
@@ -263,8 +264,8 @@ find-loop-again-2 : (t : ℕ) → find-lts.Need-loop-again-2 (find-claims t) (fi
 find-loop-again-2 t c =
     let far = c .before .before .before .before .before .before .before .before .before .before .before .before in
     let i = c .before .before .before .before .before .before .before .before .before .before .before .loop .inv in
-    let pre = far .before .before .before .before .before .before .before .before .before .before .before .pre .1 in
-    let a = far .before .before .before .before .before .before .before .before .before .before .before .args in
+    let pre = far .before .before .before .before .before .before .before .before .before .before .before .before .pre .1 in
+    let a = far .before .before .before .before .before .before .before .before .before .before .before .before .args in
     let p = a .p in
     let x = far .before .before .pick .result in
     let n = c .before .before .before .before .before .before .before .lowest .result in
@@ -274,7 +275,7 @@ find-loop-again-2 t c =
     let lost = s .ensures .2 (c .if3 .left) (p .kn) (p .val) in
     let kept = kept-start (a .cl .now) (a .base .now) (p .ms) (p .caps) (p .spots) (p .vertices) (p .outputs) (set (a .t7) x n) (a .t8) in
     let left = c .before .before .before .before .before .before .before .before .before .before .before .loop .left in
-    let can = far .before .before .before .before .before .before .allowed .result in (
+    let can = far .before .before .before .before .before .before .before .allowed .result in (
       i .0,
       i .1,
       i .2,
@@ -284,11 +285,11 @@ find-loop-again-2 t c =
 
 find-returns-5 : (t : ℕ) → find-lts.Need-returns-5 (find-claims t) (find-at t) find.Post find-Inv-loop find-μ-loop
 find-returns-5 t c =
-    let pre = c .before .before .before .before .before .before .before .before .before .before .before .before .before .pre .1 in
-    let a = c .before .before .before .before .before .before .before .before .before .before .before .before .before .args in
+    let pre = c .before .before .before .before .before .before .before .before .before .before .before .before .before .before .pre .1 in
+    let a = c .before .before .before .before .before .before .before .before .before .before .before .before .before .before .args in
     let p = a .p in
     let i = c .before .loop .inv in
-    let n = c .before .before .before .before .before .before .before .before .allowed in
+    let n = c .before .before .before .before .before .before .before .before .before .allowed in
     let end = trying-end (a .cl .now) (a .base .now) (p .ms) (p .caps) (p .spots) (p .vertices) (p .outputs) (p .kn) (p .val) (a .t7) (a .t8)
     (c .before .before .before .before .pick .result) (n .result) (i .1) in
     record { sure = λ e. end (a .gb .now) (a .used) (a .all) (c .before .loop .left) (i .2) (c .loop-test .left) (pre .6) (n .ensures) (pre .7) (i .3); never = λ e. refl }

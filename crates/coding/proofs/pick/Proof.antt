@@ -13,10 +13,10 @@ use Rattle.coding.proofs.rank.Reads as rank-reads
 use Rattle.coding.proofs.unmet.Reads as unmet-reads
 
 abbrev Inv-loop : tie.InvT-loop
-Inv-loop cl j met dom codes v can best₀ least₀ y₀ best least y = (y ≤ v) × Seeking codes y best
+Inv-loop cl j met dom codes v can known best₀ least₀ y₀ best least y = (y ≤ v) × Seeking codes y best
 
 abbrev μ-loop : tie.MeasureT-loop
-μ-loop cl j met dom codes v can best₀ least₀ y₀ best least y = v - y
+μ-loop cl j met dom codes v can known best₀ least₀ y₀ best least y = v - y
 
 loop-holds : tie.Need-loop-holds Inv-loop μ-loop
 loop-holds c = (omega arith, seeking-start (c .before .before .before .before .args .codes .now))
