@@ -403,6 +403,11 @@ pub settled-none : (cl given : List ℕ) (kn val v asked : ℕ) (rows : ℕ → 
 settled-none cl given kn val v asked rows false codes e b = b
 settled-none cl given kn val v asked rows true codes e b = absurd (true-false e)
 
+pub settled-lost : (cl given : List ℕ) (kn val v asked : ℕ) (rows : ℕ → ℕ) (ok : Bool) (codes : List ℕ) → ok ≡ false → Settled cl given kn val v asked rows ok codes
+    → Barred cl given kn val v asked rows
+settled-lost cl given kn val v asked rows false codes e s = s
+settled-lost cl given kn val v asked rows true codes e s = absurd (true-false e)
+
 pub chosen-none : (cl given budgets : List ℕ) (kn val v m u g done : ℕ) (rows rows' codes : List ℕ) (ok : Bool) → ok ≡ false
     → Lost cl given budgets kn val v m u g done rows → Chosen cl given budgets kn val v m u g done rows ok rows' codes
 chosen-none cl given budgets kn val v m u g done rows rows' codes false e s = s

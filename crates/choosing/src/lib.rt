@@ -305,6 +305,43 @@ fn none(rows: [u16; SEARCH_OUTPUTS], unsure: bool, nodes: u64) -> Choice
     }
 }
 
+// Codes for the rows of all outputs, the set all. That there are none is remembered where cell 0 has known digits: with the next
+// digit the same rows are often chosen again. They are remembered as they are, since such rows come again unchanged.
+fn ask_all(
+    cl: &[u8],
+    given: &[u16],
+    mem: &mut [u16],
+    p: Problem,
+    rows: [u16; SEARCH_OUTPUTS],
+    all: u8,
+    nodes: u64,
+) -> Choice
+    requires { ⌜ Classes (now cl) × (length (now given) ≡ maxVertices) × (p .vertices ≤ maxVertices) × Honest (now cl) (now given) (p .kn) (p .val) (p .vertices) (now mem) ⌝ }
+    ensures { λ r. ⌜ (r .rows ≡ rows)
+        × Sure (p .last) (r .unsure) (Settled (now (cl .entry)) (now (given .entry)) (p .kn) (p .val) (p .vertices) all (item rows) (r .ok) (r .codes))
+        × Honest (now (cl .entry)) (now (given .entry)) (p .kn) (p .val) (p .vertices) (now (mem .exit)) ⌝ }
+{
+    if memory::is_bad(mem, all, rows) {
+        return none(rows, false, nodes);
+    }
+    let c = questions::ask(cl, given, p.vertices, p.kn, p.val, all, rows, p.last);
+    if p.kn != 0 {
+        if !c.ok {
+            if !c.unsure {
+                memory::store(mem, all, rows, false);
+            }
+        }
+    }
+    let codes = c.codes;
+    Choice {
+        ok: c.ok,
+        unsure: c.unsure,
+        rows,
+        codes,
+        nodes: std::num::wrapping_add_u64(nodes, c.nodes),
+    }
+}
+
 // Codes for the rows of all outputs. Sets of some of them are asked first: what they show rules out other rows too.
 fn finish(
     cl: &[u8],
@@ -338,15 +375,7 @@ fn finish(
     if !s.ok {
         return none(rows, false, asked);
     }
-    let c = questions::ask(cl, given, p.vertices, p.kn, p.val, all, rows, p.last);
-    let codes = c.codes;
-    Choice {
-        ok: c.ok,
-        unsure: c.unsure,
-        rows,
-        codes,
-        nodes: std::num::wrapping_add_u64(asked, c.nodes),
-    }
+    ask_all(cl, given, mem, p, rows, all, asked)
 }
 
 // A core whose outputs of the set done have the rows given. An output that given tables serve alone gets one row only. What was

@@ -70,16 +70,18 @@ fn holds(mem: &[u16], i: usize, head: u16, rows: [u16; SEARCH_OUTPUTS]) -> bool
     true
 }
 
-// Whether the question is known to have no codes.
-fn is_bad(mem: &[u16], asked: u8, rows: [u16; SEARCH_OUTPUTS]) -> bool
+// Whether memory says that the question about the outputs of the set asked with these rows has no codes. The rows are looked up
+// as they are: they are found only where they were stored in the same form.
+pub fn is_bad(mem: &[u16], asked: u8, rows: [u16; SEARCH_OUTPUTS]) -> bool
     requires { ⌜ length (now mem) ≡ entryCount * entrySize ⌝ }
     ensures { λ r. ⌜ ((cl given : List ℕ) (kn val v : ℕ) → Honest cl given kn val v (now (mem .entry)) → r ≡ true → Barred cl given kn val v asked (item rows)) ⌝ }
 {
     holds(mem, place(asked, rows), head(asked, false), rows)
 }
 
-// The entry of a question with its answer, in place of what stood there.
-fn store(mem: &mut [u16], asked: u8, rows: [u16; SEARCH_OUTPUTS], ok: bool)
+// The question about the outputs of the set asked with these rows gets an entry with its answer, in place of what stood there.
+// Where ok is false the question has to have no codes; that ok is true says nothing.
+pub fn store(mem: &mut [u16], asked: u8, rows: [u16; SEARCH_OUTPUTS], ok: bool)
     requires { ⌜ length (now mem) ≡ entryCount * entrySize ⌝ }
     ensures { λ r. ⌜ ((cl given : List ℕ) (kn val v : ℕ) → (ok ≡ false → Barred cl given kn val v asked (item rows)) → Honest cl given kn val v (now (mem .entry))
         → Honest cl given kn val v (now (mem .exit))) ⌝ }

@@ -4,17 +4,17 @@ use Rattle.coding.specs.LimitLaws.{sure-now}
 use Rattle.questions.specs.Question.{Barred, Settled}
 use Rattle.numbering.specs.Given.{item}
 use Prim.Native.Nat.{ℕ}
-use mathlib.Core.Path.{refl, subst}
+use mathlib.Core.Path.{subst}
 use borrow.Author.Tests.{not-true}
 use borrow.Author.Needs.{needs}
 use Rattle.choosing.proofs.finish.Statement.{statement}
 use Rattle.choosing.proofs.finish.Tie as tie
 use Rattle.choosing.proofs.finish.Reads as reads
 use Rattle.choosing.proofs.finish.Lts as lts
+use Rattle.choosing.proofs.ask_all.Reads as ask-all-reads
 use Rattle.choosing.proofs.first_outputs.Reads as first-outputs-reads
 use Rattle.choosing.proofs.none.Reads as none-reads
 use Rattle.memory.proofs.settle_smaller.Reads as settle-smaller-reads
-use Rattle.questions.proofs.ask.Reads as ask-reads
 use Rattle.std.proofs.num.wrapping_add_u64.Reads as wrapping-add-u64-reads
 
 first-outputs-requires : tie.Need-first-outputs-requires
@@ -47,24 +47,21 @@ returns c =
     let bad = subst B all (s .1 (not-true _ (c .before .if1 .taken))) in
     (e .2, sure-now (p .last) (r .unsure) _ (e .1) (settled-none (a .cl .now) (a .given .now) (p .kn) (p .val) (p .vertices) _ (item (a .rows)) (r .ok) (r .codes) (e .0) bad), s .0)
 
-ask-requires : tie.Need-ask-requires
-ask-requires c κs = search needs
-
-wrapping-add-u64-requires-2 : tie.Need-wrapping-add-u64-requires-2
-wrapping-add-u64-requires-2 c κs = search needs
+ask-all-requires : tie.Need-ask-all-requires
+ask-all-requires c κs = search needs
 
 same-length-2 : tie.Need-same-length-2
 same-length-2 c = search needs
 
 returns-2 : tie.Need-returns-2
 returns-2 c =
-    let a = c .before .before .before .before .before .before .before .before .before .before .before .before .before .before .before .args in
+    let a = c .before .before .before .before .before .before .before .before .before .before .before .before .before .before .before .before .args in
     let p = a .p in
-    let k = c .before .before .ask in
+    let k = c .before .before .ask-all in
     let r = k .result in
-    let all = c .before .before .before .before .before .before .before .before .before .before .before .first-outputs .ensures in
+    let all = c .before .before .before .before .before .before .before .before .before .before .before .before .first-outputs .ensures in
     let S : ℕ → Type 0 = λ d. Sure (p .last) (r .unsure) (Settled (a .cl .now) (a .given .now) (p .kn) (p .val) (p .vertices) d (item (a .rows)) (r .ok) (r .codes)) in
-    (refl, subst S all (k .ensures), c .before .before .before .before .before .before .before .before .settle-smaller .ensures .0)
+    (k .ensures .0, subst S all (k .ensures .1), k .ensures .2)
 
 pub finish-spec : {M : Type 1} → statement M
 finish-spec =
@@ -77,7 +74,6 @@ finish-spec =
     none-requires
     same-length
     returns
-    ask-requires
-    wrapping-add-u64-requires-2
+    ask-all-requires
     same-length-2
     returns-2)
