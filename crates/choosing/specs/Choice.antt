@@ -30,6 +30,11 @@ pub record RowFits (budget u g row : ℕ) : Type 0 where
 abbrev pub numbered : ℕ → ℕ → ℕ
 numbered u r = r / 2 ^ u * maxCodes + r % 2 ^ u
 
+-- the number of the row tried at place i of so many: i, or from the highest number down
+abbrev pub turned : Bool → ℕ → ℕ → ℕ
+turned false end i = i
+turned true end i = end - 1 - i
+
 -- the first m outputs as a set
 abbrev pub firstOutputs : ℕ → ℕ
 firstOutputs m = 2 ^ m - 1

@@ -28,7 +28,7 @@ use Rattle.relation.specs.Relation.{Left}
 use Rattle.questions.specs.Question.{openOf, givenOf, Barred, Settled}
 use Rattle.questions.specs.QuestionLaws.{on-open}
 use Rattle.memory.specs.MemoryLaws.{barred-among}
-use Rattle.choosing.specs.Choice.{RowFits, numbered, firstOutputs, Core, Rows, Alike, Agree, Found, Lost, Chosen, disorder, Suits, stillAlike, Next}
+use Rattle.choosing.specs.Choice.{RowFits, numbered, turned, firstOutputs, Core, Rows, Alike, Agree, Found, Lost, Chosen, disorder, Suits, stillAlike, Next}
 
 -- ======== digits of rows
 on-given : (row i : ℕ) → on row (6 + i) ≡ on (row / 64) i
@@ -64,6 +64,23 @@ number-row u row h =
 pub number-low : (u g row : ℕ) → openOf row < 2 ^ u → givenOf row < 2 ^ g → numberOf u row < 2 ^ (u + g)
 number-low u g row a b = subst (λ (z : ℕ). numberOf u row < z) (sym (pow-add 2 u g))
     (let e : 2 ^ u * suc (givenOf row) ≤ 2 ^ u * 2 ^ g = mul-le-mul-left (2 ^ u) b in let f = mul-suc (2 ^ u) (givenOf row) in omega arith)
+
+pub turned-down : (down : Bool) (end i : ℕ) → down ≡ true → end - 1 - i ≡ turned down end i
+turned-down true end i e = refl
+turned-down false end i e = absurd (true-false (sym e))
+
+pub turned-up : (down : Bool) (end i : ℕ) → down ≡ false → i ≡ turned down end i
+turned-up false end i e = refl
+turned-up true end i e = absurd (true-false e)
+
+-- every number below end is tried at one place
+turned-low : (down : Bool) (end i : ℕ) → i < end → turned down end i < end
+turned-low false end i h = h
+turned-low true end i h = omega arith
+
+turned-twice : (down : Bool) (end i : ℕ) → i < end → turned down end (turned down end i) ≡ i
+turned-twice false end i h = refl
+turned-twice true end i h = omega arith
 
 module _ (u g r : ℕ) (few : u ≤ 6) (low : r < 2 ^ (u + g)) where
   rest-low : r % 2 ^ u < 64
@@ -284,9 +301,10 @@ module _ (done n : ℕ) where
         of-same i e = and-left (on same i) (on (alike-cells (openOf row)) i) (sym (on-and same (alike-cells (openOf row)) i) ∙ e)
 
 -- ======== rows tried for output n
--- no core whose row of output n is in order has one before number r
-pub record Tried (cl given budgets : List ℕ) (kn val v m u g done : ℕ) (rows : List ℕ) (same n r : ℕ) : Type 0 where
-  pub past : (R F : ℕ → ℕ) → Core cl given budgets kn val v m u g R F → Agree done rows R → InOrder same (openOf (R n)) → r ≤ numberOf u (R n)
+-- no core whose row of output n is in order has one that is tried at a place before i
+pub record Tried (cl given budgets : List ℕ) (kn val v m u g done : ℕ) (rows : List ℕ) (same n : ℕ) (down : Bool) (i : ℕ) : Type 0 where
+  pub past : (R F : ℕ → ℕ) → Core cl given budgets kn val v m u g R F → Agree done rows R → InOrder same (openOf (R n))
+      → i ≤ turned down (2 ^ (u + g)) (numberOf u (R n))
 
 module _ (cl given budgets : List ℕ) (kn val v m u g done : ℕ) (rows : List ℕ) where
   abbrev CoreOf : (ℕ → ℕ) → (ℕ → ℕ) → Type 0
@@ -317,39 +335,49 @@ module _ (cl given budgets : List ℕ) (kn val v m u g done : ℕ) (rows : List 
   }
   chosen-end false rows' codes all q s d = barred-lost (firstOutputs m) (λ o e. let h = first-outputs-low m o e in (h, all o h)) d
 
-  module _ (same n : ℕ) (few : u ≤ 6) (l : n < m) where
+  module _ (same n : ℕ) (down : Bool) (few : u ≤ 6) (l : n < m) where
     abbrev TriedTo : ℕ → Type 0
-    TriedTo r = Tried cl given budgets kn val v m u g done rows same n r
+    TriedTo i = Tried cl given budgets kn val v m u g done rows same n down i
+
+    -- the number of the row tried at place i
+    abbrev numberAt : ℕ → ℕ
+    numberAt i = turned down (2 ^ (u + g)) i
 
     pub tried-start : TriedTo 0
     tried-start = record { past = λ R F c a o. omega arith }
 
-    -- a core whose number is r has row number r
-    tried-next : (r : ℕ) → ((R F : ℕ → ℕ) → CoreOf R F → Agree done rows R → InOrder same (openOf (R n)) → R n ≡ numbered u r → ⊥)
-        → TriedTo r → TriedTo (r + 1)
-    tried-next r bad t = record {
-      past = λ R F c a o. ⊎-elim (λ (k : r < numberOf u (R n)). omega arith)
-          (λ q. absurd (bad R F c a o (sym (number-row u (R n) (c .rows n l .cells-low)) ∙ ap (numbered u) (sym q))))
-          (less-or-equal r (numberOf u (R n)) (let z = t .past R F c a o in omega arith));
+    place-number : (i : ℕ) (R F : ℕ → ℕ) → CoreOf R F → i ≡ numberAt (numberOf u (R n)) → R n ≡ numbered u (numberAt i)
+    place-number i R F c e =
+        let f = c .rows n l in
+        let low = number-low u g (R n) (f .cells-low) (f .tables-low) in
+        sym (number-row u (R n) (f .cells-low)) ∙ ap (numbered u) (sym (ap numberAt e ∙ turned-twice down (2 ^ (u + g)) (numberOf u (R n)) low))
+
+    -- a core whose row is tried at place i has the row of that number
+    tried-next : (i : ℕ) → ((R F : ℕ → ℕ) → CoreOf R F → Agree done rows R → InOrder same (openOf (R n)) → R n ≡ numbered u (numberAt i) → ⊥)
+        → TriedTo i → TriedTo (i + 1)
+    tried-next i bad t = record {
+      past = λ R F c a o. ⊎-elim (λ (k : i < numberAt (numberOf u (R n))). omega arith)
+          (λ q. absurd (bad R F c a o (place-number i R F c q)))
+          (less-or-equal i (numberAt (numberOf u (R n))) (let z = t .past R F c a o in omega arith));
     }
 
-    tried-unfit : (r want : ℕ) (ok : Bool) → want ≡ min (item budgets n) (u + g) → ok ≡ false → Suits (numbered u r) want same ok
-        → TriedTo r → TriedTo (r + 1)
-    tried-unfit r want ok w q s = tried-next r (λ R F c a o z. s .wrong q
+    tried-unfit : (i want : ℕ) (ok : Bool) → want ≡ min (item budgets n) (u + g) → ok ≡ false → Suits (numbered u (numberAt i)) want same ok
+        → TriedTo i → TriedTo (i + 1)
+    tried-unfit i want ok w q s = tried-next i (λ R F c a o z. s .wrong q
         (ap (λ (x : ℕ). count (on x) 16) (sym z) ∙ c .rows n l .full ∙ sym w)
         (ap (λ (x : ℕ). disorder (openOf x) same) (sym z) ∙ in-order-none 8 (openOf (R n)) same (omega arith) o))
 
-    tried-lost : (r : ℕ) → length rows ≡ 8 → n < 8 → on done n ≡ false
-        → Lost cl given budgets kn val v m u g (bitOr done (2 ^ n)) (set rows n (numbered u r)) → TriedTo r → TriedTo (r + 1)
-    tried-lost r long h free s = tried-next r (λ R F c a o z. s .none R F c (agree-more done n rows (numbered u r) long h free R a z))
+    tried-lost : (i : ℕ) → length rows ≡ 8 → n < 8 → on done n ≡ false
+        → Lost cl given budgets kn val v m u g (bitOr done (2 ^ n)) (set rows n (numbered u (numberAt i))) → TriedTo i → TriedTo (i + 1)
+    tried-lost i long h free s = tried-next i (λ R F c a o z. s .none R F c (agree-more done n rows (numbered u (numberAt i)) long h free R a z))
 
-    pub tried-all : (r : ℕ) → m ≤ 8 → Alike kn u done rows same → 2 ^ (u + g) ≤ r → TriedTo r → Lost cl given budgets kn val v m u g done rows
-    tried-all r room s h t = record {
+    pub tried-all : (i : ℕ) → m ≤ 8 → Alike kn u done rows same → 2 ^ (u + g) ≤ i → TriedTo i → Lost cl given budgets kn val v m u g done rows
+    tried-all i room s h t = record {
       none = λ R F c a.
           let b = in-order cl given budgets kn val v m u g done rows same n few room s R F c a in
           let f = b .2 .rows n l in
           let p = t .past (b .0) (b .1) (b .2) (b .3) (b .4) in
-          let q = number-low u g (b .0 n) (f .cells-low) (f .tables-low) in
+          let q = turned-low down (2 ^ (u + g)) (numberOf u (b .0 n)) (number-low u g (b .0 n) (f .cells-low) (f .tables-low)) in
           omega arith;
     }
 
@@ -381,21 +409,27 @@ module _ (cl given budgets : List ℕ) (kn val v m u g done : ℕ) (rows : List 
   step-alike z e a = subst (Alike kn u with-n (set rows n row)) (sym e)
       (subst (λ (d : ℕ). Alike kn u d (set rows n row) (stillAlike same row)) (sym ew) (alike-more done n rows row (s .long) h free kn u same few a))
 
-  pub step-lost : Lost cl given budgets kn val v m u g with-n (set rows n row) → Tried cl given budgets kn val v m u g done rows same n r
-      → Tried cl given budgets kn val v m u g done rows same n (r + 1)
-  step-lost x = tried-lost cl given budgets kn val v m u g done rows same n few l r (s .long) h free
-      (subst (λ (z : ℕ). Lost cl given budgets kn val v m u g (bitOr done (2 ^ n)) (set rows n z)) er (subst (λ (d : ℕ). Lost cl given budgets kn val v m u g d (set rows n row)) ew x))
+  -- that row is tried at place i
+  module _ (down : Bool) (i : ℕ) (et : r ≡ turned down (2 ^ (u + g)) i) where
+    abbrev TriedTo' : ℕ → Type 0
+    TriedTo' i = Tried cl given budgets kn val v m u g done rows same n down i
 
-  pub step-dead : Barred cl given kn val v with-n (item (set rows n row)) → Tried cl given budgets kn val v m u g done rows same n r
-      → Tried cl given budgets kn val v m u g done rows same n (r + 1)
-  step-dead b = step-lost (barred-lost cl given budgets kn val v m u g with-n (set rows n row) with-n (λ o e. (within o (subst (λ (d : ℕ). on d o ≡ true) ew e), e)) b)
-    where
-      within : (o : ℕ) → on (bitOr done (2 ^ n)) o ≡ true → o < m
-      within o e = ⊎-elim (s .few o) (λ d. subst (λ (o : ℕ). o < m) (sym d) l) (on-with-next done n o e)
+    at-place : row ≡ numbered u (turned down (2 ^ (u + g)) i)
+    at-place = er ∙ ap (numbered u) et
 
-  pub step-unfit : (want : ℕ) (ok : Bool) → want ≡ min (item budgets n) (u + g) → ok ≡ false → Suits row want same ok
-      → Tried cl given budgets kn val v m u g done rows same n r → Tried cl given budgets kn val v m u g done rows same n (r + 1)
-  step-unfit want ok w q x = tried-unfit cl given budgets kn val v m u g done rows same n few l r want ok w q (subst (λ (z : ℕ). Suits z want same ok) er x)
+    pub step-lost : Lost cl given budgets kn val v m u g with-n (set rows n row) → TriedTo' i → TriedTo' (i + 1)
+    step-lost x = tried-lost cl given budgets kn val v m u g done rows same n down few l i (s .long) h free
+        (subst (λ (z : ℕ). Lost cl given budgets kn val v m u g (bitOr done (2 ^ n)) (set rows n z)) at-place
+        (subst (λ (d : ℕ). Lost cl given budgets kn val v m u g d (set rows n row)) ew x))
+
+    pub step-dead : Barred cl given kn val v with-n (item (set rows n row)) → TriedTo' i → TriedTo' (i + 1)
+    step-dead b = step-lost (barred-lost cl given budgets kn val v m u g with-n (set rows n row) with-n (λ o e. (within o (subst (λ (d : ℕ). on d o ≡ true) ew e), e)) b)
+      where
+        within : (o : ℕ) → on (bitOr done (2 ^ n)) o ≡ true → o < m
+        within o e = ⊎-elim (s .few o) (λ d. subst (λ (o : ℕ). o < m) (sym d) l) (on-with-next done n o e)
+
+    pub step-unfit : (want : ℕ) (ok : Bool) → want ≡ min (item budgets n) (u + g) → ok ≡ false → Suits row want same ok → TriedTo' i → TriedTo' (i + 1)
+    step-unfit want ok w q x = tried-unfit cl given budgets kn val v m u g done rows same n down few l i want ok w q (subst (λ (z : ℕ). Suits z want same ok) at-place x)
 
 -- ======== no core
 pub settled-none : (cl given : List ℕ) (kn val v asked : ℕ) (rows : ℕ → ℕ) (ok : Bool) (codes : List ℕ) → ok ≡ false → Barred cl given kn val v asked rows

@@ -14,7 +14,7 @@ ghost use Rattle.relation.specs.Relation.{Classes};
 ghost use Rattle.coding.specs.Limit.{Sure};
 ghost use Rattle.questions.specs.Question.{Barred, Settled};
 ghost use Rattle.memory.specs.Memory.{Honest};
-ghost use Rattle.choosing.specs.Choice.{maxGiven, rowDigits, firstOutputs, numbered, Rows, Alike, Chosen, Suits, stillAlike, Next, Served};
+ghost use Rattle.choosing.specs.Choice.{maxGiven, rowDigits, firstOutputs, numbered, turned, Rows, Alike, Chosen, Suits, stillAlike, Next, Served};
 use limits::MAX_VERTICES;
 use limits::SEARCH_OUTPUTS;
 
@@ -80,6 +80,14 @@ fn row_of(r: u32, u: u8) -> u16
 {
     let end = numbers(u);
     (r / end * limits::MAX_CODES as u32 + r % end) as u16
+}
+
+// The number of the row that is tried at place i of end: from the highest number down, or from the lowest up.
+fn turn(i: u32, end: u32, down: bool) -> u32
+    requires { ⌜ i < end ⌝ }
+    ensures { λ r. ⌜ (r ≡ turned down end i) × (r < end) ⌝ }
+{
+    if down { end - 1 - i } else { i }
 }
 
 // Whether a row reads as many tables as wanted and is in order: of neighbouring open cells of same it reads the first ones.
@@ -379,7 +387,8 @@ fn finish(
 }
 
 // A core whose outputs of the set done have the rows given. An output that given tables serve alone gets one row only. What was
-// learnt below may concern the rows given alone: then none of the rows left to try is of use.
+// learnt below may concern the rows given alone: then none of the rows left to try is of use. Where cell 0 has known digits the
+// rows are tried from the highest number down, which was measured to be quicker there.
 pub fn choose(
     cl: &[u8],
     given: &[u16],
@@ -421,9 +430,9 @@ pub fn choose(
     }
     let mut total = nodes;
     let mut unsure = false;
-    let mut r: u32 = 0;
-    while r < end {
-        let row = row_of(r, p.cells);
+    let mut i: u32 = 0;
+    while i < end {
+        let row = row_of(turn(i, end, p.kn != 0), p.cells);
         if suits(row, want, same) {
             let mut tried = rows;
             tried[n] = row;
@@ -450,7 +459,7 @@ pub fn choose(
                 }
             }
         }
-        r += 1;
+        i += 1;
     }
     none(rows, unsure, total)
 }

@@ -1,13 +1,14 @@
 use Prim.Native.Nat.{ℕ, _<_, _≤_, _+_, _-_, _^_}
 use mathlib.Core.Path.{_≡_, refl, sym, ap, _∙_, subst}
-use mathlib.Core.Bool.{Bool, true, false}
+use mathlib.Core.Bool.{Bool, true, false, not}
 use mathlib.Core.Logic.{⊎-elim}
 use native.Mathlib.Omega.{arith}
+use lib.Dec.{eqb}
 use lib.ListN.{set}
 use Rattle.choosing.specs.ChoiceLaws.{Tried, tried-start, tried-all, step-less, step-fits, step-rows, step-alike, step-lost, step-dead, step-unfit}
 use Rattle.choosing.specs.ChoiceLaws.{chosen-end, chosen-found, chosen-lost, chosen-none, done-lost, known-or-none, number-room, on-with-same}
 use Rattle.choosing.specs.ServedLaws.{served-chosen}
-use Rattle.choosing.specs.Choice.{Lost, Chosen}
+use Rattle.choosing.specs.Choice.{Lost, Chosen, turned}
 use Rattle.cells.specs.Lists.{count}
 use Rattle.bits.specs.Digit.{on}
 use Rattle.coding.specs.Limit.{Sure}
@@ -30,6 +31,7 @@ use Rattle.choosing.proofs.row_of.Reads as row-of-reads
 use Rattle.choosing.proofs.served.Reads as served-reads
 use Rattle.choosing.proofs.still_alike.Reads as still-alike-reads
 use Rattle.choosing.proofs.suits.Reads as suits-reads
+use Rattle.choosing.proofs.turn.Reads as turn-reads
 use Rattle.choosing.proofs.wanted.Reads as wanted-reads
 use Rattle.choosing.proofs.with.Reads as with-reads
 use Rattle.memory.proofs.known_bad.Reads as known-bad-reads
@@ -67,6 +69,8 @@ choose-claims t = (
   still-alike-reads.Learnt,
   choose-below t,
   choose.Post,
+  turn-reads.Asked,
+  turn-reads.Learnt,
   suits-reads.Asked,
   suits-reads.Learnt,
   alive-reads.Asked,
@@ -80,14 +84,14 @@ choose-claims t = (
 )
 
 abbrev choose-Inv-loop : choose-lts.InvT-loop
-choose-Inv-loop cl given mem₀ p rows done same nodes n want done-now end s total₀ unsure₀ r₀ mem total unsure r =
-    (r ≤ end)
-    × Sure (p .last) unsure (Tried cl given (p .budgets) (p .kn) (p .val) (p .vertices) (p .outputs) (p .cells) (p .tables) done rows same n r)
+choose-Inv-loop cl given mem₀ p rows done same nodes n want done-now end s total₀ unsure₀ i₀ mem total unsure i =
+    (i ≤ end)
+    × Sure (p .last) unsure (Tried cl given (p .budgets) (p .kn) (p .val) (p .vertices) (p .outputs) (p .cells) (p .tables) done rows same n (not (eqb (p .kn) 0)) i)
     × Honest cl given (p .kn) (p .val) (p .vertices) mem
 
 abbrev choose-μ-loop : choose-lts.MeasureT-loop
-choose-μ-loop cl given mem₀ p rows done same nodes n want done-now end s total₀ unsure₀ r₀ mem total unsure r =
-    end - r
+choose-μ-loop cl given mem₀ p rows done same nodes n want done-now end s total₀ unsure₀ i₀ mem total unsure i =
+    end - i
 
 choose-next-requires : (t : ℕ) → choose-lts.Need-next-requires (choose-claims t) (choose-at t) choose.Post choose-Inv-loop choose-μ-loop
 choose-next-requires t c κs = let q = c .before .before .before .pre .1 in (q .0, q .1, q .2, q .3, q .4, q .5)
@@ -236,19 +240,22 @@ choose-loop-holds t c =
     let e2 = c .before .before .before .before .before .before .before .if1 .left in
     let low : n < 8 = omega arith in
     let free = x .free low in
-    let start = tried-start (a .cl .now) (a .given .now) (p .budgets) (p .kn) (p .val) (p .vertices) (p .outputs) (p .cells) (p .tables) (a .done) (a .rows) (a .same) n (q .4) (free .0) in
+    let down = not (eqb (p .kn) 0) in
+    let start = tried-start (a .cl .now) (a .given .now) (p .budgets) (p .kn) (p .val) (p .vertices) (p .outputs) (p .cells) (p .tables) (a .done) (a .rows) (a .same) n down (q .4) (free .0) in
     (omega arith, sure-now (p .last) false _ refl start, q .8)
+
+choose-turn-requires : (t : ℕ) → choose-lts.Need-turn-requires (choose-claims t) (choose-at t) choose.Post choose-Inv-loop choose-μ-loop
+choose-turn-requires t c κs = c .before .loop-test .taken
 
 choose-row-of-requires-2 : (t : ℕ) → choose-lts.Need-row-of-requires-2 (choose-claims t) (choose-at t) choose.Post choose-Inv-loop choose-μ-loop
 choose-row-of-requires-2 t c κs =
     let c10 = c .before .before .before .before .before .before .before .before .before .before in
-    let a = c10 .before .before .before .before .args in
+    let a = c10 .before .before .before .before .before .before .args in
     let p = a .p in
-    let q = c10 .before .before .before .before .pre .1 in
-    let l = c .before .loop in
-    let k = c .before .before .before .before .numbers in
-    let h = c .loop-test .taken in
-    (q .4, number-room (p .cells) (p .tables) (l .r) (k .result) (q .5) (k .ensures .0) h)
+    let q = c10 .before .before .before .before .before .before .pre .1 in
+    let y = c .turn in
+    let k = c .before .before .before .before .before .before .numbers in
+    (q .4, number-room (p .cells) (p .tables) (y .result) (k .result) (q .5) (k .ensures .0) (y .ensures .1))
 
 choose-suits-requires : (t : ℕ) → choose-lts.Need-suits-requires (choose-claims t) (choose-at t) choose.Post choose-Inv-loop choose-μ-loop
 choose-suits-requires t c κs = search needs
@@ -256,28 +263,28 @@ choose-suits-requires t c κs = search needs
 choose-mul-tried : (t : ℕ) → choose-lts.Need-mul-tried (choose-claims t) (choose-at t) choose.Post choose-Inv-loop choose-μ-loop
 choose-mul-tried t c =
     let c10 = c .before .before .before .before .before .before .before .before .before .before in
-    let h = c10 .before .before .before .next .ensures .room in
-    let e = c10 .before .before .if1 .left in
+    let h = c10 .before .before .before .before .before .next .ensures .room in
+    let e = c10 .before .before .before .before .if1 .left in
     search needs
 
 choose-array-write-tried : (t : ℕ) → choose-lts.Need-array-write-tried (choose-claims t) (choose-at t) choose.Post choose-Inv-loop choose-μ-loop
 choose-array-write-tried t c =
     let c10 = c .before .before .before .before .before .before .before .before .before .before in
-    let h = c10 .before .before .before .next .ensures .room in
-    let e = c10 .before .before .if1 .left in
+    let h = c10 .before .before .before .before .before .next .ensures .room in
+    let e = c10 .before .before .before .before .if1 .left in
     search needs
 
 choose-alive-requires : (t : ℕ) → choose-lts.Need-alive-requires (choose-claims t) (choose-at t) choose.Post choose-Inv-loop choose-μ-loop
 choose-alive-requires t c κs =
     let c10 = c .before .before .before .before .before .before .before .before .before .before in
-    let q = c10 .before .before .before .before .before .before .before .before .pre .1 in
-    let a = c10 .before .before .before .before .before .before .before .before .args in
-    let x = c10 .before .before .before .before .next in
+    let q = c10 .before .before .before .before .before .before .before .before .before .before .pre .1 in
+    let a = c10 .before .before .before .before .before .before .before .before .before .before .args in
+    let x = c10 .before .before .before .before .before .before .next in
     let h = x .ensures .room in
-    let e = c10 .before .before .before .if1 .left in
-    let w = c10 .with in
+    let e = c10 .before .before .before .before .before .if1 .left in
+    let w = c10 .before .before .with in
     let has = subst (λ (d : ℕ). on d (x .result) ≡ true) (sym (w .ensures)) (on-with-same (a .done) (x .result)) in
-    (q .0, q .1, q .2, omega arith, has, c .before .before .before .before .before .loop .inv .2)
+    (q .0, q .1, q .2, omega arith, has, c .before .before .before .before .before .before .before .loop .inv .2)
 
 choose-wrapping-add-u64-requires : (t : ℕ) → choose-lts.Need-wrapping-add-u64-requires (choose-claims t) (choose-at t) choose.Post choose-Inv-loop choose-μ-loop
 choose-wrapping-add-u64-requires t c κs = search needs
@@ -289,31 +296,31 @@ choose-choose-requires-2 : (t : ℕ) → choose-lts.Need-choose-requires-2 (choo
 choose-choose-requires-2 t c κs =
     let c10 = c .before .before .before .before .before .before .before .before .before .before in
     let c20 = c10 .before .before .before .before .before .before .before .before .before .before in
-    let a = c20 .before .before .before .before .before .args in
+    let a = c20 .before .before .before .before .before .before .before .args in
     let p = a .p in
-    let q = c20 .before .before .before .before .before .pre .1 in
-    let n = c20 .before .next .result in
-    let x = c20 .before .next .ensures in
+    let q = c20 .before .before .before .before .before .before .before .pre .1 in
+    let n = c20 .before .before .before .next .result in
+    let x = c20 .before .before .before .next .ensures in
     let e1 = x .room in
-    let e2 = c20 .if1 .left in
+    let e2 = c20 .before .before .if1 .left in
     let low : n < 8 = omega arith in
     let free = x .free low in
-    let l = c10 .before .before .loop in
-    let w = c10 .before .before .before .before .before .before .before .with in
+    let y = c10 .before .turn in
+    let w = c10 .before .before .before .before .before .before .before .before .before .with in
     let k = c10 .row-of2 in
     let last = k .ensures in
-    let t' = c20 .before .before .before .before .before .pre .0 in
-    let e3 = c10 .before .before .before .before .before .numbers .ensures .0 in
-    let e4 = c10 .before .loop-test .taken in
+    let t' = c20 .before .before .before .before .before .before .before .pre .0 in
+    let e3 = c10 .before .before .before .before .before .before .before .numbers .ensures .0 in
+    let e4 = y .ensures .1 in
     let e5 = c .before .before .before .before .before .before .before .before .before .suits .ensures .right (c .before .before .before .before .before .before .before .before .if3 .taken) in
-    let full = e5 ∙ c10 .before .before .before .before .before .before .before .before .wanted .ensures in
+    let full = e5 ∙ c10 .before .before .before .before .before .before .before .before .before .before .wanted .ensures in
     let s = c .still-alike2 in
     let less = step-less (a .cl .now) (a .given .now) (p .budgets) (p .kn) (p .val) (p .vertices) (p .outputs) (p .cells) (p .tables) (a .done) (a .rows) (a .same) n
-    (w .result) (k .result) (l .r) (q .4) (free .0) low (free .1) (w .ensures) last (q .6) in
+    (w .result) (k .result) (y .result) (q .4) (free .0) low (free .1) (w .ensures) last (q .6) in
     let more = step-rows (a .cl .now) (a .given .now) (p .budgets) (p .kn) (p .val) (p .vertices) (p .outputs) (p .cells) (p .tables) (a .done) (a .rows) (a .same) n
-    (w .result) (k .result) (l .r) (q .4) (free .0) low (free .1) (w .ensures) last (q .6) (omega arith) full in
+    (w .result) (k .result) (y .result) (q .4) (free .0) low (free .1) (w .ensures) last (q .6) (omega arith) full in
     let same = step-alike (a .cl .now) (a .given .now) (p .budgets) (p .kn) (p .val) (p .vertices) (p .outputs) (p .cells) (p .tables) (a .done) (a .rows) (a .same) n
-    (w .result) (k .result) (l .r) (q .4) (free .0) low (free .1) (w .ensures) last (q .6) (s .result) (s .ensures) (q .7) in
+    (w .result) (k .result) (y .result) (q .4) (free .0) low (free .1) (w .ensures) last (q .6) (s .result) (s .ensures) (q .7) in
     (omega arith, (q .0, q .1, q .2, q .3, q .4, q .5, more, same, c .before .before .before .before .before .before .alive .ensures .0))
 
 choose-same-length-3 : (t : ℕ) → choose-lts.Need-same-length-3 (choose-claims t) (choose-at t) choose.Post choose-Inv-loop choose-μ-loop
@@ -321,20 +328,20 @@ choose-same-length-3 t c =
     let c10 = c .before .before .before .before .before .before .before .before .before .before in
     let c20 = c10 .before .before .before .before .before .before .before .before .before .before in
     let h = c .before .before .before .choose2 .ensures .1 in
-    h .long ∙ sym (c20 .before .before .before .before .before .before .before .before .before .pre .1 .8 .long)
+    h .long ∙ sym (c20 .before .before .before .before .before .before .before .before .before .before .before .pre .1 .8 .long)
 
 choose-returns-3 : (t : ℕ) → choose-lts.Need-returns-3 (choose-claims t) (choose-at t) choose.Post choose-Inv-loop choose-μ-loop
 choose-returns-3 t c =
     let c10 = c .before .before .before .before .before .before .before .before .before .before in
     let c20 = c10 .before .before .before .before .before .before .before .before .before .before in
-    let a = c20 .before .before .before .before .before .before .before .before .before .args in
+    let a = c20 .before .before .before .before .before .before .before .before .before .before .before .args in
     let p = a .p in
-    let q = c20 .before .before .before .before .before .before .before .before .before .pre .1 in
+    let q = c20 .before .before .before .before .before .before .before .before .before .before .before .pre .1 in
     let y = c .before .before .before .choose2 in
     let r = y .result in
-    let tried = set (a .rows) (c20 .before .before .before .before .before .next .result) (c10 .before .before .before .before .row-of2 .result) in
+    let tried = set (a .rows) (c20 .before .before .before .before .before .before .before .next .result) (c10 .before .before .before .before .row-of2 .result) in
     let found = chosen-found (a .cl .now) (a .given .now) (p .budgets) (p .kn) (p .val) (p .vertices) (p .outputs) (p .cells) (p .tables)
-    (a .done) (c20 .before .with .result) (a .rows) tried (r .rows) (r .codes) (r .ok) (c .if5 .taken) in
+    (a .done) (c20 .before .before .before .with .result) (a .rows) tried (r .rows) (r .codes) (r .ok) (c .if5 .taken) in
     (sure-then (p .last) (r .unsure) _ _ found (y .ensures .0), y .ensures .1)
 
 choose-known-bad-requires : (t : ℕ) → choose-lts.Need-known-bad-requires (choose-claims t) (choose-at t) choose.Post choose-Inv-loop choose-μ-loop
@@ -348,15 +355,15 @@ choose-same-length-4 t c =
     let c10 = c .before .before .before .before .before .before .before .before .before .before in
     let c20 = c10 .before .before .before .before .before .before .before .before .before .before in
     let h = c .before .before .before .before .before .before .before .before .before .choose2 .ensures .1 in
-    h .long ∙ sym (c20 .before .before .before .before .before .before .before .before .before .before .before .before .before .before .before .pre .1 .8 .long)
+    h .long ∙ sym (c20 .before .before .before .before .before .before .before .before .before .before .before .before .before .before .before .before .before .pre .1 .8 .long)
 
 choose-returns-4 : (t : ℕ) → choose-lts.Need-returns-4 (choose-claims t) (choose-at t) choose.Post choose-Inv-loop choose-μ-loop
 choose-returns-4 t c =
     let c10 = c .before .before .before .before .before .before .before .before .before .before in
     let c20 = c10 .before .before .before .before .before .before .before .before .before .before in
-    let a = c20 .before .before .before .before .before .before .before .before .before .before .before .before .before .before .before .args in
+    let a = c20 .before .before .before .before .before .before .before .before .before .before .before .before .before .before .before .before .before .args in
     let p = a .p in
-    let q = c20 .before .before .before .before .before .before .before .before .before .before .before .before .before .before .before .pre .1 in
+    let q = c20 .before .before .before .before .before .before .before .before .before .before .before .before .before .before .before .before .before .pre .1 in
     let h = c .before .before .before .before .before .before .before .before .before .choose2 .ensures .1 in
     let r = c .none .result in
     let e = c .none .ensures in
@@ -365,43 +372,47 @@ choose-returns-4 t c =
     let said = chosen-none (a .cl .now) (a .given .now) (p .budgets) (p .kn) (p .val) (p .vertices) (p .outputs) (p .cells) (p .tables) (a .done) (a .rows) (r .rows) (r .codes) (r .ok) (e .0) lost in
     (sure-now (p .last) (r .unsure) _ (e .1) said, h)
 
-choose-add-r : (t : ℕ) → choose-lts.Need-add-r (choose-claims t) (choose-at t) choose.Post choose-Inv-loop choose-μ-loop
-choose-add-r t c = let h = c .before .before .before .loop-test .taken in let z = c .before .before .before .before .before .before .before .numbers .ensures .1 in omega arith
+choose-add-i : (t : ℕ) → choose-lts.Need-add-i (choose-claims t) (choose-at t) choose.Post choose-Inv-loop choose-μ-loop
+choose-add-i t c = let h = c .before .before .before .before .before .loop-test .taken in let z = c .before .before .before .before .before .before .before .before .before .numbers .ensures .1 in omega arith
 
 choose-loop-less : (t : ℕ) → choose-lts.Need-loop-less (choose-claims t) (choose-at t) choose.Post choose-Inv-loop choose-μ-loop
-choose-loop-less t c = let h = c .before .before .before .loop-test .taken in search needs
+choose-loop-less t c = let h = c .before .before .before .before .before .loop-test .taken in search needs
 
 choose-loop-again : (t : ℕ) → choose-lts.Need-loop-again (choose-claims t) (choose-at t) choose.Post choose-Inv-loop choose-μ-loop
 choose-loop-again t c =
     let c10 = c .before .before .before .before .before .before .before .before .before .before in
-    let a = c10 .before .before .before .before .before .before .before .args in
+    let a = c10 .before .before .before .before .before .before .before .before .before .args in
     let p = a .p in
-    let q = c10 .before .before .before .before .before .before .before .pre .1 in
-    let n = c10 .before .before .before .next .result in
-    let x = c10 .before .before .before .next .ensures in
+    let q = c10 .before .before .before .before .before .before .before .before .before .pre .1 in
+    let n = c10 .before .before .before .before .before .next .result in
+    let x = c10 .before .before .before .before .before .next .ensures in
     let e1 = x .room in
-    let e2 = c10 .before .before .if1 .left in
+    let e2 = c10 .before .before .before .before .if1 .left in
     let low : n < 8 = omega arith in
     let free = x .free low in
-    let l = c .before .before .before .before .loop in
-    let w = c .before .before .before .before .before .before .before .before .before .with in
+    let l = c .before .before .before .before .before .before .loop in
+    let w = c .before .before .before .before .before .before .before .before .before .before .before .with in
     let k = c .before .before .row-of2 in
+    let y = c .before .before .before .turn in
+    let down = not (eqb (p .kn) 0) in
+    let e3 = c .before .before .before .before .before .before .before .before .before .numbers .ensures .0 in
+    let place = subst (λ (z : ℕ). y .result ≡ turned down z (l .i)) e3 (y .ensures .0) in
     let last = k .ensures in
     let i = l .inv in
-    let h = c .before .before .before .loop-test .taken in
+    let h = c .before .before .before .before .before .loop-test .taken in
     let tried = set (a .rows) n (k .result) in
-    let T : ℕ → Type 0 = Tried (a .cl .now) (a .given .now) (p .budgets) (p .kn) (p .val) (p .vertices) (p .outputs) (p .cells) (p .tables) (a .done) (a .rows) (a .same) n in
-    let S : Bool → Type 0 = λ b. Sure (p .last) b (T (l .r + 1)) in
+    let T : ℕ → Type 0 = Tried (a .cl .now) (a .given .now) (p .budgets) (p .kn) (p .val) (p .vertices) (p .outputs) (p .cells) (p .tables) (a .done) (a .rows) (a .same) n down in
+    let S : Bool → Type 0 = λ b. Sure (p .last) b (T (l .i + 1)) in
     let H = Honest (a .cl .now) (a .given .now) (p .kn) (p .val) (p .vertices) in
-    let lost : Lost (a .cl .now) (a .given .now) (p .budgets) (p .kn) (p .val) (p .vertices) (p .outputs) (p .cells) (p .tables) (w .result) tried → T (l .r) → T (l .r + 1) = step-lost
+    let lost : Lost (a .cl .now) (a .given .now) (p .budgets) (p .kn) (p .val) (p .vertices) (p .outputs) (p .cells) (p .tables) (w .result) tried → T (l .i) → T (l .i + 1) = step-lost
     (a .cl .now) (a .given .now) (p .budgets) (p .kn) (p .val) (p .vertices) (p .outputs) (p .cells) (p .tables) (a .done) (a .rows) (a .same) n
-    (w .result) (k .result) (l .r) (q .4) (free .0) low (free .1) (w .ensures) last (q .6) in
+    (w .result) (k .result) (y .result) (q .4) (free .0) low (free .1) (w .ensures) last (q .6) down (l .i) place in
     let dead = step-dead (a .cl .now) (a .given .now) (p .budgets) (p .kn) (p .val) (p .vertices) (p .outputs) (p .cells) (p .tables) (a .done) (a .rows) (a .same) n
-    (w .result) (k .result) (l .r) (q .4) (free .0) low (free .1) (w .ensures) last (q .6) in
+    (w .result) (k .result) (y .result) (q .4) (free .0) low (free .1) (w .ensures) last (q .6) down (l .i) place in
     let s = c .before .suits in
-    let v = c10 .wanted in
+    let v = c10 .before .before .wanted in
     let unfit = step-unfit (a .cl .now) (a .given .now) (p .budgets) (p .kn) (p .val) (p .vertices) (p .outputs) (p .cells) (p .tables) (a .done) (a .rows) (a .same) n
-    (w .result) (k .result) (l .r) (q .4) (free .0) low (free .1) (w .ensures) last (q .6)
+    (w .result) (k .result) (y .result) (q .4) (free .0) low (free .1) (w .ensures) last (q .6) down (l .i) place
     (v .result) (s .result) (v .ensures) in (
       omega arith,
       ⊎-elim
@@ -447,7 +458,7 @@ choose-returns-5 t c =
     let r = c .none2 .result in
     let e = c .none2 .ensures in
     let all = tried-all (a .cl .now) (a .given .now) (p .budgets) (p .kn) (p .val) (p .vertices) (p .outputs) (p .cells) (p .tables) (a .done) (a .rows) (a .same) n
-    (q .4) (free .0) (l .r) (q .3) (q .7) (omega arith) in
+    (not (eqb (p .kn) 0)) (q .4) (free .0) (l .i) (q .3) (q .7) (omega arith) in
     let said = chosen-none (a .cl .now) (a .given .now) (p .budgets) (p .kn) (p .val) (p .vertices) (p .outputs) (p .cells) (p .tables) (a .done) (a .rows) (r .rows) (r .codes) (r .ok) (e .0) in
     let S : Bool → Type 0 = λ b. Sure (p .last) b
     (Chosen (a .cl .now) (a .given .now) (p .budgets) (p .kn) (p .val) (p .vertices) (p .outputs) (p .cells) (p .tables) (a .done) (a .rows) (r .ok) (r .rows) (r .codes)) in
@@ -477,6 +488,7 @@ pub +choose-spec : {M : Type 1} → statement M
     (choose-same-length-2 t)
     (choose-returns-2 t)
     (choose-loop-holds t)
+    (choose-turn-requires t)
     (choose-row-of-requires-2 t)
     (choose-suits-requires t)
     (choose-mul-tried t)
@@ -491,7 +503,7 @@ pub +choose-spec : {M : Type 1} → statement M
     (choose-none-requires t)
     (choose-same-length-4 t)
     (choose-returns-4 t)
-    (choose-add-r t)
+    (choose-add-i t)
     (choose-loop-less t)
     (choose-loop-again t)
     (choose-none-requires-2 t)
