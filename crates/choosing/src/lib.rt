@@ -22,8 +22,8 @@ use limits::SEARCH_OUTPUTS;
 pub const MAX_GIVEN: u8 = 10;
 
 // What a choice of rows is asked for: the budgets of the outputs, the numbers of vertices and outputs, of open cells and of
-// given tables, the vertices where cell 0 has known digits and these digits, and the limits of nodes for a question about some
-// of the outputs and for one about all.
+// given tables, the vertices where cell 0 has known digits and these digits, the limits of nodes for a question about some of
+// the outputs and for one about all, and for each output the rows that a count for it alone leaves (`alone`).
 pub struct Problem {
     pub budgets: [u8; SEARCH_OUTPUTS],
     pub vertices: usize,
@@ -34,6 +34,7 @@ pub struct Problem {
     pub val: u32,
     pub limit: u64,
     pub last: u64,
+    pub alone: [u64; SEARCH_OUTPUTS],
 }
 
 // The first m outputs as a set.
@@ -110,10 +111,96 @@ fn still_alike(same: u8, row: u16) -> u8
     same & !(f ^ (f / 2))
 }
 
+// Whether a count for output o alone leaves the row.
+fn leaves(cl: &[u8], given: &[u16], vertices: usize, o: usize, row: u16) -> bool
+    requires { ⌜ Classes (now cl) × (length (now given) ≡ maxVertices) × (vertices ≤ maxVertices) × (o < searchOutputs) ⌝ }
+{
+    let mut rows = [0u16; SEARCH_OUTPUTS];
+    rows[o] = row;
+    questions::possible(cl, given, vertices, with(0, o), rows)
+}
+
+// A u64 has a digit for each row of number below this.
+const NOTED: u32 = 64;
+
+// The rows of number below NOTED that read as many tables as wanted and that a count for output o alone leaves, by their numbers.
+fn rows_alone(
+    cl: &[u8],
+    given: &[u16],
+    vertices: usize,
+    o: usize,
+    want: u32,
+    cells: u8,
+    tables: u8,
+) -> u64
+    requires { ⌜ Classes (now cl) × (length (now given) ≡ maxVertices) × (vertices ≤ maxVertices) × (o < searchOutputs) × (cells ≤ maxCells) × (tables ≤ maxGiven) ⌝ }
+{
+    let all = numbers(cells + tables);
+    let end = if all < NOTED { all } else { NOTED };
+    let mut left: u64 = 0;
+    let mut r: u32 = 0;
+    while r < end {
+        let row = row_of(r, cells);
+        if suits(row, want, 0) {
+            if leaves(cl, given, vertices, o, row) {
+                left = cells::with(left, r as u8);
+            }
+        }
+        r += 1;
+    }
+    left
+}
+
+// What a problem holds of counts for single outputs: digit r of the number for output o says that the row of number r, below
+// NOTED, reads as many tables as o wants and that a count for o alone leaves it. Without given tables, where such counts are not
+// made, there are no digits.
+pub fn alone(
+    cl: &[u8],
+    given: &[u16],
+    budgets: [u8; SEARCH_OUTPUTS],
+    vertices: usize,
+    outputs: usize,
+    cells: u8,
+    tables: u8,
+) -> [u64; SEARCH_OUTPUTS]
+    requires { ⌜ Classes (now cl) × (length (now given) ≡ maxVertices) × (vertices ≤ maxVertices) × (outputs ≤ searchOutputs) × (cells ≤ maxCells) × (tables ≤ maxGiven) ⌝ }
+{
+    let mut a = [0u64; SEARCH_OUTPUTS];
+    if tables == 0 {
+        return a;
+    }
+    let mut o: usize = 0;
+    while o < outputs {
+        let want = wanted(budgets[o], cells, tables);
+        a[o] = rows_alone(cl, given, vertices, o, want, cells, tables);
+        o += 1;
+    }
+    a
+}
+
+// The number of a row among u open cells.
+fn number_of(row: u16, u: u8) -> u32
+    requires { ⌜ u ≤ maxCells ⌝ }
+{
+    (questions::given_of(row) as u32) << u | questions::open_of(row) as u32
+}
+
+// Whether the problem holds that a count for output o alone leaves the row of number r.
+fn is_left(p: Problem, o: usize, r: u32) -> bool
+    requires { ⌜ o < searchOutputs ⌝ }
+{
+    let left = p.alone;
+    if r < NOTED {
+        cells::in_set(left[o], r as u8)
+    } else {
+        false
+    }
+}
+
 // Whether a row counts for output o: it suits, and where there are given tables a count for o alone leaves it. Without given
 // tables such a count says much the same of all rows that suit.
 fn counts(cl: &[u8], given: &[u16], p: Problem, o: usize, row: u16, want: u32, same: u8) -> bool
-    requires { ⌜ Classes (now cl) × (length (now given) ≡ maxVertices) × (p .vertices ≤ maxVertices) × (o < searchOutputs) ⌝ }
+    requires { ⌜ Classes (now cl) × (length (now given) ≡ maxVertices) × (p .vertices ≤ maxVertices) × (o < searchOutputs) × (p .cells ≤ maxCells) ⌝ }
 {
     if !suits(row, want, same) {
         return false;
@@ -121,9 +208,11 @@ fn counts(cl: &[u8], given: &[u16], p: Problem, o: usize, row: u16, want: u32, s
     if p.tables == 0 {
         return true;
     }
-    let mut rows = [0u16; SEARCH_OUTPUTS];
-    rows[o] = row;
-    questions::possible(cl, given, p.vertices, with(0, o), rows)
+    let r = number_of(row, p.cells);
+    if r < NOTED {
+        return is_left(p, o, r);
+    }
+    leaves(cl, given, p.vertices, o, row)
 }
 
 // How many rows count for output o.
@@ -173,7 +262,8 @@ fn next(cl: &[u8], given: &[u16], p: Problem, done: u8, same: u8) -> usize
 }
 
 // Whether a count leaves it open that the rows of the outputs of the set done, n among them, have codes. Where there are given
-// tables a count for n alone comes first: it is quick and rules out most rows.
+// tables a count for n alone comes first, unless it is known to leave the row: it is quick and rules out most rows. Where cell 0
+// has known digits a count for all of them costs more than it saves, which was measured.
 fn possible(
     cl: &[u8],
     given: &[u16],
@@ -182,13 +272,18 @@ fn possible(
     done: u8,
     n: usize,
 ) -> bool
-    requires { ⌜ Classes (now cl) × (length (now given) ≡ maxVertices) × (p .vertices ≤ maxVertices) × (n < searchOutputs) × (on done n ≡ true) ⌝ }
+    requires { ⌜ Classes (now cl) × (length (now given) ≡ maxVertices) × (p .vertices ≤ maxVertices) × (n < searchOutputs) × (on done n ≡ true) × (p .cells ≤ maxCells) ⌝ }
     ensures { λ r. ⌜ (r ≡ false → Barred (now (cl .entry)) (now (given .entry)) (p .kn) (p .val) (p .vertices) done (item rows)) ⌝ }
 {
     if p.tables != 0 {
-        if !questions::possible(cl, given, p.vertices, with(0, n), rows) {
-            return false;
+        if !is_left(p, n, number_of(rows[n], p.cells)) {
+            if !questions::possible(cl, given, p.vertices, with(0, n), rows) {
+                return false;
+            }
         }
+    }
+    if p.kn != 0 {
+        return true;
     }
     questions::possible(cl, given, p.vertices, done, rows)
 }
@@ -247,7 +342,7 @@ fn alive(
     done: u8,
     n: usize,
 ) -> memory::Reply
-    requires { ⌜ Classes (now cl) × (length (now given) ≡ maxVertices) × (p .vertices ≤ maxVertices) × (n < searchOutputs) × (on done n ≡ true)
+    requires { ⌜ Classes (now cl) × (length (now given) ≡ maxVertices) × (p .vertices ≤ maxVertices) × (n < searchOutputs) × (on done n ≡ true) × (p .cells ≤ maxCells)
         × Honest (now cl) (now given) (p .kn) (p .val) (p .vertices) (now mem) ⌝ }
     ensures { λ r. ⌜ Honest (now (cl .entry)) (now (given .entry)) (p .kn) (p .val) (p .vertices) (now (mem .exit))
         × (r .ok ≡ false → Barred (now (cl .entry)) (now (given .entry)) (p .kn) (p .val) (p .vertices) done (item rows)) ⌝ }

@@ -284,7 +284,7 @@ choose-alive-requires t c κs =
     let e = c10 .before .before .before .before .before .if1 .left in
     let w = c10 .before .before .with in
     let has = subst (λ (d : ℕ). on d (x .result) ≡ true) (sym (w .ensures)) (on-with-same (a .done) (x .result)) in
-    (q .0, q .1, q .2, omega arith, has, c .before .before .before .before .before .before .before .loop .inv .2)
+    (q .0, q .1, q .2, omega arith, has, q .4, c .before .before .before .before .before .before .before .loop .inv .2)
 
 choose-wrapping-add-u64-requires : (t : ℕ) → choose-lts.Need-wrapping-add-u64-requires (choose-claims t) (choose-at t) choose.Post choose-Inv-loop choose-μ-loop
 choose-wrapping-add-u64-requires t c κs = search needs

@@ -14,7 +14,7 @@ possible-requires : tie.Need-possible-requires
 possible-requires c κs = search needs
 
 returns : tie.Need-returns
-returns c = (c .before .before .before .before .before .pre .5, λ e. c .before .possible .ensures (not-true _ (c .if1 .taken)))
+returns c = (c .before .before .before .before .before .pre .6, λ e. c .before .possible .ensures (not-true _ (c .if1 .taken)))
 
 with-requires : tie.Need-with-requires
 with-requires c κs = search needs
@@ -27,12 +27,14 @@ same-length c = search needs
 
 returns-2 : tie.Need-returns-2
 returns-2 c =
-    let a = c .before .before .before .before .before .before .before .before .before .before .args in
-    let h = c .before .before .before .before .before .before .before .before .before .before .pre .5 in
-    (h, λ e. c .before .known-bad .ensures (a .cl .now) (a .given .now) (a .p .kn) (a .p .val) (a .p .vertices) (known-or-none (a .p .kn)) h (c .if2 .taken))
+    let start = c .before .before .before .before .before .before .before .before .before .before in
+    let a = start .args in
+    let p = a .p in
+    let h = start .pre .6 in
+    (h, λ e. c .before .known-bad .ensures (a .cl .now) (a .given .now) (p .kn) (p .val) (p .vertices) (known-or-none (p .kn)) h (c .if2 .taken))
 
 small-questions-requires : tie.Need-small-questions-requires
-small-questions-requires c κs = let q = c .before .before .before .before .before .before .before .before .before .before .before .pre in (q .0, q .1, q .2, q .3, q .5)
+small-questions-requires c κs = let q = c .before .before .before .before .before .before .before .before .before .before .before .pre in (q .0, q .1, q .2, q .3, q .6)
 
 same-length-2 : tie.Need-same-length-2
 same-length-2 c = search needs

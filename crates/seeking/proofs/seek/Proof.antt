@@ -5,86 +5,89 @@ use borrow.Author.Tests.{not-true, not-false}
 use lib.ListN.{length}
 use native.Mathlib.Omega.{arith}
 use Prim.Native.Nat.{_≤_, _-_}
-use mathlib.Core.Path.{_≡_, refl}
+use mathlib.Core.Path.{_≡_, refl, sym, _∙_}
 use borrow.Author.Needs.{needs}
 use Rattle.seeking.proofs.seek.Statement.{statement}
 use Rattle.seeking.proofs.seek.Tie as tie
 use Rattle.seeking.proofs.seek.Reads as reads
 use Rattle.seeking.proofs.seek.Lts as lts
+use Rattle.choosing.proofs.alone.Reads as alone-reads
 use Rattle.choosing.proofs.choose.Reads as choose-reads
 use Rattle.memory.proofs.forget.Reads as forget-reads
 use Rattle.seeking.proofs.all_nodes.Reads as all-nodes-reads
 use Rattle.seeking.proofs.places.Reads as places-reads
+use Rattle.seeking.proofs.some_nodes.Reads as some-nodes-reads
 
 abbrev Inv-loop : tie.InvT-loop
-Inv-loop cl given mem₀ p nodes none same budgets total₀ i₀ mem total i =
+Inv-loop cl given mem₀ p nodes none same budgets alone total₀ i₀ mem total i =
     (i ≤ 7) × (length none ≡ 8) × (budgets ≡ p .budgets) × Places (p .kn) (p .cells) same × Honest cl given (p .kn) (p .val) (p .vertices) mem
 
 abbrev μ-loop : tie.MeasureT-loop
-μ-loop cl given mem₀ p nodes none same budgets total₀ i₀ mem total i = 7 - i
+μ-loop cl given mem₀ p nodes none same budgets alone total₀ i₀ mem total i = 7 - i
 
 places-requires : tie.Need-places-requires Inv-loop μ-loop
 places-requires c κs = search needs
 
+alone-requires : tie.Need-alone-requires Inv-loop μ-loop
+alone-requires c κs = search needs
+
 loop-holds : tie.Need-loop-holds Inv-loop μ-loop
-loop-holds c = (omega arith, refl, refl, c .before .places .ensures, c .before .before .before .before .before .pre .7)
+loop-holds c = (omega arith, refl, refl, c .before .before .places .ensures, c .before .before .before .before .before .before .pre .7)
 
-mul-t13 : tie.Need-mul-t13 Inv-loop μ-loop
-mul-t13 c = let i = c .loop .inv .0 in search needs
-
-shl-t14 : tie.Need-shl-t14 Inv-loop μ-loop
-shl-t14 c = let i = c .loop .inv .0 in search needs
+some-nodes-requires : tie.Need-some-nodes-requires Inv-loop μ-loop
+some-nodes-requires c κs = c .before .loop .inv .0
 
 all-nodes-requires : tie.Need-all-nodes-requires Inv-loop μ-loop
 all-nodes-requires c κs = search needs
 
 choose-requires : tie.Need-choose-requires Inv-loop μ-loop
 choose-requires c κs =
-    let p = c .before .before .before .before .before .before .before .before .pre in
-    let a = c .before .before .before .before .before .before .before .before .args .p in
-    let i = c .before .before .loop .inv in
-    (p .0, p .1, p .2, p .3, p .4, p .5, rows-start _ (a .outputs) (a .cells) (a .tables) _ (i .1), alike-start (a .kn) (a .cells) _ _ (i .3), i .4)
+    let at = c .before .before .before .before .before in
+    let start = at .before .before .before .before .before .before .before in
+    let q = start .pre in
+    let p = start .args .p in
+    let i = at .loop .inv in
+    (q .0, q .1, q .2, q .3, q .4, q .5, rows-start _ (p .outputs) (p .cells) (p .tables) _ (i .1), alike-start (p .kn) (p .cells) _ _ (i .3), i .4)
 
 same-length : tie.Need-same-length Inv-loop μ-loop
-same-length c = search needs
+same-length c =
+    let start = c .before .before .before .before .before .before .before .before .before .before .before .before .before .before .before .before .before in
+    c .before .before .before .before .choose .ensures .1 .long ∙ sym (start .pre .7 .long)
 
 returns : tie.Need-returns Inv-loop μ-loop
 returns c =
-    let p = c .before .before .before .before .before .before .before .before .before .before .before .before .before .pre in
-    let a = c .before .before .before .before .before .before .before .before .before .before .before .before .before .args in
-    let q = a .p in
-    let k = c .before .before .before .before .choose in (
-      chosen-sought (a .cl .now) (a .given .now) (q .budgets) (q .kn) (q .val) (q .vertices) (q .outputs) (q .cells) (q .tables) _ (k .result .ok) (k .result .rows) (k .result .codes)
-          (p .4) (p .5) (p .3) (p .6) (k .ensures .0 .sure (not-true _ (c .if1 .taken))),
-      k .ensures .1,
-    )
+    let start = c .before .before .before .before .before .before .before .before .before .before .before .before .before .before .before .before .before in
+    let q = start .pre in
+    let a = start .args in
+    let p = a .p in
+    let k = c .before .before .before .before .choose in
+    let r = k .result in
+    let said = k .ensures .0 .sure (not-true _ (c .if1 .taken)) in
+    let found = chosen-sought (a .cl .now) (a .given .now) (p .budgets) (p .kn) (p .val) (p .vertices) (p .outputs) (p .cells) (p .tables) _ (r .ok) (r .rows) (r .codes) in
+    (found (q .4) (q .5) (q .3) (q .6) said, k .ensures .1)
 
 forget-requires : tie.Need-forget-requires Inv-loop μ-loop
 forget-requires c κs = search needs
 
 add-i : tie.Need-add-i Inv-loop μ-loop
-add-i c = let i = c .before .before .before .before .before .before .before .before .before .before .before .loop .inv .0 in search needs
+add-i c = let i = c .before .before .before .before .before .before .before .before .before .before .before .before .before .before .loop .inv .0 in search needs
 
 loop-less : tie.Need-loop-less Inv-loop μ-loop
 loop-less c =
     let called = c .before .before .before .before .before .before .before .before in
-    let at = called .before .before .before in
-    let l = unsure-early _ (at .loop .i) _ _ (called .choose .ensures .0) (called .before .before .all-nodes .ensures) (not-false _ (c .before .before .before .before .if1 .left)) in
+    let at = called .before .before .before .before .before .before in
+    let early = unsure-early _ (at .loop .i) _ _ (called .choose .ensures .0) (called .before .before .all-nodes .ensures) (not-false _ (c .before .before .before .before .if1 .left)) in
     omega arith
 
 loop-again : tie.Need-loop-again Inv-loop μ-loop
 loop-again c =
     let called = c .before .before .before .before .before .before .before .before in
-    let at = called .before .before .before in
-    let a = at .before .before .before .before .before .before .args in
-    let q = a .p in
-    let l = unsure-early _ (at .loop .i) _ _ (called .choose .ensures .0) (called .before .before .all-nodes .ensures) (not-false _ (c .before .before .before .before .if1 .left)) in (
-      omega arith,
-      refl,
-      refl,
-      at .loop .inv .3,
-      c .before .before .forget .ensures (a .cl .now) (a .given .now) (q .kn) (q .val) (q .vertices) (called .choose .ensures .1),
-    )
+    let at = called .before .before .before .before .before .before in
+    let a = at .before .before .before .before .before .before .before .args in
+    let p = a .p in
+    let early = unsure-early _ (at .loop .i) _ _ (called .choose .ensures .0) (called .before .before .all-nodes .ensures) (not-false _ (c .before .before .before .before .if1 .left)) in
+    let kept = c .before .before .forget .ensures (a .cl .now) (a .given .now) (p .kn) (p .val) (p .vertices) (called .choose .ensures .1) in
+    (omega arith, refl, refl, at .loop .inv .3, kept)
 
 pub seek-spec : {M : Type 1} → statement M
 seek-spec =
@@ -93,9 +96,9 @@ seek-spec =
     Inv-loop
     μ-loop
     places-requires
+    alone-requires
     loop-holds
-    mul-t13
-    shl-t14
+    some-nodes-requires
     all-nodes-requires
     choose-requires
     same-length
