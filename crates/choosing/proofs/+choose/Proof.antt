@@ -104,9 +104,10 @@ choose-same-length t c = c .before .before .finish .ensures .2 .long ∙ sym (c 
 
 choose-returns : (t : ℕ) → choose-lts.Need-returns (choose-claims t) (choose-at t) choose.Post choose-Inv-loop choose-μ-loop
 choose-returns t c =
-    let a = c .before .before .before .before .before .before .before .before .before .args in
+    let start = c .before .before .before .before .before .before .before .before .before in
+    let a = start .args in
     let p = a .p in
-    let q = c .before .before .before .before .before .before .before .before .before .pre .1 in
+    let q = start .pre .1 in
     let f = c .before .before .finish in
     let r = f .result in
     let end = chosen-end (a .cl .now) (a .given .now) (p .budgets) (p .kn) (p .val) (p .vertices) (p .outputs) (p .cells) (p .tables)
@@ -142,8 +143,9 @@ choose-served-requires t c κs =
 choose-row-of-requires : (t : ℕ) → choose-lts.Need-row-of-requires (choose-claims t) (choose-at t) choose.Post choose-Inv-loop choose-μ-loop
 choose-row-of-requires t c κs =
     let c10 = c .before .before .before .before .before .before .before .before .before .before in
-    let p = c10 .before .before .args .p in
-    let q = c10 .before .before .pre .1 in
+    let start = c10 .before .before in
+    let p = start .args .p in
+    let q = start .pre .1 in
     let s = c .before .served in
     let k = c .before .before .numbers in
     let h = c .if2 .taken in
@@ -167,9 +169,10 @@ choose-still-alike-requires t c κs = search needs
 choose-choose-requires : (t : ℕ) → choose-lts.Need-choose-requires (choose-claims t) (choose-at t) choose.Post choose-Inv-loop choose-μ-loop
 choose-choose-requires t c κs =
     let c10 = c .before .before .before .before .before .before .before .before .before .before in
-    let a = c10 .before .before .before .before .before .args in
+    let start = c10 .before .before .before .before .before in
+    let a = start .args in
     let p = a .p in
-    let q = c10 .before .before .before .before .before .pre .1 in
+    let q = start .pre .1 in
     let x = c10 .before .next .ensures in
     let n = c10 .before .next .result in
     let e1 = x .room in
@@ -185,7 +188,7 @@ choose-choose-requires t c κs =
     let here : s .result < 2 ^ (p .cells + p .tables) = omega arith in
     let full = ap (λ (z : ℕ). count (on z) 16) last ∙ s .ensures .full here ∙ c .before .before .before .before .before .before .before .before .wanted .ensures in
     let y = c .still-alike in
-    let t' = c10 .before .before .before .before .before .pre .0 in
+    let t' = start .pre .0 in
     let less = step-less (a .cl .now) (a .given .now) (p .budgets) (p .kn) (p .val) (p .vertices) (p .outputs) (p .cells) (p .tables) (a .done) (a .rows) (a .same) n
     (w .result) (k .result) (s .result) (q .4) (free .0) low (free .1) (w .ensures) last (q .6) in
     let more = step-rows (a .cl .now) (a .given .now) (p .budgets) (p .kn) (p .val) (p .vertices) (p .outputs) (p .cells) (p .tables) (a .done) (a .rows) (a .same) n
@@ -202,9 +205,10 @@ choose-same-length-2 t c =
 choose-returns-2 : (t : ℕ) → choose-lts.Need-returns-2 (choose-claims t) (choose-at t) choose.Post choose-Inv-loop choose-μ-loop
 choose-returns-2 t c =
     let c10 = c .before .before .before .before .before .before .before .before .before .before in
-    let a = c10 .before .before .before .before .before .before .before .before .args in
+    let start = c10 .before .before .before .before .before .before .before .before in
+    let a = start .args in
     let p = a .p in
-    let q = c10 .before .before .before .before .before .before .before .before .pre .1 in
+    let q = start .pre .1 in
     let x = c10 .before .before .before .before .next .ensures in
     let n = c10 .before .before .before .before .next .result in
     let e1 = x .room in
@@ -250,9 +254,10 @@ choose-turn-requires t c κs = c .before .loop-test .taken
 choose-row-of-requires-2 : (t : ℕ) → choose-lts.Need-row-of-requires-2 (choose-claims t) (choose-at t) choose.Post choose-Inv-loop choose-μ-loop
 choose-row-of-requires-2 t c κs =
     let c10 = c .before .before .before .before .before .before .before .before .before .before in
-    let a = c10 .before .before .before .before .before .before .args in
+    let start = c10 .before .before .before .before .before .before in
+    let a = start .args in
     let p = a .p in
-    let q = c10 .before .before .before .before .before .before .pre .1 in
+    let q = start .pre .1 in
     let y = c .turn in
     let k = c .before .before .before .before .before .before .numbers in
     (q .4, number-room (p .cells) (p .tables) (y .result) (k .result) (q .5) (k .ensures .0) (y .ensures .1))
@@ -277,8 +282,9 @@ choose-array-write-tried t c =
 choose-alive-requires : (t : ℕ) → choose-lts.Need-alive-requires (choose-claims t) (choose-at t) choose.Post choose-Inv-loop choose-μ-loop
 choose-alive-requires t c κs =
     let c10 = c .before .before .before .before .before .before .before .before .before .before in
-    let q = c10 .before .before .before .before .before .before .before .before .before .before .pre .1 in
-    let a = c10 .before .before .before .before .before .before .before .before .before .before .args in
+    let start = c10 .before .before .before .before .before .before .before .before .before .before in
+    let q = start .pre .1 in
+    let a = start .args in
     let x = c10 .before .before .before .before .before .before .next in
     let h = x .ensures .room in
     let e = c10 .before .before .before .before .before .if1 .left in
@@ -296,9 +302,10 @@ choose-choose-requires-2 : (t : ℕ) → choose-lts.Need-choose-requires-2 (choo
 choose-choose-requires-2 t c κs =
     let c10 = c .before .before .before .before .before .before .before .before .before .before in
     let c20 = c10 .before .before .before .before .before .before .before .before .before .before in
-    let a = c20 .before .before .before .before .before .before .before .args in
+    let start = c20 .before .before .before .before .before .before .before in
+    let a = start .args in
     let p = a .p in
-    let q = c20 .before .before .before .before .before .before .before .pre .1 in
+    let q = start .pre .1 in
     let n = c20 .before .before .before .next .result in
     let x = c20 .before .before .before .next .ensures in
     let e1 = x .room in
@@ -309,7 +316,7 @@ choose-choose-requires-2 t c κs =
     let w = c10 .before .before .before .before .before .before .before .before .before .with in
     let k = c10 .row-of2 in
     let last = k .ensures in
-    let t' = c20 .before .before .before .before .before .before .before .pre .0 in
+    let t' = start .pre .0 in
     let e3 = c10 .before .before .before .before .before .before .before .numbers .ensures .0 in
     let e4 = y .ensures .1 in
     let e5 = c .before .before .before .before .before .before .before .before .before .suits .ensures .right (c .before .before .before .before .before .before .before .before .if3 .taken) in
@@ -334,9 +341,10 @@ choose-returns-3 : (t : ℕ) → choose-lts.Need-returns-3 (choose-claims t) (ch
 choose-returns-3 t c =
     let c10 = c .before .before .before .before .before .before .before .before .before .before in
     let c20 = c10 .before .before .before .before .before .before .before .before .before .before in
-    let a = c20 .before .before .before .before .before .before .before .before .before .before .before .args in
+    let start = c20 .before .before .before .before .before .before .before .before .before .before .before in
+    let a = start .args in
     let p = a .p in
-    let q = c20 .before .before .before .before .before .before .before .before .before .before .before .pre .1 in
+    let q = start .pre .1 in
     let y = c .before .before .before .choose2 in
     let r = y .result in
     let tried = set (a .rows) (c20 .before .before .before .before .before .before .before .next .result) (c10 .before .before .before .before .row-of2 .result) in
@@ -361,9 +369,10 @@ choose-returns-4 : (t : ℕ) → choose-lts.Need-returns-4 (choose-claims t) (ch
 choose-returns-4 t c =
     let c10 = c .before .before .before .before .before .before .before .before .before .before in
     let c20 = c10 .before .before .before .before .before .before .before .before .before .before in
-    let a = c20 .before .before .before .before .before .before .before .before .before .before .before .before .before .before .before .before .before .args in
+    let start = c20 .before .before .before .before .before .before .before .before .before .before .before .before .before .before .before .before .before in
+    let a = start .args in
     let p = a .p in
-    let q = c20 .before .before .before .before .before .before .before .before .before .before .before .before .before .before .before .before .before .pre .1 in
+    let q = start .pre .1 in
     let h = c .before .before .before .before .before .before .before .before .before .choose2 .ensures .1 in
     let r = c .none .result in
     let e = c .none .ensures in
@@ -373,7 +382,10 @@ choose-returns-4 t c =
     (sure-now (p .last) (r .unsure) _ (e .1) said, h)
 
 choose-add-i : (t : ℕ) → choose-lts.Need-add-i (choose-claims t) (choose-at t) choose.Post choose-Inv-loop choose-μ-loop
-choose-add-i t c = let h = c .before .before .before .before .before .loop-test .taken in let z = c .before .before .before .before .before .before .before .before .before .numbers .ensures .1 in omega arith
+choose-add-i t c =
+    let h = c .before .before .before .before .before .loop-test .taken in
+    let z = c .before .before .before .before .before .before .before .before .before .numbers .ensures .1 in
+    omega arith
 
 choose-loop-less : (t : ℕ) → choose-lts.Need-loop-less (choose-claims t) (choose-at t) choose.Post choose-Inv-loop choose-μ-loop
 choose-loop-less t c = let h = c .before .before .before .before .before .loop-test .taken in search needs
@@ -381,9 +393,10 @@ choose-loop-less t c = let h = c .before .before .before .before .before .loop-t
 choose-loop-again : (t : ℕ) → choose-lts.Need-loop-again (choose-claims t) (choose-at t) choose.Post choose-Inv-loop choose-μ-loop
 choose-loop-again t c =
     let c10 = c .before .before .before .before .before .before .before .before .before .before in
-    let a = c10 .before .before .before .before .before .before .before .before .before .args in
+    let start = c10 .before .before .before .before .before .before .before .before .before in
+    let a = start .args in
     let p = a .p in
-    let q = c10 .before .before .before .before .before .before .before .before .before .pre .1 in
+    let q = start .pre .1 in
     let n = c10 .before .before .before .before .before .next .result in
     let x = c10 .before .before .before .before .before .next .ensures in
     let e1 = x .room in
@@ -442,9 +455,10 @@ choose-same-length-5 t c =
 choose-returns-5 : (t : ℕ) → choose-lts.Need-returns-5 (choose-claims t) (choose-at t) choose.Post choose-Inv-loop choose-μ-loop
 choose-returns-5 t c =
     let c10 = c .before .before .before .before .before .before .before .before .before .before in
-    let a = c10 .before .before .before .before .before .args in
+    let start = c10 .before .before .before .before .before in
+    let a = start .args in
     let p = a .p in
-    let q = c10 .before .before .before .before .before .pre .1 in
+    let q = start .pre .1 in
     let n = c10 .before .next .result in
     let x = c10 .before .next .ensures in
     let e1 = x .room in

@@ -91,10 +91,11 @@ find-slice-aggregate-pick-3 t c = search needs
 
 find-pick-requires : (t : ℕ) → find-lts.Need-pick-requires (find-claims t) (find-at t) find.Post find-Inv-loop find-μ-loop
 find-pick-requires t c κs =
-    let pre = c .before .before .before .before .before .before .before .before .before .pre .1 in
-    let d = c .before .before .before .before .before .before .before .before .before .good .1 .1 .1 .1 .1 .1 .1 .0 in
-    let k = c .before .before .before .before .before .before .before .before .before .good .1 .1 .1 .1 .1 .1 .0 in
-    let m = c .before .before .before .before .before .before .before .before .before .good .1 .1 .1 .1 .1 .1 .1 .1 .1 .0 in
+    let start = c .before .before .before .before .before .before .before .before .before in
+    let pre = start .pre .1 in
+    let d = start .good .1 .1 .1 .1 .1 .1 .1 .0 in
+    let k = start .good .1 .1 .1 .1 .1 .1 .0 in
+    let m = start .good .1 .1 .1 .1 .1 .1 .1 .1 .1 .0 in
     (pre .0, pre .4, pre .3, search needs, search needs, search needs)
 
 find-finish-requires : (t : ℕ) → find-lts.Need-finish-requires (find-claims t) (find-at t) find.Post find-Inv-loop find-μ-loop
@@ -104,9 +105,10 @@ find-finish-requires t c κs =
 
 find-returns : (t : ℕ) → find-lts.Need-returns (find-claims t) (find-at t) find.Post find-Inv-loop find-μ-loop
 find-returns t c =
-    let a = c .before .before .before .before .before .before .before .before .before .before .before .before .before .args in
+    let start = c .before .before .before .before .before .before .before .before .before .before .before .before .before in
+    let a = start .args in
     let p = a .p in
-    let pre = c .before .before .before .before .before .before .before .before .before .before .before .before .before .pre .1 in
+    let pre = start .pre .1 in
     record { sure = λ e. c .before .finish .ensures (a .base .now) (p .spots) (a .t8) (p .kn) (p .val) (pre .8); never = λ e. refl }
 
 find-fitting-requires : (t : ℕ) → find-lts.Need-fitting-requires (find-claims t) (find-at t) find.Post find-Inv-loop find-μ-loop
@@ -170,11 +172,12 @@ find-slice-aggregate-settle-all-2 t c =
 find-settle-all-requires : (t : ℕ) → find-lts.Need-settle-all-requires (find-claims t) (find-at t) find.Post find-Inv-loop find-μ-loop
 find-settle-all-requires t c κs =
     let far = c .before .before .before .before .before .before .before .before .before .before .before .before in
-    let pre = far .before .before .before .before .before .before .before .before .before .pre .1 in
+    let start = far .before .before .before .before .before .before .before .before .before in
+    let pre = start .pre .1 in
     let few = pre .3 in
     let i = c .before .before .before .before .before .before .before .before .loop .inv .1 in
-    let d = far .before .before .before .before .before .before .before .before .before .good .1 .1 .1 .1 .1 .1 .1 .0 in
-    let long = length-set (far .before .before .before .before .before .before .before .before .before .args .t7)
+    let d = start .good .1 .1 .1 .1 .1 .1 .1 .0 in
+    let long = length-set (start .args .t7)
     (c .before .before .before .before .before .before .before .before .before .before .before .pick .result) (c .before .before .before .before .lowest .result)
     ∙ c .before .before .before .before .before .before .before .before .loop .inv .0 in
     (pre .0, pre .1, pre .2, pre .3, pre .4, c .before .before .before .before .lowest .ensures .0, omega arith, long, search needs)
@@ -195,10 +198,11 @@ find-meet-requires t c κs =
 find-find-requires : (t : ℕ) → find-lts.Need-find-requires (find-claims t) (find-at t) find.Post find-Inv-loop find-μ-loop
 find-find-requires t c κs =
     let far = c .before .before .before .before .before .before .before .before .before .before .before .before in
-    let pre = far .before .before .before .before .before .before .before .before .before .before .before .before .before .before .pre .1 in
-    let m = far .before .before .before .before .before .before .before .before .before .before .before .before .before .before .pre .0 in
+    let start = far .before .before .before .before .before .before .before .before .before .before .before .before .before .before in
+    let pre = start .pre .1 in
+    let m = start .pre .0 in
     let i = far .before .loop .inv in
-    let a = far .before .before .before .before .before .before .before .before .before .before .before .before .before .before .args in
+    let a = start .args in
     let p = a .p in
     let x = far .before .before .before .before .pick .result in
     let l = c .before .before .before .before .before .before .before .before .before .lowest .ensures .0 in
@@ -237,8 +241,9 @@ find-loop-again : (t : ℕ) → find-lts.Need-loop-again (find-claims t) (find-a
 find-loop-again t c =
     let far = c .before .before .before .before .before .before .before .before .before .before .before .before in
     let i = far .before .before .before .before .loop .inv in
-    let pre = far .before .before .before .before .before .before .before .before .before .before .before .before .before .before .before .before .before .pre .1 in
-    let a = far .before .before .before .before .before .before .before .before .before .before .before .before .before .before .before .before .before .args in
+    let start = far .before .before .before .before .before .before .before .before .before .before .before .before .before .before .before .before .before in
+    let pre = start .pre .1 in
+    let a = start .args in
     let p = a .p in
     let x = far .before .before .before .before .before .before .before .pick .result in
     let n = far .lowest .result in
@@ -264,8 +269,9 @@ find-loop-again-2 : (t : ℕ) → find-lts.Need-loop-again-2 (find-claims t) (fi
 find-loop-again-2 t c =
     let far = c .before .before .before .before .before .before .before .before .before .before .before .before in
     let i = c .before .before .before .before .before .before .before .before .before .before .before .loop .inv in
-    let pre = far .before .before .before .before .before .before .before .before .before .before .before .before .pre .1 in
-    let a = far .before .before .before .before .before .before .before .before .before .before .before .before .args in
+    let start = far .before .before .before .before .before .before .before .before .before .before .before .before in
+    let pre = start .pre .1 in
+    let a = start .args in
     let p = a .p in
     let x = far .before .before .pick .result in
     let n = c .before .before .before .before .before .before .before .lowest .result in
@@ -285,8 +291,9 @@ find-loop-again-2 t c =
 
 find-returns-5 : (t : ℕ) → find-lts.Need-returns-5 (find-claims t) (find-at t) find.Post find-Inv-loop find-μ-loop
 find-returns-5 t c =
-    let pre = c .before .before .before .before .before .before .before .before .before .before .before .before .before .before .pre .1 in
-    let a = c .before .before .before .before .before .before .before .before .before .before .before .before .before .before .args in
+    let start = c .before .before .before .before .before .before .before .before .before .before .before .before .before .before in
+    let pre = start .pre .1 in
+    let a = start .args in
     let p = a .p in
     let i = c .before .loop .inv in
     let n = c .before .before .before .before .before .before .before .before .before .allowed in

@@ -24,22 +24,25 @@ loop-holds c = (omega arith, seeking-start (c .before .before .before .before .a
 shared-slice-read-if1 : tie.Need-shared-slice-read-if1 Inv-loop μ-loop
 shared-slice-read-if1 c =
     let h = c .before .loop-test .taken in
-    let z = c .before .before .before .before .before .before .before .pre .2 in
-    let n = c .before .before .before .before .before .before .before .pre .4 in
+    let start = c .before .before .before .before .before .before .before in
+    let z = start .pre .2 in
+    let n = start .pre .4 in
     search needs
 
 mul-rank : tie.Need-mul-rank Inv-loop μ-loop
 mul-rank c =
     let h = c .before .before .loop-test .taken in
-    let z = c .before .before .before .before .before .before .before .before .pre .2 in
-    let n = c .before .before .before .before .before .before .before .before .pre .3 in
+    let start = c .before .before .before .before .before .before .before .before in
+    let z = start .pre .2 in
+    let n = start .pre .3 in
     search needs
 
 shared-slice-read-rank : tie.Need-shared-slice-read-rank Inv-loop μ-loop
 shared-slice-read-rank c =
     let h = c .before .before .before .loop-test .taken in
-    let z = c .before .before .before .before .before .before .before .before .before .pre .2 in
-    let n = c .before .before .before .before .before .before .before .before .before .pre .3 in
+    let start = c .before .before .before .before .before .before .before .before .before in
+    let z = start .pre .2 in
+    let n = start .pre .3 in
     search needs
 
 unmet-requires : tie.Need-unmet-requires Inv-loop μ-loop
@@ -65,9 +68,10 @@ loop-again : tie.Need-loop-again Inv-loop μ-loop
 loop-again c =
     let loop-test = c .before .before .loop-test in
     let loop = c .before .before .before .loop in
-    let args = c .before .before .before .before .before .before .before .before .args in
+    let start = c .before .before .before .before .before .before .before .before in
+    let args = start .args in
     let h = loop-test .taken in
-    let z = c .before .before .before .before .before .before .before .before .pre .2 in (
+    let z = start .pre .2 in (
       omega arith,
       ⊎-elim
           (λ w. seeking-better (args .codes .now) (loop .y) (loop .best) _ (omega arith) (w .0 .taken) (w .6) (loop .inv .1))
