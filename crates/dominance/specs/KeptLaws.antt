@@ -5,16 +5,16 @@ use mathlib.Core.Path.{_≡_, sym, ap, _∙_, subst}
 use mathlib.Core.Bool.{Bool, true, false}
 use mathlib.Core.List.{List, [], _∷_, _++_}
 use Prim.Native.Nat.{ℕ, zero, suc, _<_}
-use native.Mathlib.Decide.{decLt}
 use Rattle.bits.specs.Digit.{on}
-use Rattle.cells.specs.Core.{Cell, cellsFrom}
-use Rattle.cells.specs.Renumbered.{renumbered, ReadsAs, reads-as-append, serves-as, renumbered-length, renumbered-code, renumbered-reads-as, cells-read-as, read-by-reads-as}
+use Rattle.cells.specs.Core.{Cell, Serves, cellsFrom}
+use Rattle.cells.specs.Renumbered.{renumbered, ReadsAs, reads-as-append, serves-as, renumbered-length, renumbered-code, cells-read-as, read-by-reads-as}
 use Rattle.numbering.specs.Given.{item}
 use Rattle.relation.specs.Relation.{Conflict}
 use Rattle.questions.specs.Question.{openOf}
 use Rattle.choosing.specs.Choice.{RowFits}
 use Rattle.seeking.specs.Seeking.{Tables, Known, Lacks, openCells, givenCells, Has, Sought}
 use Rattle.dominance.specs.Kept.{StandFor, Placed}
+use Rattle.dominance.specs.KeptCells.{origin, renumbered-append, all-serves-kept}
 
 -- ======== readers do not matter for tables
 known-renumbered : (kn val v : ℕ) (from : ℕ → ℕ) (l : List Cell) → Known kn val v l → Known kn val v (renumbered from l)
@@ -35,38 +35,15 @@ known-open kn val v (suc u) rows rows' codes k = k
 
 -- ======== none and found
 module _ (cl given budgets labels budgets' : List ℕ) (kn val v m n u g : ℕ) (by : List ℕ) (s : StandFor cl budgets v m labels budgets' n by) where
-  -- the output of cl that output i of those kept reads like
-  abbrev source : (i : ℕ) → Dec (i < n) → ℕ
-  source i (yes h) = s .from i h .0
-  source i (no h) = 0
-
-  abbrev origin : ℕ → ℕ
-  origin i = source i (decLt i n)
-
-  abbrev Like : ℕ → ℕ → Type 0
-  Like i o = (o < m) × ((x y : ℕ) → x < v → y < v → Conflict labels i x y → Conflict cl o x y) × (item budgets' i ≡ item budgets o)
-
-  origin-like : (i : ℕ) → i < n → Like i (origin i)
-  origin-like i h = go (decLt i n)
-    where
-      go : (d : Dec (i < n)) → Like i (source i d)
-      go (yes h) = let w = s .from i h in (w .1, w .2, w .3)
-      go (no e) = absurd (e h)
-
   pub kept-lacks : Lacks labels given budgets' kn val v n u g → Lacks cl given budgets kn val v m u g
   kept-lacks c = record {
-    none = λ l ts e t k serves. c .none (renumbered origin l) (renumbered origin ts) (renumbered-length origin l ∙ e) (tables-renumbered given v g origin ts t)
-        (known-renumbered kn val v origin l k)
-        (serves-as v n m (Conflict cl) (Conflict labels) (item budgets) (item budgets') (renumbered origin l ++ renumbered origin ts) (l ++ ts)
-        (λ i h. let w = origin-like i h in (
-          origin i,
-          w .0,
-          w .1,
-          w .2,
-          reads-as-append i (origin i) (renumbered origin l) l (renumbered origin ts) ts (renumbered-reads-as origin i l) (renumbered-reads-as origin i ts),
-        ))
-        serves);
+    none = λ l ts e t k serves. c .none (renumbered from l) (renumbered from ts) (renumbered-length from l ∙ e) (tables-renumbered given v g from ts t)
+        (known-renumbered kn val v from l k)
+        (subst (Serves v n (Conflict labels) (item budgets')) (renumbered-append from l ts) (all-serves-kept cl budgets labels budgets' v m n by s (l ++ ts) serves));
   }
+    where
+      from : ℕ → ℕ
+      from = origin cl budgets labels budgets' v m n by s
 
   module _ (rows rows' codes : List ℕ) (p : Placed rows by m rows') where
     kept-has : Has labels given budgets' kn val v n u g rows codes → Has cl given budgets kn val v m u g rows' codes
