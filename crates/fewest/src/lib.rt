@@ -1,9 +1,12 @@
 // The fewest cells that serve: 0, 1, 2, .. cells are tried, and the crate seeking finds cells for a count or shows that there are
 // none, for the outputs that dominance keeps. What is found is a least core, and where nothing is found every core that serves
 // has more cells than the limit: the contract of `fewest` is Theorem B.
-ghost use Prim.Native.Nat.{_≤_};
+ghost use mathlib.Core.Path.{_≡_};
+ghost use Prim.Native.Nat.{_*_, _≤_};
+ghost use lib.ListN.{length};
 ghost use Rattle.limits.specs.Limits.{searchOutputs, maxVertices, maxCells};
 ghost use Rattle.relation.specs.Relation.{Classes};
+ghost use Rattle.memory.specs.Memory.{entryCount, entrySize};
 ghost use Rattle.fewest.specs.Count.{Zeroed, Opened, Answered};
 use limits::MAX_VERTICES;
 use limits::SEARCH_OUTPUTS;
@@ -46,16 +49,23 @@ fn opened(rows: [u16; SEARCH_OUTPUTS]) -> [u8; SEARCH_OUTPUTS]
 }
 
 // The fewest cells, up to the limit, that serve m outputs with these classes of v vertices and these budgets. The search is
-// asked about the outputs that none of the others dominates.
-pub fn fewest(cl: &[u8], budgets: [u8; SEARCH_OUTPUTS], v: usize, m: usize, limit: u8) -> Core
-    requires { ⌜ Classes (now cl) × (v ≤ maxVertices) × (m ≤ searchOutputs) × (limit ≤ maxCells) ⌝ }
-    ensures { λ r. ⌜ Answered (now (cl .entry)) budgets v m limit (r .found) (r .count) (r .rows) (r .codes) ⌝ }
+// asked about the outputs that none of the others dominates. The memory that it uses is lent, and holds nothing of what it held.
+pub fn fewest(
+    cl: &[u8],
+    budgets: [u8; SEARCH_OUTPUTS],
+    v: usize,
+    m: usize,
+    limit: u8,
+    mem: &mut [u16],
+) -> Core
+    requires { ⌜ Classes (now cl) × (v ≤ maxVertices) × (m ≤ searchOutputs) × (limit ≤ maxCells) × (length (now mem) ≡ entryCount * entrySize) ⌝ }
+    ensures { λ r. ⌜ Answered (now (cl .entry)) budgets v m limit (r .found) (r .count) (r .rows) (r .codes) × (length (now (mem .exit)) ≡ entryCount * entrySize) ⌝ }
 {
     let kept = dominance::kept(cl, budgets, v, m);
     let asked = kept.budgets;
     let by = kept.by;
     let given = [0u16; MAX_VERTICES];
-    let mut mem = [0u16; memory::SIZE];
+    memory::clear(mem);
     let mut nodes: u64 = 0;
     let mut u: u8 = 0;
     while u <= limit {
@@ -68,7 +78,7 @@ pub fn fewest(cl: &[u8], budgets: [u8; SEARCH_OUTPUTS], v: usize, m: usize, limi
             kn: 0,
             val: 0,
         };
-        let k = seeking::seek(&kept.labels, &given, &mut mem, p, nodes);
+        let k = seeking::seek(&kept.labels, &given, mem, p, nodes);
         nodes = k.nodes;
         if k.ok {
             let rows = k.rows;
