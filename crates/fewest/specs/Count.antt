@@ -109,11 +109,11 @@ zeroed-serves v m Conflict budget u rows codes fs r few outs f z s = record {
     digit x k h = ap (λ (n : ℕ). on n k) (z .done x h) ∙ on-xor (item codes x) (item codes 0) k
 
 -- ---- what is asked without given tables and known digits
-serves-conflict : (cl : List ℕ) (v m : ℕ) (budget : ℕ → ℕ) (l : List Cell) → Serves v m (Differ (labelAt cl)) budget l → Serves v m (Conflict cl) budget l
+pub serves-conflict : (cl : List ℕ) (v m : ℕ) (budget : ℕ → ℕ) (l : List Cell) → Serves v m (Differ (labelAt cl)) budget l → Serves v m (Conflict cl) budget l
 unfolding Conflict
 serves-conflict cl v m budget l s = s
 
-conflict-serves : (cl : List ℕ) (v m : ℕ) (budget : ℕ → ℕ) (l : List Cell) → Serves v m (Conflict cl) budget l → Serves v m (Differ (labelAt cl)) budget l
+pub conflict-serves : (cl : List ℕ) (v m : ℕ) (budget : ℕ → ℕ) (l : List Cell) → Serves v m (Conflict cl) budget l → Serves v m (Differ (labelAt cl)) budget l
 unfolding Conflict
 conflict-serves cl v m budget l s = s
 

@@ -2,12 +2,12 @@
 use mathlib.Core.Path.{_≡_, refl, sym, ap, _∙_, subst}
 use mathlib.Core.Bool.{Bool, true, false}
 use mathlib.Core.List.{List}
-use Prim.Native.Nat.{ℕ, suc, _+_, _-_, _^_, _≤_, _<_}
+use Prim.Native.Nat.{ℕ, _+_, _-_, _^_, _≤_, _<_}
 use native.Mathlib.Decide.{decLt}
 use native.Mathlib.Numerals.{add-one}
 use native.Mathlib.Omega.{arith}
 use lib.ListN.{getD, take}
-use lib.Pow.{pow-pos}
+use lib.Pow.{pow-pos, pow-mono}
 use Rattle.bits.specs.LogicLaws.{true-false}
 use Rattle.bits.specs.Digit.{on}
 use Rattle.bits.specs.DigitLaws.{on-zero, on-ones, on-above}
@@ -19,16 +19,22 @@ use Rattle.witness.specs.Witness.{Witness, Keeps, Front}
 use Rattle.first.specs.Drawn.{shown, Drawn, Lowest, Upto, Stands, Remembers, Replied}
 use Rattle.first.specs.DrawnLaws.{agrees-before, shown-shaped, shown-digit, shown-take, shown-take-digits, witness-drawn}
 
-pub upto-power : (x kn : ℕ) → kn ≡ 2 ^ suc x - 1 → Upto x kn
-upto-power x kn e = record {
-  has = λ y h. ap (λ (n : ℕ). on n y) e ∙ on-ones (suc x) y (omega arith);
+-- ======== the vertices up to x
+pub power-room : (x n : ℕ) → x < 32 → n ≡ 2 ^ (x + 1) → (1 ≤ n) × (n ≤ 2 ^ 32)
+power-room x n h e = let a = pow-pos (x + 1) in let b = pow-mono {i = x + 1} {j = 32} (omega arith) in (omega arith, subst (λ (k : ℕ). k ≤ 2 ^ 32) (sym e) b)
+
+pub upto-power : (x n : ℕ) → n ≡ 2 ^ (x + 1) → Upto x (n - 1)
+upto-power x n e = record {
+  has = λ y h. ap (λ (k : ℕ). on (k - 1) y) e ∙ on-ones (x + 1) y (omega arith);
   no-more = λ y o. go y o (decLt x y);
 }
   where
-    go : (y : ℕ) → on kn y ≡ true → Dec (x < y) → y ≤ x
+    go : (y : ℕ) → on (n - 1) y ≡ true → Dec (x < y) → y ≤ x
     go y o (no h) = omega arith
-    go y o (yes h) = absurd (never-both o (ap (λ (n : ℕ). on n y) e ∙ on-above (suc x) (2 ^ suc x - 1) y (let p = pow-pos (suc x) in omega arith) (omega arith)))
+    go y o (yes h) = absurd (never-both o (ap (λ (k : ℕ). on (k - 1) y) e
+        ∙ on-above (x + 1) (2 ^ (x + 1) - 1) y (let p = pow-pos (x + 1) in omega arith) (omega arith)))
 
+-- ======== digit by digit
 module _ (cl budgets : List ℕ) (v m u : ℕ) where
   pub lowest-start : (codes : List ℕ) → Witness cl budgets v m u codes → Lowest cl budgets v m u 0 0 codes
   lowest-start codes w = record {
@@ -97,6 +103,6 @@ stands-kept i n v codes given r k t = record { long = t .long; digits = λ j y p
 pub stands-front : (i v : ℕ) (codes given : List ℕ) → v ≤ 32 → Front codes i given → Stands codes i v given
 stands-front i v codes given few f = record { long = f .long; digits = λ k x p q. f .kept x k (omega arith) p }
 
--- a memory that says nothing
+-- ======== a memory that says nothing
 pub remembers-none : (cl given : List ℕ) (v : ℕ) (mem : List ℕ) → Honest cl given 0 0 v mem → Remembers cl given v mem
 remembers-none cl given v mem h = record { kn = 0; val = 0; free = λ _. on-zero 0; honest = h }

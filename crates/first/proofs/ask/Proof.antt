@@ -1,0 +1,111 @@
+use Rattle.first.specs.AskLaws.{val-first, found-replied, none-replied}
+use borrow.Author.Tests.{not-true, not-false}
+use native.Mathlib.Omega.{arith}
+use mathlib.Core.Logic.{inr}
+use mathlib.Core.Path.{_≡_, sym, _∙_}
+use Rattle.first.proofs.ask.Statement.{statement}
+use Rattle.first.proofs.ask.Tie as tie
+use Rattle.first.proofs.ask.Reads as reads
+use Rattle.first.proofs.ask.Lts as lts
+use Rattle.first.proofs.vertices_upto.Reads as vertices-upto-reads
+use Rattle.memory.proofs.keep_unread.Reads as keep-unread-reads
+use Rattle.seeking.proofs.seek.Reads as seek-reads
+use Rattle.witness.proofs.digits.Reads as digits-reads
+use Rattle.witness.proofs.joined.Reads as joined-reads
+
+keep-unread-requires : tie.Need-keep-unread-requires
+keep-unread-requires c κs = c .before .before .before .before .pre .8 .honest .long
+
+sub-t17 : tie.Need-sub-t17
+sub-t17 c = let h = c .before .before .before .before .before .before .before .before .before .pre .4 in omega arith
+
+vertices-upto-requires : tie.Need-vertices-upto-requires
+vertices-upto-requires c κs = let v = c .before .before .before .before .before .before .before .before .before .pre .1 in let h = c .before .before .before .before .before .before .before .before .before .pre .5 in omega arith
+
+digits-requires : tie.Need-digits-requires
+digits-requires c κs = let v = c .before .before .before .before .before .before .before .before .before .before .pre .1 in let h = c .before .before .before .before .before .before .before .before .before .before .pre .5 in let u = c .before .before .before .before .before .before .before .before .before .before .pre .3 in let l = c .before .before .before .before .before .before .before .before .before .before .pre .4 in (omega arith, omega arith)
+
+seek-requires : tie.Need-seek-requires
+seek-requires c κs =
+    let p = c .before .before .before .before .before .before .before .before .before .before .before .before .pre in
+    let a = c .before .before .before .before .before .before .before .before .before .before .before .before .args in
+    let q = a .p in
+    let r = p .8 in
+    let n = c .before .before .vertices-upto in
+    let d = c .before .digits in
+    let u = p .3 in
+    let l = p .4 in
+    let first = val-first (a .cl .now) (q .budgets) (a .given .now) (a .codes) (q .vertices) (q .outputs) (q .cells) (a .i) (a .x) (n .result) (d .result)
+    (p .1) (p .3) (p .4) (p .5) (p .6) (p .7) (n .ensures) (d .ensures) in (
+      p .0,
+      p .7 .long,
+      p .1,
+      p .2,
+      omega arith,
+      omega arith,
+      inr (omega arith, n .ensures .has 0 (omega arith), first),
+      c .before .before .before .before .before .before .before .keep-unread .ensures (a .cl .now) (a .given .now) (r .kn) (r .val) (n .result) (d .result) (q .vertices) (r .free) (r .honest),
+    )
+
+same-length : tie.Need-same-length
+same-length c = c .before .before .before .before .seek .ensures .1 .long ∙ sym (c .before .before .before .before .before .before .before .before .before .before .before .before .before .before .before .before .before .pre .8 .honest .long)
+
+returns : tie.Need-returns
+returns c =
+    let p = c .before .before .before .before .before .before .before .before .before .before .before .before .before .before .before .before .before .pre in
+    let a = c .before .before .before .before .before .before .before .before .before .before .before .before .before .before .before .before .before .args in
+    let q = a .p in
+    let n = c .before .before .before .before .before .before .before .vertices-upto in
+    let d = c .before .before .before .before .before .before .digits in
+    let s = c .before .before .before .before .seek in (
+      none-replied (a .cl .now) (q .budgets) (a .given .now) (a .codes) (q .vertices) (q .outputs) (q .cells) (a .i) (a .x) (n .result) (d .result)
+          (p .1) (p .3) (p .4) (p .5) (p .6) (p .7) (n .ensures) (d .ensures) (s .result .rows) (s .result .codes) (a .codes) (s .result .ok) (s .ensures .0) (not-true _ (c .if1 .taken)),
+      record {
+        kn = n .result;
+        val = d .result;
+        free = λ _. val-first (a .cl .now) (q .budgets) (a .given .now) (a .codes) (q .vertices) (q .outputs) (q .cells) (a .i) (a .x) (n .result) (d .result)
+            (p .1) (p .3) (p .4) (p .5) (p .6) (p .7) (n .ensures) (d .ensures);
+        honest = s .ensures .1;
+      },
+    )
+
+joined-requires : tie.Need-joined-requires
+joined-requires c κs = let u = c .before .before .before .before .before .before .before .before .before .before .before .before .before .before .before .before .before .before .pre .3 in let l = c .before .before .before .before .before .before .before .before .before .before .before .before .before .before .before .before .before .before .pre .4 in omega arith
+
+same-length-2 : tie.Need-same-length-2
+same-length-2 c = c .before .before .before .before .before .before .seek .ensures .1 .long ∙ sym (c .before .before .before .before .before .before .before .before .before .before .before .before .before .before .before .before .before .before .before .pre .8 .honest .long)
+
+returns-2 : tie.Need-returns-2
+returns-2 c =
+    let p = c .before .before .before .before .before .before .before .before .before .before .before .before .before .before .before .before .before .before .before .pre in
+    let a = c .before .before .before .before .before .before .before .before .before .before .before .before .before .before .before .before .before .before .before .args in
+    let q = a .p in
+    let n = c .before .before .before .before .before .before .before .before .before .vertices-upto in
+    let d = c .before .before .before .before .before .before .before .before .digits in
+    let s = c .before .before .before .before .before .before .seek in
+    let j = c .joined in (
+      found-replied (a .cl .now) (q .budgets) (a .given .now) (a .codes) (q .vertices) (q .outputs) (q .cells) (a .i) (a .x) (n .result) (d .result)
+          (p .1) (p .3) (p .4) (p .5) (p .6) (p .7) (n .ensures) (d .ensures) (s .result .rows) (s .result .codes) (j .result) (s .result .ok) (s .ensures .0) (not-false _ (c .before .before .if1 .left)) (j .ensures),
+      record {
+        kn = n .result;
+        val = d .result;
+        free = λ _. val-first (a .cl .now) (q .budgets) (a .given .now) (a .codes) (q .vertices) (q .outputs) (q .cells) (a .i) (a .x) (n .result) (d .result)
+            (p .1) (p .3) (p .4) (p .5) (p .6) (p .7) (n .ensures) (d .ensures);
+        honest = s .ensures .1;
+      },
+    )
+
+pub ask-spec : {M : Type 1} → statement M
+ask-spec =
+    tie.close
+    (tie.spec
+    keep-unread-requires
+    sub-t17
+    vertices-upto-requires
+    digits-requires
+    seek-requires
+    same-length
+    returns
+    joined-requires
+    same-length-2
+    returns-2)
