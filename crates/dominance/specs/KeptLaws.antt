@@ -1,7 +1,7 @@
 -- An answer for the outputs kept is one for all. Found: output o reads what output item by o of those kept reads. None: cells that
 -- served all outputs would serve those kept, each of which would read what some output reads that tells apart all that it has to.
 -- Assumes nothing.
-use mathlib.Core.Path.{_≡_, sym, ap, _∙_, subst}
+use mathlib.Core.Path.{sym, ap, _∙_, subst}
 use mathlib.Core.Bool.{Bool, true, false}
 use mathlib.Core.List.{List, [], _∷_, _++_}
 use Prim.Native.Nat.{ℕ, zero, suc, _<_}

@@ -1,13 +1,12 @@
 -- The question about one digit, put to the search: the tables before it are given, the digits before it are known. What the search
 -- finds or rules out is the answer. Assumes nothing.
-use mathlib.Core.Path.{_≡_, refl, sym, ap, ap₂, _∙_, subst}
+use mathlib.Core.Path.{_≡_, refl, sym, ap, _∙_, subst}
 use mathlib.Core.Bool.{Bool, true, false}
-use mathlib.Core.List.{List, [], _∷_, _++_}
-use mathlib.Core.Logic.{inr, ⊎-elim}
+use mathlib.Core.List.{List}
+use mathlib.Core.Logic.{⊎-elim}
 use Prim.Native.Nat.{ℕ, zero, suc, _+_, _-_, _^_, _≤_, _<_, min}
 use native.Mathlib.Decide.{decLt}
 use native.Mathlib.Omega.{arith}
-use lib.Bits.{bitAnd}
 use lib.ListN.{length, getD, take, drop, length-take, length-drop}
 use Rattle.bits.specs.Logic.{xorb}
 use Rattle.bits.specs.LogicLaws.{true-false}
@@ -15,18 +14,18 @@ use Rattle.bits.specs.Digit.{on}
 use Rattle.cells.specs.Core.{Cell, Serves, cellsFrom, coreOf}
 use Rattle.cells.specs.Lists.{less-or-equal, count}
 use Rattle.cells.specs.Pigeon.{agree-and, and-agree}
-use Rattle.cells.specs.Codes.{Coded, codeOf, cells-length, core-serves}
+use Rattle.cells.specs.Codes.{codeOf, cells-length, core-serves}
 use Rattle.cells.specs.FullSize.{Full, full-of, read-by-length, read-by-code}
-use Rattle.cells.specs.Written.{tablesOf}
 use Rattle.cells.specs.WrittenLaws.{core-code, table-digit}
-use Rattle.order.specs.Tables.{Shaped, shaped-at}
-use Rattle.order.specs.LeastTables.{table, Agrees}
+use Rattle.order.specs.Tables.{shaped-at}
+use Rattle.order.specs.LeastTables.{table}
 use Rattle.numbering.specs.Given.{item}
 use Rattle.relation.specs.Relation.{Conflict}
 use Rattle.questions.specs.Question.{openOf}
 use Rattle.seeking.specs.Seeking.{Tables, Known, Lacks, Has, Sought, openCells, givenCells}
+use Rattle.memory.specs.Memory.{Honest}
 use Rattle.witness.specs.Witness.{Witness, Digits, Joined}
-use Rattle.first.specs.Drawn.{shown, Drawn, Upto, Stands, Replied}
+use Rattle.first.specs.Drawn.{shown, Upto, Stands, Remembers, Replied}
 use Rattle.first.specs.DrawnLaws.{agrees-before, agrees-here, agrees-zero, shown-shaped, shown-digit, shown-agrees}
 use Rattle.first.specs.Parts.{parts-exchanged, rest-first, code-take, known-drop}
 
@@ -137,7 +136,7 @@ module _ (cl budgets given codes : List ℕ) (v m u i x kn val : ℕ) (few : v �
         go (yes n) = j .before 0 k (omega arith) n ∙ w .zero k a
         go (no n) = ap (on (item r 0)) (let e : k ≡ i + (k - i) = omega arith in e) ∙ j .after 0 (k - i) (omega arith) (omega arith) ∙ self (on (item opened 0) (k - i))
 
-    pub has-replied : Replied cl budgets v m u codes i x true r
+    has-replied : Replied cl budgets v m u codes i x true r
     has-replied = (
       record { long = j .long; rows = numbers .0; serves = joined-serves; zero = joined-zero },
       shown-agrees v u i x codes r h l (λ k y a b. j .before y k (omega arith) a)
@@ -147,7 +146,7 @@ module _ (cl budgets given codes : List ℕ) (v m u i x kn val : ℕ) (few : v �
 
   -- ======== none
   module _ (lacks : Lacks cl given budgets kn val v m (u - i) i) where
-    pub lacks-replied : (r : List ℕ) → Replied cl budgets v m u codes i x false r
+    lacks-replied : (r : List ℕ) → Replied cl budgets v m u codes i x false r
     lacks-replied r vs s drawn a = lacks .none (drop i c) (take i c) (length-drop i c ∙ ap (λ (n : ℕ). n - i) (drawn .counted)) tables
         (known-drop kn val v i c (λ y b e. (let f = n .no-more y e in known y b (omega arith))))
         (rest-first v m (Conflict cl) (item budgets) i c (drawn .serves))
@@ -174,12 +173,16 @@ module _ (cl budgets given codes : List ℕ) (v m u i x kn val : ℕ) (few : v �
             (λ q. subst (λ (y : ℕ). getD (table vs i) y false ≡ on val y) (sym q) (agrees-zero i x (shown v u codes) vs within a ∙ sym (d .others x (omega arith))))
             (less-or-equal y x e)
 
-  pub found-replied : (rows opened r : List ℕ) (ok : Bool) → Sought cl given budgets kn val v m (u - i) i ok rows opened → ok ≡ true
-      → Joined codes opened i r → Replied cl budgets v m u codes i x true r
-  found-replied rows opened r true s e j = has-replied rows opened r s j
-  found-replied rows opened r false s e j = absurd (true-false (sym e))
+  -- ======== either
+  remembers-asked : (mem : List ℕ) → Honest cl given kn val v mem → Remembers cl given v mem
+  remembers-asked mem h = record { kn = kn; val = val; free = λ _. val-first; honest = h }
 
-  pub none-replied : (rows opened r : List ℕ) (ok : Bool) → Sought cl given budgets kn val v m (u - i) i ok rows opened → ok ≡ false
-      → Replied cl budgets v m u codes i x false r
-  none-replied rows opened r true s e = absurd (true-false e)
-  none-replied rows opened r false s e = lacks-replied s r
+  pub found-replied : (rows opened r mem : List ℕ) (ok : Bool) → Sought cl given budgets kn val v m (u - i) i ok rows opened → ok ≡ true
+      → Joined codes opened i r → Honest cl given kn val v mem → Replied cl budgets v m u codes i x true r × Remembers cl given v mem
+  found-replied rows opened r mem true s e j h = (has-replied rows opened r s j, remembers-asked mem h)
+  found-replied rows opened r mem false s e j h = absurd (true-false (sym e))
+
+  pub none-replied : (rows opened r mem : List ℕ) (ok : Bool) → Sought cl given budgets kn val v m (u - i) i ok rows opened → ok ≡ false
+      → Honest cl given kn val v mem → Replied cl budgets v m u codes i x false r × Remembers cl given v mem
+  none-replied rows opened r mem true s e h = absurd (true-false e)
+  none-replied rows opened r mem false s e h = (lacks-replied s r, remembers-asked mem h)

@@ -1,9 +1,9 @@
 -- From the outputs kept to all: tables of cells that serve the ones are tables of cells that serve the others, so the first tables of
 -- the ones are the first of the others. With the first reading sets for them they are the first core. Assumes nothing.
-use mathlib.Core.Path.{_≡_, refl, sym, ap, ap₂, _∙_, subst}
+use mathlib.Core.Path.{_≡_, sym, ap, _∙_, subst}
 use mathlib.Core.Bool.{Bool, true, false}
 use mathlib.Core.List.{List}
-use Prim.Native.Nat.{ℕ, _+_, _≤_, _<_}
+use Prim.Native.Nat.{ℕ, _+_, _≤_}
 use native.Mathlib.Omega.{arith}
 use lib.ListN.{length}
 use Rattle.bits.specs.LogicLaws.{true-false}
@@ -26,7 +26,7 @@ use Rattle.fewest.specs.Count.{serves-conflict, conflict-serves}
 use Rattle.picking.specs.Picked.{Picked}
 use Rattle.witness.specs.Witness.{Witness}
 use Rattle.first.specs.First.{FirstCore, Answered}
-use Rattle.first.specs.Drawn.{shown, Drawn, Lowest}
+use Rattle.first.specs.Drawn.{Drawn, Lowest}
 use Rattle.first.specs.DrawnLaws.{drawn-shaped, cells-at-zero, witness-zero}
 
 -- nothing found

@@ -1,18 +1,17 @@
 -- The search for the first tables, step by step: from cells that serve, digit by digit and table by table. Assumes nothing.
-use mathlib.Core.Path.{_≡_, refl, sym, ap, _∙_, subst}
+use mathlib.Core.Path.{_≡_, sym, ap, _∙_, subst}
 use mathlib.Core.Bool.{Bool, true, false}
 use mathlib.Core.List.{List}
 use Prim.Native.Nat.{ℕ, _+_, _-_, _^_, _≤_, _<_}
 use native.Mathlib.Decide.{decLt}
 use native.Mathlib.Numerals.{add-one}
 use native.Mathlib.Omega.{arith}
-use lib.ListN.{getD, take}
 use lib.Pow.{pow-pos, pow-mono}
 use Rattle.bits.specs.LogicLaws.{true-false}
 use Rattle.bits.specs.Digit.{on}
 use Rattle.bits.specs.DigitLaws.{on-zero, on-ones, on-above}
 use Rattle.cells.specs.Lists.{never-both}
-use Rattle.order.specs.LeastTables.{table, UptoTables, Agrees, tables-none, own-zero, tables-same, tables-zero, tables-one, tables-next}
+use Rattle.order.specs.LeastTables.{UptoTables, tables-none, own-zero, tables-same, tables-zero, tables-one, tables-next}
 use Rattle.numbering.specs.Given.{item}
 use Rattle.memory.specs.Memory.{Honest}
 use Rattle.witness.specs.Witness.{Witness, Keeps, Front}

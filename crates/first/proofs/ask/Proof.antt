@@ -2,7 +2,7 @@ use Rattle.first.specs.AskLaws.{val-first, found-replied, none-replied}
 use borrow.Author.Tests.{not-true, not-false}
 use native.Mathlib.Omega.{arith}
 use mathlib.Core.Logic.{inr}
-use mathlib.Core.Path.{_≡_, sym, _∙_}
+use mathlib.Core.Path.{sym, _∙_}
 use Rattle.first.proofs.ask.Statement.{statement}
 use Rattle.first.proofs.ask.Tie as tie
 use Rattle.first.proofs.ask.Reads as reads
@@ -20,10 +20,20 @@ sub-t17 : tie.Need-sub-t17
 sub-t17 c = let h = c .before .before .before .before .before .before .before .before .before .pre .4 in omega arith
 
 vertices-upto-requires : tie.Need-vertices-upto-requires
-vertices-upto-requires c κs = let v = c .before .before .before .before .before .before .before .before .before .pre .1 in let h = c .before .before .before .before .before .before .before .before .before .pre .5 in omega arith
+vertices-upto-requires c κs =
+    let p = c .before .before .before .before .before .before .before .before .before .pre in
+    let v = p .1 in
+    let h = p .5 in
+    omega arith
 
 digits-requires : tie.Need-digits-requires
-digits-requires c κs = let v = c .before .before .before .before .before .before .before .before .before .before .pre .1 in let h = c .before .before .before .before .before .before .before .before .before .before .pre .5 in let u = c .before .before .before .before .before .before .before .before .before .before .pre .3 in let l = c .before .before .before .before .before .before .before .before .before .before .pre .4 in (omega arith, omega arith)
+digits-requires c κs =
+    let p = c .before .before .before .before .before .before .before .before .before .before .pre in
+    let v = p .1 in
+    let u = p .3 in
+    let l = p .4 in
+    let h = p .5 in
+    (omega arith, omega arith)
 
 seek-requires : tie.Need-seek-requires
 seek-requires c κs =
@@ -48,52 +58,48 @@ seek-requires c κs =
     )
 
 same-length : tie.Need-same-length
-same-length c = c .before .before .before .before .seek .ensures .1 .long ∙ sym (c .before .before .before .before .before .before .before .before .before .before .before .before .before .before .before .before .before .pre .8 .honest .long)
+same-length c =
+    let at = c .before .before .before .before in
+    at .seek .ensures .1 .long ∙ sym (at .before .before .before .before .before .before .before .before .before .before .before .before .before .pre .8 .honest .long)
 
 returns : tie.Need-returns
 returns c =
-    let p = c .before .before .before .before .before .before .before .before .before .before .before .before .before .before .before .before .before .pre in
-    let a = c .before .before .before .before .before .before .before .before .before .before .before .before .before .before .before .before .before .args in
+    let at = c .before .before .before .before in
+    let p = at .before .before .before .before .before .before .before .before .before .before .before .before .before .pre in
+    let a = at .before .before .before .before .before .before .before .before .before .before .before .before .before .args in
     let q = a .p in
-    let n = c .before .before .before .before .before .before .before .vertices-upto in
-    let d = c .before .before .before .before .before .before .digits in
-    let s = c .before .before .before .before .seek in (
-      none-replied (a .cl .now) (q .budgets) (a .given .now) (a .codes) (q .vertices) (q .outputs) (q .cells) (a .i) (a .x) (n .result) (d .result)
-          (p .1) (p .3) (p .4) (p .5) (p .6) (p .7) (n .ensures) (d .ensures) (s .result .rows) (s .result .codes) (a .codes) (s .result .ok) (s .ensures .0) (not-true _ (c .if1 .taken)),
-      record {
-        kn = n .result;
-        val = d .result;
-        free = λ _. val-first (a .cl .now) (q .budgets) (a .given .now) (a .codes) (q .vertices) (q .outputs) (q .cells) (a .i) (a .x) (n .result) (d .result)
-            (p .1) (p .3) (p .4) (p .5) (p .6) (p .7) (n .ensures) (d .ensures);
-        honest = s .ensures .1;
-      },
-    )
+    let n = at .before .before .before .vertices-upto in
+    let d = at .before .before .digits in
+    let s = at .seek in
+    none-replied (a .cl .now) (q .budgets) (a .given .now) (a .codes) (q .vertices) (q .outputs) (q .cells) (a .i) (a .x) (n .result) (d .result)
+    (p .1) (p .3) (p .4) (p .5) (p .6) (p .7) (n .ensures) (d .ensures) (s .result .rows) (s .result .codes) (a .codes) _ (s .result .ok)
+    (s .ensures .0) (not-true _ (c .if1 .taken)) (s .ensures .1)
 
 joined-requires : tie.Need-joined-requires
-joined-requires c κs = let u = c .before .before .before .before .before .before .before .before .before .before .before .before .before .before .before .before .before .before .pre .3 in let l = c .before .before .before .before .before .before .before .before .before .before .before .before .before .before .before .before .before .before .pre .4 in omega arith
+joined-requires c κs =
+    let p = c .before .before .before .before .before .before .before .before .before .before .before .before .before .before .before .before .before .before .pre in
+    let u = p .3 in
+    let l = p .4 in
+    omega arith
 
 same-length-2 : tie.Need-same-length-2
-same-length-2 c = c .before .before .before .before .before .before .seek .ensures .1 .long ∙ sym (c .before .before .before .before .before .before .before .before .before .before .before .before .before .before .before .before .before .before .before .pre .8 .honest .long)
+same-length-2 c =
+    let at = c .before .before .before .before .before .before in
+    at .seek .ensures .1 .long ∙ sym (at .before .before .before .before .before .before .before .before .before .before .before .before .before .pre .8 .honest .long)
 
 returns-2 : tie.Need-returns-2
 returns-2 c =
-    let p = c .before .before .before .before .before .before .before .before .before .before .before .before .before .before .before .before .before .before .before .pre in
-    let a = c .before .before .before .before .before .before .before .before .before .before .before .before .before .before .before .before .before .before .before .args in
+    let at = c .before .before .before .before .before .before in
+    let p = at .before .before .before .before .before .before .before .before .before .before .before .before .before .pre in
+    let a = at .before .before .before .before .before .before .before .before .before .before .before .before .before .args in
     let q = a .p in
-    let n = c .before .before .before .before .before .before .before .before .before .vertices-upto in
-    let d = c .before .before .before .before .before .before .before .before .digits in
-    let s = c .before .before .before .before .before .before .seek in
-    let j = c .joined in (
-      found-replied (a .cl .now) (q .budgets) (a .given .now) (a .codes) (q .vertices) (q .outputs) (q .cells) (a .i) (a .x) (n .result) (d .result)
-          (p .1) (p .3) (p .4) (p .5) (p .6) (p .7) (n .ensures) (d .ensures) (s .result .rows) (s .result .codes) (j .result) (s .result .ok) (s .ensures .0) (not-false _ (c .before .before .if1 .left)) (j .ensures),
-      record {
-        kn = n .result;
-        val = d .result;
-        free = λ _. val-first (a .cl .now) (q .budgets) (a .given .now) (a .codes) (q .vertices) (q .outputs) (q .cells) (a .i) (a .x) (n .result) (d .result)
-            (p .1) (p .3) (p .4) (p .5) (p .6) (p .7) (n .ensures) (d .ensures);
-        honest = s .ensures .1;
-      },
-    )
+    let n = at .before .before .before .vertices-upto in
+    let d = at .before .before .digits in
+    let s = at .seek in
+    let j = c .joined in
+    found-replied (a .cl .now) (q .budgets) (a .given .now) (a .codes) (q .vertices) (q .outputs) (q .cells) (a .i) (a .x) (n .result) (d .result)
+    (p .1) (p .3) (p .4) (p .5) (p .6) (p .7) (n .ensures) (d .ensures) (s .result .rows) (s .result .codes) (j .result) _ (s .result .ok)
+    (s .ensures .0) (not-false _ (c .before .before .if1 .left)) (j .ensures) (s .ensures .1)
 
 pub ask-spec : {M : Type 1} → statement M
 ask-spec =

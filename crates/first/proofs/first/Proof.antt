@@ -2,7 +2,7 @@ use Prim.Native.Nat.{ℕ}
 use Rattle.first.specs.FirstLaws.{answered-none, witness-kept, answered-found}
 use borrow.Author.Tests.{not-true, not-false}
 use native.Mathlib.Omega.{arith}
-use mathlib.Core.Path.{_≡_, refl}
+use mathlib.Core.Path.{refl}
 use borrow.Author.Needs.{needs, length-unmapped}
 use Rattle.first.proofs.first.Statement.{statement}
 use Rattle.first.proofs.first.Tie as tie

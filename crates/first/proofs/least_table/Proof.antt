@@ -1,8 +1,8 @@
 use Rattle.first.specs.LowestLaws.{lowest-same, lowest-next, stands-front, remembers-none}
 use Rattle.first.specs.Drawn.{Lowest, Stands, Remembers}
 use native.Mathlib.Omega.{arith}
-use Prim.Native.Nat.{_≤_, _+_, _-_}
-use mathlib.Core.Path.{_≡_, sym, _∙_}
+use Prim.Native.Nat.{_≤_, _-_}
+use mathlib.Core.Path.{sym, _∙_}
 use Rattle.first.proofs.least_table.Statement.{statement}
 use Rattle.first.proofs.least_table.Tie as tie
 use Rattle.first.proofs.least_table.Reads as reads
@@ -13,7 +13,8 @@ use Rattle.witness.proofs.front.Reads as front-reads
 use Rattle.witness.proofs.sorted.Reads as sorted-reads
 
 abbrev Inv-loop : tie.InvT-loop
-Inv-loop cl mem₀ p i nodes least₀ given total₀ x₀ mem least total x = (x ≤ p .vertices) × Lowest cl (p .budgets) (p .vertices) (p .outputs) (p .cells) i x least × Stands least i (p .vertices) given × Remembers cl given (p .vertices) mem
+Inv-loop cl mem₀ p i nodes least₀ given total₀ x₀ mem least total x =
+    (x ≤ p .vertices) × Lowest cl (p .budgets) (p .vertices) (p .outputs) (p .cells) i x least × Stands least i (p .vertices) given × Remembers cl given (p .vertices) mem
 
 abbrev μ-loop : tie.MeasureT-loop
 μ-loop cl mem₀ p i nodes least₀ given total₀ x₀ mem least total x = p .vertices - x
@@ -51,7 +52,10 @@ least-digit-requires c κs =
     (p .0, p .1, p .2, p .3, p .4, c .before .before .if1 .taken, l .1, l .2, l .3)
 
 add-x : tie.Need-add-x Inv-loop μ-loop
-add-x c = let v = c .before .before .before .before .before .before .before .before .before .before .before .before .before .before .before .before .before .pre .1 in let h = c .before .before .before .before .before .before .if1 .taken in omega arith
+add-x c =
+    let v = c .before .before .before .before .before .before .before .before .before .before .before .before .before .before .before .before .before .pre .1 in
+    let h = c .before .before .before .before .before .before .if1 .taken in
+    omega arith
 
 loop-less : tie.Need-loop-less Inv-loop μ-loop
 loop-less c = let h = c .before .before .before .before .before .before .if1 .taken in omega arith

@@ -2,7 +2,7 @@ use Rattle.first.specs.LowestLaws.{lowest-start}
 use Rattle.first.specs.Drawn.{Lowest}
 use lib.ListN.{length}
 use native.Mathlib.Omega.{arith}
-use Prim.Native.Nat.{ℕ, _≤_, _+_, _-_}
+use Prim.Native.Nat.{ℕ, _≤_, _-_}
 use mathlib.Core.Path.{_≡_, sym, subst, _∙_}
 use Rattle.first.proofs.least_tables.Statement.{statement}
 use Rattle.first.proofs.least_tables.Tie as tie
@@ -30,7 +30,10 @@ least-table-requires c κs =
     (p .0, p .1, p .2, p .3, c .before .if1 .taken, l .1, l .2)
 
 add-i : tie.Need-add-i Inv-loop μ-loop
-add-i c = let u = c .before .before .before .before .before .before .before .before .before .before .pre .3 in let h = c .before .before .before .before .before .if1 .taken in omega arith
+add-i c =
+    let u = c .before .before .before .before .before .before .before .before .before .before .pre .3 in
+    let h = c .before .before .before .before .before .if1 .taken in
+    omega arith
 
 loop-less : tie.Need-loop-less Inv-loop μ-loop
 loop-less c = let h = c .before .before .before .before .before .if1 .taken in omega arith

@@ -1,9 +1,6 @@
 use Rattle.first.specs.LowestLaws.{power-room, upto-power}
 use Rattle.first.specs.LowestLaws.{upto-power}
-use lib.Pow.{pow-pos, pow-mono}
 use native.Mathlib.Omega.{arith}
-use Prim.Native.Nat.{ℕ, suc, _+_, _-_, _^_, _≤_}
-use mathlib.Core.Path.{_≡_, sym, ap, _∙_}
 use borrow.Author.Needs.{needs}
 use Rattle.first.proofs.vertices_upto.Statement.{statement}
 use Rattle.first.proofs.vertices_upto.Tie as tie
@@ -24,7 +21,9 @@ sub-result : tie.Need-sub-result
 sub-result c = power-room (c .before .args .x) (c .single .result) (c .before .pre) (c .single .ensures) .0
 
 cast-result : tie.Need-cast-result
-cast-result c = let h = power-room (c .before .args .x) (c .single .result) (c .before .pre) (c .single .ensures) .1 in record { fits = omega arith }
+cast-result c =
+    let h = power-room (c .before .args .x) (c .single .result) (c .before .pre) (c .single .ensures) .1 in
+    record { fits = omega arith }
 
 returns : tie.Need-returns
 returns c = upto-power (c .before .args .x) (c .single .result) (c .single .ensures)
