@@ -1,37 +1,19 @@
 -- The search for the first tables, step by step: from cells that serve, digit by digit and table by table. Assumes nothing.
-use mathlib.Core.Path.{_≡_, sym, ap, _∙_, subst}
+use mathlib.Core.Path.{_≡_, sym, _∙_, subst}
 use mathlib.Core.Bool.{Bool, true, false}
 use mathlib.Core.List.{List}
-use Prim.Native.Nat.{ℕ, _+_, _-_, _^_, _≤_, _<_}
-use native.Mathlib.Decide.{decLt}
+use Prim.Native.Nat.{ℕ, _+_, _≤_, _<_}
 use native.Mathlib.Numerals.{add-one}
 use native.Mathlib.Omega.{arith}
-use lib.Pow.{pow-pos, pow-mono}
 use Rattle.bits.specs.LogicLaws.{true-false}
 use Rattle.bits.specs.Digit.{on}
-use Rattle.bits.specs.DigitLaws.{on-zero, on-ones, on-above}
-use Rattle.cells.specs.Lists.{never-both}
+use Rattle.bits.specs.DigitLaws.{on-zero}
 use Rattle.order.specs.LeastTables.{UptoTables, tables-none, own-zero, tables-same, tables-zero, tables-one, tables-next}
 use Rattle.numbering.specs.Given.{item}
 use Rattle.memory.specs.Memory.{Honest}
 use Rattle.witness.specs.Witness.{Witness, Keeps, Front}
-use Rattle.first.specs.Drawn.{shown, Drawn, Lowest, Upto, Stands, Remembers, Replied}
+use Rattle.first.specs.Drawn.{shown, Drawn, Lowest, Stands, Remembers, Replied}
 use Rattle.first.specs.DrawnLaws.{agrees-before, shown-shaped, shown-digit, shown-take, shown-take-digits, witness-drawn}
-
--- ======== the vertices up to x
-pub power-room : (x n : ℕ) → x < 32 → n ≡ 2 ^ (x + 1) → (1 ≤ n) × (n ≤ 2 ^ 32)
-power-room x n h e = let a = pow-pos (x + 1) in let b = pow-mono {i = x + 1} {j = 32} (omega arith) in (omega arith, subst (λ (k : ℕ). k ≤ 2 ^ 32) (sym e) b)
-
-pub upto-power : (x n : ℕ) → n ≡ 2 ^ (x + 1) → Upto x (n - 1)
-upto-power x n e = record {
-  has = λ y h. ap (λ (k : ℕ). on (k - 1) y) e ∙ on-ones (x + 1) y (omega arith);
-  no-more = λ y o. go y o (decLt x y);
-}
-  where
-    go : (y : ℕ) → on (n - 1) y ≡ true → Dec (x < y) → y ≤ x
-    go y o (no h) = omega arith
-    go y o (yes h) = absurd (never-both o (ap (λ (k : ℕ). on (k - 1) y) e
-        ∙ on-above (x + 1) (2 ^ (x + 1) - 1) y (let p = pow-pos (x + 1) in omega arith) (omega arith)))
 
 -- ======== digit by digit
 module _ (cl budgets : List ℕ) (v m u : ℕ) where

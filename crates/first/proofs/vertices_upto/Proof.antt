@@ -1,5 +1,4 @@
-use Rattle.first.specs.LowestLaws.{power-room, upto-power}
-use Rattle.first.specs.LowestLaws.{upto-power}
+use Rattle.first.specs.UptoLaws.{power-room, upto-power}
 use native.Mathlib.Omega.{arith}
 use borrow.Author.Needs.{needs}
 use Rattle.first.proofs.vertices_upto.Statement.{statement}
