@@ -27,7 +27,8 @@ use Rattle.network.specs.Check.{check, checkOf, examinePair, comparePair, besid
 use Rattle.network.specs.CheckLaws.{compared-not-refused}
 use Rattle.network.specs.Wellformed.{Wellformed}
 use Rattle.network.specs.Answers.{WithinLimits, Computes}
-use Rattle.mapper.specs.Map.{Permitted, MapAnswer, refused-by, OutcomeFor, too-many-classes, no-network, buffer-short, written, OutcomeOf, Outcome}
+use Rattle.mapper.specs.Map.{Permitted, MapAnswer, refused-by, OutcomeFor, OutcomeOf, Outcome}
+use Rattle.mapper.specs.Map.{too-many-classes, no-network, buffer-short, written}
 use Rattle.mapper.specs.LengthLaws.{permitted-length}
 use Rattle.mapper.specs.OutcomeLaws.{outcome-for, outcome-refused}
 use Rattle.mapper.specs.Demand1.{TableRefuses, MapRefuses, CheckRefuses, TableNumber, MapNumber, CheckNumber, Demand1, SheetDemand1}
@@ -118,23 +119,23 @@ module _ (x : Examined) (t : List ℕ) where
 
 -- ======== Map
 module _ (b : List ℕ) (d : Design) (formed : WellFormed d) where
-  pub says-classes : {a : MapAnswer} {b' : List ℕ} → maxClasses < globalCount d (d .bound) → OutcomeFor d b a b' → a ≡ refused-by 7 0
+  says-classes : {a : MapAnswer} {b' : List ℕ} → maxClasses < globalCount d (d .bound) → OutcomeFor d b a b' → a ≡ refused-by 7 0
   says-classes m (too-many-classes h) = refl
   says-classes m (no-network h n) = absurd (omega (arith, h, m))
   says-classes m (buffer-short w h p n) = absurd (omega (arith, h, m))
   says-classes m (written w h p n) = absurd (omega (arith, h, m))
 
-  pub says-cells : {a : MapAnswer} {b' : List ℕ}
+  says-cells : {a : MapAnswer} {b' : List ℕ}
       → globalCount d (d .bound) ≤ maxClasses
       → ((w : Network) → Wellformed d w → WithinLimits d w → Computes d w → ⊥)
       → OutcomeFor d b a b'
       → a ≡ refused-by 8 0
   says-cells m k (too-many-classes h) = absurd (omega (arith, h, m))
   says-cells m k (no-network h n) = refl
-  says-cells m k (buffer-short w h p n) = absurd (k w (p .wellformed) (p .within) (p .computes))
-  says-cells m k (written w h p n) = absurd (k w (p .wellformed) (p .within) (p .computes))
+  says-cells m k (buffer-short w h p n) = absurd (k w (p .permitted .wellformed) (p .permitted .within) (p .permitted .computes))
+  says-cells m k (written w h p n) = absurd (k w (p .permitted .wellformed) (p .permitted .within) (p .permitted .computes))
 
-  pub says-buffer : {a : MapAnswer} {b' : List ℕ} (w : Network)
+  says-buffer : {a : MapAnswer} {b' : List ℕ} (w : Network)
       → globalCount d (d .bound) ≤ maxClasses
       → Permitted d w
       → length b < length (printNetwork d w)
@@ -144,7 +145,7 @@ module _ (b : List ℕ) (d : Design) (formed : WellFormed d) where
   says-buffer w m p k (no-network h n) = absurd (n w (p .wellformed) (p .within) (p .computes))
   says-buffer w m p k (buffer-short v h q n) = refl
   says-buffer w m p k (written v h q n) =
-      let g = permitted-length d v w (proper-of d formed) q p in
+      let g = permitted-length d v w (proper-of d formed) (q .permitted) p in
       absurd (omega (arith, g, n, k))
 
 module _ (x : Examined) (b : List ℕ) (right : (d : Design) → x ≡ valid d → WellFormed d) where
@@ -171,7 +172,7 @@ module _ (x : Examined) (b : List ℕ) (right : (d : Design) → x ≡ valid d �
   design-says q l d e (too-many-classes h) f = record { because = same-refusal q l 7 0 f (why.by-classes d e h); unchanged = refl }
   design-says q l d e (no-network h n) f = record { because = same-refusal q l 8 0 f (why.by-cells d e h n); unchanged = refl }
   design-says q l d e (buffer-short w h k n) f =
-      record { because = same-refusal q l 9 0 f (why.by-buffer d w e h k n); unchanged = refl }
+      record { because = same-refusal q l 9 0 f (why.by-buffer d w e h (k .permitted) n); unchanged = refl }
   design-says q l d e (written w h k n) f = absurd (mapped-not-refused f)
 
   map-says : (a : MapAnswer) (b' : List ℕ) (q l : ℕ) (y : Examined)

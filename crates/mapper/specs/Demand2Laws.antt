@@ -78,7 +78,7 @@ map-right d b u n f (written w h p k) e =
     let t = sets b 0 (printNetwork d w) in
     let read : take n t ≡ printNetwork d w =
     ap (λ (i : ℕ). take i t) (sym (mapped-length e)) ∙ stored-text b (printNetwork d w) k in
-    subst (RightNetwork d) (sym read) (record { said = w; drawn = permitted-drawn d f w p; values = p .computes })
+    subst (RightNetwork d) (sym read) (record { said = w; drawn = permitted-drawn d f w (p .permitted); values = p .permitted .computes })
 
 design-demand-2 : (d : Design) (o : ℕ) (b : List ℕ) (a : MapAnswer) (b' : List ℕ)
     → WellFormed d

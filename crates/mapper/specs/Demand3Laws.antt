@@ -145,8 +145,8 @@ module _ (d : Design) (f : WellFormed d) where
       → Demand3 (valid d) d b a b'
   design-demand-3 b few (too-many-classes h) = absurd (omega (arith, h, few))
   design-demand-3 b few (no-network h n) = demand-none b n
-  design-demand-3 b few (buffer-short w h p n) = demand-short b w p
-  design-demand-3 b few (written w h p n) = demand-written b w p n
+  design-demand-3 b few (buffer-short w h p n) = demand-short b w (p .permitted)
+  design-demand-3 b few (written w h p n) = demand-written b w (p .permitted) n
 
 -- ======== Demand 3 for every examination's answer that is a well-formed design
 pub demand-3 : (x : Examined) (d : Design) (b : List ℕ) (a : MapAnswer) (b' : List ℕ)

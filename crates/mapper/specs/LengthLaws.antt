@@ -1,34 +1,31 @@
 -- "Its length depends on the design and U only": two networks with as many shared tables, whose nodes read as many of them,
--- have sheets of one length. So all that Map may write for a design has one length. Assumes nothing.
+-- have sheets of one length. So all permitted networks of a design have. Assumes nothing.
 use mathlib.Core.Path.{_≡_, refl, sym, ap, ap₂, _∙_, subst}
 use mathlib.Core.Bool.{Bool, true, false}
 use mathlib.Core.List.{List, [], _∷_, _++_, map}
 use Prim.Native.Nat.{ℕ, suc, _+_, _^_, _≤_, _<_}
 use native.Mathlib.Omega.{arith}
-use native.Mathlib.Nat.{le-antisymm}
-use lib.ListN.{length, getD, length-append, length-map}
+use lib.ListN.{length, getD, length-append}
+use Rattle.order.specs.Tables.{Alike, alike-none, alike-more}
 use Rattle.text.specs.Bytes.{bytes, newline, closeBracket}
 use Rattle.text.specs.Line.{endedLines}
 use Rattle.text.specs.FigureLaws.{print-digit}
 use Rattle.names.specs.Name.{Name}
-use Rattle.rows.specs.Digits.{digit}
 use Rattle.sheet.specs.Lines.{endLine}
 use Rattle.sheet.specs.Examine.{Design, outputNames}
 use Rattle.classes.specs.Columns.{free}
 use Rattle.classes.specs.Proper.{Proper}
 use Rattle.network.specs.Network.{Network, Node}
-use Rattle.network.specs.Printer.{led, ledAll, lutName, printDigits, networkLine, lutHead, printLut, nodeHead, printNode, printCount, lutLines, nodeLines, networkLines, printNetwork}
+use Rattle.network.specs.Printer.{led, ledAll, lutName, printDigits, networkLine, lutHead, printLut, nodeHead, printNode}
+use Rattle.network.specs.Printer.{printCount, lutLines, nodeLines, networkLines, printNetwork}
 use Rattle.network.specs.Reads.{Rising, rising-none, rising-more}
 use Rattle.network.specs.Wellformed.{Wellformed, nodeAt}
 use Rattle.network.specs.Answers.{readCount}
-use Rattle.serving.specs.FullReads.{reads-width}
+use Rattle.lineorder.specs.PrintOrder.{digits-alike}
 use Rattle.mapper.specs.Map.{Permitted}
+use Rattle.mapper.specs.PermittedLaws.{permitted-count, permitted-reads}
 
 -- ---- as many items, each as long
-data Alike : List (List ℕ) → List (List ℕ) → Type 0 where
-  alike-none : Alike [] []
-  alike-more : {a b : List ℕ} {ps qs : List (List ℕ)} → length a ≡ length b → Alike ps qs → Alike (a ∷ ps) (b ∷ qs)
-
 alike-self : (ps : List (List ℕ)) → Alike ps ps
 alike-self [] = alike-none
 alike-self (a ∷ ps) = alike-more {a = a} {b = a} refl (alike-self ps)
@@ -70,10 +67,6 @@ reads-alike (rising-more {j = i} {js = is} m n r) (rising-more {j = j} {js = js}
     (reads-alike r s a b (let g : suc (length is) ≡ suc (length js) = e in omega arith))
 
 -- ---- lines
-digits-alike : (ds es : List Bool) → length ds ≡ length es → length (printDigits ds) ≡ length (printDigits es)
-unfolding printDigits
-digits-alike ds es e = length-map ds digit ∙ e ∙ sym (length-map es digit)
-
 lut-alike : (bs : List Name) (i : ℕ) (ds es : List Bool) → length ds ≡ length es → length (printLut bs i ds) ≡ length (printLut bs i es)
 unfolding printLut
 lut-alike bs i ds es e =
@@ -146,11 +139,7 @@ module _ (d : Design) (v w : Network) (f : Wellformed d v) (g : Wellformed d w) 
       (alike-more {a = printCount (length (v .luts))} {b = printCount (length (w .luts))} (ap (λ (n : ℕ). length (printCount n)) e)
       (alike-self (endLine ∷ []))))))
 
--- ---- what Map may write for a design: one number of shared tables, one length
-pub permitted-count : (d : Design) (v w : Network) → Permitted d v → Permitted d w → length (v .luts) ≡ length (w .luts)
-permitted-count d v w p q =
-    le-antisymm (p .fewest w (q .wellformed) (q .within) (q .computes)) (q .fewest v (p .wellformed) (p .within) (p .computes))
-
+-- ---- permitted networks of one design have sheets of one length
 pub permitted-length : (d : Design) (v w : Network)
     → Proper d
     → Permitted d v
@@ -158,7 +147,4 @@ pub permitted-length : (d : Design) (v w : Network)
     → length (printNetwork d v) ≡ length (printNetwork d w)
 permitted-length d v w f p q =
     same-length d v w (p .wellformed) (q .wellformed) (permitted-count d v w p q)
-    (λ o h.
-    (let k = subst (λ (n : ℕ). o < n) (p .wellformed .node-each) h in
-    reads-width d v f (p .wellformed) (p .within) (p .computes) o k
-    ∙ sym (reads-width d w f (q .wellformed) (q .within) (q .computes) o k)))
+    (λ o h. permitted-reads d v w o f p q (subst (λ (n : ℕ). o < n) (p .wellformed .node-each) h))

@@ -1,6 +1,7 @@
 -- Map of document 01, the demands as theorems, and document 01's sheets to try.
 pub mod Map
 pub mod SizeLaws
+pub mod PermittedLaws
 pub mod LengthLaws
 pub mod OutcomeLaws
 pub mod Demand1
@@ -9,8 +10,9 @@ pub mod Demand3
 pub mod Demand3Laws
 pub mod Demand1Laws
 pub mod Demand2Laws
-pub mod DecisionLaws
+pub mod FunctionLaws
 pub mod MapLaws
+pub mod FirstLaws
 pub mod Answer
 pub mod SearchInput
 pub mod FillLaws

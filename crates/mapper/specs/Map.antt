@@ -1,5 +1,5 @@
 -- Map: what the section on cells permits its network to be, and questions 7, 8 and 9 on a design; before them stands an
--- examination, for a sheet questions 1 to 5. Which of the permitted networks is written is free. Assumes nothing.
+-- examination, for a sheet questions 1 to 5. Of the permitted networks Map's is the first in byte order. Assumes nothing.
 use mathlib.Core.Path.{_≡_}
 use mathlib.Core.Bool.{false}
 use mathlib.Core.List.{List}
@@ -7,6 +7,7 @@ use Prim.Native.Nat.{ℕ, _/_, _≤_, _<_}
 use lib.ListN.{length, getD}
 use lib.Seq.{sets}
 use Rattle.limits.specs.Limits.{maxClasses}
+use Rattle.order.specs.Order.{before}
 use Rattle.sheet.specs.Examine.{Design, Examined, refused, valid, examine}
 use Rattle.classes.specs.Columns.{vertexCount, freeCount}
 use Rattle.classes.specs.Classes.{globalCount}
@@ -29,6 +30,11 @@ pub record Permitted (d : Design) (w : Network) : Type 0 where
       → ((x : ℕ) → x < vertexCount (d .bound) → codeAt w (nodeAt (w .nodes) o .reads) x ≡ j / freeCount (d .inputs) (d .bound) → ⊥)
       → getD (nodeAt (w .nodes) o .digits) j false ≡ false
 
+-- "Map shall return the first network in byte order among all that the section on cells permits with the fewest shared tables"
+pub record First (d : Design) (w : Network) : Type 0 where
+  pub permitted : Permitted d w
+  pub none-before : (v : Network) → Permitted d v → before (printNetwork d v) (printNetwork d w) ≡ false
+
 -- Map's answer: a refusal by number and line, or U and the length
 pub data MapAnswer : Type 0 where
   refused-by : ℕ → ℕ → MapAnswer
@@ -42,12 +48,12 @@ pub data OutcomeFor (d : Design) (b : List ℕ) : MapAnswer → List ℕ → Typ
       → OutcomeFor d b (refused-by 8 0) b
   buffer-short : (w : Network)
       → globalCount d (d .bound) ≤ maxClasses
-      → Permitted d w
+      → First d w
       → length b < length (printNetwork d w)
       → OutcomeFor d b (refused-by 9 0) b
   written : (w : Network)
       → globalCount d (d .bound) ≤ maxClasses
-      → Permitted d w
+      → First d w
       → length (printNetwork d w) ≤ length b
       → OutcomeFor d b (mapped (length (w .luts)) (length (printNetwork d w))) (sets b 0 (printNetwork d w))
 

@@ -29,7 +29,7 @@ use Rattle.network.specs.FirstOfLaws.{fails-none}
 use Rattle.cells.specs.Core.{Cell, Serves, Differ, ZeroFirst, coreOf, cellsFrom, reading}
 use Rattle.cells.specs.Codes.{cells-length}
 use Rattle.numbering.specs.Given.{labelAt, item}
-use Rattle.fewest.specs.Count.{Answered}
+use Rattle.first.specs.First.{Answered}
 use Rattle.serving.specs.NetworkCore.{networkCore, ServesDesign}
 use Rattle.network.specs.Value.{lutAt}
 use Rattle.serving.specs.Tells.{core-length}
@@ -54,7 +54,7 @@ true-or-false false h = absurd (h refl)
 
 -- ---- labels differ exactly where columns conflict
 module _ (d : Design) (cl budgets : List ℕ) (v m limit : ℕ) (g : Given d cl budgets v m limit) where
-  to-labels : (l : List Cell) → ServesDesign d l → Serves v m (Differ (labelAt cl)) (item budgets) l
+  pub to-labels : (l : List Cell) → ServesDesign d l → Serves v m (Differ (labelAt cl)) (item budgets) l
   to-labels l s =
       record {
         tells = λ o x y h a b n.

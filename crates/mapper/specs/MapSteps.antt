@@ -29,13 +29,14 @@ use Rattle.network.specs.Network.{Network}
 use Rattle.network.specs.Printer.{printNetwork}
 use Rattle.numbering.specs.Given.{item}
 use Rattle.relation.specs.Relation as relation
-use Rattle.fewest.specs.Count.{Answered}
+use Rattle.first.specs.First.{Answered}
 use Rattle.writing.specs.Lines.{Fitting}
 use Rattle.writing.specs.NodeLaws.{shape-fitting}
 use Rattle.serving.specs.Build.{built}
 use Rattle.serving.specs.TheoremA.{built-luts}
-use Rattle.mapper.specs.Map.{Permitted, MapAnswer, refused-by, mapped, OutcomeFor, too-many-classes, no-network, buffer-short, written, OutcomeOf}
-use Rattle.mapper.specs.MapLaws.{Given, none-found, found-permitted}
+use Rattle.mapper.specs.Map.{First, MapAnswer, refused-by, mapped, OutcomeFor, too-many-classes, no-network, buffer-short, written, OutcomeOf}
+use Rattle.mapper.specs.MapLaws.{Given, none-found}
+use Rattle.mapper.specs.FirstLaws.{found-first}
 use Rattle.mapper.specs.SearchInput.{LabelsAre, BudgetsAre, labelsGiven}
 
 pub map-refused : (x : spec.Examined) (b : List ℕ) (e : Examined)
@@ -157,9 +158,9 @@ module _ (x : spec.Examined) (k : Sheet) (v : Valid x k) (right : Right x) where
           let fits : Fitting (c .shape) = shape-fitting (v .design) (c .shape) (q .shaped) (is-proper .parted) (is-proper .few-inputs) in
           (v .holds .inputs-few, v .holds .bound-few, v .holds .outputs-few, cells-few found a, fits)
 
-      permitted : Found true → Permitted (v .design) network
-      permitted a =
-          found-permitted (v .design) cl bs (c .shape .vertices) (k .outputs) (k .limit) (given cl bs lh bh) formed u rows codes a
+      is-first : Found true → First (v .design) network
+      is-first a =
+          found-first (v .design) cl bs (c .shape .vertices) (k .outputs) (k .limit) (given cl bs lh bh) formed u rows codes a
           (cells-few true a)
 
       pub map-short : (b : List ℕ) (n : ℕ) (found : Bool)
@@ -169,7 +170,7 @@ module _ (x : spec.Examined) (k : Sheet) (v : Valid x k) (right : Right x) where
           → length b < n
           → OutcomeOf x b (refused-by 9 0) b
       map-short b n false f a e h = absurd (true-false (sym f))
-      map-short b n true f a e h = came-to (buffer-short network (few-classes few) (permitted a) (omega arith))
+      map-short b n true f a e h = came-to (buffer-short network (few-classes few) (is-first a) (omega arith))
 
       pub map-written : (b b' : List ℕ) (m n : ℕ) (found : Bool)
           → found ≡ true
@@ -182,7 +183,7 @@ module _ (x : spec.Examined) (k : Sheet) (v : Valid x k) (right : Right x) where
       map-written b b' m n false f a e h g w = absurd (true-false (sym f))
       map-written b b' m n true f a e h g w =
           let o : OutcomeFor (v .design) b (mapped (length (network .luts)) (length text)) (sets b 0 text) =
-          written network (few-classes few) (permitted a) (omega arith) in
+          written network (few-classes few) (is-first a) (omega arith) in
           came-to
           (subst (λ (y : List ℕ). OutcomeFor (v .design) b (mapped u n) y) (sym w)
           (subst (λ (y : MapAnswer). OutcomeFor (v .design) b y (sets b 0 text))

@@ -51,8 +51,8 @@ module _ (s : List ℕ) (d : Design) (e : examine s ≡ valid d) (few : globalCo
   says-8 : {b : List ℕ} {a : MapAnswer} {b' : List ℕ} → OutcomeFor d b a b' → (a ≡ refused-by 8 0) × (b' ≡ b)
   says-8 (too-many-classes h) = absurd (omega (arith, h, few))
   says-8 (no-network h n) = (refl, refl)
-  says-8 (buffer-short v h p n) = absurd (none-within v (p .wellformed) (p .within) (p .computes))
-  says-8 (written v h p n) = absurd (none-within v (p .wellformed) (p .within) (p .computes))
+  says-8 (buffer-short v h p n) = absurd (none-within v (p .permitted .wellformed) (p .permitted .within) (p .permitted .computes))
+  says-8 (written v h p n) = absurd (none-within v (p .permitted .wellformed) (p .permitted .within) (p .permitted .computes))
 
   pub refuses-8 : Refuses s 8 0
   refuses-8 =
@@ -127,14 +127,14 @@ module _ (s t : List ℕ) (d : Design) (w : Network) (x : Fewest s t d w) where
   says-mapped : {b : List ℕ} {a : MapAnswer} {b' : List ℕ} → length t ≤ length b → OutcomeFor d b a b' → a ≡ mapped (length (w .luts)) (length t)
   says-mapped k (too-many-classes h) = let f = x .few in absurd (omega (arith, h, f))
   says-mapped k (no-network h n) = absurd (n w well inside drawn-computes)
-  says-mapped k (buffer-short v h p n) = let g = length-of v p in absurd (omega (arith, g, n, k))
-  says-mapped k (written v h p n) = ap₂ mapped (count-of v p) (length-of v p)
+  says-mapped k (buffer-short v h p n) = let g = length-of v (p .permitted) in absurd (omega (arith, g, n, k))
+  says-mapped k (written v h p n) = ap₂ mapped (count-of v (p .permitted)) (length-of v (p .permitted))
 
   says-short : {b : List ℕ} {a : MapAnswer} {b' : List ℕ} → length b < length t → OutcomeFor d b a b' → (a ≡ refused-by 9 0) × (b' ≡ b)
   says-short k (too-many-classes h) = let f = x .few in absurd (omega (arith, h, f))
   says-short k (no-network h n) = absurd (n w well inside drawn-computes)
   says-short k (buffer-short v h p n) = (refl, refl)
-  says-short k (written v h p n) = let g = length-of v p in absurd (omega (arith, g, n, k))
+  says-short k (written v h p n) = let g = length-of v (p .permitted) in absurd (omega (arith, g, n, k))
 
   pub maps-fewest : Maps s (length (w .luts)) (length t)
   maps-fewest =
@@ -147,9 +147,9 @@ module _ (s t : List ℕ) (d : Design) (w : Network) (x : Fewest s t d w) where
   says-text : ((v : Network) → Permitted d v → v ≡ w) → {b : List ℕ} {a : MapAnswer} {b' : List ℕ} → length t ≤ length b → OutcomeFor d b a b' → b' ≡ sets b 0 t
   says-text only k (too-many-classes h) = let f = x .few in absurd (omega (arith, h, f))
   says-text only k (no-network h n) = absurd (n w well inside drawn-computes)
-  says-text only k (buffer-short v h p n) = let g = length-of v p in absurd (omega (arith, g, n, k))
+  says-text only k (buffer-short v h p n) = let g = length-of v (p .permitted) in absurd (omega (arith, g, n, k))
   says-text only {b = b} k (written v h p n) =
-      ap (λ (y : Network). sets b 0 (printNetwork d y)) (only v p) ∙ ap (sets b 0) (sym (drawn-print d w named t (x .drawn)))
+      ap (λ (y : Network). sets b 0 (printNetwork d y)) (only v (p .permitted)) ∙ ap (sets b 0) (sym (drawn-print d w named t (x .drawn)))
 
   -- where no other network is permitted, its sheet is what is written
   pub prints-only : ((v : Network) → Permitted d v → v ≡ w) → Prints s (length (w .luts)) t

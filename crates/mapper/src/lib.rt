@@ -1,5 +1,6 @@
-// Map: what an examination answers to the network sheet with the fewest shared tables, or a refusal. Rests on design for the
-// examination of a sheet, on classes for columns, on fewest for the search, and on writer for the network sheet.
+// Map: what an examination answers to the first network sheet in byte order of all that are permitted, those with the fewest
+// shared tables, or a refusal. Rests on design for the examination of a sheet, on classes for columns, on first for the search,
+// on lineorder for the order of network sheets, and on writer for the network sheet.
 ghost use mathlib.Core.Path.{_≡_};
 ghost use Prim.Native.Nat.{ℕ, _≤_, _<_, _%_};
 ghost use lib.ListN.{getD};
@@ -56,8 +57,8 @@ fn budgets(ws: [usize; limits::MAX_OUTPUTS], outputs: usize) -> [u8; limits::SEA
     r
 }
 
-// The network sheet with the fewest shared tables for what an examination answered, from the buffer's start. Where a question
-// is answered "no" the buffer is left as it was.
+// The first network sheet in byte order of all that are permitted for what an examination answered, from the buffer's start.
+// Where a question is answered "no" the buffer is left as it was.
 pub fn map_of(e: Examined, buffer: &mut [u8]) -> Mapped
     requires { ⌜ Examination e ⌝ }
     ensures { λ r. ⌜ ((x : spec.Examined) → ExaminedIs x e → Right x → OutcomeOf x (now (buffer .entry)) (mapAnswer r) (now (buffer .exit))) ⌝ }
@@ -79,7 +80,7 @@ pub fn map_of(e: Examined, buffer: &mut [u8]) -> Mapped
     let sh = c.shape;
     let cl = labels(ls);
     let bs = budgets(ws, k.outputs);
-    let core = fewest::fewest(&cl, bs, sh.vertices, k.outputs, k.limit as u8);
+    let core = first::first(&cl, bs, sh.vertices, k.outputs, k.limit as u8);
     if !core.found {
         return Mapped::Refused { number: 8, line: 0 };
     }

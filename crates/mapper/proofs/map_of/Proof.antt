@@ -9,7 +9,7 @@ use Rattle.mapper.proofs.map_of.Tie as tie
 use Rattle.mapper.proofs.map_of.Reads as reads
 use Rattle.mapper.proofs.map_of.Lts as lts
 use Rattle.classes.proofs.classes_of.Reads as classes-of-reads
-use Rattle.fewest.proofs.fewest.Reads as fewest-reads
+use Rattle.first.proofs.first.Reads as first-reads
 use Rattle.mapper.proofs.budgets.Reads as budgets-reads
 use Rattle.mapper.proofs.labels.Reads as labels-reads
 use Rattle.writer.proofs.put_network.Reads as put-network-reads
@@ -57,11 +57,11 @@ budgets-requires c κs =
     let q = classes-of .ensures (v .design) (holding x k v r) (is-proper x k v r) in
     budgets-ready x k v r (classes-of .result) q
 
-slice-aggregate-fewest : tie.Need-slice-aggregate-fewest
-slice-aggregate-fewest c = search needs
+slice-aggregate-first : tie.Need-slice-aggregate-first
+slice-aggregate-first c = search needs
 
-cast-fewest : tie.Need-cast-fewest
-cast-fewest c =
+cast-first : tie.Need-cast-first
+cast-first c =
     let if1 = c .before .before .before .before .before .before .before .before .before .before .before .before .if1 in
     let pre = c .before .before .before .before .before .before .before .before .before .before .before .before .before .before .before .pre in
     let args = c .before .before .before .before .before .before .before .before .before .before .before .before .before .before .before .args in
@@ -70,8 +70,8 @@ cast-fewest c =
     let small = v .holds .limit-small in
     omega (arith, small)
 
-fewest-requires : tie.Need-fewest-requires
-fewest-requires c κs =
+first-requires : tie.Need-first-requires
+first-requires c κs =
     let labels = c .before .before .before .labels in
     let classes-of = c .before .before .before .before .before .before .before .before .before .before .classes-of in
     let if1 = c .before .before .before .before .before .before .before .before .before .before .before .before .if1 in
@@ -87,7 +87,7 @@ fewest-requires c κs =
 returns-3 : tie.Need-returns-3
 returns-3 c =
     let if3 = c .if3 in
-    let fewest = c .before .before .fewest in
+    let first = c .before .before .first in
     let budgets = c .before .before .before .before .before .budgets in
     let labels = c .before .before .before .before .before .before .labels in
     let if2 = c .before .before .before .before .before .before .before .before .before .before .if2 in
@@ -95,12 +95,12 @@ returns-3 c =
     let if1 = c .before .before .before .before .before .before .before .before .before .before .before .before .before .before .before .if1 in
     let args = c .before .before .before .before .before .before .before .before .before .before .before .before .before .before .before .before .before .before .args in
     let k = args .e .sheet in
-    let found = fewest .result in
+    let found = first .result in
     λ x h r.
     (let v = valid-here x (args .e) h (not-false _ (if1 .left)) in
     let q = classes-of .ensures (v .design) (holding x k v r) (is-proper x k v r) in
     map-none x k v r (classes-of .result) q (labels .result) (budgets .result) (labels .ensures) (budgets .ensures) (if2 .left)
-    (found .count) (found .rows) (found .codes) (args .buffer .now) (found .found) (not-true _ (if3 .taken)) (fewest .ensures))
+    (found .count) (found .rows) (found .codes) (args .buffer .now) (found .found) (not-true _ (if3 .taken)) (first .ensures))
 
 cast-u : tie.Need-cast-u
 cast-u c = search needs
@@ -113,7 +113,7 @@ slice-aggregate-put-network c = search needs
 
 put-network-requires : tie.Need-put-network-requires
 put-network-requires c κs =
-    let fewest = c .before .before .before .before .before .before .fewest in
+    let first = c .before .before .before .before .before .before .first in
     let budgets = c .before .before .before .before .before .before .before .before .before .budgets in
     let labels = c .before .before .before .before .before .before .before .before .before .before .labels in
     let if2 = c .before .before .before .before .before .before .before .before .before .before .before .before .before .before .if2 in
@@ -123,20 +123,20 @@ put-network-requires c κs =
     let args = earlier .before .before .before .before .before .before .before .args in
     let pre = earlier .before .before .before .before .before .before .before .pre in
     let k = args .e .sheet in
-    let found = fewest .result in
+    let found = first .result in
     let x = pre .found in
     let r = pre .right in
     let v = valid-here x (args .e) (pre .is) (not-false _ (if1 .left)) in
     let q = classes-of .ensures (v .design) (holding x k v r) (is-proper x k v r) in
     writer-ready x k v r (classes-of .result) q (labels .result) (budgets .result) (labels .ensures) (budgets .ensures) (if2 .left)
-    (found .count) (found .rows) (found .codes) (found .found) (fewest .ensures)
+    (found .count) (found .rows) (found .codes) (found .found) (first .ensures)
 
 returns-4 : tie.Need-returns-4
 returns-4 c =
     let if4 = c .if4 in
     let put-network = c .before .before .put-network in
     let if3 = c .before .before .before .before .before .before .before .if3 in
-    let fewest = c .before .before .before .before .before .before .before .before .before .fewest in
+    let first = c .before .before .before .before .before .before .before .before .before .first in
     let budgets = c .before .before .before .before .before .before .before .before .before .before .before .before .budgets in
     let labels = c .before .before .before .before .before .before .before .before .before .before .before .before .before .labels in
     let earlier = c .before .before .before .before .before .before .before .before .before .before .before .before .before .before .before in
@@ -145,18 +145,18 @@ returns-4 c =
     let if1 = earlier .before .before .before .before .before .before .before .if1 in
     let args = earlier .before .before .before .before .before .before .before .before .before .before .args in
     let k = args .e .sheet in
-    let found = fewest .result in
+    let found = first .result in
     λ x h r.
     (let v = valid-here x (args .e) h (not-false _ (if1 .left)) in
     let q = classes-of .ensures (v .design) (holding x k v r) (is-proper x k v r) in
     let w = put-network .ensures (v .design) (holding x k v r) (is-proper x k v r) (q .shaped) in
     map-short x k v r (classes-of .result) q (labels .result) (budgets .result) (labels .ensures) (budgets .ensures) (if2 .left)
     (found .count) (found .rows) (found .codes) (args .buffer .now) (put-network .result) (found .found) (not-false _ (if3 .left))
-    (fewest .ensures) (w .0) (if4 .taken))
+    (first .ensures) (w .0) (if4 .taken))
 
 put-network-requires-2 : tie.Need-put-network-requires-2
 put-network-requires-2 c κs =
-    let fewest = c .before .before .before .before .before .before .before .before .before .before .fewest in
+    let first = c .before .before .before .before .before .before .before .before .before .before .first in
     let budgets = c .before .before .before .before .before .before .before .before .before .before .before .before .before .budgets in
     let labels = c .before .before .before .before .before .before .before .before .before .before .before .before .before .before .labels in
     let earlier = c .before .before .before .before .before .before .before .before .before .before .before .before .before .before .before in
@@ -166,13 +166,13 @@ put-network-requires-2 c κs =
     let args = earlier .before .before .before .before .before .before .before .before .before .before .before .args in
     let pre = earlier .before .before .before .before .before .before .before .before .before .before .before .pre in
     let k = args .e .sheet in
-    let found = fewest .result in
+    let found = first .result in
     let x = pre .found in
     let r = pre .right in
     let v = valid-here x (args .e) (pre .is) (not-false _ (if1 .left)) in
     let q = classes-of .ensures (v .design) (holding x k v r) (is-proper x k v r) in
     writer-ready x k v r (classes-of .result) q (labels .result) (budgets .result) (labels .ensures) (budgets .ensures) (if2 .left)
-    (found .count) (found .rows) (found .codes) (found .found) (fewest .ensures)
+    (found .count) (found .rows) (found .codes) (found .found) (first .ensures)
 
 same-length : tie.Need-same-length
 same-length c = search needs
@@ -183,7 +183,7 @@ returns-5 c =
     let if4 = c .before .before .before .before .if4 in
     let put-network = c .before .before .before .before .before .before .put-network in
     let if3 = c .before .before .before .before .before .before .before .before .before .before .before .if3 in
-    let fewest = c .before .before .before .before .before .before .before .before .before .before .before .before .before .fewest in
+    let first = c .before .before .before .before .before .before .before .before .before .before .before .before .before .first in
     let earlier = c .before .before .before .before .before .before .before .before .before .before .before .before .before .before .before in
     let budgets = earlier .before .budgets in
     let labels = earlier .before .before .labels in
@@ -192,7 +192,7 @@ returns-5 c =
     let if1 = earlier .before .before .before .before .before .before .before .before .before .before .before .if1 in
     let args = earlier .before .before .before .before .before .before .before .before .before .before .before .before .before .before .args in
     let k = args .e .sheet in
-    let found = fewest .result in
+    let found = first .result in
     let b = args .buffer .now in
     λ x h r.
     (let v = valid-here x (args .e) h (not-false _ (if1 .left)) in
@@ -201,7 +201,7 @@ returns-5 c =
     let w = put-network2 .ensures (v .design) (holding x k v r) (is-proper x k v r) (q .shaped) in
     map-written x k v r (classes-of .result) q (labels .result) (budgets .result) (labels .ensures) (budgets .ensures) (if2 .left)
     (found .count) (found .rows) (found .codes) b (put-network2 .last .0) (put-network .result) (put-network2 .result) (found .found)
-    (not-false _ (if3 .left)) (fewest .ensures) (tried .0) (if4 .left) (w .0) (w .1))
+    (not-false _ (if3 .left)) (first .ensures) (tried .0) (if4 .left) (w .0) (w .1))
 
 pub map-of-spec : {M : Type 1} → statement M
 map-of-spec =
@@ -212,9 +212,9 @@ map-of-spec =
     returns-2
     labels-requires
     budgets-requires
-    slice-aggregate-fewest
-    cast-fewest
-    fewest-requires
+    slice-aggregate-first
+    cast-first
+    first-requires
     returns-3
     cast-u
     array-borrow-prefix-nothing
