@@ -11,6 +11,7 @@ pub mod Demand3Laws
 pub mod Demand1Laws
 pub mod Demand2Laws
 pub mod FunctionLaws
+pub mod BuiltLaws
 pub mod MapLaws
 pub mod FirstLaws
 pub mod Answer
