@@ -12,8 +12,11 @@ pub mod Demand1Laws
 pub mod Demand2Laws
 pub mod FunctionLaws
 pub mod BuiltLaws
+pub mod CoreNumbers
+pub mod SoonerTables
 pub mod MapLaws
 pub mod FirstLaws
+pub mod ConstantLaws
 pub mod Answer
 pub mod SearchInput
 pub mod FillLaws
