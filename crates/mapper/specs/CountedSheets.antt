@@ -1,15 +1,15 @@
--- Sheets C, D, E and G: how many cells they need, and a network sheet with so many. Assumes nothing.
+-- Sheets C, D, E and G: how many cells they need, and the first network with so many of C, D and E, by the test. Assumes nothing.
 use mathlib.Core.Path.{refl}
-use mathlib.Core.List.{List, [], _∷_, _++_}
+use mathlib.Core.List.{List, [], _∷_}
 use Prim.Native.Nat.{ℕ}
 use lib.Dec.{lit≤}
-use Rattle.text.specs.Bytes.{bytes}
 use Rattle.network.specs.Network.{Network}
 use Rattle.mapper.specs.Computing.{computing}
 use Rattle.mapper.specs.NeededCells.{AtLeast, two-needed, three-needed}
+use Rattle.mapper.specs.FirstTest.{Ask, asking, Tested, Plain, testing}
 use Rattle.mapper.specs.Designs.{designC, designD, designE, designG, bits, node, network}
-use Rattle.mapper.specs.Worked.{sheetC, sheetD, sheetE, sheetG, Refuses, Maps}
-use Rattle.mapper.specs.WorkedLaws.{refuses-8, Fewest, fewest-of, maps-fewest}
+use Rattle.mapper.specs.Worked.{sheetC, networkC, sheetD, networkD, sheetE, networkE, sheetG, Refuses, Prints}
+use Rattle.mapper.specs.WorkedLaws.{refuses-8, Fewest, fewest-of, prints-tested}
 
 -- ---- C: f tells vertices with different a apart, g those with different b; so they need two cells together
 c-cells : (n : ℕ) → AtLeast 2 (designC n)
@@ -23,17 +23,34 @@ c-refused = refuses-8 (sheetC "1") (designC 1) refl (lit≤ tt) (c-cells 1)
 abbrev c-network : Network
 c-network = network (bits "0011" ∷ bits "0101" ∷ []) (node (0 ∷ []) (bits "0110") ∷ node (1 ∷ []) (bits "0110") ∷ [])
 
-abbrev c-sheet : List ℕ
-c-sheet =
-    bytes "(network 1)\n(lut _0 (a b) 0011)\n(lut _1 (a b) 0101)\n"
-    ++ bytes "(node f (_0 c) 0110)\n(node g (_1 c) 0110)\n(count 2)\n(end)\n"
-
-c-fewest : Fewest (sheetC "2") c-sheet (designC 2) c-network
+c-fewest : Fewest (sheetC "2") networkC (designC 2) c-network
 unfolding computing
 c-fewest = fewest-of refl refl refl refl (lit≤ tt) (c-cells 2)
 
-pub c-mapped : Maps (sheetC "2") 2 110
-c-mapped = maps-fewest (sheetC "2") c-sheet (designC 2) c-network c-fewest
+-- f has to tell vertices with different a apart, g those with different b, by one table each
+abbrev c-asks : List Ask
+c-asks =
+    asking 1 ((0, 2) ∷ (0, 3) ∷ (1, 2) ∷ (1, 3) ∷ [])
+    ∷ asking 1 ((0, 1) ∷ (0, 3) ∷ (2, 1) ∷ (2, 3) ∷ [])
+    ∷ []
+
+c-tested : Tested (designC 2) 3 c-network c-asks
+unfolding computing testing
+c-tested =
+    record {
+      vertices = refl;
+      counted = refl;
+      asked = (record { reads = refl; tells = refl }, (record { reads = refl; tells = refl }, tt));
+      tables = refl;
+      reads = (refl, (refl, tt));
+    }
+
+c-plain : Plain (designC 2) c-network
+unfolding computing testing
+c-plain = record { zero-first = (refl, (refl, tt)); entries = (refl, (refl, tt)) }
+
+pub c-printed : Prints (sheetC "2") 2 networkC
+c-printed = prints-tested (sheetC "2") networkC (designC 2) c-network c-fewest 3 c-asks c-plain c-tested
 
 -- ---- D: f, g and h read one cell each, and any two of them need two cells together, as f and g do
 d-cells : (n : ℕ) → AtLeast 3 (designD n)
@@ -51,17 +68,35 @@ d-network =
     network (bits "0011" ∷ bits "0101" ∷ bits "0110" ∷ [])
     (node (0 ∷ []) (bits "0110") ∷ node (1 ∷ []) (bits "0110") ∷ node (2 ∷ []) (bits "0110") ∷ [])
 
-abbrev d-sheet : List ℕ
-d-sheet =
-    bytes "(network 1)\n(lut _0 (a b) 0011)\n(lut _1 (a b) 0101)\n(lut _2 (a b) 0110)\n"
-    ++ bytes "(node f (_0 c) 0110)\n(node g (_1 c) 0110)\n(node h (_2 c) 0110)\n(count 3)\n(end)\n"
-
-d-fewest : Fewest (sheetD "3") d-sheet (designD 3) d-network
+d-fewest : Fewest (sheetD "3") networkD (designD 3) d-network
 unfolding computing
 d-fewest = fewest-of refl refl refl refl (lit≤ tt) (d-cells 3)
 
-pub d-mapped : Maps (sheetD "3") 3 151
-d-mapped = maps-fewest (sheetD "3") d-sheet (designD 3) d-network d-fewest
+-- and h those with different (xor a b)
+abbrev d-asks : List Ask
+d-asks =
+    asking 1 ((0, 2) ∷ (0, 3) ∷ (1, 2) ∷ (1, 3) ∷ [])
+    ∷ asking 1 ((0, 1) ∷ (0, 3) ∷ (2, 1) ∷ (2, 3) ∷ [])
+    ∷ asking 1 ((0, 1) ∷ (0, 2) ∷ (3, 1) ∷ (3, 2) ∷ [])
+    ∷ []
+
+d-tested : Tested (designD 3) 3 d-network d-asks
+unfolding computing testing
+d-tested =
+    record {
+      vertices = refl;
+      counted = refl;
+      asked = (record { reads = refl; tells = refl }, (record { reads = refl; tells = refl }, (record { reads = refl; tells = refl }, tt)));
+      tables = refl;
+      reads = (refl, (refl, (refl, tt)));
+    }
+
+d-plain : Plain (designD 3) d-network
+unfolding computing testing
+d-plain = record { zero-first = (refl, (refl, (refl, tt))); entries = (refl, (refl, (refl, tt))) }
+
+pub d-printed : Prints (sheetD "3") 3 networkD
+d-printed = prints-tested (sheetD "3") networkD (designD 3) d-network d-fewest 3 d-asks d-plain d-tested
 
 -- ---- E: f alone tells three vertices apart pairwise
 e-cells : AtLeast 2 designE
@@ -70,20 +105,37 @@ e-cells = two-needed designE 0 0 0 0 1 2 refl refl refl
 
 abbrev e-network : Network
 e-network =
-    network (bits "0110" ∷ bits "0011" ∷ [])
-    (node (0 ∷ 1 ∷ []) (bits "0000011101010011") ∷ node (0 ∷ []) (bits "00111100") ∷ [])
+    network (bits "0011" ∷ bits "0110" ∷ [])
+    (node (0 ∷ 1 ∷ []) (bits "0000010101110011") ∷ node (1 ∷ []) (bits "00111100") ∷ [])
 
-abbrev e-sheet : List ℕ
-e-sheet =
-    bytes "(network 1)\n(lut _0 (a b) 0110)\n(lut _1 (a b) 0011)\n"
-    ++ bytes "(node f (_0 _1 c d) 0000011101010011)\n(node g (_0 c d) 00111100)\n(count 2)\n(end)\n"
-
-e-fewest : Fewest sheetE e-sheet designE e-network
+e-fewest : Fewest sheetE networkE designE e-network
 unfolding computing
 e-fewest = fewest-of refl refl refl refl (lit≤ tt) e-cells
 
-pub e-mapped : Maps sheetE 2 133
-e-mapped = maps-fewest sheetE e-sheet designE e-network e-fewest
+-- f has to tell all vertices apart, by two tables, g those with different (xor a b), by one
+abbrev e-asks : List Ask
+e-asks =
+    asking 2 ((0, 1) ∷ (0, 2) ∷ (0, 3) ∷ (1, 2) ∷ (1, 3) ∷ (2, 3) ∷ [])
+    ∷ asking 1 ((0, 1) ∷ (0, 2) ∷ (3, 1) ∷ (3, 2) ∷ [])
+    ∷ []
+
+e-tested : Tested designE 3 e-network e-asks
+unfolding computing testing
+e-tested =
+    record {
+      vertices = refl;
+      counted = refl;
+      asked = (record { reads = refl; tells = refl }, (record { reads = refl; tells = refl }, tt));
+      tables = refl;
+      reads = (refl, (refl, tt));
+    }
+
+e-plain : Plain designE e-network
+unfolding computing testing
+e-plain = record { zero-first = (refl, (refl, tt)); entries = (refl, (refl, tt)) }
+
+pub e-printed : Prints sheetE 2 networkE
+e-printed = prints-tested sheetE networkE designE e-network e-fewest 3 e-asks e-plain e-tested
 
 -- ---- G: f tells vertices 0, 1 and 3 apart pairwise
 g-cells : (n : ℕ) → AtLeast 2 (designG n)

@@ -33,7 +33,7 @@ use Rattle.mapper.specs.Map.{Permitted, First}
 use Rattle.mapper.specs.PermittedLaws.{permitted-count, permitted-reads}
 use Rattle.mapper.specs.MapLaws.{Given, to-labels, found-permitted}
 
-permitted-settled : (d : Design) (w : Network) → Permitted d w → Settled (Permitted d) d (length (w .luts))
+pub permitted-settled : (d : Design) (w : Network) → Permitted d w → Settled (Permitted d) d (length (w .luts))
 permitted-settled d w q = record {
   uniform = record { wellformed = λ v p. p .wellformed; counted = λ v p. permitted-count d v w p q };
   computes = λ v p. p .computes;

@@ -27,6 +27,8 @@ pub mod Designs
 pub mod Each
 pub mod CellBounds
 pub mod NeededCells
+pub mod FirstTest
+pub mod FirstTestLaws
 pub mod WorkedLaws
 pub mod CountedSheets
 pub mod ForcedSheets

@@ -2,7 +2,7 @@
 use mathlib.Core.Path.{_≡_, subst}
 use mathlib.Core.Bool.{Bool, true, _&&_}
 use mathlib.Core.List.{List}
-use Prim.Native.Nat.{ℕ, _≤_}
+use Prim.Native.Nat.{ℕ, _≤_, _<_}
 use lib.Dec.{ltb}
 use lib.ListN.{length}
 use borrow.Author.Tests.{ltb-true}
@@ -24,15 +24,29 @@ conflicting d o x y =
     ltb o (length (d .outputs)) && (ltb x (vertexCount (d .bound)) && (ltb y (vertexCount (d .bound)) && conflict d (d .bound) o x y))
 
 module _ (d : Design) where
-  told : (o x y : ℕ) → conflicting d o x y ≡ true → (l : List Cell) → ServesDesign d l → Apart o x y l
-  told o x y e l s =
+  -- they are an output and two vertices
+  pub conflicting-below : (o x y : ℕ)
+      → conflicting d o x y ≡ true
+      → (o < length (d .outputs)) × (x < vertexCount (d .bound)) × (y < vertexCount (d .bound))
+  conflicting-below o x y e =
       let v = vertexCount (d .bound) in
       let k = conflict d (d .bound) o x y in
       let i = ltb o (length (d .outputs)) in
       let f = and-right i (ltb x v && (ltb y v && k)) e in
+      let g = and-right (ltb x v) (ltb y v && k) f in (
+        ltb-true o (length (d .outputs)) (and-left i (ltb x v && (ltb y v && k)) e),
+        ltb-true x v (and-left (ltb x v) (ltb y v && k) f),
+        ltb-true y v (and-left (ltb y v) k g),
+      )
+
+  pub told : (o x y : ℕ) → conflicting d o x y ≡ true → (l : List Cell) → ServesDesign d l → Apart o x y l
+  told o x y e l s =
+      let v = vertexCount (d .bound) in
+      let k = conflict d (d .bound) o x y in
+      let f = and-right (ltb o (length (d .outputs))) (ltb x v && (ltb y v && k)) e in
       let g = and-right (ltb x v) (ltb y v && k) f in
-      s .tells o x y (ltb-true o (length (d .outputs)) (and-left i (ltb x v && (ltb y v && k)) e))
-      (ltb-true x v (and-left (ltb x v) (ltb y v && k) f)) (ltb-true y v (and-left (ltb y v) k g)) (and-right (ltb y v) k g)
+      let (h, a, b) = conflicting-below o x y e in
+      s .tells o x y h a b (and-right (ltb y v) k g)
 
   -- one where there is a conflict
   pub one-needed : (o x y : ℕ) → conflicting d o x y ≡ true → AtLeast 1 d
@@ -51,9 +65,7 @@ module _ (d : Design) where
 
   reads-one : {o x y z : ℕ} → OneRead o x y z → (l : List Cell) → ServesDesign d l → reading o l ≤ 1
   reads-one {o = o} {x = x} {y = y} h l s =
-      let v = vertexCount (d .bound) in
-      subst (λ (n : ℕ). reading o l ≤ n) (h .width-1)
-      (s .within o (ltb-true o (length (d .outputs)) (and-left (ltb o (length (d .outputs))) (ltb x v && (ltb y v && conflict d (d .bound) o x y)) (h .first))))
+      subst (λ (n : ℕ). reading o l ≤ n) (h .width-1) (s .within o (conflicting-below o x y (h .first) .0))
 
   -- three where each of three outputs may read one cell, and each has conflicts of another vertex with the two others
   pub three-needed : (o p q x y z : ℕ) → OneRead o z x y → OneRead p y x z → OneRead q x y z → AtLeast 3 d

@@ -49,15 +49,32 @@ sheetC n =
     bytes "(design 1)\n(in a b c)\n(bound a b)\n(limit "
     ++ (bytes n ++ bytes ")\n(out f (xor a c))\n(out g (xor b c))\n(end)\n")
 
+-- C's network at limit 2
+abbrev pub networkC : List ℕ
+networkC =
+    bytes "(network 1)\n(lut _0 (a b) 0011)\n(lut _1 (a b) 0101)\n"
+    ++ bytes "(node f (_0 c) 0110)\n(node g (_1 c) 0110)\n(count 2)\n(end)\n"
+
 abbrev pub sheetD : String → List ℕ
 sheetD n =
     bytes "(design 1)\n(in a b c)\n(bound a b)\n(limit "
     ++ (bytes n ++ bytes ")\n(out f (xor a c))\n(out g (xor b c))\n(out h (xor a b c))\n(end)\n")
 
+-- D's network at limit 3
+abbrev pub networkD : List ℕ
+networkD =
+    bytes "(network 1)\n(lut _0 (a b) 0011)\n(lut _1 (a b) 0101)\n(lut _2 (a b) 0110)\n"
+    ++ bytes "(node f (_0 c) 0110)\n(node g (_1 c) 0110)\n(node h (_2 c) 0110)\n(count 3)\n(end)\n"
+
 abbrev pub sheetE : List ℕ
 sheetE =
     bytes "(design 1)\n(in a b c d)\n(bound a b)\n(limit 2)\n"
     ++ bytes "(out f (or (and a c) (and b d)))\n(out g (xor a b c))\n(end)\n"
+
+abbrev pub networkE : List ℕ
+networkE =
+    bytes "(network 1)\n(lut _0 (a b) 0011)\n(lut _1 (a b) 0110)\n"
+    ++ bytes "(node f (_0 _1 c d) 0000010101110011)\n(node g (_1 c d) 00111100)\n(count 2)\n(end)\n"
 
 abbrev pub sheetF : List ℕ
 sheetF = bytes "(design 1)\n(in a b c d)\n(bound a b)\n(limit 0)\n(out f (or c d))\n(end)\n"
@@ -102,13 +119,16 @@ pub record Worked : Type 0 where
   pub buffer-96 : (b : List ℕ) (a : MapAnswer) (b' : List ℕ) → length b ≡ 96 → Outcome sheetA b a b' → a ≡ mapped 1 96
   -- C. "limit 1 gives 8, limit 2 maps, U = 2"
   pub sheet-c-1 : Refuses (sheetC "1") 8 0
-  pub sheet-c-2 : Maps (sheetC "2") 2 110
+  pub sheet-c-2 : Prints (sheetC "2") 2 networkC
+  pub bytes-c : length networkC ≡ 110
   -- D. "limit 2 gives 8, limit 3 maps, although there are only four global classes"
   pub sheet-d-2 : Refuses (sheetD "2") 8 0
-  pub sheet-d-3 : Maps (sheetD "3") 3 151
+  pub sheet-d-3 : Prints (sheetD "3") 3 networkD
+  pub bytes-d : length networkD ≡ 151
   pub classes-d : (d : Design) → examine (sheetD "3") ≡ valid d → globalCount d (d .bound) ≡ 4
   -- E. "U = 2"
-  pub sheet-e : Maps sheetE 2 133
+  pub sheet-e : Prints sheetE 2 networkE
+  pub bytes-e : length networkE ≡ 133
   -- F. "U = 0, `(node f (c d) 0111)`"
   pub sheet-f : Prints sheetF 0 networkF
   -- G. "three classes, width 2; limit 1 gives 8"
@@ -117,6 +137,7 @@ pub record Worked : Type 0 where
   pub sheet-g-1 : Refuses (sheetG "1") 8 0
   -- H. "table 0001, `(node f (_0) 01)`"
   pub sheet-h : Prints sheetH 1 networkH
+  pub bytes-h : length networkH ≡ 65
   -- J. "Check A with g's digits 0011: differs, output 1, row 2. With the lut 10010110, f 1001, g 0100: same."
   pub sheet-j : check sheetA networkJ ≡ checks.differs 1 2
   pub sheet-j-complement : check sheetA complementJ ≡ checks.same

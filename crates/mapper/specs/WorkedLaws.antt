@@ -1,6 +1,7 @@
 -- How an outcome on a given sheet is known: a network sheet that is "same", as many cells as every core that serves has at
--- least, and no other count. Assumes nothing.
+-- least, and no other count; and that it is the first, or the only one. Assumes nothing.
 use mathlib.Core.Path.{_≡_, refl, sym, ap, ap₂, _∙_, subst}
+use mathlib.Core.Bool.{false}
 use mathlib.Core.List.{List}
 use mathlib.Core.Option.{none}
 use Prim.Native.Nat.{ℕ, suc, _≤_, _<_}
@@ -23,6 +24,7 @@ use Rattle.network.specs.Wellformed.{Wellformed, Named}
 use Rattle.network.specs.Answers.{WithinLimits, Computes, Drawn, readCount}
 use Rattle.network.specs.Check.{compared}
 use Rattle.network.specs.Check.{same}
+use Rattle.network.specs.Value.{lutAt}
 use Rattle.network.specs.NamedLaws.{design-named}
 use Rattle.network.specs.CompareLaws.{compared-same}
 use Rattle.network.specs.PrintedLaws.{drawn-wellformed, drawn-within, drawn-print}
@@ -30,9 +32,13 @@ use Rattle.serving.specs.NetworkCore.{networkCore}
 use Rattle.serving.specs.Tells.{core-length}
 use Rattle.serving.specs.TheoremA.{drawn-serves}
 use Rattle.serving.specs.FullReads.{reads-width}
-use Rattle.mapper.specs.Map.{Permitted, MapAnswer, refused-by, mapped, OutcomeFor, too-many-classes, no-network, buffer-short, written}
+use Rattle.mapper.specs.Map.{Permitted, First, MapAnswer, refused-by, mapped, OutcomeFor, too-many-classes, no-network, buffer-short, written}
 use Rattle.mapper.specs.LengthLaws.{same-length}
+use Rattle.mapper.specs.FunctionLaws.{first-one}
+use Rattle.mapper.specs.Each.{each-below}
 use Rattle.mapper.specs.NeededCells.{AtLeast}
+use Rattle.mapper.specs.FirstTest.{Ask, Tested, Plain}
+use Rattle.mapper.specs.FirstTestLaws.{first-tested, plain-unproduced}
 use Rattle.mapper.specs.OutcomeLaws.{outcome-for, outcome-refused}
 use Rattle.mapper.specs.Worked.{Refuses, Maps, Prints}
 
@@ -144,20 +150,45 @@ module _ (s t : List ℕ) (d : Design) (w : Network) (x : Fewest s t d w) where
         untouched = λ b a b' k o. says-short k (outcome-for d e o) .1;
       }
 
-  says-text : ((v : Network) → Permitted d v → v ≡ w) → {b : List ℕ} {a : MapAnswer} {b' : List ℕ} → length t ≤ length b → OutcomeFor d b a b' → b' ≡ sets b 0 t
-  says-text only k (too-many-classes h) = let f = x .few in absurd (omega (arith, h, f))
-  says-text only k (no-network h n) = absurd (n w well inside drawn-computes)
-  says-text only k (buffer-short v h p n) = let g = length-of v (p .permitted) in absurd (omega (arith, g, n, k))
-  says-text only {b = b} k (written v h p n) =
-      ap (λ (y : Network). sets b 0 (printNetwork d y)) (only v (p .permitted)) ∙ ap (sets b 0) (sym (drawn-print d w named t (x .drawn)))
+  says-text : ((v : Network) → First d v → printNetwork d v ≡ printNetwork d w)
+      → {b : List ℕ} {a : MapAnswer} {b' : List ℕ}
+      → length t ≤ length b
+      → OutcomeFor d b a b'
+      → b' ≡ sets b 0 t
+  says-text alike k (too-many-classes h) = let f = x .few in absurd (omega (arith, h, f))
+  says-text alike k (no-network h n) = absurd (n w well inside drawn-computes)
+  says-text alike k (buffer-short v h p n) = let g = length-of v (p .permitted) in absurd (omega (arith, g, n, k))
+  says-text alike {b = b} k (written v h p n) = ap (sets b 0) (alike v p ∙ sym (drawn-print d w named t (x .drawn)))
+
+  prints-alike : ((v : Network) → First d v → printNetwork d v ≡ printNetwork d w) → Prints s (length (w .luts)) t
+  prints-alike alike =
+      record {
+        maps = maps-fewest;
+        writes = λ b a b' k o. says-text alike k (outcome-for d e o);
+      }
 
   -- where no other network is permitted, its sheet is what is written
   pub prints-only : ((v : Network) → Permitted d v → v ≡ w) → Prints s (length (w .luts)) t
-  prints-only only =
+  prints-only only = prints-alike (λ v p. ap (printNetwork d) (only v (p .permitted)))
+
+  -- ---- a network whose tables are 0 at vertex 0, with 0 in every entry whose code no vertex produces, is permitted
+  pub plain-permitted : Plain d w → Permitted d w
+  plain-permitted p =
       record {
-        maps = maps-fewest;
-        writes = λ b a b' k o. says-text only k (outcome-for d e o);
+        wellformed = well;
+        within = inside;
+        computes = drawn-computes;
+        fewest = least-network s d (length (w .luts)) e (x .least);
+        zero-first = each-below (length (w .luts)) (λ (i : ℕ). lutAt w i 0 ≡ false) (p .zero-first);
+        unproduced = λ o j h g. plain-unproduced d w o j p h g;
       }
+
+  -- where it passes the test, it is the first, and its sheet is what is written
+  pub tested-first : (n : ℕ) (ks : List Ask) → Plain d w → Tested d n w ks → First d w
+  tested-first n ks p k = first-tested d formed n w ks (plain-permitted p) k
+
+  pub prints-tested : (n : ℕ) (ks : List Ask) → Plain d w → Tested d n w ks → Prints s (length (w .luts)) t
+  prints-tested n ks p k = prints-alike (λ v q. first-one d v w q (tested-first n ks p k) .0)
 
 -- ---- a sheet that the examination refuses
 pub refuses-sheet : (s : List ℕ) (q l : ℕ) → examine s ≡ refused q l → Refuses s q l

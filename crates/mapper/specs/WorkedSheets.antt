@@ -10,7 +10,7 @@ use Rattle.mapper.specs.OutcomeLaws.{valid-same}
 use Rattle.mapper.specs.Designs.{designD, designG}
 use Rattle.mapper.specs.Worked.{Worked, sheetD, sheetG, sheetK}
 use Rattle.mapper.specs.WorkedLaws.{refuses-sheet}
-use Rattle.mapper.specs.CountedSheets.{c-refused, c-mapped, d-refused, d-mapped, e-mapped, g-refused}
+use Rattle.mapper.specs.CountedSheets.{c-refused, c-printed, d-refused, d-printed, e-printed, g-refused}
 use Rattle.mapper.specs.ForcedSheets.{a-printed, f-printed, h-printed}
 
 d-said : examine (sheetD "3") ≡ valid (designD 3)
@@ -51,16 +51,20 @@ worked =
       untouched-95 = λ b a b' e o. a-printed .maps .untouched b a b' (omega (arith, e)) o;
       buffer-96 = λ b a b' e o. a-printed .maps .answers b a b' (omega (arith, e)) o;
       sheet-c-1 = c-refused;
-      sheet-c-2 = c-mapped;
+      sheet-c-2 = c-printed;
+      bytes-c = refl;
       sheet-d-2 = d-refused;
-      sheet-d-3 = d-mapped;
+      sheet-d-3 = d-printed;
+      bytes-d = refl;
       classes-d = λ d e. subst (λ (x : Design). globalCount x (x .bound) ≡ 4) (valid-same (sym d-said ∙ e)) d-classes;
-      sheet-e = e-mapped;
+      sheet-e = e-printed;
+      bytes-e = refl;
       sheet-f = f-printed;
       classes-g = λ d e. subst (λ (x : Design). localCount x (x .bound) 0 ≡ 3) (valid-same (sym g-said ∙ e)) g-classes;
       width-g = λ d e. subst (λ (x : Design). width x (x .bound) 0 ≡ 2) (valid-same (sym g-said ∙ e)) g-width;
       sheet-g-1 = g-refused;
       sheet-h = h-printed;
+      bytes-h = refl;
       sheet-j = refl;
       sheet-j-complement = refl;
       empty-table = λ o b. refl;
