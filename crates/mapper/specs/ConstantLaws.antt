@@ -5,14 +5,14 @@ use mathlib.Core.Path.{_≡_, refl, sym, ap, ap₂, _∙_, subst}
 use mathlib.Core.Bool.{Bool, true, false}
 use mathlib.Core.List.{List, [], _∷_}
 use mathlib.Core.Logic.{⊎-elim}
-use Prim.Native.Nat.{ℕ, zero, suc, _+_, _≤_, _<_, Ordering, Ordering·lt}
+use Prim.Native.Nat.{ℕ, zero, suc, _+_, _≤_, _<_, Ordering}
 use native.Mathlib.Omega.{arith}
 use native.Mathlib.Nat.{zero-add}
 use native.Mathlib.Decide.{ℕ-discrete}
 use lib.ListN.{length}
 use Rattle.bits.specs.LogicLaws.{true-false}
 use Rattle.limits.specs.Limits.{maxCells}
-use Rattle.order.specs.Order.{then, isLess, byteOrder, before, tablesOrder}
+use Rattle.order.specs.Order.{then, isLess, before, tablesOrder}
 use Rattle.sheet.specs.Examine.{Design}
 use Rattle.sheet.specs.WellFormed.{WellFormed}
 use Rattle.classes.specs.ProperLaws.{proper-of}
@@ -24,7 +24,7 @@ use Rattle.network.specs.Network.{Network}
 use Rattle.network.specs.Printer.{printNetwork}
 use Rattle.network.specs.NamedLaws.{design-named}
 use Rattle.network.specs.Value.{lutAt}
-use Rattle.cells.specs.Core.{Cell, ZeroFirst, coreOf}
+use Rattle.cells.specs.Core.{Cell, ZeroFirst}
 use Rattle.cells.specs.Codes.{rowOf, codeOf}
 use Rattle.cells.specs.Free.{retabled, retabled-length, mapped-serves}
 use Rattle.cells.specs.Written.{tablesOf}

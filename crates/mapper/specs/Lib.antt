@@ -35,4 +35,5 @@ pub mod ForcedSheets
 pub mod WorkedSheets
 pub mod WorkedUnproduced
 pub mod UnproducedSheets
+pub mod ConstantSheets
 pub mod WorkedClasses

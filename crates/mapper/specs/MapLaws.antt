@@ -66,7 +66,14 @@ module _ (d : Design) (cl budgets : List ℕ) (v m limit : ℕ) (g : Given d cl 
       }
 
   -- ---- nothing found
-  pub none-found : (u : ℕ) (rows codes : List ℕ) → WellFormed d → Answered cl budgets v m limit false u rows codes → (w : Network) → Wellformed d w → WithinLimits d w → Computes d w → ⊥
+  pub none-found : (u : ℕ) (rows codes : List ℕ)
+      → WellFormed d
+      → Answered cl budgets v m limit false u rows codes
+      → (w : Network)
+      → Wellformed d w
+      → WithinLimits d w
+      → Computes d w
+      → ⊥
   none-found u rows codes f a w p l c =
       let s = drawn-serves d w (proper-of d f) p l c in
       let q = a .answer (networkCore w) (to-labels (networkCore w) s) in

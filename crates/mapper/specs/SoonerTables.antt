@@ -1,6 +1,6 @@
 -- Two vertices of a core, one of which takes the values of the other: where the first cell in which they differ has 0 at the
 -- one and 1 at the other, the tables come before the core's own. Assumes nothing.
-use mathlib.Core.Path.{_≡_, refl, sym, ap, ap₂, _∙_, subst}
+use mathlib.Core.Path.{_≡_, refl, sym, ap, _∙_, subst}
 use mathlib.Core.Bool.{Bool, true, false}
 use mathlib.Core.List.{List, [], _∷_}
 use mathlib.Core.Logic.{_⊎_, inl, inr, ⊎-elim}

@@ -20,12 +20,13 @@ use Rattle.mapper.specs.Computing.{computing}
 use Rattle.mapper.specs.NeededCells.{two-needed}
 use Rattle.mapper.specs.Map.{Permitted}
 use Rattle.mapper.specs.Designs.{designG, designForced, bits, node, network}
-use Rattle.mapper.specs.Worked.{sheetG}
+use Rattle.mapper.specs.FirstTest.{Ask, asking, Tested, Plain, testing}
+use Rattle.mapper.specs.Worked.{sheetG, Prints}
 use Rattle.mapper.specs.WorkedUnproduced.{Unproduced, networkG, rivalG, sheetForced, networkForced, WorkedUnproduced}
-use Rattle.mapper.specs.WorkedLaws.{Fewest, fewest-of, maps-fewest}
+use Rattle.mapper.specs.WorkedLaws.{Fewest, fewest-of, prints-tested}
 
 abbrev g-network : Network
-g-network = network (bits "0110" ∷ bits "0001" ∷ []) (node (0 ∷ 1 ∷ []) (bits "0000001101010000") ∷ [])
+g-network = network (bits "0001" ∷ bits "0110" ∷ []) (node (0 ∷ 1 ∷ []) (bits "0000010100110000") ∷ [])
 
 -- a vertex is one of four
 four-vertices : (P : ℕ → Type 0) → P 0 → P 1 → P 2 → P 3 → (x : ℕ) → x < 4 → P x
@@ -38,6 +39,28 @@ four-vertices P p q r s (suc (suc (suc (suc x)))) h = absurd (omega arith)
 g-fewest : Fewest (sheetG "2") (networkG "0000") (designG 2) g-network
 unfolding computing
 g-fewest = fewest-of refl refl refl refl (lit≤ tt) (two-needed (designG 2) 0 0 0 0 1 3 refl refl refl)
+
+-- f has to tell its three classes apart: vertex 0, vertices 1 and 2, vertex 3
+abbrev g-asks : List Ask
+g-asks = asking 2 ((0, 1) ∷ (0, 2) ∷ (0, 3) ∷ (1, 3) ∷ (2, 3) ∷ []) ∷ []
+
+g-tested : Tested (designG 2) 3 g-network g-asks
+unfolding computing testing
+g-tested =
+    record {
+      vertices = refl;
+      counted = refl;
+      asked = (record { reads = refl; tells = refl }, tt);
+      tables = refl;
+      reads = (refl, tt);
+    }
+
+g-plain : Plain (designG 2) g-network
+unfolding computing testing
+g-plain = record { zero-first = (refl, (refl, tt)); entries = (refl, tt) }
+
+g-printed : Prints (sheetG "2") 2 (networkG "0000")
+g-printed = prints-tested (sheetG "2") (networkG "0000") (designG 2) g-network g-fewest 3 g-asks g-plain g-tested
 
 g-zero : (w : Network)
     → Permitted (designG 2) w
@@ -63,16 +86,43 @@ rival-no p = true-false (g-zero rivalG p 3 0 (lit< tt) rival-unproduced)
 -- ---- G with g and h: these force the tables
 abbrev forced-network : Network
 forced-network =
-    network (bits "0110" ∷ bits "0001" ∷ [])
-    (node (0 ∷ 1 ∷ []) (bits "0000001101010000")
-    ∷ node (0 ∷ []) (bits "00111100")
+    network (bits "0001" ∷ bits "0110" ∷ [])
+    (node (0 ∷ 1 ∷ []) (bits "0000010100110000")
     ∷ node (1 ∷ []) (bits "00111100")
+    ∷ node (0 ∷ []) (bits "00111100")
     ∷ [])
 
 forced-fewest : Fewest sheetForced (networkForced "0000") designForced forced-network
 unfolding computing
 forced-fewest =
     fewest-of refl refl refl refl (lit≤ tt) (two-needed designForced 0 0 0 0 1 3 refl refl refl)
+
+-- g has to tell vertices with different (xor a b) apart, h vertex 3 from the others
+abbrev forced-asks : List Ask
+forced-asks =
+    asking 2 ((0, 1) ∷ (0, 2) ∷ (0, 3) ∷ (1, 3) ∷ (2, 3) ∷ [])
+    ∷ asking 1 ((0, 1) ∷ (0, 2) ∷ (3, 1) ∷ (3, 2) ∷ [])
+    ∷ asking 1 ((0, 3) ∷ (1, 3) ∷ (2, 3) ∷ [])
+    ∷ []
+
+forced-tested : Tested designForced 3 forced-network forced-asks
+unfolding computing testing
+forced-tested =
+    record {
+      vertices = refl;
+      counted = refl;
+      asked = (record { reads = refl; tells = refl }, (record { reads = refl; tells = refl }, (record { reads = refl; tells = refl }, tt)));
+      tables = refl;
+      reads = (refl, (refl, (refl, tt)));
+    }
+
+forced-plain : Plain designForced forced-network
+unfolding computing testing
+forced-plain = record { zero-first = (refl, (refl, tt)); entries = (refl, (refl, (refl, tt))) }
+
+forced-printed : Prints sheetForced 2 (networkForced "0000")
+forced-printed =
+    prints-tested sheetForced (networkForced "0000") designForced forced-network forced-fewest 3 forced-asks forced-plain forced-tested
 
 -- an output of width 1 reads one table or none
 one-or-none : {u : ℕ} {is : List ℕ}
@@ -218,14 +268,16 @@ unfolding computing
 worked-unproduced =
     record {
       said-g = refl;
-      maps-g = maps-fewest (sheetG "2") (networkG "0000") (designG 2) g-network g-fewest;
+      prints-g = g-printed;
+      bytes-g = refl;
       zero-g = g-zero;
       same-g = refl;
       rival-g = refl;
       rival-said = refl;
       not-permitted-g = rival-no;
       said-forced = refl;
-      maps-forced = maps-fewest sheetForced (networkForced "0000") designForced forced-network forced-fewest;
+      prints-forced = forced-printed;
+      bytes-forced = refl;
       zero-forced = forced-zero;
       same-forced = refl;
       rival-forced = refl;
