@@ -1,7 +1,8 @@
 #!/usr/bin/env python3
 """check_cases.py [COUNT]: Check, Export and Map on the programs target/bin/cellcheck, cellblif and cellmap. First cases by hand
 at each boundary of questions 10 and 11, with what Check must answer beside it, which the reference must answer too; then COUNT
-random sheets (300 unless given): Map's network must be "same", and damaged networks must be answered as the reference says.
+random sheets (300 unless given): Map must answer as the reference does, byte for byte, Check must say "same" of its network, and
+damaged networks must be answered as the reference says.
 Of every case Export must print the reference's text, or the refusal that Check prints. Shows progress; the last line counts."""
 import pathlib
 import random
@@ -92,6 +93,13 @@ def reference(design, network):
     return "same" if found is None else f"differs output {found[0]} row {found[1]}"
 
 
+def reference_map(design):
+    try:
+        return cellref.map_sheet(design)[1]
+    except cellref.Refusal as refusal:
+        return f"{refusal}\n"
+
+
 def damage(dice, network):
     body = bytearray(network)
     for _ in range(dice.randrange(1, 3)):
@@ -138,6 +146,7 @@ mapped = 0
 for turn in range(count):
     design = random_sheets.text_of(random_sheets.valid(dice))
     network = program("cellmap", design)
+    expect("Map's answer", network.decode(), reference_map(design))
     if network.startswith(b"refused"):
         continue
     mapped += 1

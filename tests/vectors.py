@@ -1,6 +1,7 @@
 #!/usr/bin/env python3
 """vectors.py DIR: maps every sheet of DIR with target/bin/cellmap and compares the number of cells with DIR/ANSWERS
-(lines 'NAME FEWEST ..', FEWEST a number, or 'inf' for a refusal by 8). Shows each sheet as it comes; the last line counts."""
+(lines 'NAME FEWEST ..', FEWEST a number, or 'inf' for a refusal by 8). Where NAME.network stands beside a sheet, the network must
+be that byte for byte. Shows each sheet as it comes; the last line counts."""
 import pathlib
 import re
 import subprocess
@@ -18,6 +19,9 @@ for name, wanted in sorted(answers.items()):
     took = time.monotonic() - start
     count = re.search(r"^\(count (\d+)\)$", out, re.M)
     got = count.group(1) if count else ("inf" if out == "refused 8 line 0\n" else out.strip())
+    network = folder / f"{name}.network"
+    if network.exists() and got == wanted and out.encode() != network.read_bytes():
+        got += ", not the first network"
     wrong += got != wanted
     print(f"{name} {got} {'ok' if got == wanted else 'WRONG, wanted ' + wanted} {took * 1000:.1f} ms", flush=True)
 print(f"{len(answers) - wrong} passed, {wrong} failed")

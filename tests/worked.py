@@ -1,5 +1,6 @@
 #!/usr/bin/env python3
-"""Runs Map's program on the sheets to try of document 01: A, C to I and K. Sheet B, with buffers of its own, is executed by the program `worked`."""
+"""Runs Map's program on the sheets to try of document 01, A, C to I and K, and compares what it prints byte for byte. Sheet B, with
+buffers of its own, is executed by the program `worked`."""
 import pathlib
 import subprocess
 import sys
@@ -12,6 +13,12 @@ def sheet(ins, bound, limit, *formulas):
     return "\n".join(["(design 1)", f"(in {ins})", f"(bound {bound})", f"(limit {limit})", *outs, "(end)", ""])
 
 
+def network(bound, luts, *nodes):
+    lines = [f"(lut _{k} ({bound}) {digits})" for k, digits in enumerate(luts)]
+    lines += [f"(node {name} {node})" for name, node in zip("fghi", nodes)]
+    return "\n".join(["(network 1)", *lines, f"(count {len(luts)})", "(end)", ""])
+
+
 C = ["(xor a c)", "(xor b c)"]
 D = C + ["(xor a b c)"]
 E = ["(or (and a c) (and b d))", "(xor a b c)"]
@@ -19,20 +26,25 @@ G = ["(or (and a b c) (and (xor a b) d))"]
 I = ["(or (and a x) (and e y))", "(xor b x)", "(xor c x)"]
 SEVEN = ("a b c d e x y", "a b c d e")
 
-# name, sheet, a text that the answer has as whole lines
+I_TABLES = ["0" * 16 + "1" * 16, ("0" * 8 + "1" * 8) * 2, ("0" * 4 + "1" * 4) * 4, "01" * 16]
+
+# name, sheet, answer
 CASES = [
     ("A", sheet("a b c d", "a b c", 2, "(xor a b c d)", "(and (xor a b c) d)"),
-     "(network 1)\n(lut _0 (a b c) 01101001)\n(node f (_0 d) 0110)\n(node g (_0 d) 0001)\n(count 1)\n(end)\n"),
+     network("a b c", ["01101001"], "(_0 d) 0110", "(_0 d) 0001")),
     ("C, limit 1", sheet("a b c", "a b", 1, *C), "refused 8 line 0\n"),
-    ("C, limit 2", sheet("a b c", "a b", 2, *C), "(count 2)\n"),
+    ("C, limit 2", sheet("a b c", "a b", 2, *C), network("a b", ["0011", "0101"], "(_0 c) 0110", "(_1 c) 0110")),
     ("D, limit 2", sheet("a b c", "a b", 2, *D), "refused 8 line 0\n"),
-    ("D, limit 3", sheet("a b c", "a b", 3, *D), "(count 3)\n"),
-    ("E", sheet("a b c d", "a b", 2, *E), "(count 2)\n"),
-    ("F", sheet("a b c d", "a b", 0, "(or c d)"), "(node f (c d) 0111)\n(count 0)\n"),
+    ("D, limit 3", sheet("a b c", "a b", 3, *D),
+     network("a b", ["0011", "0101", "0110"], "(_0 c) 0110", "(_1 c) 0110", "(_2 c) 0110")),
+    ("E", sheet("a b c d", "a b", 2, *E),
+     network("a b", ["0011", "0110"], "(_0 _1 c d) 0000010101110011", "(_1 c d) 00111100")),
+    ("F", sheet("a b c d", "a b", 0, "(or c d)"), network("a b", [], "(c d) 0111")),
     ("G, limit 1", sheet("a b c d", "a b", 1, *G), "refused 8 line 0\n"),
-    ("G, limit 2", sheet("a b c d", "a b", 2, *G), "(count 2)\n"),
-    ("H", sheet("a b", "a b", 1, "(and a b)"), "(lut _0 (a b) 0001)\n(node f (_0) 01)\n(count 1)\n"),
-    ("I, limit 4", sheet(*SEVEN, 4, *I), "(count 4)\n"),
+    ("G, limit 2", sheet("a b c d", "a b", 2, *G), network("a b", ["0001", "0110"], "(_0 _1 c d) 0000010100110000")),
+    ("H", sheet("a b", "a b", 1, "(and a b)"), network("a b", ["0001"], "(_0) 01")),
+    ("I, limit 4", sheet(*SEVEN, 4, *I),
+     network(SEVEN[1], I_TABLES, "(_0 _3 x y) 0000010100110111", "(_1 x y) 00111100", "(_2 x y) 00111100")),
     ("I, limit 3", sheet(*SEVEN, 3, *I), "refused 8 line 0\n"),
     ("I, fourth output", sheet(*SEVEN, 0, *I, "(xor d x)"), "refused 7 line 0\n"),
     ("K, empty", "", "refused 1 line 0\n"),
@@ -44,7 +56,7 @@ def main():
     wrong = 0
     for name, text, expected in CASES:
         said = subprocess.run([PROGRAM], input=text.encode(), capture_output=True, check=False).stdout.decode()
-        if "\n" + expected not in "\n" + said:
+        if said != expected:
             wrong += 1
             print(f"{name}: said {said!r}, and {expected!r} was expected")
     # a text of a megabyte is refused by 1, and is read to its end: what writes it is not cut off

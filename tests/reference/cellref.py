@@ -2,13 +2,13 @@
 """A second implementation of the sheets, written from the paper's words and sharing nothing with the library.
 
 It is slow and plain on purpose: a formula is read to a list in postfix order and evaluated anew on every row, columns
-are lists of values, and the fewest cells are found by trying. The tests compare the library with it.
+are lists of values, and the fewest cells and the first network are found by trying. The tests compare the library with it.
 
     cellref.py table OUTPUT [BUFFER] < sheet      written K DIGITS, or refused N line L
     cellref.py classes < sheet                    vertices, local classes and widths, global classes
     cellref.py check SHEET NETWORK                same, differs output O row R, or refused N line L
     cellref.py export SHEET NETWORK [BUFFER]      the network in BLIF, or refused N line L
-    cellref.py map [BUFFER] < sheet               a network with the fewest cells, or refused N line L
+    cellref.py map [BUFFER] < sheet               the first network in byte order, or refused N line L
     cellref.py fewest [brute] < sheet             the fewest cells whatever the limit, at most six, or none
 """
 
@@ -499,118 +499,160 @@ def fewest_by_brute_force(design):
     return None
 
 
-class Solution:
-    """Tables over the vertices, each a list of values, and for each output the tables that it reads."""
+def search(classes, count, known):
+    """Tables over the global classes by which every output can be computed, as many as `count`, or None.
 
-    def __init__(self, tables, reads):
-        self.tables = tables
-        self.reads = reads
-
-
-def search(design, count):
-    """A solution with this many cells, or None.
-
-    A code of so many bits goes to each global class: tables that serve, read at one vertex of each class, serve too.
-    An output of width w has more than 2^(w - 1) local classes, so it reads exactly w tables. Reading sets are tried
-    one after another, and for each of them codes are given class by class.
+    Table k begins with the digits known[k], and is 0 at class 0. Tables that serve, read at one vertex of each class,
+    serve too. An output of width w has more than 2^(w - 1) local classes, so it reads exactly w tables. Reading sets are
+    chosen output by output, and after each choice codes must be found that tell apart the classes of the outputs so far.
     """
-    classes = Classes(design)
-    if max(classes.widths) > count:
-        return None
     total = classes.global_count()
     first = [classes.whole.index(g) for g in range(total)]
     labels = [[local[v] for v in first] for local in classes.local]
-    choices = [list(itertools.combinations(range(count), w)) for w in classes.widths]
-    for reads in itertools.product(*choices):
-        masks = [sum(1 << k for k in read) for read in reads]
-        codes = give_codes(labels, masks, total, count)
-        if codes is not None:
-            tables = [[codes[classes.whole[v]] >> k & 1 for v in range(len(classes.whole))] for k in range(count)]
-            return Solution(tables, [list(read) for read in reads])
-    return None
+    allowed = [[code for code in range(2**count) if agrees(code, g, known)] for g in range(total)]
+
+    def choose(reads, codes):
+        if len(reads) == len(labels):
+            return codes
+        for read in itertools.combinations(range(count), classes.widths[len(reads)]):
+            if takes_lowest(read, reads, known):
+                chosen = [*reads, read]
+                found = give_codes(labels[: len(chosen)], [sum(1 << k for k in r) for r in chosen], allowed)
+                found = None if found is None else choose(chosen, found)
+                if found is not None:
+                    return found
+        return None
+
+    codes = choose([], [])
+    return None if codes is None else [[code >> k & 1 for code in codes] for k in range(count)]
 
 
-def give_codes(labels, masks, total, count):
-    """A code for each global class, 0 for the first, so that every output tells its labels apart under its mask."""
-    owners = [{} for _ in masks]
-    counts = [max(own) + 1 for own in labels]
-    codes = []
-
-    def room():
-        """Whether each output has as many codes left as it has labels without one."""
-        for owner, mask, labels_in_all in zip(owners, masks, counts):
-            if labels_in_all - len(set(owner.values())) > 2 ** bin(mask).count("1") - len(owner):
-                return False
-        return True
-
-    def give(g):
-        if g == total:
-            return True
-        for code in range(1 if g == 0 else 2**count):
-            taken = []
-            for owner, mask, own in zip(owners, masks, labels):
-                if owner.get(code & mask, own[g]) != own[g]:
-                    break
-                if code & mask not in owner:
-                    owner[code & mask] = own[g]
-                    taken.append((owner, code & mask))
-            else:
-                codes.append(code)
-                if room() and give(g + 1):
-                    return True
-                codes.pop()
-            for owner, key in taken:
-                del owner[key]
-        return False
-
-    return codes if give(0) else None
+def agrees(code, g, known):
+    """Whether the code of class g has the digits that are known; bit k is table k's. At class 0 every table is 0."""
+    return (g > 0 or code == 0) and all(len(digits) <= g or code >> k & 1 == digits[g] for k, digits in enumerate(known))
 
 
-def fewest(design):
-    """The fewest cells, at most six, with a solution; None where no number of cells serves."""
-    for count in range(MAX_LIMIT + 1):
-        found = search(design, count)
-        if found is not None:
-            return count, found
+def takes_lowest(read, reads, known):
+    """Whether of the tables without known digits that earlier outputs read alike the lowest are read first.
+
+    Such tables can be exchanged, so no other choice need be tried.
+    """
+    unknown = [k for k, digits in enumerate(known) if not digits]
+    return not any(
+        k in read and j not in read and all((j in other) == (k in other) for other in reads)
+        for j, k in itertools.combinations(unknown, 2)
+    )
+
+
+def give_codes(labels, masks, allowed):
+    """A code out of those allowed for each global class, so that every output tells its labels apart under its mask.
+
+    The class with the fewest codes left comes next. Of codes that differ in no table that is read one is tried.
+    """
+    outputs = list(zip(labels, masks))
+    read = 0
+    for mask in masks:
+        read |= mask
+
+    def room(codes, own, mask):
+        """Whether an output has as many codes left as it has labels without one."""
+        owners = {code & mask: own[g] for g, code in codes.items()}
+        return max(own) + 1 - len(set(owners.values())) <= 2 ** bin(mask).count("1") - len(owners)
+
+    def give(codes, left):
+        if not left:
+            return codes
+        g = min(left, key=lambda h: len(left[h]))
+        for code in left[g]:
+            given = {**codes, g: code}
+            if all(room(given, own, mask) for own, mask in outputs):
+                found = give(given, without_clashes(g, code, outputs, left))
+                if found is not None:
+                    return found
+        return None
+
+    codes = give({}, {g: list({code & read: code for code in own}.values()) for g, own in enumerate(allowed)})
+    return None if codes is None else [codes[g] for g in range(len(allowed))]
+
+
+def without_clashes(g, code, outputs, left):
+    """The codes left for the other classes once class g has this one."""
+    others = {}
+    for h, codes in left.items():
+        if h != g:
+            differing = [mask for own, mask in outputs if own[g] != own[h]]
+            others[h] = [c for c in codes if all((c ^ code) & mask for mask in differing)]
+    return others
+
+
+def fewest(classes, limit=MAX_LIMIT):
+    """The fewest cells within the limit, with tables that serve; None where no such number of cells serves."""
+    for count in range(max(classes.widths), limit + 1):
+        tables = search(classes, count, [[]] * count)
+        if tables is not None:
+            return count, tables
     return None
 
 
 # ---- Map
 
 
-def network_text(design, solution):
-    """The network sheet of a solution. An entry whose code no vertex produces is 0."""
-    bound = " ".join(design.bound)
-    lines = ["(network 1)"]
-    for k, values in enumerate(solution.tables):
-        lines.append(f"(lut _{k} ({bound}) {''.join(map(str, values))})")
-    for output, wanted in enumerate(design.outputs):
-        reads = solution.reads[output]
-        listed = [f"_{k}" for k in reads] + design.free
-        entries = ["0"] * 2 ** len(listed)
-        for row in range(2 ** len(design.inputs)):
-            given = assignment(design.inputs, row)
-            vertex = int("".join(str(given[name]) for name in design.bound), 2)
-            place = [str(solution.tables[k][vertex]) for k in reads] + [str(given[name]) for name in design.free]
-            entries[int("0" + "".join(place), 2)] = str(value(wanted.formula, given))
-        lines.append(f"(node {wanted.name} ({' '.join(listed)}) {''.join(entries)})")
-    lines += [f"(count {len(solution.tables)})", "(end)"]
-    return "".join(line + "\n" for line in lines)
+def first_tables(classes, tables):
+    """The first list of as many tables over the global classes that serves, found digit by digit from a list that serves.
+
+    A table whose digits vary inside a global class is not in the first list: all vertices of the class could take the
+    least of their codes, and the first table that varies would come earlier. The vertices where classes come up first
+    are in the order of the classes, so tables are compared by their digits at the classes.
+    """
+    tables = sorted(tables)
+    for k in range(len(tables)):
+        for g in range(1, classes.global_count()):
+            if tables[k][g] == 1:
+                known = tables[:k] + [tables[k][:g] + [0]] + [[]] * (len(tables) - k - 1)
+                found = search(classes, len(tables), known)
+                if found is not None:
+                    tables = found[: k + 1] + sorted(found[k + 1 :])
+    return tables
+
+
+def node_lines(design, classes, output, tables):
+    """Every line of a node within the width that computes the output by these tables.
+
+    An entry whose code no vertex produces is 0.
+    """
+    lines = []
+    for reads in itertools.chain(*(itertools.combinations(range(len(tables)), w) for w in range(classes.widths[output] + 1))):
+        if serves([tables[k] for k in reads], classes.local[output]):
+            listed = [f"_{k}" for k in reads] + design.free
+            entries = ["0" * 2 ** len(design.free)] * 2 ** len(reads)
+            for vertex, values in enumerate(classes.columns[output]):
+                entries[int("0" + "".join(str(tables[k][vertex]) for k in reads), 2)] = "".join(map(str, values))
+            lines.append(f"(node {design.outputs[output].name} ({' '.join(listed)}) {''.join(entries)})\n")
+    return lines
+
+
+def network_text(design, classes, tables):
+    """The first network with these tables over the vertices."""
+    luts = [f"(lut _{k} ({' '.join(design.bound)}) {''.join(map(str, values))})\n" for k, values in enumerate(tables)]
+    nodes = [min(node_lines(design, classes, output, tables)) for output in range(len(design.outputs))]
+    return "".join(["(network 1)\n", *luts, *nodes, f"(count {len(tables)})\n", "(end)\n"])
 
 
 def map_sheet(text, buffer=ENDLESS):
-    """Map: the number of cells and the network, or the refusal raised. Its choice of tables is one of many."""
+    """Map: the number of cells and the network, or the refusal raised."""
     design = examine(text)
-    if Classes(design).global_count() > MAX_GLOBAL:
+    classes = Classes(design)
+    if classes.global_count() > MAX_GLOBAL:
         raise Refusal(7, 0)
-    for count in range(design.limit + 1):
-        solution = search(design, count)
-        if solution is not None:
-            network = network_text(design, solution)
-            if len(network) > buffer:
-                raise Refusal(9, 0)
-            return count, network
-    raise Refusal(8, 0)
+    found = fewest(classes, design.limit)
+    if found is None:
+        raise Refusal(8, 0)
+    count, tables = found
+    over_classes = first_tables(classes, tables)
+    network = network_text(design, classes, [[table[g] for g in classes.whole] for table in over_classes])
+    if len(network) > buffer:
+        raise Refusal(9, 0)
+    return count, network
 
 
 # ---- the command line
@@ -627,7 +669,7 @@ def show_classes(text):
 
 def show_fewest(text, brute):
     design = examine(text)
-    found = fewest_by_brute_force(design) if brute else fewest(design)
+    found = fewest_by_brute_force(design) if brute else fewest(Classes(design))
     print("none" if found is None else found if brute else found[0])
 
 

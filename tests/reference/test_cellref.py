@@ -1,6 +1,9 @@
 #!/usr/bin/env python3
-"""The reference on the papers' own sheets A to K, and its two searches for the fewest cells compared with each other."""
+"""The reference on the papers' own sheets A to K, its two searches for the fewest cells compared with each other, and its first
+network with all permitted ones and with those of bench/first/."""
 
+import itertools
+import pathlib
 import random
 import unittest
 
@@ -40,6 +43,17 @@ def cells(text):
     return count
 
 
+def permitted(design, count):
+    """Every network of so many tables, 0 at vertex 0, that computes the design within its widths, as a text."""
+    classes = cellref.Classes(design)
+    vertices = 2 ** len(design.bound)
+    for tables in itertools.product([(0, *rest) for rest in itertools.product((0, 1), repeat=vertices - 1)], repeat=count):
+        nodes = [cellref.node_lines(design, classes, output, tables) for output in range(len(design.outputs))]
+        for lines in itertools.product(*nodes):
+            luts = [f"(lut _{k} ({' '.join(design.bound)}) {''.join(map(str, table))})\n" for k, table in enumerate(tables)]
+            yield "".join(["(network 1)\n", *luts, *lines, f"(count {count})\n", "(end)\n"])
+
+
 class Sheets(unittest.TestCase):
     def test_a_and_b(self):
         self.assertEqual(cellref.map_sheet(A), (1, A_NETWORK))
@@ -52,12 +66,20 @@ class Sheets(unittest.TestCase):
         three = two + ("(xor a b c)",)
         self.assertEqual(refusal(cellref.map_sheet, sheet("a b c", "a b", 1, *two)), (8, 0))
         self.assertEqual(cells(sheet("a b c", "a b", 2, *two)), 2)
+        self.assertEqual(
+            cellref.map_sheet(sheet("a b c", "a b", 2, *two))[1],
+            "(network 1)\n(lut _0 (a b) 0011)\n(lut _1 (a b) 0101)\n(node f (_0 c) 0110)\n(node g (_1 c) 0110)\n(count 2)\n(end)\n",
+        )
         self.assertEqual(refusal(cellref.map_sheet, sheet("a b c", "a b", 2, *three)), (8, 0))
         self.assertEqual(cells(sheet("a b c", "a b", 3, *three)), 3)
         self.assertEqual(cellref.Classes(cellref.examine(sheet("a b c", "a b", 3, *three))).global_count(), 4)
 
     def test_e(self):
-        self.assertEqual(cells(sheet("a b c d", "a b", 2, "(or (and a c) (and b d))", "(xor a b c)")), 2)
+        text = sheet("a b c d", "a b", 2, "(or (and a c) (and b d))", "(xor a b c)")
+        self.assertEqual(cells(text), 2)
+        nodes = "(node f (_0 _1 c d) 0000010101110011)\n(node g (_1 c d) 00111100)\n"
+        wanted = f"(network 1)\n(lut _0 (a b) 0011)\n(lut _1 (a b) 0110)\n{nodes}(count 2)\n(end)\n"
+        self.assertEqual(cellref.map_sheet(text)[1], wanted)
 
     def test_f(self):
         count, network = cellref.map_sheet(sheet("a b c d", "a b", 0, "(or c d)"))
@@ -235,9 +257,30 @@ class Searches(unittest.TestCase):
             bound = inputs[: dice.randrange(1, min(3, len(inputs)) + 1)]
             outputs = [random_sheets.formula(dice, inputs, dice.randrange(4)) for _ in range(dice.randrange(1, 4))]
             design = cellref.examine(sheet(" ".join(inputs), " ".join(bound), 6, *outputs))
-            found = cellref.fewest(design)
+            found = cellref.fewest(cellref.Classes(design))
             if found is not None and found[0] < 4:
                 self.assertEqual(found[0], cellref.fewest_by_brute_force(design))
+
+    def test_first_of_all_permitted(self):
+        dice = random.Random(3)
+        several = 0
+        for _ in range(150):
+            inputs = "abcd"[: dice.randrange(2, 5)]
+            bound = dice.sample(inputs, dice.randrange(1, 3))
+            outputs = [random_sheets.formula(dice, inputs, dice.randrange(4)) for _ in range(dice.randrange(1, 4))]
+            text = sheet(" ".join(inputs), " ".join(bound), 3, *outputs)
+            count, network = cellref.map_sheet(text)
+            texts = list(permitted(cellref.examine(text), count))
+            self.assertEqual(network, min(texts))
+            self.assertEqual(list(permitted(cellref.examine(text), count - 1)) if count else [], [])
+            several += len(texts) > 1
+        self.assertGreater(several, 20)
+
+    def test_first_networks_of_the_repository(self):
+        paths = sorted((pathlib.Path(__file__).resolve().parents[2] / "bench" / "first").glob("*.sheet"))
+        self.assertEqual(len(paths), 40)
+        for path in paths:
+            self.assertEqual(cellref.map_sheet(path.read_bytes())[1], path.with_suffix(".network").read_text(), path.name)
 
 
 if __name__ == "__main__":
