@@ -3,6 +3,7 @@
 #include "calls.h"
 #include "cellmapper.h"
 #include "fewest.h"
+#include "first.h"
 
 #include <algorithm>
 #include <set>
@@ -11,12 +12,16 @@ namespace {
 
 const size_t AMPLE = 8192;
 
+// The nodes of the oracle's search for the first network: at most a third of a second. About one sheet in a thousand takes more.
+const unsigned long NODES = 20000;
+
 const std::string CONSTANT = "constant ", NODE_OF = "a node of digits ";
 const std::string CELL_OF_ZEROS = "a cell of digits 0", CELL_UNREAD = "a cell unread", NO_CELLS = "no cells";
 
 }
 
 Tally tables, maps, checks, exports;
+unsigned long firsts, not_settled;
 std::map<std::string, unsigned long> shapes = {
     {NO_CELLS, 0}, {CELL_UNREAD, 0}, {CELL_OF_ZEROS, 0}, {NODE_OF + '0', 0}, {NODE_OF + '1', 0}, {CONSTANT + '0', 0}, {CONSTANT + '1', 0},
 };
@@ -56,6 +61,18 @@ void compare_fewest(const Sheet &sheet, const Mapped &m)
 {
     size_t u = fewest(sheet.design);
     expect(m.number == 0 ? m.cells == u : u == NONE_SERVE, "Map's cells are the fewest, " + std::to_string(u), sheet.text, m.network);
+}
+
+void compare_first(const Sheet &sheet, const Mapped &m)
+{
+    First first = first_network(sheet.design, NODES);
+    if (!first.settled) {
+        not_settled++;
+        return;
+    }
+    firsts++;
+    expect((m.number == 0) == !first.network.empty(), "Map finds a network where the oracle does", sheet.text, m.network);
+    expect(m.network == first.network, "Map's network is the first one\n" + first.network, sheet.text, m.network);
 }
 
 void expect_refusal(const char *who, const Pair &pair, unsigned number, size_t line)
@@ -133,6 +150,8 @@ std::string compare_map(const Sheet &sheet, size_t more, bool try_all)
     size_t bound = sheet.design.bound.size();
     if (bound <= 2 || (try_all && bound == 3 && sheet.design.limit <= 2))
         compare_fewest(sheet, m);
+    if (!many)
+        compare_first(sheet, m);
     if (m.number != 0)
         return "";
     examine_network(sheet, m);

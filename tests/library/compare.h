@@ -32,6 +32,9 @@ const unsigned DIFFERS = 100;
 typedef std::map<unsigned, unsigned long> Tally;
 extern Tally tables, maps, checks, exports;
 
+// How often Map's answer was compared with the first network, and how often the oracle's search for it took too long.
+extern unsigned long firsts, not_settled;
+
 // How many networks with each of these were exported.
 extern std::map<std::string, unsigned long> shapes;
 

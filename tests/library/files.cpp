@@ -1,5 +1,6 @@
 // Map and Export on the repository's own sheets, from the folder that the repository is in. The sheets of bench/border/ are
 // hard ones; the fewest cells of each, or `inf` where none serve, stand in its file ANSWERS, which two other searches gave.
+// Beside the sheets of bench/first/ and examples/ stand their first networks.
 #include "files.h"
 
 #include "calls.h"
@@ -20,40 +21,37 @@ std::string contents(const std::filesystem::path &path)
     return all.str();
 }
 
-// The cells of Map's network, to which Check must say "same", or `inf` where Map refuses by 8.
-std::string cells(const std::string &sheet)
+// Map's answer, refusal 8 or a network to which Check must say "same".
+Mapped mapped(const std::string &sheet)
 {
     Mapped m = call_map(sheet, AMPLE);
     expect(m.number == 0 || m.number == 8, "Map's number on a sheet of the repository", sheet);
-    if (m.number == 8)
-        return "inf";
-    Checked c = call_check(sheet, m.network);
-    expect(c.number == 0 && c.differs == 0, "Check on Map's network", sheet, m.network);
-    Sheet examined(sheet);
-    compare_export(Pair(examined, m.network), 0);
-    return std::to_string(m.cells);
+    if (m.number == 0) {
+        Checked c = call_check(sheet, m.network);
+        expect(c.number == 0 && c.differs == 0, "Check on Map's network", sheet, m.network);
+        Sheet examined(sheet);
+        compare_export(Pair(examined, m.network), 0);
+    }
+    return m;
 }
 
-// A sheet without a network beside it is refused by 8.
-void examples()
+// Map's network is the one beside the sheet, byte for byte; a sheet without a network beside it is refused by 8.
+size_t networks(const char *folder)
 {
     size_t sheets = 0;
-    for (const auto &entry : std::filesystem::directory_iterator("examples")) {
+    for (const auto &entry : std::filesystem::directory_iterator(folder)) {
         std::filesystem::path path = entry.path();
         if (path.extension() != ".sheet")
             continue;
         sheets++;
-        std::string sheet = contents(path), said = cells(sheet);
-        if (!std::filesystem::exists(path.replace_extension(".network"))) {
-            expect(said == "inf", "an example without a network is refused by 8", sheet);
-            continue;
-        }
-        std::string network = contents(path);
-        Checked c = call_check(sheet, network);
-        expect(c.number == 0 && c.differs == 0, "Check on an example's network", sheet, network);
-        expect(network.find("(count " + said + ")\n") != std::string::npos, "cells of an example's network", sheet, network);
+        std::string sheet = contents(path);
+        Mapped m = mapped(sheet);
+        if (std::filesystem::exists(path.replace_extension(".network")))
+            expect(m.number == 0 && m.network == contents(path), "Map's network is that of " + path.string(), sheet, m.network);
+        else
+            expect(m.number == 8, "a sheet without a network is refused by 8", sheet, m.network);
     }
-    expect(sheets >= 5, "there are five example sheets", "");
+    return sheets;
 }
 
 void border()
@@ -63,7 +61,8 @@ void border()
     size_t sheets = 0;
     for (; answers >> name >> fewest >> nodes; sheets++) {
         std::string sheet = contents("bench/border/" + name + ".sheet");
-        expect(cells(sheet) == fewest, "the fewest cells of " + name + " are " + fewest, sheet);
+        Mapped m = mapped(sheet);
+        expect((m.number == 8 ? "inf" : std::to_string(m.cells)) == fewest, "the fewest cells of " + name + " are " + fewest, sheet);
     }
     expect(sheets >= 36, "there are 36 sheets in bench/border", "");
 }
@@ -72,6 +71,7 @@ void border()
 
 void sheets_of_the_repository()
 {
-    examples();
+    expect(networks("examples") >= 5, "there are five example sheets", "");
+    expect(networks("bench/first") >= 40, "there are 40 sheets in bench/first", "");
     border();
 }

@@ -166,6 +166,18 @@ string Generator::damaged(string text)
 
 // ---- network sheets
 
+string print_node(const oracle::Design &design, size_t output, const oracle::Node &node)
+{
+    Names reads;
+    for (unsigned i : node.reads)
+        reads.push_back("_" + std::to_string(i));
+    for (const string &n : oracle::free_inputs(design))
+        reads.push_back(n);
+    string list = listed("", reads);
+    list = "(" + (reads.empty() ? ")" : list.substr(2, list.size() - 3));
+    return "(node " + design.outputs[output].name + " " + list + " " + node.digits + ")\n";
+}
+
 string print_network(const oracle::Design &design, const oracle::Network &network, size_t count)
 {
     string bound = listed("", design.bound);
@@ -173,16 +185,8 @@ string print_network(const oracle::Design &design, const oracle::Network &networ
     string text = "(network 1)\n";
     for (size_t i = 0; i < network.luts.size(); i++)
         text += "(lut _" + std::to_string(i) + " " + bound + " " + network.luts[i].digits + ")\n";
-    for (size_t o = 0; o < network.nodes.size(); o++) {
-        Names reads;
-        for (unsigned i : network.nodes[o].reads)
-            reads.push_back("_" + std::to_string(i));
-        for (const string &n : oracle::free_inputs(design))
-            reads.push_back(n);
-        string list = listed("", reads);
-        list = "(" + (reads.empty() ? ")" : list.substr(2, list.size() - 3));
-        text += "(node " + design.outputs[o].name + " " + list + " " + network.nodes[o].digits + ")\n";
-    }
+    for (size_t o = 0; o < network.nodes.size(); o++)
+        text += print_node(design, o, network.nodes[o]);
     return text + "(count " + std::to_string(count) + ")\n(end)\n";
 }
 

@@ -38,6 +38,9 @@ private:
     std::mt19937_64 source;
 };
 
+// An output's line of the network sheet.
+std::string print_node(const oracle::Design &design, size_t output, const oracle::Node &node);
+
 // The network as a sheet, with a count line that says `count`.
 std::string print_network(const oracle::Design &design, const oracle::Network &network, size_t count);
 

@@ -40,6 +40,16 @@ void require(const char *name, Tally &tally, const std::vector<unsigned> &answer
     printf("\n");
 }
 
+// Nearly all of Map's answers must have been compared byte for byte.
+void require_firsts()
+{
+    printf("First networks: compared %lu; left out %lu;\n", firsts, not_settled);
+    if (firsts < 50 * not_settled || firsts == 0) {
+        printf("FAILED: too many were left out\n");
+        exit(1);
+    }
+}
+
 void require_shapes()
 {
     printf("Export of networks:");
@@ -61,7 +71,7 @@ int main(int argc, char **argv)
     worked_sheets();
     fprintf(stderr, "library: worked sheets and refusals as they must be\n");
     sheets_of_the_repository();
-    fprintf(stderr, "library: the sheets of examples/ and bench/border/ as they must be\n");
+    fprintf(stderr, "library: the sheets of examples/, bench/border/ and bench/first/ as they must be\n");
     Generator random(seed);
     for (unsigned long i = 0; i < cases; i++) {
         if (i % 10000 == 0)
@@ -74,6 +84,7 @@ int main(int argc, char **argv)
         require("Check", checks, {0, DIFFERS, 1, 2, 3, 4, 5, 10, 11});
         require("Export", exports, {0, DIFFERS, 1, 2, 3, 4, 5, 9, 10, 11});
         require_shapes();
+        require_firsts();
     }
     printf("library: %lu design sheets and as many network sheets from seed %lu, all answers as they must be\n", cases, seed);
     return 0;

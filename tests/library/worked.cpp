@@ -37,6 +37,19 @@ const std::string A = sheet("a b c d", "a b c", "2", {"(xor a b c d)", "(and (xo
 const Lines NETWORK_LINES = {"(network 1)", "(lut _0 (a b c) 01101001)", "(node f (_0 d) 0110)", "(node g (_0 d) 0001)", "(count 1)", "(end)"};
 const std::string NETWORK = text(NETWORK_LINES);
 
+// The network of tables over the bound inputs, and a node's list and digits for each output.
+std::string network(const std::string &bound, const Lines &luts, const Lines &nodes)
+{
+    Lines lines = {"(network 1)"};
+    for (size_t i = 0; i < luts.size(); i++)
+        lines.push_back("(lut _" + std::to_string(i) + " (" + bound + ") " + luts[i] + ")");
+    for (size_t i = 0; i < nodes.size(); i++)
+        lines.push_back(std::string("(node ") + "fghijk"[i] + " " + nodes[i] + ")");
+    lines.push_back("(count " + std::to_string(luts.size()) + ")");
+    lines.push_back("(end)");
+    return text(lines);
+}
+
 // A's network with one line for another; an empty line takes it out.
 std::string with(size_t line, const std::string &other)
 {
@@ -69,11 +82,11 @@ void table_refuses(const std::string &s, size_t output, unsigned number, size_t 
 
 // ---- Map
 
-void maps_to(const std::string &s, size_t cells, const std::string &part)
+void maps_to(const std::string &s, size_t cells, const std::string &wanted)
 {
     Mapped m = call_map(s, AMPLE);
     expect(m.number == 0 && m.cells == cells, "Map with " + std::to_string(cells) + " cells", s, m.network);
-    expect(("\n" + m.network).find("\n" + part) != std::string::npos, "Map's lines", s, m.network);
+    expect(m.network == wanted, "Map's network is\n" + wanted, s, m.network);
     Checked c = call_check(s, m.network);
     expect(c.number == 0 && c.differs == 0, "Check on Map's network", s, m.network);
     Mapped exact = call_map(s, m.length), shorter = call_map(s, m.length - 1), none = call_map(s, 0);
@@ -149,17 +162,21 @@ void sheets_to_try()
     tables_to(A, 1, "0001010001000001");
     const Lines c = {"(xor a c)", "(xor b c)"}, d = {"(xor a c)", "(xor b c)", "(xor a b c)"};
     map_refuses(sheet("a b c", "a b", "1", c), 8, 0);
-    maps_to(sheet("a b c", "a b", "2", c), 2, "(count 2)\n");
+    maps_to(sheet("a b c", "a b", "2", c), 2, network("a b", {"0011", "0101"}, {"(_0 c) 0110", "(_1 c) 0110"}));
     map_refuses(sheet("a b c", "a b", "2", d), 8, 0);
-    maps_to(sheet("a b c", "a b", "3", d), 3, "(count 3)\n");
-    maps_to(sheet("a b c d", "a b", "2", {"(or (and a c) (and b d))", "(xor a b c)"}), 2, "(count 2)\n");
-    maps_to(sheet("a b c d", "a b", "0", {"(or c d)"}), 0, "(node f (c d) 0111)\n(count 0)\n");
+    maps_to(sheet("a b c", "a b", "3", d), 3, network("a b", {"0011", "0101", "0110"}, {"(_0 c) 0110", "(_1 c) 0110", "(_2 c) 0110"}));
+    const Lines e = {"(or (and a c) (and b d))", "(xor a b c)"};
+    maps_to(sheet("a b c d", "a b", "2", e), 2, network("a b", {"0011", "0110"}, {"(_0 _1 c d) 0000010101110011", "(_1 c d) 00111100"}));
+    maps_to(sheet("a b c d", "a b", "0", {"(or c d)"}), 0, network("a b", {}, {"(c d) 0111"}));
     const Lines g = {"(or (and a b c) (and (xor a b) d))"};
     map_refuses(sheet("a b c d", "a b", "1", g), 8, 0);
-    maps_to(sheet("a b c d", "a b", "2", g), 2, "(count 2)\n");
-    maps_to(sheet("a b", "a b", "1", {"(and a b)"}), 1, "(lut _0 (a b) 0001)\n(node f (_0) 01)\n(count 1)\n");
+    maps_to(sheet("a b c d", "a b", "2", g), 2, network("a b", {"0001", "0110"}, {"(_0 _1 c d) 0000010100110000"}));
+    maps_to(sheet("a b", "a b", "1", {"(and a b)"}), 1, network("a b", {"0001"}, {"(_0) 01"}));
     const Lines i = {"(or (and a x) (and e y))", "(xor b x)", "(xor c x)"};
-    maps_to(sheet("a b c d e x y", "a b c d e", "4", i), 4, "(count 4)\n");
+    const Lines i_tables = {"00000000000000001111111111111111", "00000000111111110000000011111111", "00001111000011110000111100001111",
+        "01010101010101010101010101010101"};
+    const Lines i_nodes = {"(_0 _3 x y) 0000010100110111", "(_1 x y) 00111100", "(_2 x y) 00111100"};
+    maps_to(sheet("a b c d e x y", "a b c d e", "4", i), 4, network("a b c d e", i_tables, i_nodes));
     map_refuses(sheet("a b c d e x y", "a b c d e", "3", i), 8, 0);
     map_refuses(sheet("a b c d e x y", "a b c d e", "0", {i[0], i[1], i[2], "(xor d x)"}), 7, 0);
     differs_at(A, with(4, "(node g (_0 d) 0011)"), 1, 2);
