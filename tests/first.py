@@ -100,7 +100,6 @@ def count_kinds(design, answer, kinds):
     cells, permitted, varying, first_varies, _ = answer
     kinds["refused by 8" if cells == "none" else f"of {cells} cells"] += 1
     kinds["an output of 3 or more classes"] += cells != "none" and design.classes() > 2
-    kinds["2 or more cells and an output of 3 or more classes"] += cells not in ("none", "0", "1") and design.classes() > 2
     kinds["no free inputs"] += design.free_count == 0
     kinds["several permitted networks"] += permitted > 1
     kinds["a permitted network that varies inside a global class"] += varying > 0
