@@ -225,7 +225,7 @@ full-serves u g v m Conflict budget rows codes given e c short within known = re
     split = cells-split u g 0 rows codes ∙ ap₂ (λ (n i : ℕ). coreOf u rows codes ++ cellsFrom n i rows codes) (sym e) (let e : 0 + u ≡ u = omega arith in e)
 
 -- ---- 0 at vertex 0
-xor-same : (a b c : Bool) → xorb a c ≡ xorb b c → a ≡ b
+pub xor-same : (a b c : Bool) → xorb a c ≡ xorb b c → a ≡ b
 xor-same true true c e = refl
 xor-same false false c e = refl
 xor-same true false true e = sym e

@@ -17,7 +17,7 @@ use Rattle.bits.specs.DigitLaws.{on-xor, on-none, on-zero}
 use Rattle.cells.specs.Core.{Cell, Apart, bit, reading, Differ, Serves, Answer, cellsFrom, coreOf}
 use Rattle.cells.specs.Lists.{count, less-or-equal, filled-more, never-both}
 use Rattle.cells.specs.Codes.{cells-length, cells-zero}
-use Rattle.cells.specs.FullSize.{readBy}
+use Rattle.cells.specs.FullSize.{readBy, xor-same}
 use Rattle.numbering.specs.Given.{labelAt, item}
 use Rattle.relation.specs.Relation.{Conflict}
 use Rattle.questions.specs.Question.{openOf}
@@ -61,14 +61,6 @@ opened-more rows n r f h e s = record {
   long = length-set r n f ∙ s .long;
   done = filled-more (λ k z. z ≡ openOf (item rows k)) n f r (let z = s .long in omega arith) e (s .done);
 }
-
-xor-same : (a b c : Bool) → xorb a c ≡ xorb b c → a ≡ b
-xor-same true true c e = refl
-xor-same false false c e = refl
-xor-same true false true e = absurd (true-false (sym e))
-xor-same true false false e = absurd (true-false e)
-xor-same false true true e = absurd (true-false e)
-xor-same false true false e = absurd (true-false (sym e))
 
 xor-self : (a : ℕ) → bitXor a a ≡ 0
 xor-self a = on-none (bitXor a a) (λ i. on-xor a a i ∙ self (on a i))

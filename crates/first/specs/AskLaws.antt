@@ -15,7 +15,7 @@ use Rattle.cells.specs.Core.{Cell, Serves, cellsFrom, coreOf}
 use Rattle.cells.specs.Lists.{less-or-equal, count}
 use Rattle.cells.specs.Pigeon.{agree-and, and-agree}
 use Rattle.cells.specs.Codes.{codeOf, cells-length, core-serves}
-use Rattle.cells.specs.FullSize.{Full, full-of, read-by-length, read-by-code}
+use Rattle.cells.specs.FullSize.{Full, full-of, read-by-length, read-by-code, xor-same}
 use Rattle.cells.specs.WrittenLaws.{core-code, table-digit}
 use Rattle.order.specs.Tables.{shaped-at}
 use Rattle.order.specs.LeastTables.{table}
@@ -32,14 +32,6 @@ use Rattle.first.specs.Parts.{parts-exchanged, rest-first, code-take, kn
 xor-none : (a b : Bool) → b ≡ false → xorb a b ≡ a
 xor-none true b e = rw e refl
 xor-none false b e = e
-
-xor-same : (a b c : Bool) → xorb a c ≡ xorb b c → a ≡ b
-xor-same true true c e = refl
-xor-same false false c e = refl
-xor-same true false true e = absurd (true-false (sym e))
-xor-same true false false e = absurd (true-false e)
-xor-same false true true e = absurd (true-false e)
-xor-same false true false e = absurd (true-false (sym e))
 
 -- the first of some open cells has its known digits, in codes
 first-known : (kn val v n : ℕ) (rows codes : List ℕ) → 0 < n → Known kn val v (openCells n rows codes) → (x : ℕ) → x < v → on kn x ≡ true → on (item codes x) 0 ≡ on val x
