@@ -263,7 +263,7 @@ fn next(cl: &[u8], given: &[u16], p: Problem, done: u8, same: u8) -> usize
 
 // Whether a count leaves it open that the rows of the outputs of the set done, n among them, have codes. Where there are given
 // tables a count for n alone comes first, unless it is known to leave the row: it is quick and rules out most rows. Where cell 0
-// has known digits a count for all of them costs more than it saves, which was measured.
+// has known digits no count is made for all of them: the questions that follow decide.
 fn possible(
     cl: &[u8],
     given: &[u16],
@@ -482,8 +482,8 @@ fn finish(
 }
 
 // A core whose outputs of the set done have the rows given. An output that given tables serve alone gets one row only. What was
-// learnt below may concern the rows given alone: then none of the rows left to try is of use. Where cell 0 has known digits the
-// rows are tried from the highest number down, which was measured to be quicker there.
+// learnt below may concern the rows given alone: then none of the rows left to try is of use. The order of the rows is free:
+// where cell 0 has known digits they are tried from the highest number down.
 pub fn choose(
     cl: &[u8],
     given: &[u16],

@@ -43,7 +43,8 @@ const SOME_NODES: u64 = 10000;
 
 const ALL_NODES: u64 = 6000;
 
-// The same where cell 0 has known digits: there 8 and 16 times as many in each later round were measured to be quicker.
+// The same where cell 0 has known digits, with 8 and 16 times as many in each later round: other limits were measured to be
+// quicker there.
 const SOME_NODES_KNOWN: u64 = 2000;
 
 const ALL_NODES_KNOWN: u64 = 20000;
