@@ -47,7 +47,7 @@ uint32_t cellmapper_table(const uint8_t *sheet, size_t sheet_len, size_t output,
  * Result 0: the buffer's first *length bytes are a network sheet with *cells lut lines, which is within the limit and the
  * widths and computes every output on every row; no network that does so has fewer lut lines. Each of its shared tables is
  * 0 at vertex 0, and each composition entry whose code no vertex produces is 0. Of all network sheets of which this is true
- * it is the first in byte order, so that the same design sheet has the same network with every release.
+ * it is the first in byte order, so that a design sheet has one network.
  * Refusals: 1 to 5 for the sheet, 7 for more than 16 global classes, 8 where no network within limit and widths computes
  * every output, 9 where buffer_len is less than the network's length. */
 uint32_t cellmapper_map(const uint8_t *sheet, size_t sheet_len, uint8_t *buffer, size_t buffer_len, size_t *line,
