@@ -67,8 +67,7 @@ fn bar_all(
     let mut o = 0;
     while o < j {
         let b = bs[o * MAX_CODES + c as usize];
-        let part = numbering::part(cl, o, x);
-        let k = holding::crowd(cl, v, o, part, codes, b);
+        let k = holding::crowd(cl, v, o, x, caps[o], codes, b);
         if caps[o] <= k.count {
             holding::shut(cl, v, o, k.seen, codes, dom, b);
         }

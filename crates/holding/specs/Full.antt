@@ -92,6 +92,15 @@ module _ (cl codes : List ℕ) (o p b : ℕ) where
     strangers = λ k h a. s .strangers k h (unseen (on seen k) (eqb k l) (sym (is k) ∙ a));
   }))
 
+  -- one vertex with a code in b is a crowd of one, of its own part
+  pub crowd-one : (v x r l seen : ℕ) → x < v → l ≡ labelAt cl o x → partOf cl o x ≡ p → item codes x < 64 → on b (item codes x) ≡ true → Others cl o p 32 r → With r l seen
+      → Crowd cl codes o p b v seen 1
+  crowd-one v x r l seen h q own low in-b f is = record {
+    found = (x ∷ [], ((h, low, in-b, subst (λ (z : ℕ). on seen z ≡ true) q (is l ∙ ap (orb (on r l)) (eq-eqb l l refl) ∙ or-on (on r l)), own), tt), (tt, tt), refl);
+    few = omega arith;
+    strangers = λ k i a. f .rest k i (unseen (on r k) (eqb k l) (sym (is k) ∙ a));
+  }
+
 -- the block b of c is full: a vertex of another class of part p keeps out
 module _ (cl base ms caps spots : List ℕ) (v j o p : ℕ) (codes dom : List ℕ) (h : o < j) (low : (x : ℕ) → x < v → labelAt cl o x < 32) (c b seen n : ℕ) (is : Block (item ms o) c b)
     (s : Crowd cl codes o p b v seen n) (full : item caps o ≤ n) where

@@ -8,7 +8,7 @@ ghost use Rattle.bits.specs.Logic.{pick};
 ghost use lib.ListN.{length, getD};
 ghost use Rattle.limits.specs.Limits.{searchOutputs, maxVertices, labelCount, blockCount, maxCells, maxCodes};
 ghost use Rattle.bits.specs.Digit.{on};
-ghost use Rattle.numbering.specs.Given.{noCode, labelAt, partAt, item, Block, Labels, Blocks, Kept, Hopeless};
+ghost use Rattle.numbering.specs.Given.{noCode, labelAt, partAt, partOf, item, Block, Labels, Blocks, Kept, Hopeless};
 ghost use Rattle.holding.specs.Held.{Held};
 ghost use Rattle.holding.specs.Wants.{Wanted, Totals, Filled, Tight, needed};
 ghost use Rattle.holding.specs.Blocks.{Table, Minus, Spans};
@@ -288,7 +288,7 @@ pub struct Classes {
     pub count: u8,
 }
 
-pub fn crowd(cl: &[u8], v: usize, o: usize, p: u8, codes: &[u8], b: u64) -> Classes
+fn classes_in(cl: &[u8], v: usize, o: usize, p: u8, codes: &[u8], b: u64) -> Classes
     requires { ⌜ Labels (now cl) × (v ≤ maxVertices) × (o < searchOutputs) × (length (now codes) ≡ maxVertices) ⌝ }
     ensures { λ r. ⌜ Crowd (now (cl .entry)) (now (codes .entry)) o p b v (r .seen) (r .count) ⌝ }
 {
@@ -306,6 +306,26 @@ pub fn crowd(cl: &[u8], v: usize, o: usize, p: u8, codes: &[u8], b: u64) -> Clas
         y += 1;
     }
     Classes { seen, count }
+}
+
+// The same for the part of x. A block with room for one class of a part is full as soon as x is in it: then no other vertex is
+// looked at.
+pub fn crowd(cl: &[u8], v: usize, o: usize, x: usize, cap: u8, codes: &[u8], b: u64) -> Classes
+    requires { ⌜ Labels (now cl) × (v ≤ maxVertices) × (o < searchOutputs) × (x < maxVertices) × (length (now codes) ≡ maxVertices) ⌝ }
+    ensures { λ r. ⌜ Crowd (now (cl .entry)) (now (codes .entry)) o (partOf (now (cl .entry)) o x) b v (r .seen) (r .count) ⌝ }
+{
+    let p = numbering::part(cl, o, x);
+    if cap <= 1 {
+        if x < v {
+            if inside(b, codes[x]) {
+                let others = strangers(cl, o, p);
+                let l = numbering::label(cl, o, x);
+                let seen = cells::with(others, l);
+                return Classes { seen, count: 1 };
+            }
+        }
+    }
+    classes_in(cl, v, o, p, codes, b)
 }
 
 // n where q is p, or nothing.

@@ -4,7 +4,7 @@ use native.Mathlib.Omega.{arith}
 use mathlib.Core.Logic.{⊎-elim}
 use mathlib.Core.List.{List}
 use lib.ListN.{length}
-use Rattle.numbering.specs.Given.{Kept, Blocks}
+use Rattle.numbering.specs.Given.{partOf, Kept, Blocks}
 use Rattle.holding.specs.Full.{settled-full}
 use Rattle.holding.specs.Narrow.{kept-start, kept-more}
 use borrow.Author.Needs.{needs}
@@ -14,7 +14,6 @@ use Rattle.coding.proofs.bar_all.Reads as reads
 use Rattle.coding.proofs.bar_all.Lts as lts
 use Rattle.holding.proofs.crowd.Reads as crowd-reads
 use Rattle.holding.proofs.shut.Reads as shut-reads
-use Rattle.numbering.proofs.part.Reads as part-reads
 
 abbrev Inv-loop : tie.InvT-loop
 Inv-loop cl bs codes dom₀ c x caps v j o₀ dom o = (o ≤ j) × (length dom ≡ 32) × ((base ms spots : List ℕ) → Blocks ms bs j → Kept cl base ms caps spots v j codes dom₀ dom)
@@ -30,38 +29,65 @@ loop-holds c =
 
 mul-b : tie.Need-mul-b Inv-loop μ-loop
 mul-b c =
-    let h = c .loop-test .taken in let pre = c .before .before .before .before .before .before .before .pre in let a = pre .3 in let d = pre .4 in let e = pre .1 in search needs
+    let h = c .loop-test .taken in
+    let pre = c .before .before .before .before .before .before .before .pre in
+    let a = pre .3 in
+    let d = pre .4 in
+    let e = pre .1 in
+    search needs
 
 add-b : tie.Need-add-b Inv-loop μ-loop
 add-b c =
-    let h = c .loop-test .taken in let pre = c .before .before .before .before .before .before .before .pre in let a = pre .3 in let d = pre .4 in let e = pre .1 in search needs
+    let h = c .loop-test .taken in
+    let pre = c .before .before .before .before .before .before .before .pre in
+    let a = pre .3 in
+    let d = pre .4 in
+    let e = pre .1 in
+    search needs
 
 mul-b-2 : tie.Need-mul-b-2 Inv-loop μ-loop
 mul-b-2 c =
-    let h = c .loop-test .taken in let pre = c .before .before .before .before .before .before .before .pre in let a = pre .3 in let d = pre .4 in let e = pre .1 in search needs
+    let h = c .loop-test .taken in
+    let pre = c .before .before .before .before .before .before .before .pre in
+    let a = pre .3 in
+    let d = pre .4 in
+    let e = pre .1 in
+    search needs
 
 shared-slice-read-b : tie.Need-shared-slice-read-b Inv-loop μ-loop
 shared-slice-read-b c =
-    let h = c .before .loop-test .taken in let pre = c .before .before .before .before .before .before .before .before .pre in let a = pre .3 in let d = pre .4 in let e = pre .1 in search needs
+    let h = c .before .loop-test .taken in
+    let pre = c .before .before .before .before .before .before .before .before .pre in
+    let a = pre .3 in
+    let d = pre .4 in
+    let e = pre .1 in
+    search needs
 
-part-requires : tie.Need-part-requires Inv-loop μ-loop
-part-requires c κs =
-    let h = c .before .loop-test .taken in let pre = c .before .before .before .before .before .before .before .before .pre in let a = pre .3 in (pre .0, omega arith, pre .5)
+array-read-crowd : tie.Need-array-read-crowd Inv-loop μ-loop
+array-read-crowd c =
+    let h = c .before .loop-test .taken in
+    let a = c .before .before .before .before .before .before .before .before .pre .3 in
+    search needs
 
 crowd-requires : tie.Need-crowd-requires Inv-loop μ-loop
 crowd-requires c κs =
-    let h = c .before .before .loop-test .taken in let pre = c .before .before .before .before .before .before .before .before .before .pre in let a = pre .3 in (pre .0, pre .2, omega arith, pre .6)
+    let h = c .before .loop-test .taken in
+    let pre = c .before .before .before .before .before .before .before .before .pre in
+    let a = pre .3 in
+    (pre .0, pre .2, omega arith, pre .5, pre .6)
 
 array-read-if1 : tie.Need-array-read-if1 Inv-loop μ-loop
 array-read-if1 c =
-    let h = c .before .before .before .loop-test .taken in let pre = c .before .before .before .before .before .before .before .before .before .before .pre in let a = pre .3 in search needs
+    let h = c .before .before .loop-test .taken in
+    let a = c .before .before .before .before .before .before .before .before .before .pre .3 in
+    search needs
 
 shut-requires : tie.Need-shut-requires Inv-loop μ-loop
 shut-requires c κs =
-    let h = c .before .before .before .before .before .before .loop-test .taken in
-    let pre = c .before .before .before .before .before .before .before .before .before .before .before .before .before .pre in
+    let h = c .before .before .before .before .before .loop-test .taken in
+    let pre = c .before .before .before .before .before .before .before .before .before .before .before .before .pre in
     let a = pre .3 in
-    (pre .0, pre .2, omega arith, pre .6, c .before .before .before .before .before .before .before .loop .inv .1)
+    (pre .0, pre .2, omega arith, pre .6, c .before .before .before .before .before .before .loop .inv .1)
 
 add-o : tie.Need-add-o Inv-loop μ-loop
 add-o c = search needs
@@ -71,18 +97,18 @@ loop-less c = search needs
 
 loop-again : tie.Need-loop-again Inv-loop μ-loop
 loop-again c =
-    let h = c .before .before .before .before .before .loop-test .taken in
-    let pre = c .before .before .before .before .before .before .before .before .before .before .before .before .pre in
-    let a = c .before .before .before .before .before .before .before .before .before .before .before .before .args in
+    let h = c .before .before .before .before .loop-test .taken in
+    let pre = c .before .before .before .before .before .before .before .before .before .before .before .pre in
+    let a = c .before .before .before .before .before .before .before .before .before .before .before .args in
     let p = a .p in
-    let l = c .before .before .before .before .before .before .loop in
+    let l = c .before .before .before .before .before .loop in
     let k = c .before .before .crowd in (
       omega arith,
       ⊎-elim (λ w. ap length (w .5) ∙ w .2 .ensures .long) (λ w. ap length (w .1) ∙ l .inv .1) (c .if1 .came),
       ⊎-elim
           (λ w base ms spots b. subst (Kept (a .cl .now) base ms (p .caps) spots (p .vertices) (p .outputs) (a .codes .now) (a .dom .now)) (sym (w .5))
           (kept-more (a .cl .now) base ms (p .caps) spots (p .vertices) (p .outputs) (a .codes .now) (a .dom .now) (l .dom) _ (l .inv .2 base ms spots b)
-          (settled-full (a .cl .now) base ms (p .caps) spots (p .vertices) (p .outputs) (l .o) (c .before .before .before .part .result) (a .codes .now) (l .dom) h
+          (settled-full (a .cl .now) base ms (p .caps) spots (p .vertices) (p .outputs) (l .o) (partOf (a .cl .now) (l .o) (a .x)) (a .codes .now) (l .dom) h
           (λ y i. let m = pre .2 in let n = pre .3 in pre .0 .low (l .o * 32 + y) (omega arith))
           (a .c) _ (k .result .seen) (k .result .count) (b .each (l .o) (a .c) h (pre .4)) (k .ensures) (w .0 .taken) _ (w .2 .ensures))))
           (λ w base ms spots b. subst (Kept (a .cl .now) base ms (p .caps) spots (p .vertices) (p .outputs) (a .codes .now) (a .dom .now)) (sym (w .1)) (l .inv .2 base ms spots b))
@@ -106,7 +132,7 @@ bar-all-spec =
     add-b
     mul-b-2
     shared-slice-read-b
-    part-requires
+    array-read-crowd
     crowd-requires
     array-read-if1
     shut-requires
