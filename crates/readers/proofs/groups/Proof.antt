@@ -1,9 +1,8 @@
-use Rattle.readers.specs.Groups.{grouping-same}
-use mathlib.Core.Path.{_≡_, refl, sym, ap, ap₂, _∙_, subst}
-use Prim.Native.Nat.{ℕ, _<_, _≤_, _+_, _-_, _*_}
+use mathlib.Core.Path.{refl}
+use Prim.Native.Nat.{_≤_, _-_}
 use native.Mathlib.Omega.{arith}
 use mathlib.Core.Logic.{⊎-elim}
-use Rattle.readers.specs.Groups.{Grouping, grouping-start, grouping-more}
+use Rattle.readers.specs.Groups.{Grouping, grouping-start, grouping-more, grouping-same}
 use borrow.Author.Needs.{needs}
 use Rattle.readers.proofs.groups.Statement.{statement}
 use Rattle.readers.proofs.groups.Tie as tie
@@ -18,46 +17,45 @@ Inv-loop rows j sh gs₀ done₀ n₀ i₀ gs done n i = (n ≤ 3) × Grouping r
 abbrev μ-loop : tie.MeasureT-loop
 μ-loop rows j sh gs₀ done₀ n₀ i₀ gs done n i = 6 - i
 
--- src/lib.rt:145:5
 loop-holds : tie.Need-loop-holds Inv-loop μ-loop
 loop-holds c = (omega arith, grouping-start (c .args .rows) (c .args .sh) (c .args .j))
 
--- src/lib.rt:146:17
 twins-requires : tie.Need-twins-requires Inv-loop μ-loop
 twins-requires c κs = let h = c .loop-test .taken in (c .before .before .pre .0, h)
 
--- src/lib.rt:148:16
 useful-requires : tie.Need-useful-requires Inv-loop μ-loop
 useful-requires c κs = c .before .before .before .before .pre .0
 
--- src/lib.rt:149:17
 array-write-gs : tie.Need-array-write-gs Inv-loop μ-loop
 array-write-gs c = search needs
 
--- src/lib.rt:151:17
 add-n : tie.Need-add-n Inv-loop μ-loop
 add-n c = search needs
 
--- src/lib.rt:154:9
 add-i : tie.Need-add-i Inv-loop μ-loop
 add-i c = search needs
 
--- src/lib.rt:145:5
 loop-less : tie.Need-loop-less Inv-loop μ-loop
 loop-less c = search needs
 
--- src/lib.rt:145:5
 loop-again : tie.Need-loop-again Inv-loop μ-loop
 loop-again c =
-    let z = c .before .before .before .loop .inv .0 in
+    let entry = c .before .before .before .before in
+    let a = entry .args in
+    let l = c .before .before .before .loop in
+    let few = l .inv .0 in
     ⊎-elim
-    (λ w. let l = w .0 .taken in let u = w .1 .ensures (w .2 .taken) in let e = w .5 in (omega arith, grouping-same (c .before .before .before .before .args .rows) _ (c .if1 .gs) (c .before .before .before .before .args .sh) (c .before .before .before .before .args .j) _ (c .if1 .done) (w .3) (w .4) (grouping-more (c .before .before .before .before .args .rows) (c .before .before .before .loop .gs) (c .before .before .before .before .args .sh) (c .before .before .before .before .args .j) (c .before .before .before .loop .done) (c .before .before .before .loop .n) _ (c .before .twins .result) l (c .before .before .before .before .pre .1) refl (u .0) (u .1) (c .before .before .before .loop .inv .1))))
+    (λ w.
+    let h = w .0 .taken in
+    let u = w .1 .ensures (w .2 .taken) in
+    let e = w .5 in
+    let one = grouping-more (a .rows) (l .gs) (a .sh) (a .j) (l .done) (l .n) _ (c .before .twins .result) h (entry .pre .1) refl (u .0) (u .1) (l .inv .1) in
+    (omega arith, grouping-same (a .rows) _ (c .if1 .gs) (a .sh) (a .j) _ (c .if1 .done) (w .3) (w .4) one))
     (⊎-elim
-    (λ w. let e = w .5 in (omega arith, grouping-same (c .before .before .before .before .args .rows) (c .before .before .before .loop .gs) (c .if1 .gs) (c .before .before .before .before .args .sh) (c .before .before .before .before .args .j) (c .before .before .before .loop .done) (c .if1 .done) (w .3) (w .4) (c .before .before .before .loop .inv .1)))
-    (λ w. let e = w .3 in (omega arith, grouping-same (c .before .before .before .before .args .rows) (c .before .before .before .loop .gs) (c .if1 .gs) (c .before .before .before .before .args .sh) (c .before .before .before .before .args .j) (c .before .before .before .loop .done) (c .if1 .done) (w .1) (w .2) (c .before .before .before .loop .inv .1))))
+    (λ w. let e = w .5 in (omega arith, grouping-same (a .rows) (l .gs) (c .if1 .gs) (a .sh) (a .j) (l .done) (c .if1 .done) (w .3) (w .4) (l .inv .1)))
+    (λ w. let e = w .3 in (omega arith, grouping-same (a .rows) (l .gs) (c .if1 .gs) (a .sh) (a .j) (l .done) (c .if1 .done) (w .1) (w .2) (l .inv .1))))
     (c .if1 .came)
 
--- src/lib.rt:137:1
 returns : tie.Need-returns Inv-loop μ-loop
 returns c = (c .before .loop .done, c .before .loop .inv .1)
 
