@@ -69,8 +69,8 @@ module _ (cl codes : List ℕ) (o p b : ℕ) where
   }))
 
   -- y has a code in b, and its class l was not met so far
-  pub crowd-more : (y seen n l t seen' n' : ℕ) → l ≡ labelAt cl o y → l < 32 → item codes y < 64 → on b (item codes y) ≡ true → on seen l ≡ false → With seen l t → seen' ≡ t → n' ≡ n + 1
-      → Crowd cl codes o p b y seen n → Crowd cl codes o p b (y + 1) seen' n'
+  pub crowd-more : (y seen n l t seen' n' : ℕ) → l ≡ labelAt cl o y → l < 32 → item codes y < 64 → on b (item codes y) ≡ true
+      → on seen l ≡ false → With seen l t → seen' ≡ t → n' ≡ n + 1 → Crowd cl codes o p b y seen n → Crowd cl codes o p b (y + 1) seen' n'
   crowd-more y seen n l t seen' n' q small low in-b off is e f s = subst (λ (z : ℕ). Crowd cl codes o p b (y + 1) z n') (sym e) (subst (Crowd cl codes o p b (y + 1) t) (sym f) (record {
     found = (let r = s .found in (
       y ∷ r .0,
