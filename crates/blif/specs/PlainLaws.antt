@@ -11,7 +11,9 @@ use Rattle.bits.specs.LogicLaws.{true-false, and-left, and-right, and-both}
 use Rattle.rows.specs.Row.{valuesOf}
 use Rattle.text.specs.Bytes.{newline, bytes}
 use Rattle.text.specs.Number.{numeral, printNumber}
-use Rattle.text.specs.FigureLaws.{figure, by-figures}
+use Rattle.text.specs.Numerals.{allNumerals}
+use Rattle.text.specs.NumeralLaws.{numeral-low, numeral-high}
+use Rattle.text.specs.FigureLaws.{print-numerals}
 use Rattle.text.specs.Unbroken.{unbroken, allUnbroken}
 use Rattle.text.specs.LineLaws.{unbroken-cons}
 use Rattle.names.specs.Name.{Name, letter, nameByte, allNameBytes, isName}
@@ -90,20 +92,18 @@ printed-plain (n ∷ ns) h =
     plain-append n (printNames ns) (and-left (plain n) (allPlain ns) h) (printed-plain ns (and-right (plain n) (allPlain ns) h))
 
 -- ---- cell names
-figure-plain : (n : ℕ) (s : List ℕ) → plain s ≡ true → plain (figure n ∷ s) ≡ true
-unfolding plain
-figure-plain n s h =
-    and-both (plainByte (figure n)) (plain s)
-    (plain-byte (figure n) (omega arith) (omega arith) (λ e. omega (arith, e)) (λ e. omega (arith, e)))
-    h
+numerals-plain : (ds : List ℕ) → allNumerals ds ≡ true → plain ds ≡ true
+unfolding plain allNumerals
+numerals-plain [] h = refl
+numerals-plain (d ∷ ds) h =
+    let l = numeral-low d (and-left (numeral d) (allNumerals ds) h) in
+    let u = numeral-high d (and-left (numeral d) (allNumerals ds) h) in
+    and-both (plainByte d) (plain ds)
+    (plain-byte d (omega arith) (omega arith) (λ e. omega (arith, e)) (λ e. omega (arith, e)))
+    (numerals-plain ds (and-right (numeral d) (allNumerals ds) h))
 
 number-plain : (n : ℕ) → plain (printNumber n) ≡ true
-unfolding plain
-number-plain =
-    by-figures (λ (s : List ℕ). plain s ≡ true)
-    (λ a. figure-plain a [] refl)
-    (λ a b. figure-plain a (figure b ∷ []) (figure-plain b [] refl))
-    (λ a b c. figure-plain a (figure b ∷ figure c ∷ []) (figure-plain b (figure c ∷ []) (figure-plain c [] refl)))
+number-plain n = numerals-plain (printNumber n) (print-numerals n)
 
 cell-plain : (i : ℕ) → plain (cellName i) ≡ true
 unfolding cellName plain plainByte

@@ -1,5 +1,5 @@
 -- A number is read where its digits end: they are the longest part of digits, their value is built up one digit after
--- another, and three digits stay below a thousand. Assumes nothing.
+-- another, and k digits stay below 10 ^ k. Assumes nothing.
 use mathlib.Core.Path.{_≡_, refl, sym, ap, _∙_}
 use mathlib.Core.Bool.{Bool, true, false, not, _&&_}
 use mathlib.Core.List.{List, [], _∷_}
@@ -14,8 +14,7 @@ use borrow.Author.Tests.{le-leb, lt-leb, leb-true}
 use borrow.Author.Count.{below-more}
 use Rattle.bits.specs.LogicLaws.{and-right}
 use Rattle.text.specs.Bytes.{bad}
-use Rattle.limits.specs.Limits.{maxDigits}
-use Rattle.text.specs.Number.{numeral, numerals, afterNumerals, valueFrom, noLeadingZero, isNumber, readNumber}
+use Rattle.text.specs.Number.{numeral, numerals, afterNumerals, valueFrom, noLeadingZero, isNumberOf, readNumberOf}
 use Rattle.cursor.specs.declared.Cursor.{Cursor}
 use Rattle.cursor.specs.Item.{At}
 use Rattle.cursor.specs.PartLaws.{part-length, part-cons}
@@ -72,11 +71,11 @@ valued-none s a e h =
     let z : a - a ≡ 0 = omega arith in
     record { after-start = omega arith; before-end = h; small = rw z (omega arith); value = refl }
 
--- three digits are below a thousand
-pub valued-small : (s : List ℕ) (a e i n : ℕ) → Valued s a e i n → i ≤ a + maxDigits → n < 1000
-valued-small s a e i n v h =
-    let few : i - a ≤ maxDigits = omega arith in
-    let p : 10 ^ (i - a) ≤ 10 ^ maxDigits = pow-le-pow-right (omega arith) few in
+-- k digits are below 10 ^ k
+pub valued-small : (k : ℕ) (s : List ℕ) (a e i n : ℕ) → Valued s a e i n → i ≤ a + k → n < 10 ^ k
+valued-small k s a e i n v h =
+    let few : i - a ≤ k = omega arith in
+    let p : 10 ^ (i - a) ≤ 10 ^ k = pow-le-pow-right (omega arith) few in
     omega arith
 
 pub valued-more : (s : List ℕ) (a e i n d : ℕ)
@@ -104,58 +103,58 @@ never : (a b : Bool) → b ≡ false → false ≡ a && b
 never true b e = sym e
 never false b e = refl
 
-by-first : (ds : List ℕ) → 1 < length ds → length ds ≤ maxDigits → not (eqb (getD ds 0 0) 0x30) ≡ isNumber ds
-unfolding isNumber
-by-first [] h g = absurd (omega arith)
-by-first (d ∷ []) h g = absurd (omega arith)
-by-first (d ∷ e ∷ ds) h g = rw (le-leb (length (d ∷ e ∷ ds)) maxDigits g) (and-true (not (eqb d 0x30)))
+by-first : (k : ℕ) (ds : List ℕ) → 1 < length ds → length ds ≤ k → not (eqb (getD ds 0 0) 0x30) ≡ isNumberOf k ds
+unfolding isNumberOf
+by-first k [] h g = absurd (omega arith)
+by-first k (d ∷ []) h g = absurd (omega arith)
+by-first k (d ∷ e ∷ ds) h g = rw (le-leb (length (d ∷ e ∷ ds)) k g) (and-true (not (eqb d 0x30)))
   where
     and-true : (a : Bool) → a ≡ a && true
     and-true true = refl
     and-true false = refl
 
-module _ (s : List ℕ) (a e : ℕ) (h : a ≤ e) (g : e ≤ length s) where
-  pub number-short : isNumber (take (e - a) (drop a s)) ≡ true → e ≤ a + maxDigits
-  unfolding isNumber
-  number-short t =
+module _ (k : ℕ) (s : List ℕ) (a e : ℕ) (h : a ≤ e) (g : e ≤ length s) where
+  pub number-short : (m : ℕ) → k ≤ m → isNumberOf k (take (e - a) (drop a s)) ≡ true → e ≤ a + m
+  unfolding isNumberOf
+  number-short m f t =
       let ds = take (e - a) (drop a s) in
-      let l : length ds ≤ maxDigits = leb-true _ _ (and-right (noLeadingZero ds) (leb (length ds) maxDigits) t) in
+      let l : length ds ≤ k = leb-true _ _ (and-right (noLeadingZero ds) (leb (length ds) k) t) in
       omega (arith, part-length s a e h g)
 
-  pub no-digits : e - a ≡ 0 → false ≡ isNumber (take (e - a) (drop a s))
-  unfolding isNumber
+  pub no-digits : e - a ≡ 0 → false ≡ isNumberOf k (take (e - a) (drop a s))
+  unfolding isNumberOf
   no-digits z = rw z refl
 
-  pub one-digit : e - a ≡ 1 → true ≡ isNumber (take (e - a) (drop a s))
-  unfolding isNumber
-  one-digit z = rw (z, drop-cons s a 0 (omega arith)) refl
+  pub one-digit : e - a ≡ 1 → e - a ≤ k → true ≡ isNumberOf k (take (e - a) (drop a s))
+  unfolding isNumberOf
+  one-digit z m = rw (z, drop-cons s a 0 (omega arith), le-leb 1 k (omega arith)) refl
 
-  pub many-digits : maxDigits < e - a → false ≡ isNumber (take (e - a) (drop a s))
-  unfolding isNumber
-  many-digits l = never (noLeadingZero (take (e - a) (drop a s))) _ (rw (part-length s a e h g) (lt-leb (e - a) maxDigits l))
+  pub many-digits : k < e - a → false ≡ isNumberOf k (take (e - a) (drop a s))
+  unfolding isNumberOf
+  many-digits l = never (noLeadingZero (take (e - a) (drop a s))) _ (rw (part-length s a e h g) (lt-leb (e - a) k l))
 
-  pub some-digits : 1 < e - a → e - a ≤ maxDigits → not (eqb (getD s a 0) 0x30) ≡ isNumber (take (e - a) (drop a s))
-  unfolding isNumber
+  pub some-digits : 1 < e - a → e - a ≤ k → not (eqb (getD s a 0) 0x30) ≡ isNumberOf k (take (e - a) (drop a s))
+  unfolding isNumberOf
   some-digits l m =
       let ds = take (e - a) (drop a s) in
       let z : a + 0 ≡ a = omega arith in
       let f : getD ds 0 0 ≡ getD s a 0 = getD-take (e - a) (drop a s) 0 0 (omega arith) ∙ getD-drop a s 0 0 ∙ ap (λ (i : ℕ). getD s i 0) z in
-      rw f at (by-first ds (omega (arith, part-length s a e h g)) (omega (arith, part-length s a e h g)))
+      rw f at (by-first k ds (omega (arith, part-length s a e h g)) (omega (arith, part-length s a e h g)))
 
 -- ---- the number
-pub number-there : (s : List ℕ) (at e n : ℕ) (c : Cursor)
-    → NumeralsEnd s at e → isNumber (take (e - at) (drop at s)) ≡ true
+pub number-there : (k : ℕ) (s : List ℕ) (at e n : ℕ) (c : Cursor)
+    → NumeralsEnd s at e → isNumberOf k (take (e - at) (drop at s)) ≡ true
     → n ≡ valueFrom 0 (take (e - at) (drop at s)) → c .at ≡ e
-    → At s n c (readNumber (drop at s))
-unfolding readNumber
-number-there s at e n c d t v p =
+    → At s n c (readNumberOf k (drop at s))
+unfolding readNumberOf
+number-there k s at e n c d t v p =
     record {
       inside = omega arith;
       is = rw (← numerals-are s at e d, t, v, p, ← numerals-rest s at e d) refl;
     }
 
-pub no-number : (s : List ℕ) (at e : ℕ)
-    → NumeralsEnd s at e → isNumber (take (e - at) (drop at s)) ≡ false
-    → bad ≡ readNumber (drop at s)
-unfolding readNumber
-no-number s at e d t = rw (← numerals-are s at e d, t) refl
+pub no-number : (k : ℕ) (s : List ℕ) (at e : ℕ)
+    → NumeralsEnd s at e → isNumberOf k (take (e - at) (drop at s)) ≡ false
+    → bad ≡ readNumberOf k (drop at s)
+unfolding readNumberOf
+no-number k s at e d t = rw (← numerals-are s at e d, t) refl

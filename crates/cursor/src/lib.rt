@@ -6,9 +6,9 @@ ghost use mathlib.Core.List.{[], _∷_};
 ghost use Prim.Native.Nat.{ℕ, _+_, _-_, _≤_, _<_};
 ghost use lib.Dec.{leb};
 ghost use lib.ListN.{length, take, drop, set};
-ghost use Rattle.limits.specs.Limits.{maxInputs, maxDigits};
+ghost use Rattle.limits.specs.Limits.{maxInputs, maxPlaDigits};
 ghost use Rattle.text.specs.Bytes.{eat};
-ghost use Rattle.text.specs.Number.{numeral, valueFrom, isNumber, readNumber};
+ghost use Rattle.text.specs.Number.{numeral, valueFrom, isNumberOf, readNumberOf};
 ghost use Rattle.names.specs.Name.{word, operator, readName};
 ghost use Rattle.names.specs.Word.{WordEnd, operatorOf};
 ghost use Rattle.names.specs.Names.{readNames};
@@ -89,20 +89,20 @@ fn numerals_end(s: &[u8], at: usize) -> usize
     e
 }
 
-// Whether the digits from a up to e are a number: one to three, and a 0 only alone.
-fn is_number(s: &[u8], a: usize, e: usize) -> bool
+// Whether the digits from a up to e are a number of at most so many digits: a 0 stands only alone.
+fn is_number(s: &[u8], a: usize, e: usize, digits: usize) -> bool
     requires { ⌜ (a ≤ e) × (e ≤ length (now s)) ⌝ }
-    ensures { λ r. ⌜ r ≡ isNumber (take (e - a) (drop a (now (s .entry)))) ⌝ }
+    ensures { λ r. ⌜ r ≡ isNumberOf digits (take (e - a) (drop a (now (s .entry)))) ⌝ }
 {
     let n = e - a;
     if n == 0 {
         return false;
     }
+    if digits < n {
+        return false;
+    }
     if n == 1 {
         return true;
-    }
-    if limits::MAX_DIGITS < n {
-        return false;
     }
     s[a] != b'0'
 }
@@ -117,7 +117,7 @@ fn digit_value(b: u8) -> usize
 
 // The value of the digits from a up to e.
 fn value(s: &[u8], a: usize, e: usize) -> usize
-    requires { ⌜ (Numerals (now s) a e) × (e ≤ a + maxDigits) ⌝ }
+    requires { ⌜ (Numerals (now s) a e) × (e ≤ a + maxPlaDigits) ⌝ }
     ensures { λ r. ⌜ r ≡ valueFrom 0 (take (e - a) (drop a (now (s .entry)))) ⌝ }
 {
     let mut n: usize = 0;
@@ -230,14 +230,14 @@ impl Cursor {
         Moved::To(Cursor { at: at + i })
     }
 
-    // The number of one to three digits.
-    pub fn number(self, s: &[u8]) -> NumberRead
-        requires { ⌜ self .at ≤ length (now s) ⌝ }
-        ensures { λ r. ⌜ NumberIs (now (s .entry)) r (readNumber (drop (self .at) (now (s .entry)))) ⌝ }
+    // The number of at most so many digits.
+    pub fn number(self, s: &[u8], digits: usize) -> NumberRead
+        requires { ⌜ (self .at ≤ length (now s)) × (digits ≤ maxPlaDigits) ⌝ }
+        ensures { λ r. ⌜ NumberIs (now (s .entry)) r (readNumberOf digits (drop (self .at) (now (s .entry)))) ⌝ }
     {
         let at = self.at;
         let e = numerals_end(s, at);
-        if is_number(s, at, e) {
+        if is_number(s, at, e, digits) {
             NumberRead::Number(value(s, at, e), Cursor { at: e })
         } else {
             NumberRead::Bad

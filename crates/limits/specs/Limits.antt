@@ -46,6 +46,13 @@ maxBlif = 55735
 abbrev pub firstLut : ℕ
 firstLut = 2
 
+-- a PLA text: its bytes, and digits of its numbers
+abbrev pub maxPla : ℕ
+maxPla = 32768
+
+abbrev pub maxPlaDigits : ℕ
+maxPlaDigits = 5
+
 -- rows of a design, vertices, free rows (one input at least is bound), codes of shared tables
 abbrev pub maxRows : ℕ
 maxRows = 2 ^ maxInputs

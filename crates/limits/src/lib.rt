@@ -34,6 +34,11 @@ pub const MAX_BLIF: usize = 55_735;
 // The line of the first lut.
 pub const FIRST_LUT: usize = 2;
 
+// A PLA text: its bytes, and digits of its numbers.
+pub const MAX_PLA: usize = 32_768;
+
+pub const MAX_PLA_DIGITS: usize = 5;
+
 // The most rows of a design, vertices and free rows (one input at least is bound), and codes of shared tables.
 pub const MAX_ROWS: usize = 1 << MAX_INPUTS;
 

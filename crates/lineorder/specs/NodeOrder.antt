@@ -3,14 +3,14 @@
 use mathlib.Core.Path.{_≡_, refl, sym, ap, ap₂, _∙_, subst}
 use mathlib.Core.Bool.{Bool, true, false, not, _&&_}
 use mathlib.Core.List.{List, [], _∷_, _++_, append-assoc, map}
-use Prim.Native.Nat.{ℕ, suc, _+_, _%_, _≤_, _<_, Ordering, Ordering·lt, Ordering·eq, Ordering·gt, compare}
+use Prim.Native.Nat.{ℕ, suc, _+_, _≤_, _<_, Ordering, Ordering·lt, Ordering·eq, Ordering·gt, compare}
 use native.Mathlib.Omega.{arith}
 use lib.ListN.{length}
 use lib.Dec.{leb}
-use borrow.Author.Tests.{lt-ltb, leb-true}
+use borrow.Author.Tests.{leb-true}
 use Rattle.bits.specs.LogicLaws.{true-false, and-left}
 use Rattle.text.specs.Bytes.{newline, closeBracket}
-use Rattle.text.specs.Number.{printNumber}
+use Rattle.text.specs.FigureLaws.{print-digit}
 use Rattle.limits.specs.Limits.{maxName}
 use Rattle.names.specs.Name.{Name, letter, allNameBytes, isName, isOperator, operator}
 use Rattle.names.specs.Names.{allNames}
@@ -65,10 +65,8 @@ reads-equal (i ∷ is) (j ∷ js) e =
 
 -- ---- the names of shared tables
 name-bytes : (i : ℕ) → i < 10 → lutName i ≡ 0x5F ∷ (48 + i) ∷ []
-unfolding lutName printNumber
-name-bytes i l =
-    let e : 0x30 + i % 10 ≡ 48 + i = omega arith in
-    rw (lt-ltb i 10 l, e)
+unfolding lutName
+name-bytes i l = ap (λ (s : List ℕ). 0x5F ∷ s) (print-digit i l)
 
 led-long : (first : Bool) (i j : ℕ) → i < 10 → j < 10 → length (led first (lutName i)) ≡ length (led first (lutName j))
 led-long true i j a b = ap length (name-bytes i a) ∙ sym (ap length (name-bytes j b))

@@ -125,7 +125,7 @@ module _ (d : Design) (h : Named d) (v w : Network) (f : Wellformed d v) (g : We
       ≡ then (tablesOrder (v .luts) (w .luts)) (nodesOrder d (v .nodes) (w .nodes))
   unfolding printNetwork
   print-order =
-      ended-order (networkLines d v) (networkLines d w) (lines-unbroken d h v f) (lines-unbroken d h w g) ∙ lines-order
+      ended-order (networkLines d v) (networkLines d w) (lines-unbroken d h v) (lines-unbroken d h w) ∙ lines-order
 
 -- ---- each node line is not less, so all together are not
 pub nodes-not-less : (fs ns : List Name) (xs ys : List Node)

@@ -79,7 +79,7 @@ module _ (d : Design) (f : WellFormed d) where
           drawn = permitted-drawn;
           lut-lines = refl;
           count-line =
-              ap (λ (ls : List (List ℕ)). lineAt ls (firstLut + u + m)) (print-lines d w (design-named d f) (p .wellformed))
+              ap (λ (ls : List (List ℕ)). lineAt ls (firstLut + u + m)) (print-lines d w (design-named d f))
               ∙ ap (lineAt (networkLines d w)) n ∙ count-line-at d w (p .wellformed .node-each);
         }
 

@@ -4,14 +4,15 @@
 use mathlib.Core.Path.{_≡_, refl, sym, ap, ap₂, _∙_}
 use mathlib.Core.Bool.{Bool, true, false}
 use mathlib.Core.List.{List, [], _∷_, _++_, map, append-assoc}
-use Prim.Native.Nat.{ℕ, zero, suc, _+_, _%_, _≤_, _<_}
+use Prim.Native.Nat.{ℕ, zero, suc, _+_, _≤_, _<_}
 use native.Mathlib.Omega.{arith}
 use native.Mathlib.Decide.{ℕ-discrete}
 use lib.Dec.{eqb}
-use borrow.Author.Tests.{ne-eqb, lt-ltb}
+use borrow.Author.Tests.{ne-eqb}
 use Rattle.text.specs.Bytes.{Read, found, bad, after, eat, bytes, space}
 use Rattle.text.specs.EatLaws.{found-item, found-rest, eat-own, eat-found}
 use Rattle.text.specs.Number.{printNumber}
+use Rattle.text.specs.FigureLaws.{print-digit}
 use Rattle.network.specs.Printer.{led, ledAll, lutName}
 use Rattle.network.specs.Reader.{readReads}
 use Rattle.network.specs.Reads.{rising-none, rising-more, following, still, ReadsFront}
@@ -30,17 +31,17 @@ no-underscore false j t e =
     sym (eat-parts (space ∷ bytes "_") (printNumber j) t) ∙ ap (λ (r : Read (Unit {0})). after r (λ _ u. eat (printNumber j) u)) e
 
 -- no name of a shared table begins another's
-digits-apart : (i j : ℕ) → i < 10 → j < 10 → (i ≡ j → ⊥) → eqb (0x30 + i % 10) (0x30 + j % 10) ≡ false
-digits-apart i j h k d = ne-eqb (0x30 + i % 10) (0x30 + j % 10) (λ e. d (omega arith))
+digits-apart : (i j : ℕ) → (i ≡ j → ⊥) → eqb (0x30 + i) (0x30 + j) ≡ false
+digits-apart i j d = ne-eqb (0x30 + i) (0x30 + j) (λ e. d (omega arith))
 
 luts-apart : (first : Bool) (i j : ℕ) (t : List ℕ)
     → i < 10
     → j < 10
     → (i ≡ j → ⊥)
     → eat (led first (lutName i)) (led first (lutName j) ++ t) ≡ bad
-unfolding lutName printNumber eat
-luts-apart true i j t h k d = rw (lt-ltb i 10 h, lt-ltb j 10 k, digits-apart i j h k d) refl
-luts-apart false i j t h k d = rw (lt-ltb i 10 h, lt-ltb j 10 k, digits-apart i j h k d) refl
+unfolding lutName eat
+luts-apart true i j t h k d = rw (print-digit i h, print-digit j k, digits-apart i j d) refl
+luts-apart false i j t h k d = rw (print-digit i h, print-digit j k, digits-apart i j d) refl
 
 -- ---- the reader, step by step
 reads-none : (first : Bool) (i : ℕ) (s : List ℕ) → readReads first zero i s ≡ found [] s

@@ -106,41 +106,35 @@ module _ (d : Design) (h : Named d) where
       (f .few-luts) (f .lut-digits) (f .node-each) (f .node-fits)
 
   -- ---- no line has a 0x0A in it
-  luts-unbroken : (ts : List (List Bool)) (i : ℕ)
-      → i + length ts ≤ maxCells
-      → allUnbroken (lutLines (d .bound) i ts) ≡ true
+  luts-unbroken : (ts : List (List Bool)) (i : ℕ) → allUnbroken (lutLines (d .bound) i ts) ≡ true
   unfolding lutLines allUnbroken
-  luts-unbroken [] i c = refl
-  luts-unbroken (t ∷ ts) i c =
+  luts-unbroken [] i = refl
+  luts-unbroken (t ∷ ts) i =
       and-both (unbroken (printLut (d .bound) i t)) (allUnbroken (lutLines (d .bound) (suc i) ts))
-      (lut-unbroken (d .bound) i t (h .bound-named) (omega arith))
-      (luts-unbroken ts (suc i) (omega arith))
+      (lut-unbroken (d .bound) i t (h .bound-named))
+      (luts-unbroken ts (suc i))
 
-  nodes-unbroken : (ns : List Name) (xs : List Node) (u : ℕ)
-      → allNames ns ≡ true
-      → u ≤ maxCells
-      → ((k : ℕ) → k < length xs → NodeFits (freeOf d) u (nodeAt xs k))
-      → allUnbroken (nodeLines (freeOf d) ns xs) ≡ true
+  nodes-unbroken : (ns : List Name) (xs : List Node) → allNames ns ≡ true → allUnbroken (nodeLines (freeOf d) ns xs) ≡ true
   unfolding nodeLines allUnbroken allNames
-  nodes-unbroken [] xs u a m f = refl
-  nodes-unbroken (n ∷ ns) [] u a m f = refl
-  nodes-unbroken (n ∷ ns) (x ∷ xs) u a m f =
+  nodes-unbroken [] xs a = refl
+  nodes-unbroken (n ∷ ns) [] a = refl
+  nodes-unbroken (n ∷ ns) (x ∷ xs) a =
       and-both (unbroken (printNode n (freeOf d) x)) (allUnbroken (nodeLines (freeOf d) ns xs))
-      (node-unbroken n (freeOf d) u x (and-left (isName n) (allNames ns) a) frees-named (omega arith) (f 0 (omega arith) .rises))
-      (nodes-unbroken ns xs u (and-right (isName n) (allNames ns) a) m (λ k i. f (suc k) (omega arith)))
+      (node-unbroken n (freeOf d) x (and-left (isName n) (allNames ns) a) frees-named)
+      (nodes-unbroken ns xs (and-right (isName n) (allNames ns) a))
 
-  pub lines-unbroken : (w : Network) → Wellformed d w → allUnbroken (networkLines d w) ≡ true
+  pub lines-unbroken : (w : Network) → allUnbroken (networkLines d w) ≡ true
   unfolding networkLines allUnbroken
-  lines-unbroken w f =
+  lines-unbroken w =
       let u = length (w .luts) in
       let nodes = nodeLines (freeOf d) (namesOf d) (w .nodes) in
-      let last : allUnbroken (lastLines u) ≡ true = rw (count-unbroken u (omega (arith, f .few-luts)), fixed-unbroken .1) refl in
+      let last : allUnbroken (lastLines u) ≡ true = rw (count-unbroken u, fixed-unbroken .1) refl in
       and-both (unbroken networkLine) (allUnbroken (lutLines (d .bound) 0 (w .luts) ++ (nodes ++ lastLines u)))
       (fixed-unbroken .0)
       (all-append (lutLines (d .bound) 0 (w .luts)) (nodes ++ lastLines u)
-      (luts-unbroken (w .luts) 0 (omega (arith, f .few-luts)))
+      (luts-unbroken (w .luts) 0)
       (all-append nodes (lastLines u)
-      (nodes-unbroken (namesOf d) (w .nodes) u (h .outputs-named) (f .few-luts) (f .node-fits)) last))
+      (nodes-unbroken (namesOf d) (w .nodes) (h .outputs-named)) last))
 
 -- ---- the sheet
 read-by-lines : (d : Design) (t : List ℕ)
@@ -159,9 +153,9 @@ print-ends : (d : Design) (w : Network) → endsLine (printNetwork d w) ≡ true
 unfolding printNetwork networkLines
 print-ends d w = ended-ends networkLine _
 
-pub print-lines : (d : Design) (w : Network) → Named d → Wellformed d w → lines (printNetwork d w) ≡ networkLines d w
+pub print-lines : (d : Design) (w : Network) → Named d → lines (printNetwork d w) ≡ networkLines d w
 unfolding printNetwork
-print-lines d w h f = lines-of-ended (networkLines d w) (lines-unbroken d h w f)
+print-lines d w h = lines-of-ended (networkLines d w) (lines-unbroken d h w)
 
 pub said-of-print : (d : Design) (w : Network)
     → Named d
@@ -170,5 +164,5 @@ pub said-of-print : (d : Design) (w : Network)
     → readNetwork d (printNetwork d w) ≡ network w
 said-of-print d w h f k =
     read-by-lines d (printNetwork d w) (print-some d w) k (print-ends d w)
-    ∙ ap (λ (ls : List (List ℕ)). askLines d true at-network nothing 1 ls) (print-lines d w h f)
+    ∙ ap (λ (ls : List (List ℕ)). askLines d true at-network nothing 1 ls) (print-lines d w h)
     ∙ lines-read d h w f

@@ -2,14 +2,13 @@
 use mathlib.Core.Path.{_≡_, refl}
 use mathlib.Core.Bool.{Bool, true, false}
 use mathlib.Core.List.{List, [], _∷_, _++_, map}
-use Prim.Native.Nat.{ℕ, _≤_, _<_}
-use native.Mathlib.Omega.{arith}
+use Prim.Native.Nat.{ℕ}
 use Rattle.bits.specs.LogicLaws.{and-left, and-right, and-both}
 use Rattle.text.specs.Bytes.{bytes, closeBracket}
 use Rattle.text.specs.Unbroken.{unbroken, allUnbroken}
 use Rattle.text.specs.LineLaws.{unbroken-append}
 use Rattle.text.specs.Number.{printNumber}
-use Rattle.text.specs.NumberLaws.{print-unbroken}
+use Rattle.text.specs.FigureLaws.{print-unbroken}
 use Rattle.text.specs.SolidLaws.{solid-unbroken}
 use Rattle.names.specs.Name.{Name, isName}
 use Rattle.names.specs.Names.{allNames}
@@ -18,7 +17,6 @@ use Rattle.sheet.specs.Lines.{endLine}
 use Rattle.network.specs.Network.{Node}
 use Rattle.network.specs.Printer.{led, ledAll, lutName, printDigits, networkLine, lutHead, printLut, nodeHead, printNode, printCount}
 use Rattle.network.specs.DigitsLaws.{digits-solid}
-use Rattle.network.specs.Reads.{Rising, rising-none, rising-more}
 
 -- ---- names
 name-unbroken : (n : Name) → isName n ≡ true → unbroken n ≡ true
@@ -57,15 +55,14 @@ led-all-unbroken first (l ∷ ls) h =
     (led-unbroken first l (and-left (unbroken l) (allUnbroken ls) h))
     (led-all-unbroken false ls (and-right (unbroken l) (allUnbroken ls) h))
 
-lut-name-unbroken : (i : ℕ) → i < 1000 → unbroken (lutName i) ≡ true
+lut-name-unbroken : (i : ℕ) → unbroken (lutName i) ≡ true
 unfolding lutName unbroken
-lut-name-unbroken i h = print-unbroken i h
+lut-name-unbroken i = print-unbroken i
 
-lut-names-unbroken : {i u : ℕ} {is : List ℕ} → u ≤ 1000 → Rising i u is → allUnbroken (map lutName is) ≡ true
+lut-names-unbroken : (is : List ℕ) → allUnbroken (map lutName is) ≡ true
 unfolding allUnbroken
-lut-names-unbroken h rising-none = refl
-lut-names-unbroken h (rising-more {j = j} {js = js} l m r) =
-    and-both (unbroken (lutName j)) (allUnbroken (map lutName js)) (lut-name-unbroken j (omega arith)) (lut-names-unbroken h r)
+lut-names-unbroken [] = refl
+lut-names-unbroken (i ∷ is) = and-both (unbroken (lutName i)) (allUnbroken (map lutName is)) (lut-name-unbroken i) (lut-names-unbroken is)
 
 digits-unbroken : (ds : List Bool) → unbroken (printDigits ds) ≡ true
 digits-unbroken ds = solid-unbroken (printDigits ds) (digits-solid ds)
@@ -75,35 +72,30 @@ unfolding unbroken
 digits-closed-unbroken ds = unbroken-append (printDigits ds) (closeBracket ∷ []) (digits-unbroken ds) refl
 
 -- ---- the lines
-pub lut-unbroken : (bs : List Name) (i : ℕ) (ds : List Bool)
-    → allNames bs ≡ true
-    → i < 1000
-    → unbroken (printLut bs i ds) ≡ true
+pub lut-unbroken : (bs : List Name) (i : ℕ) (ds : List Bool) → allNames bs ≡ true → unbroken (printLut bs i ds) ≡ true
 unfolding printLut lutHead unbroken
-lut-unbroken bs i ds h k =
+lut-unbroken bs i ds h =
     unbroken-append (lutHead bs i) (printDigits ds ++ (closeBracket ∷ []))
-    (unbroken-append (lutName i) (bytes " (" ++ (ledAll true bs ++ bytes ") ")) (lut-name-unbroken i k)
+    (unbroken-append (lutName i) (bytes " (" ++ (ledAll true bs ++ bytes ") ")) (lut-name-unbroken i)
     (unbroken-append (ledAll true bs) (bytes ") ") (led-all-unbroken true bs (names-unbroken bs h)) refl))
     (digits-closed-unbroken ds)
 
-pub node-unbroken : (n : Name) (fs : List Name) (u : ℕ) (x : Node)
+pub node-unbroken : (n : Name) (fs : List Name) (x : Node)
     → isName n ≡ true
     → allNames fs ≡ true
-    → u ≤ 1000
-    → Rising 0 u (x .reads)
     → unbroken (printNode n fs x) ≡ true
 unfolding printNode nodeHead unbroken
-node-unbroken n fs u x h k m r =
+node-unbroken n fs x h k =
     let is = map lutName (x .reads) in
     unbroken-append (nodeHead n) (ledAll true (is ++ fs) ++ (bytes ") " ++ (printDigits (x .digits) ++ (closeBracket ∷ []))))
     (unbroken-append n (bytes " (") (name-unbroken n h) refl)
     (unbroken-append (ledAll true (is ++ fs)) (bytes ") " ++ (printDigits (x .digits) ++ (closeBracket ∷ [])))
-    (led-all-unbroken true (is ++ fs) (all-append is fs (lut-names-unbroken m r) (names-unbroken fs k)))
+    (led-all-unbroken true (is ++ fs) (all-append is fs (lut-names-unbroken (x .reads)) (names-unbroken fs k)))
     (digits-closed-unbroken (x .digits)))
 
-pub count-unbroken : (u : ℕ) → u < 1000 → unbroken (printCount u) ≡ true
+pub count-unbroken : (u : ℕ) → unbroken (printCount u) ≡ true
 unfolding printCount unbroken
-count-unbroken u h = unbroken-append (printNumber u) (closeBracket ∷ []) (print-unbroken u h) refl
+count-unbroken u = unbroken-append (printNumber u) (closeBracket ∷ []) (print-unbroken u) refl
 
 pub fixed-unbroken : (unbroken networkLine ≡ true) × (unbroken endLine ≡ true)
 unfolding unbroken

@@ -3,7 +3,7 @@
 use Rattle.bits.specs.Digit.{on, digit}
 use Rattle.text.specs.Bytes.{same, eat}
 use Rattle.text.specs.Line.{lines, endedLines}
-use Rattle.text.specs.Number.{numeral, numerals, afterNumerals, valueFrom, isNumber, readNumber, printNumber}
+use Rattle.text.specs.Number.{numeral, numerals, afterNumerals, valueFrom, isNumberOf, readNumberOf, printNumberOf, readNumber, printNumber}
 use Rattle.names.specs.Name.{letter, nameByte, word, afterWord, operator, isName, readName, sameName, among, distinct, allAmong}
 use Rattle.names.specs.Names.{printNames, namesWithin, readNames}
 use Rattle.cursor.specs.Opening.{readOpening}
@@ -17,7 +17,7 @@ use Rattle.sheet.specs.Printer.{designLines, printDesign}
 use Rattle.sheet.specs.Value.{outputOn}
 
 texts : Unit {0}
-unfolding same eat lines numeral numerals afterNumerals valueFrom isNumber readNumber
+unfolding same eat lines numeral numerals afterNumerals valueFrom isNumberOf readNumberOf readNumber
 texts = tt
 
 names : Unit {0}
@@ -33,7 +33,7 @@ unfolding readIn readBound readLimit readOut plain plainLines sized askIn askBou
 questions = tt
 
 printing : Unit {0}
-unfolding endedLines printNumber printNames print printIn printBound printLimit printOut designLines printDesign
+unfolding endedLines printNumberOf printNumber printNames print printIn printBound printLimit printOut designLines printDesign
 printing = tt
 
 unfoldable pub computing : Unit {0}

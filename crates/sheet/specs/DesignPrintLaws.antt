@@ -174,7 +174,7 @@ lines-visible d w =
     (and-both (visible (printBound (d .bound))) (visible (printLimit (d .limit)) && allVisible outs)
     (bound-visible (d .bound) (all-named (d .bound) (d .inputs) named (w .bound-right .known)))
     (and-both (visible (printLimit (d .limit))) (allVisible outs)
-    (limit-visible (d .limit) (omega (arith, w .limit-right)))
+    (limit-visible (d .limit))
     (outs-visible (d .inputs) (d .outputs) (w .outputs-right .each))))
 
 pub print-lines : (d : Design) → WellFormed d → lines (printDesign d) ≡ designLines d

@@ -7,9 +7,9 @@ use mathlib.Core.Option.{Option, some, none}
 use Prim.Native.Nat.{ℕ, _≤_, _<_}
 use borrow.Author.Tests.{le-leb, lt-leb}
 use Rattle.bits.specs.Logic.{pick}
-use Rattle.limits.specs.Limits.{maxLimit}
+use Rattle.limits.specs.Limits.{maxDigits, maxLimit}
 use Rattle.text.specs.Bytes.{bytes, bad, eat}
-use Rattle.text.specs.Number.{readNumber}
+use Rattle.text.specs.Number.{readNumberOf, readNumber}
 use Rattle.cursor.specs.Item.{At, from}
 use Rattle.cursor.specs.declared.Cursor.{Cursor}
 use Rattle.sheet.specs.Lines.{readLimit}
@@ -29,14 +29,14 @@ module _ (l : List ℕ) where
   unfolding readLimit
   limit-no-head e = rw (← e) refl
 
-  pub limit-no-number : {c : Cursor} → At l tt c (eat (bytes "(limit ") l) → bad ≡ readNumber (from l c)
+  pub limit-no-number : {c : Cursor} → At l tt c (eat (bytes "(limit ") l) → bad ≡ readNumberOf maxDigits (from l c)
       → LimitIs (readLimit l) LimitLine.Bad
-  unfolding readLimit
+  unfolding readLimit readNumber
   limit-no-number a e = rw (← a .is, ← e) refl
 
-  module _ {c e : Cursor} {n : ℕ} (a : At l tt c (eat (bytes "(limit ") l)) (b : At l n e (readNumber (from l c))) where
+  module _ {c e : Cursor} {n : ℕ} (a : At l tt c (eat (bytes "(limit ") l)) (b : At l n e (readNumberOf maxDigits (from l c))) where
     limit-number : readLimit l ≡ pick (closesAt (from l e)) (some n) none
-    unfolding readLimit
+    unfolding readLimit readNumber
     limit-number = rw (← a .is, ← b .is) (closed-whole n (from l e))
 
     pub limit-closed : closesAt (from l e) ≡ true → LimitIs (readLimit l) (LimitLine.Limit n)

@@ -58,7 +58,7 @@ unfolding stops numeral
 bracket-ends-number = refl
 
 pub limit-inverse : Inverse (λ n. n < 1000) printLimit readLimit
-unfolding printLimit readLimit
+unfolding printLimit readLimit printNumber
 limit-inverse =
     item-line-inverse (bytes "(limit ") readNumber
     (closed-inverse (λ n. printNumber n ++ (closeBracket ∷ [])) readNumber

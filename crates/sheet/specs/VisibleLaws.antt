@@ -3,7 +3,7 @@
 use mathlib.Core.Path.{_≡_, refl}
 use mathlib.Core.Bool.{true, false, _&&_}
 use mathlib.Core.List.{List, [], _∷_, _++_}
-use Prim.Native.Nat.{ℕ, _≤_, _<_}
+use Prim.Native.Nat.{ℕ, _≤_}
 use native.Mathlib.Omega.{arith}
 use lib.Dec.{leb}
 use borrow.Author.Tests.{le-leb}
@@ -12,7 +12,7 @@ use Rattle.text.specs.Bytes.{bytes, space, closeBracket}
 use Rattle.text.specs.Number.{numeral, printNumber}
 use Rattle.text.specs.Numerals.{allNumerals}
 use Rattle.text.specs.NumeralLaws.{numeral-low, numeral-high}
-use Rattle.text.specs.NumberLaws.{print-numerals}
+use Rattle.text.specs.FigureLaws.{print-numerals}
 use Rattle.names.specs.Name.{Name, nameByte, allNameBytes, isName}
 use Rattle.names.specs.Names.{printNames}
 use Rattle.names.specs.Names.{allNames}
@@ -117,9 +117,9 @@ pub bound-visible : (ns : List Name) → allNames ns ≡ true → visible (print
 unfolding printBound visible
 bound-visible ns h = closed-visible (printNames ns) (names-visible ns h)
 
-pub limit-visible : (n : ℕ) → n < 1000 → visible (printLimit n) ≡ true
+pub limit-visible : (n : ℕ) → visible (printLimit n) ≡ true
 unfolding printLimit visible
-limit-visible n h = closed-visible (printNumber n) (numerals-visible (printNumber n) (print-numerals n h))
+limit-visible n = closed-visible (printNumber n) (numerals-visible (printNumber n) (print-numerals n))
 
 pub out-visible : (o : Output) → isName (o .name) ≡ true → spelled (o .formula) ≡ true → visible (printOut o) ≡ true
 unfolding printOut visible

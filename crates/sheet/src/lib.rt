@@ -247,7 +247,7 @@ fn limit_line(l: &[u8]) -> LimitLine
     let Moved::To(c) = m else {
         return LimitLine::Bad;
     };
-    let w = c.number(l);
+    let w = c.number(l, limits::MAX_DIGITS);
     let NumberRead::Number(n, e) = w else {
         return LimitLine::Bad;
     };

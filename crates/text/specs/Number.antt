@@ -1,7 +1,8 @@
--- "N is one to three digits, without a leading zero unless it is the single digit 0." Assumes nothing.
+-- "N is one to three digits, without a leading zero unless it is the single digit 0", and the same for k digits.
+-- Assumes nothing.
 use mathlib.Core.Bool.{Bool, true, false, not, _&&_}
-use mathlib.Core.List.{List, [], _∷_}
-use Prim.Native.Nat.{ℕ, _+_, _-_, _*_, _/_, _%_}
+use mathlib.Core.List.{List, [], _∷_, _++_}
+use Prim.Native.Nat.{ℕ, zero, suc, _+_, _-_, _*_, _/_, _%_}
 use lib.Dec.{eqb, leb, ltb}
 use lib.ListN.{length}
 use Rattle.bits.specs.Logic.{pick}
@@ -34,19 +35,28 @@ noLeadingZero [] = false
 noLeadingZero (d ∷ []) = true
 noLeadingZero (d ∷ e ∷ ds) = not (eqb d 0x30)
 
-unfoldable pub isNumber : List ℕ → Bool
-isNumber ds = noLeadingZero ds && leb (length ds) maxDigits
+-- whether digits are a number of at most k digits
+unfoldable pub isNumberOf : ℕ → List ℕ → Bool
+isNumberOf k ds = noLeadingZero ds && leb (length ds) k
 
--- the number at the front of a text
+-- the number of at most k digits at the front of a text
+unfoldable pub readNumberOf : ℕ → List ℕ → Read ℕ
+readNumberOf k s = pick (isNumberOf k (numerals s)) (found (valueFrom 0 (numerals s)) (afterNumerals s)) bad
+
+-- the byte of a number's last digit
+abbrev pub numeralOf : ℕ → ℕ
+numeralOf n = 0x30 + n % 10
+
+-- the print of a number of at most k digits
+unfoldable pub printNumberOf : ℕ → ℕ → List ℕ
+printNumberOf zero n = []
+printNumberOf (suc k) n =
+    let others = printNumberOf k (n / 10) in
+    pick (ltb n 10) (numeralOf n ∷ []) (others ++ (numeralOf n ∷ []))
+
+-- ---- the numbers of a design sheet
 unfoldable pub readNumber : List ℕ → Read ℕ
-readNumber s = pick (isNumber (numerals s)) (found (valueFrom 0 (numerals s)) (afterNumerals s)) bad
-
--- the print of a number of at most three digits
-abbrev numeralOf : ℕ → ℕ
-numeralOf d = 0x30 + d % 10
+readNumber = readNumberOf maxDigits
 
 unfoldable pub printNumber : ℕ → List ℕ
-printNumber n =
-    pick (ltb n 10) (numeralOf n ∷ [])
-    (pick (ltb n 100) (numeralOf (n / 10) ∷ numeralOf n ∷ [])
-    (numeralOf (n / 100) ∷ numeralOf (n / 10) ∷ numeralOf n ∷ []))
+printNumber = printNumberOf maxDigits

@@ -1,179 +1,180 @@
 -- Reading a number is the inverse of printing it. Assumes nothing.
 use mathlib.Core.Path.{_≡_, refl, sym, ap, ap₂, _∙_}
-use mathlib.Core.Bool.{true, not}
-use mathlib.Core.List.{List, [], _∷_, _++_}
-use Prim.Native.Nat.{ℕ, _+_, _*_, _/_, _%_, _≤_, _<_}
+use mathlib.Core.Bool.{true, _&&_}
+use mathlib.Core.List.{List, [], _∷_, _++_, append-assoc, append-nil}
+use Prim.Native.Nat.{ℕ, zero, suc, _+_, _-_, _*_, _/_, _^_, _≤_, _<_}
+use native.Mathlib.Nat.{pow-suc, pow-le-pow-right}
 use native.Mathlib.Omega.{arith}
 use native.Mathlib.Decide.{decLt}
 use lib.Dec.{eqb, leb}
 use lib.ListN.{length, length-append}
-use borrow.Author.Tests.{lt-ltb, le-ltb, leb-true, ne-eqb, eqb-false, not-true}
+use borrow.Author.Tests.{leb-true, le-leb, ne-eqb, eqb-false, not-true}
 use Rattle.bits.specs.LogicLaws.{true-false, and-left, and-right}
+use Rattle.limits.specs.Limits.{maxDigits}
 use Rattle.text.specs.Bytes.{found}
-use Rattle.text.specs.Unbroken.{unbroken}
-use Rattle.text.specs.Number.{numeral, numerals, afterNumerals, valueFrom, isNumber, readNumber, printNumber}
+use Rattle.text.specs.Number.{numeral, numerals, afterNumerals, valueFrom, noLeadingZero, isNumberOf, readNumberOf, numeralOf, printNumberOf, readNumber, printNumber}
 use Rattle.text.specs.Numerals.{allNumerals, stops}
-use Rattle.text.specs.NumeralLaws.{numeral-low, numeral-high, numeral-between, numerals-split, numerals-all, after-stops, numerals-of, after-of, numerals-unbroken}
-use Rattle.text.specs.FigureLaws.{figure}
+use Rattle.text.specs.NumeralLaws.{numeral-low, numeral-high, numerals-split, numerals-all, after-stops, numerals-of, after-of}
+use Rattle.text.specs.FigureLaws.{print-one, print-more, print-short-of, print-numerals-of}
 use Rattle.text.specs.EatLaws.{found-item, found-rest, pick-found}
 
--- ---- the print, by the number of digits
-print-one : (n : ℕ) → n < 10 → printNumber n ≡ figure n ∷ []
-unfolding printNumber
-print-one n h = rw (lt-ltb n 10 h) refl
+-- ---- a print is a number, and its value is what was printed
+value-last : (ds : List ℕ) (n d : ℕ) → valueFrom n (ds ++ (d ∷ [])) ≡ valueFrom n ds * 10 + (d - 0x30)
+unfolding valueFrom
+value-last [] n d = refl
+value-last (b ∷ ds) n d = value-last ds (n * 10 + (b - 0x30)) d
 
-print-two : (n : ℕ) → 10 ≤ n → n < 100 → printNumber n ≡ figure (n / 10) ∷ figure n ∷ []
-unfolding printNumber
-print-two n l h = rw (le-ltb n 10 l, lt-ltb n 100 h) refl
+-- digits that begin with a 0 are that digit alone, so their value is 0
+no-zero-more : (ds : List ℕ) (d : ℕ) → noLeadingZero ds ≡ true → 0 < valueFrom 0 ds → noLeadingZero (ds ++ (d ∷ [])) ≡ true
+unfolding valueFrom
+no-zero-more [] d h l = absurd (true-false (sym h))
+no-zero-more (a ∷ []) d h l = rw (ne-eqb a 0x30 (λ e. omega arith)) refl
+no-zero-more (a ∷ b ∷ ds) d h l = h
 
-print-three : (n : ℕ) → 100 ≤ n → printNumber n ≡ figure (n / 100) ∷ figure (n / 10) ∷ figure n ∷ []
-unfolding printNumber
-print-three n l =
-    let m : 10 ≤ n = omega arith in
-    rw (le-ltb n 10 m, le-ltb n 100 l) refl
+record Printed (n : ℕ) (ds : List ℕ) : Type 0 where
+  pub no-zero : noLeadingZero ds ≡ true
+  pub value : valueFrom 0 ds ≡ n
 
-three-digits : (n : ℕ) → n < 1000 → (n / 100 % 10 * 10 + n / 10 % 10) * 10 + n % 10 ≡ n
-three-digits n h =
-    let top : n / 100 % 10 ≡ n / 100 = omega arith in
-    let both : n / 10 / 10 ≡ n / 100 = omega arith in
-    let tens : n / 10 ≡ n / 100 * 10 + n / 10 % 10 = omega arith in
-    omega arith
+printed-digit : (k n : ℕ) → n < 10 → Printed n (printNumberOf (suc k) n)
+unfolding valueFrom
+printed-digit k n h = rw (print-one k n h) (record { no-zero = refl; value = omega arith })
 
--- a number below 1000 has one digit, two or three
-by-size : (P : ℕ → Type 0)
-    → ((n : ℕ) → n < 10 → P n)
-    → ((n : ℕ) → 10 ≤ n → n < 100 → P n)
-    → ((n : ℕ) → 100 ≤ n → n < 1000 → P n)
-    → (n : ℕ) → n < 1000 → P n
-by-size P one two three n h =
-    elim (decLt n 10) as (λ _. P n) [
-      | yes l ↦ one n l
-      | no g ↦ elim (decLt n 100) as (λ _. P n) [ yes m ↦ two n (omega arith) m | no k ↦ three n (omega arith) h ]
+printed-more : (k n : ℕ) → 10 ≤ n → Printed (n / 10) (printNumberOf k (n / 10)) → Printed n (printNumberOf (suc k) n)
+printed-more k n h i =
+    let ds = printNumberOf k (n / 10) in
+    rw (print-more k n h)
+    (record {
+      no-zero = no-zero-more ds (numeralOf n) (i .no-zero) (omega arith);
+      value = value-last ds 0 (numeralOf n) ∙ omega arith;
+    })
+
+printed : (k n : ℕ) → n < 10 ^ suc k → Printed n (printNumberOf (suc k) n)
+printed zero n h = printed-digit zero n h
+printed (suc k) n h =
+    let p = pow-suc 10 (suc k) in
+    elim (decLt n 10) as (λ _. Printed n (printNumberOf (suc (suc k)) n)) [
+      | yes l ↦ printed-digit (suc k) n l
+      | no g ↦ printed-more (suc k) n (omega arith) (printed k (n / 10) (omega arith))
     ]
 
--- ---- a print is digits, and their value is the number
-record Printed (n : ℕ) (ds : List ℕ) : Type 0 where
-  pub all : allNumerals ds ≡ true
-  pub is-number : isNumber ds ≡ true
-  pub value : valueFrom 0 ds ≡ n
-  pub some : 0 < length ds
+-- ---- digits that are a number are the print of their value
+record Prints (k n : ℕ) (ds : List ℕ) : Type 0 where
+  pub small : n < 10 ^ k
+  pub is-print : printNumberOf k n ≡ ds
 
-figure-numeral : (n : ℕ) → numeral (figure n) ≡ true
-figure-numeral n = numeral-between (figure n) (omega arith) (omega arith)
+prints-digit : (k d : ℕ) → numeral d ≡ true → Prints (suc k) (valueFrom 0 (d ∷ [])) (d ∷ [])
+unfolding valueFrom
+prints-digit k d e =
+    let l = numeral-low d e in
+    let h = numeral-high d e in
+    let one : 1 ≤ suc k = omega arith in
+    let p : 10 ^ 1 ≤ 10 ^ suc k = pow-le-pow-right (omega arith) one in
+    record { small = omega arith; is-print = print-one k (valueFrom 0 (d ∷ [])) (omega arith) ∙ ap (λ (x : ℕ). x ∷ []) (omega arith) }
 
--- a first digit other than 0
-first-fits : (n : ℕ) → 0 < n → n < 10 → not (eqb (figure n) 0x30) ≡ true
-first-fits n l h = rw (ne-eqb (figure n) 0x30 (λ e. omega arith)) refl
-
-printed : (n : ℕ) → n < 1000 → Printed n (printNumber n)
-unfolding allNumerals isNumber valueFrom
-printed =
-    by-size (λ (n : ℕ). Printed n (printNumber n))
-    (λ n h. rw (print-one n h) (record { all = rw (figure-numeral n) refl; is-number = refl; value = omega arith; some = omega arith }))
-    (λ n l h.
-    rw (print-two n l h)
-    (record {
-      all = rw (figure-numeral (n / 10), figure-numeral n) refl;
-      is-number = rw (first-fits (n / 10) (omega arith) (omega arith)) refl;
-      value = omega arith;
-      some = omega arith;
-    }))
-    (λ n l h.
-    rw (print-three n l)
-    (record {
-      all = rw (figure-numeral (n / 100), figure-numeral (n / 10), figure-numeral n) refl;
-      is-number = rw (first-fits (n / 100) (omega arith) (omega arith)) refl;
-      value = omega (arith, three-digits n h);
-      some = omega arith;
-    }))
-
--- ---- digits are the print of their value
-record Valued (ds : List ℕ) : Type 0 where
-  pub small : valueFrom 0 ds < 1000
-  pub is-print : printNumber (valueFrom 0 ds) ≡ ds
-
-record Figure (d : ℕ) : Type 0 where
-  pub low : 0x30 ≤ d
-  pub high : d ≤ 0x39
-
-first-figure : (d : ℕ) (ds : List ℕ) → allNumerals (d ∷ ds) ≡ true → Figure d
-unfolding allNumerals
-first-figure d ds h =
-    let e = and-left (numeral d) (allNumerals ds) h in
-    record { low = numeral-low d e; high = numeral-high d e }
-
-other-figures : (d : ℕ) (ds : List ℕ) → allNumerals (d ∷ ds) ≡ true → allNumerals ds ≡ true
-unfolding allNumerals
-other-figures d ds h = and-right (numeral d) (allNumerals ds) h
-
-first-not-zero : (d e : ℕ) (ds : List ℕ) → isNumber (d ∷ e ∷ ds) ≡ true → d ≡ 0x30 → ⊥
-unfolding isNumber
-first-not-zero d e ds k = eqb-false d 0x30 (not-true (eqb d 0x30) (and-left (not (eqb d 0x30)) (leb (length (d ∷ e ∷ ds)) 3) k))
-
-digits-valued : (ds : List ℕ) → allNumerals ds ≡ true → isNumber ds ≡ true → Valued ds
-unfolding isNumber valueFrom
-digits-valued [] h k = absurd (true-false (sym k))
-digits-valued (a ∷ []) h k =
-    let f = first-figure a [] h in
-    record { small = omega arith; is-print = print-one _ (omega arith) ∙ ap (λ (x : ℕ). x ∷ []) (omega arith) }
-digits-valued (a ∷ b ∷ []) h k =
-    let f = first-figure a (b ∷ []) h in
-    let g = first-figure b [] (other-figures a (b ∷ []) h) in
-    let z = first-not-zero a b [] k in
+prints-more : (k n d : ℕ) (ds : List ℕ) → numeral d ≡ true → 0 < n → Prints k n ds → Prints (suc k) (n * 10 + (d - 0x30)) (ds ++ (d ∷ []))
+prints-more k n d ds e g v =
+    let l = numeral-low d e in
+    let h = numeral-high d e in
+    let p = pow-suc 10 k in
+    let m = n * 10 + (d - 0x30) in
+    let first : m / 10 ≡ n = omega arith in
     record {
       small = omega arith;
-      is-print = print-two _ (omega arith) (omega arith) ∙ ap₂ (λ (x y : ℕ). x ∷ y ∷ []) (omega arith) (omega arith);
+      is-print = print-more k m (omega arith)
+          ∙ ap₂ (λ (s : List ℕ) (x : ℕ). s ++ (x ∷ [])) (ap (printNumberOf k) first ∙ v .is-print) (omega arith);
     }
-digits-valued (a ∷ b ∷ c ∷ []) h k =
-    let f = first-figure a (b ∷ c ∷ []) h in
-    let g = first-figure b (c ∷ []) (other-figures a (b ∷ c ∷ []) h) in
-    let i = first-figure c [] (other-figures b (c ∷ []) (other-figures a (b ∷ c ∷ []) h)) in
-    let z = first-not-zero a b (c ∷ []) k in
-    record {
-      small = omega arith;
-      is-print = print-three _ (omega arith)
-          ∙ ap₂ (λ (x : ℕ) (l : List ℕ). x ∷ l) (omega arith) (ap₂ (λ (x y : ℕ). x ∷ y ∷ []) (omega arith) (omega arith));
-    }
-digits-valued (a ∷ b ∷ c ∷ d ∷ ds) h k =
-    let n = length (a ∷ b ∷ c ∷ d ∷ ds) in
-    let l = leb-true n 3 (and-right (not (eqb a 0x30)) (leb n 3) k) in
-    absurd (omega arith)
 
--- ---- reading and printing
-pub read-printed : (n : ℕ) (t : List ℕ) → n < 1000 → stops t ≡ true → readNumber (printNumber n ++ t) ≡ found n t
-unfolding readNumber
-read-printed n t h k =
-    let p = printed n h in
-    rw (numerals-of (printNumber n) t (p .all) k, after-of (printNumber n) t (p .all) k, p .is-number, p .value) refl
+prints-all : (ds : List ℕ) (k n : ℕ) (s : List ℕ)
+    → allNumerals ds ≡ true → 0 < n → Prints k n s
+    → Prints (k + length ds) (valueFrom n ds) (s ++ ds)
+unfolding allNumerals valueFrom
+prints-all [] k n s h g v =
+    let e : k + 0 ≡ k = omega arith in
+    rw (e, append-nil) v
+prints-all (d ∷ ds) k n s h g v =
+    let e : k + suc (length ds) ≡ suc k + length ds = omega arith in
+    let m = prints-more k n d s (and-left (numeral d) (allNumerals ds) h) g v in
+    rw (e, ← append-assoc s (d ∷ []) ds)
+    (prints-all ds (suc k) (n * 10 + (d - 0x30)) (s ++ (d ∷ [])) (and-right (numeral d) (allNumerals ds) h) (omega arith) m)
+
+digits-print : (k : ℕ) (ds : List ℕ) → length ds ≤ k → allNumerals ds ≡ true → noLeadingZero ds ≡ true → Prints k (valueFrom 0 ds) ds
+unfolding allNumerals valueFrom
+digits-print k [] l h z = absurd (true-false (sym z))
+digits-print k (a ∷ []) l h z =
+    let e : k ≡ suc (k - 1) = omega arith in
+    rw e (prints-digit (k - 1) a (and-left (numeral a) true h))
+digits-print k (a ∷ b ∷ ds) l h z =
+    let j = k - length (a ∷ b ∷ ds) in
+    let e : k ≡ suc j + length (b ∷ ds) = omega arith in
+    let f = and-left (numeral a) (allNumerals (b ∷ ds)) h in
+    let low = numeral-low a f in
+    let g = eqb-false a 0x30 (not-true (eqb a 0x30) z) in
+    rw e (prints-all (b ∷ ds) (suc j) (valueFrom 0 (a ∷ [])) (a ∷ []) (and-right (numeral a) (allNumerals (b ∷ ds)) h) (omega arith) (prints-digit j a f))
+
+-- ---- reading and printing, for numbers of at most k digits
+pub read-printed-of : (k n : ℕ) (t : List ℕ)
+    → 0 < k → n < 10 ^ k → stops t ≡ true
+    → readNumberOf k (printNumberOf k n ++ t) ≡ found n t
+unfolding readNumberOf isNumberOf
+read-printed-of zero n t l h z = absurd (omega arith)
+read-printed-of (suc k) n t l h z =
+    let ds = printNumberOf (suc k) n in
+    let p = printed k n h in
+    let all = print-numerals-of (suc k) n in
+    rw (numerals-of ds t all z, after-of ds t all z, p .no-zero, le-leb (length ds) (suc k) (print-short-of (suc k) n), p .value) refl
 
 -- a text that begins with the print of n, and goes on with t
-pub record NumberThen (s : List ℕ) (n : ℕ) (t : List ℕ) : Type 0 where
-  pub small : n < 1000
-  pub is-print : s ≡ printNumber n ++ t
+pub record NumberThen (k : ℕ) (s : List ℕ) (n : ℕ) (t : List ℕ) : Type 0 where
+  pub small : n < 10 ^ k
+  pub is-print : s ≡ printNumberOf k n ++ t
   pub stopped : stops t ≡ true
 
-pub number-found : (s : List ℕ) (n : ℕ) (t : List ℕ) → readNumber s ≡ found n t → NumberThen s n t
-unfolding readNumber
-number-found s n t e =
-    let p = pick-found (isNumber (numerals s)) (found (valueFrom 0 (numerals s)) (afterNumerals s)) e in
-    let v = digits-valued (numerals s) (numerals-all s) (p .0) in
-    let i : valueFrom 0 (numerals s) ≡ n = found-item (p .1) in
-    let r : afterNumerals s ≡ t = found-rest (p .1) in
+-- the digits at the front of s, where they are a number
+record Front (k : ℕ) (s : List ℕ) (n : ℕ) (t : List ℕ) : Type 0 where
+  pub no-zero : noLeadingZero (numerals s) ≡ true
+  pub short : length (numerals s) ≤ k
+  pub value : valueFrom 0 (numerals s) ≡ n
+  pub onward : afterNumerals s ≡ t
+
+front : (k : ℕ) (s : List ℕ) (n : ℕ) (t : List ℕ) → readNumberOf k s ≡ found n t → Front k s n t
+unfolding readNumberOf isNumberOf
+front k s n t e =
+    let ds = numerals s in
+    let p = pick-found (noLeadingZero ds && leb (length ds) k) (found (valueFrom 0 ds) (afterNumerals s)) e in
     record {
-      small = rw i at (v .small);
-      is-print = numerals-split s ∙ ap₂ (λ (a b : List ℕ). a ++ b) (sym (v .is-print) ∙ ap printNumber i) r;
-      stopped = rw r at (after-stops s);
+      no-zero = and-left (noLeadingZero ds) (leb (length ds) k) (p .0);
+      short = leb-true (length ds) k (and-right (noLeadingZero ds) (leb (length ds) k) (p .0));
+      value = found-item (p .1);
+      onward = found-rest (p .1);
     }
 
-pub number-shorter : (s : List ℕ) (n : ℕ) (t : List ℕ) → readNumber s ≡ found n t → length t < length s
-number-shorter s n t e =
-    let f = number-found s n t e in
-    let p = printed n (f .small) in
-    let l : length s ≡ length (printNumber n) + length t = ap length (f .is-print) ∙ length-append (printNumber n) t in
-    omega arith
+pub number-found-of : (k : ℕ) (s : List ℕ) (n : ℕ) (t : List ℕ) → readNumberOf k s ≡ found n t → NumberThen k s n t
+number-found-of k s n t e =
+    let f = front k s n t e in
+    let p = digits-print k (numerals s) (f .short) (numerals-all s) (f .no-zero) in
+    record {
+      small = rw (f .value) at (p .small);
+      is-print = numerals-split s ∙ ap₂ (λ (a b : List ℕ). a ++ b) (sym (p .is-print) ∙ ap (printNumberOf k) (f .value)) (f .onward);
+      stopped = rw (f .onward) at (after-stops s);
+    }
 
-pub print-unbroken : (n : ℕ) → n < 1000 → unbroken (printNumber n) ≡ true
-print-unbroken n h = numerals-unbroken (printNumber n) (printed n h .all)
+pub number-shorter : (k : ℕ) (s : List ℕ) (n : ℕ) (t : List ℕ) → readNumberOf k s ≡ found n t → length t < length s
+number-shorter k s n t e =
+    let f = front k s n t e in
+    let l : length s ≡ length (numerals s) + length t =
+    ap length (numerals-split s) ∙ length-append (numerals s) (afterNumerals s) ∙ ap (λ (u : List ℕ). length (numerals s) + length u) (f .onward)
+    in
+    omega (arith, some-digit (numerals s) (f .no-zero))
+  where
+    some-digit : (ds : List ℕ) → noLeadingZero ds ≡ true → 0 < length ds
+    some-digit [] h = absurd (true-false (sym h))
+    some-digit (d ∷ ds) h = omega arith
 
-pub print-numerals : (n : ℕ) → n < 1000 → allNumerals (printNumber n) ≡ true
-print-numerals n h = printed n h .all
+-- ---- the numbers of a design sheet
+pub read-printed : (n : ℕ) (t : List ℕ) → n < 1000 → stops t ≡ true → readNumber (printNumber n ++ t) ≡ found n t
+unfolding readNumber printNumber
+read-printed n t h k = read-printed-of maxDigits n t (omega arith) h k
+
+pub number-found : (s : List ℕ) (n : ℕ) (t : List ℕ) → readNumber s ≡ found n t → NumberThen maxDigits s n t
+unfolding readNumber
+number-found = number-found-of maxDigits

@@ -8,7 +8,7 @@ use native.Mathlib.Omega.{arith}
 use lib.Dec.{leb}
 use borrow.Author.Tests.{ne-eqb, leb-true, le-leb, not-true}
 use Rattle.bits.specs.Logic.{pick}
-use Rattle.bits.specs.LogicLaws.{and-left, and-right}
+use Rattle.bits.specs.LogicLaws.{and-left, and-right, and-both}
 use Rattle.text.specs.Bytes.{newline}
 use Rattle.text.specs.Unbroken.{unbroken}
 use Rattle.text.specs.LineLaws.{unbroken-cons}
@@ -67,6 +67,14 @@ after-of [] [] h k = refl
 after-of [] (b ∷ t) h k = rw (not-true (numeral b) k) refl
 after-of (d ∷ ds) t h k =
     rw (and-left (numeral d) (allNumerals ds) h) (after-of ds t (and-right (numeral d) (allNumerals ds) h) k)
+
+pub numerals-last : (ds : List ℕ) (d : ℕ) → allNumerals ds ≡ true → numeral d ≡ true → allNumerals (ds ++ (d ∷ [])) ≡ true
+unfolding allNumerals
+numerals-last [] d h e = rw e refl
+numerals-last (b ∷ ds) d h e =
+    and-both (numeral b) (allNumerals (ds ++ (d ∷ [])))
+    (and-left (numeral b) (allNumerals ds) h)
+    (numerals-last ds d (and-right (numeral b) (allNumerals ds) h) e)
 
 -- ---- no digit is a 0x0A
 pub numerals-unbroken : (ds : List ℕ) → allNumerals ds ≡ true → unbroken ds ≡ true

@@ -10,9 +10,11 @@ use Rattle.bits.specs.LogicLaws.{and-left, and-right, and-both}
 use Rattle.text.specs.Bytes.{space, newline}
 use Rattle.text.specs.Unbroken.{unbroken}
 use Rattle.text.specs.Solid.{solid}
-use Rattle.text.specs.Number.{printNumber}
+use Rattle.text.specs.Number.{numeral, printNumber}
+use Rattle.text.specs.Numerals.{allNumerals}
 use Rattle.text.specs.LineLaws.{unbroken-cons}
-use Rattle.text.specs.FigureLaws.{figure, by-figures}
+use Rattle.text.specs.NumeralLaws.{numeral-low}
+use Rattle.text.specs.FigureLaws.{print-numerals}
 
 pub solid-first : (b : ℕ) (s : List ℕ) → solid (b ∷ s) ≡ true → space < b
 unfolding solid
@@ -34,16 +36,12 @@ solid-unbroken (b ∷ s) h =
     unbroken-cons b s (ne-eqb b newline (λ e. omega arith)) (solid-unbroken s (solid-others b s h))
 
 -- ---- numbers
-figure-more : (n : ℕ) (s : List ℕ) → solid s ≡ true → solid (figure n ∷ s) ≡ true
-figure-more n s h = solid-more (figure n) s (omega arith) h
-
-no-byte : solid [] ≡ true
-unfolding solid
-no-byte = refl
+numerals-solid : (ds : List ℕ) → allNumerals ds ≡ true → solid ds ≡ true
+unfolding solid allNumerals
+numerals-solid [] h = refl
+numerals-solid (d ∷ ds) h =
+    let l = numeral-low d (and-left (numeral d) (allNumerals ds) h) in
+    solid-more d ds (omega arith) (numerals-solid ds (and-right (numeral d) (allNumerals ds) h))
 
 pub print-solid : (n : ℕ) → solid (printNumber n) ≡ true
-print-solid =
-    by-figures (λ (s : List ℕ). solid s ≡ true)
-    (λ a. figure-more a [] no-byte)
-    (λ a b. figure-more a (figure b ∷ []) (figure-more b [] no-byte))
-    (λ a b c. figure-more a (figure b ∷ figure c ∷ []) (figure-more b (figure c ∷ []) (figure-more c [] no-byte)))
+print-solid n = numerals-solid (printNumber n) (print-numerals n)

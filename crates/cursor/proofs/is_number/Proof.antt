@@ -8,21 +8,21 @@ sub-n : tie.Need-sub-n
 sub-n c = omega arith
 
 returns : tie.Need-returns
-returns c = no-digits _ _ _ (c .before .pre .0) (c .before .pre .1) (c .if1 .taken)
+returns c = no-digits _ _ _ _ (c .before .pre .0) (c .before .pre .1) (c .if1 .taken)
 
 returns-2 : tie.Need-returns-2
-returns-2 c = one-digit _ _ _ (c .before .before .pre .0) (c .before .before .pre .1) (c .if2 .taken)
+returns-2 c = many-digits _ _ _ _ (c .before .before .pre .0) (c .before .before .pre .1) (c .if2 .taken)
 
 returns-3 : tie.Need-returns-3
-returns-3 c = many-digits _ _ _ (c .before .before .before .pre .0) (c .before .before .before .pre .1) (c .if3 .taken)
+returns-3 c = one-digit _ _ _ _ (c .before .before .before .pre .0) (c .before .before .before .pre .1) (c .if3 .taken) (c .before .if2 .left)
 
 shared-slice-read-result : tie.Need-shared-slice-read-result
 shared-slice-read-result c = omega arith
 
 returns-4 : tie.Need-returns-4
 returns-4 c =
-    some-digits _ _ _ (c .before .before .before .before .pre .0) (c .before .before .before .before .pre .1)
-    (omega arith) (c .before .if3 .left)
+    some-digits _ _ _ _ (c .before .before .before .before .pre .0) (c .before .before .before .before .pre .1)
+    (omega arith) (c .before .before .if2 .left)
 
 pub is-number-spec : {M : Type 1} → statement M
 is-number-spec =

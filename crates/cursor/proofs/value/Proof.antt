@@ -1,6 +1,7 @@
--- `value`: the digits passed have the value n, and three digits stay small. Assumes nothing.
+-- `value`: the digits passed have the value n, and five digits stay small. Assumes nothing.
 use Prim.Native.Nat.{_-_}
 use native.Mathlib.Omega.{arith}
+use Rattle.limits.specs.Limits.{maxPlaDigits}
 use Rattle.cursor.specs.ReadNumberLaws.{Valued, valued-none, valued-small, valued-more, valued-all}
 use Rattle.cursor.proofs.value.Statement.{statement}
 use Rattle.cursor.proofs.value.Tie as tie
@@ -15,7 +16,7 @@ loop-holds : tie.Need-loop-holds Inv-loop μ-loop
 loop-holds c = valued-none _ _ _ (c .before .pre .0 .after-start)
 
 mul-n : tie.Need-mul-n Inv-loop μ-loop
-mul-n c = omega (arith, valued-small _ _ _ _ _ (c .before .loop .inv) (omega arith))
+mul-n c = omega (arith, valued-small maxPlaDigits _ _ _ _ _ (c .before .loop .inv) (omega arith))
 
 shared-slice-read-digit-value : tie.Need-shared-slice-read-digit-value Inv-loop μ-loop
 shared-slice-read-digit-value c = omega arith
@@ -26,7 +27,7 @@ digit-value-requires c κs =
     (c .before .before .loop .inv .after-start)
 
 add-n : tie.Need-add-n Inv-loop μ-loop
-add-n c = omega (arith, valued-small _ _ _ _ _ (c .before .before .before .loop .inv) (omega arith))
+add-n c = omega (arith, valued-small maxPlaDigits _ _ _ _ _ (c .before .before .before .loop .inv) (omega arith))
 
 add-i : tie.Need-add-i Inv-loop μ-loop
 add-i c = omega arith

@@ -38,7 +38,7 @@ number-requires c κs =
     let o = c .before .before .before .before .before .start in
     let h = moved-start l (bytes "(limit ") (t .result) (o .result) (o .ensures) (t .ensures) in
     let m = c .before .m .given in
-    moved-to l (t .result) (eat (bytes "(limit ") l) h (m .0 .0) (m .1) .inside
+    (moved-to l (t .result) (eat (bytes "(limit ") l) h (m .0 .0) (m .1) .inside, omega arith)
 
 enum-known-w : tie.Need-enum-known-w
 enum-known-w c = search needs

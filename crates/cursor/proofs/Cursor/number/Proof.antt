@@ -2,6 +2,7 @@
 use mathlib.Core.Path.{refl, sym, _∙_}
 use native.Mathlib.Omega.{arith}
 use borrow.Author.Needs.{needs}
+use Rattle.limits.specs.Limits.{maxPlaDigits}
 use Rattle.cursor.specs.ReadNumberLaws.{number-short, number-there, no-number}
 use Rattle.cursor.proofs.Cursor.number.Statement.{statement}
 use Rattle.cursor.proofs.Cursor.number.Tie as tie
@@ -14,15 +15,16 @@ is-number-requires c κs = search needs
 
 value-requires : tie.Need-value-requires
 value-requires c κs =
-    (c .before .before .numerals-end .ensures .numerals, number-short _ _ _ (omega arith) (omega arith) (sym (c .before .is-number .ensures) ∙ c .if1 .taken))
+    let test = sym (c .before .is-number .ensures) ∙ c .if1 .taken in
+    (c .before .before .numerals-end .ensures .numerals, number-short _ _ _ _ (omega arith) (omega arith) maxPlaDigits (omega arith) test)
 
 returns : tie.Need-returns
 returns c =
-    number-there _ _ _ _ _ (c .before .before .before .numerals-end .ensures)
+    number-there _ _ _ _ _ _ (c .before .before .before .numerals-end .ensures)
     (sym (c .before .before .is-number .ensures) ∙ c .before .if1 .taken) (c .value .ensures) refl
 
 returns-2 : tie.Need-returns-2
-returns-2 c = no-number _ _ _ (c .before .before .numerals-end .ensures) (sym (c .before .is-number .ensures) ∙ c .if1 .left)
+returns-2 c = no-number _ _ _ _ (c .before .before .numerals-end .ensures) (sym (c .before .is-number .ensures) ∙ c .if1 .left)
 
 pub number-spec : {M : Type 1} → statement M
 number-spec =
