@@ -16,12 +16,12 @@ OPERATIONS = {
     "cellmapper": ["cellmapper_table", "cellmapper_map", "cellmapper_check", "cellmapper_export"],
 }
 THEOREMS = [
-    ("mapper", "Demand1Laws", "sheet-demand-1"),
-    ("mapper", "Demand1Laws", "demand-1"),
-    ("mapper", "Demand2Laws", "sheet-demand-2"),
-    ("mapper", "Demand2Laws", "demand-2"),
-    ("mapper", "Demand3Laws", "sheet-demand-3"),
-    ("mapper", "Demand3Laws", "demand-3"),
+    ("demands", "Demand1Laws", "sheet-demand-1"),
+    ("demands", "Demand1Laws", "demand-1"),
+    ("demands", "Demand2Laws", "sheet-demand-2"),
+    ("demands", "Demand2Laws", "demand-2"),
+    ("demands", "Demand3Laws", "sheet-demand-3"),
+    ("demands", "Demand3Laws", "demand-3"),
     ("mapper", "FunctionLaws", "outcome-one"),
     ("mapper", "FunctionLaws", "examined-one"),
     ("blif", "SimulatedLaws", "simulated"),

@@ -17,13 +17,13 @@ use Rattle.network.specs.Network.{Network}
 use Rattle.network.specs.Reads.{Rising, rising-none, rising-more}
 use Rattle.network.specs.Wellformed.{nodeAt}
 use Rattle.network.specs.Answers.{Computes, readCount}
-use Rattle.mapper.specs.Each.{digits-are}
-use Rattle.mapper.specs.Computing.{computing}
-use Rattle.mapper.specs.NeededCells.{AtLeast, one-needed}
+use Rattle.demands.specs.Each.{digits-are}
+use Rattle.demands.specs.Computing.{computing}
+use Rattle.demands.specs.NeededCells.{AtLeast, one-needed}
 use Rattle.mapper.specs.Map.{Permitted}
-use Rattle.mapper.specs.Designs.{designF, designH, bits, node, network}
-use Rattle.mapper.specs.Worked.{sheetA, networkA, sheetF, networkF, sheetH, networkH, Prints}
-use Rattle.mapper.specs.WorkedLaws.{Fewest, fewest-of, count-of, reads-of, prints-only}
+use Rattle.demands.specs.Designs.{designF, designH, bits, node, network}
+use Rattle.demands.specs.Worked.{sheetA, networkA, sheetF, networkF, sheetH, networkH, Prints}
+use Rattle.demands.specs.WorkedLaws.{Fewest, fewest-of, count-of, reads-of, prints-only}
 
 -- ---- lists of one and two
 none-of : {A : Type 0} (l : List A) → length l ≡ 0 → l ≡ []

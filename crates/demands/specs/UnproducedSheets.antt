@@ -16,14 +16,14 @@ use Rattle.network.specs.Network.{Network}
 use Rattle.network.specs.Reads.{Rising, rising-none, rising-more}
 use Rattle.network.specs.Wellformed.{nodeAt}
 use Rattle.network.specs.Value.{lutAt, codeAt, nodeRow}
-use Rattle.mapper.specs.Computing.{computing}
-use Rattle.mapper.specs.NeededCells.{two-needed}
+use Rattle.demands.specs.Computing.{computing}
+use Rattle.demands.specs.NeededCells.{two-needed}
 use Rattle.mapper.specs.Map.{Permitted}
-use Rattle.mapper.specs.Designs.{designG, designForced, bits, node, network}
-use Rattle.mapper.specs.FirstTest.{Ask, asking, Tested, Plain, testing}
-use Rattle.mapper.specs.Worked.{sheetG, Prints}
-use Rattle.mapper.specs.WorkedUnproduced.{Unproduced, networkG, rivalG, sheetForced, networkForced, WorkedUnproduced}
-use Rattle.mapper.specs.WorkedLaws.{Fewest, fewest-of, prints-tested}
+use Rattle.demands.specs.Designs.{designG, designForced, bits, node, network}
+use Rattle.demands.specs.FirstTest.{Ask, asking, Tested, Plain, testing}
+use Rattle.demands.specs.Worked.{sheetG, Prints}
+use Rattle.demands.specs.WorkedUnproduced.{Unproduced, networkG, rivalG, sheetForced, networkForced, WorkedUnproduced}
+use Rattle.demands.specs.WorkedLaws.{Fewest, fewest-of, prints-tested}
 
 abbrev g-network : Network
 g-network = network (bits "0001" ∷ bits "0110" ∷ []) (node (0 ∷ 1 ∷ []) (bits "0000010100110000") ∷ [])

@@ -5,13 +5,13 @@ use native.Mathlib.Omega.{arith}
 use Rattle.sheet.specs.Examine.{Design, valid, examine, refused}
 use Rattle.classes.specs.Classes.{localCount, globalCount}
 use Rattle.classes.specs.Width.{width}
-use Rattle.mapper.specs.Computing.{computing}
-use Rattle.mapper.specs.OutcomeLaws.{valid-same}
-use Rattle.mapper.specs.Designs.{designD, designG}
-use Rattle.mapper.specs.Worked.{Worked, sheetD, sheetG, sheetK}
-use Rattle.mapper.specs.WorkedLaws.{refuses-sheet}
-use Rattle.mapper.specs.CountedSheets.{c-refused, c-printed, d-refused, d-printed, e-printed, g-refused}
-use Rattle.mapper.specs.ForcedSheets.{a-printed, f-printed, h-printed}
+use Rattle.demands.specs.Computing.{computing}
+use Rattle.demands.specs.OutcomeLaws.{valid-same}
+use Rattle.demands.specs.Designs.{designD, designG}
+use Rattle.demands.specs.Worked.{Worked, sheetD, sheetG, sheetK}
+use Rattle.demands.specs.WorkedLaws.{refuses-sheet}
+use Rattle.demands.specs.CountedSheets.{c-refused, c-printed, d-refused, d-printed, e-printed, g-refused}
+use Rattle.demands.specs.ForcedSheets.{a-printed, f-printed, h-printed}
 
 d-said : examine (sheetD "3") ≡ valid (designD 3)
 unfolding computing

@@ -4,12 +4,12 @@ use mathlib.Core.List.{List, [], _∷_}
 use Prim.Native.Nat.{ℕ}
 use lib.Dec.{lit≤}
 use Rattle.network.specs.Network.{Network}
-use Rattle.mapper.specs.Computing.{computing}
-use Rattle.mapper.specs.NeededCells.{AtLeast, two-needed, three-needed}
-use Rattle.mapper.specs.FirstTest.{Ask, asking, Tested, Plain, testing}
-use Rattle.mapper.specs.Designs.{designC, designD, designE, designG, bits, node, network}
-use Rattle.mapper.specs.Worked.{sheetC, networkC, sheetD, networkD, sheetE, networkE, sheetG, Refuses, Prints}
-use Rattle.mapper.specs.WorkedLaws.{refuses-8, Fewest, fewest-of, prints-tested}
+use Rattle.demands.specs.Computing.{computing}
+use Rattle.demands.specs.NeededCells.{AtLeast, two-needed, three-needed}
+use Rattle.demands.specs.FirstTest.{Ask, asking, Tested, Plain, testing}
+use Rattle.demands.specs.Designs.{designC, designD, designE, designG, bits, node, network}
+use Rattle.demands.specs.Worked.{sheetC, networkC, sheetD, networkD, sheetE, networkE, sheetG, Refuses, Prints}
+use Rattle.demands.specs.WorkedLaws.{refuses-8, Fewest, fewest-of, prints-tested}
 
 -- ---- C: f tells vertices with different a apart, g those with different b; so they need two cells together
 c-cells : (n : ℕ) → AtLeast 2 (designC n)

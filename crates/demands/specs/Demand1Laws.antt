@@ -27,13 +27,13 @@ use Rattle.network.specs.Check.{check, checkOf, examinePair, comparePair, besid
 use Rattle.network.specs.CheckLaws.{compared-not-refused}
 use Rattle.network.specs.Wellformed.{Wellformed}
 use Rattle.network.specs.Answers.{WithinLimits, Computes}
 use Rattle.mapper.specs.Map.{Permitted, MapAnswer, refused-by, OutcomeFor, OutcomeOf, Outcome}
 use Rattle.mapper.specs.Map.{too-many-classes, no-network, buffer-short, written}
-use Rattle.mapper.specs.LengthLaws.{permitted-length}
-use Rattle.mapper.specs.OutcomeLaws.{outcome-for, outcome-refused}
-use Rattle.mapper.specs.Demand1.{TableRefuses, MapRefuses, CheckRefuses, TableNumber, MapNumber, CheckNumber, Demand1, SheetDemand1}
-use Rattle.mapper.specs.Demand1 as why
-use Rattle.mapper.specs.Demand3Laws.{mapped-not-refused}
+use Rattle.demands.specs.LengthLaws.{permitted-length}
+use Rattle.demands.specs.OutcomeLaws.{outcome-for, outcome-refused}
+use Rattle.demands.specs.Demand1.{TableRefuses, MapRefuses, CheckRefuses, TableNumber, MapNumber, CheckNumber, Demand1, SheetDemand1}
+use Rattle.demands.specs.Demand1 as why
+use Rattle.demands.specs.Demand3Laws.{mapped-not-refused}
 
 -- ======== which answer was given
 table-same : {q l p m : ℕ} → tables.refused-by q l ≡ tables.refused-by p m → (q ≡ p) × (l ≡ m)

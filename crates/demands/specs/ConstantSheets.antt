@@ -15,16 +15,16 @@ use Rattle.network.specs.Network.{Network}
 use Rattle.network.specs.Examine as networks
 use Rattle.network.specs.Examine.{readNetwork}
 use Rattle.network.specs.Value.{lutAt}
-use Rattle.mapper.specs.Computing.{computing}
+use Rattle.demands.specs.Computing.{computing}
 use Rattle.mapper.specs.Map.{Permitted, First}
-use Rattle.mapper.specs.NeededCells.{two-needed}
-use Rattle.mapper.specs.FirstTest.{Plain, testing}
-use Rattle.mapper.specs.ConstantLaws.{first-constant}
-use Rattle.mapper.specs.Designs.{designG, bits, node, network}
-use Rattle.mapper.specs.Worked.{sheetG, Prints}
-use Rattle.mapper.specs.WorkedLaws.{Fewest, fewest-of, plain-permitted}
-use Rattle.mapper.specs.WorkedUnproduced.{networkG}
-use Rattle.mapper.specs.UnproducedSheets.{worked-unproduced}
+use Rattle.demands.specs.NeededCells.{two-needed}
+use Rattle.demands.specs.FirstTest.{Plain, testing}
+use Rattle.demands.specs.ConstantLaws.{first-constant}
+use Rattle.demands.specs.Designs.{designG, bits, node, network}
+use Rattle.demands.specs.Worked.{sheetG, Prints}
+use Rattle.demands.specs.WorkedLaws.{Fewest, fewest-of, plain-permitted}
+use Rattle.demands.specs.WorkedUnproduced.{networkG}
+use Rattle.demands.specs.UnproducedSheets.{worked-unproduced}
 
 -- ======== definitions
 -- a network whose tables are a and b, so that all four vertices have codes of their own

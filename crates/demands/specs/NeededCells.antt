@@ -12,7 +12,7 @@ use Rattle.cells.specs.Core.{Cell, Apart, reading}
 use Rattle.classes.specs.Columns.{conflict, vertexCount}
 use Rattle.classes.specs.Width.{budget}
 use Rattle.serving.specs.NetworkCore.{ServesDesign}
-use Rattle.mapper.specs.CellBounds.{one-cell, two-cells, three-cells}
+use Rattle.demands.specs.CellBounds.{one-cell, two-cells, three-cells}
 
 -- every core that serves the design d has u cells at least
 pub record AtLeast (u : ℕ) (d : Design) : Type 0 where

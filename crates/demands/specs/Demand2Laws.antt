@@ -20,10 +20,10 @@ use Rattle.network.specs.Printer.{printNetwork}
 use Rattle.network.specs.CheckLaws.{check-compares, same-check}
 use Rattle.network.specs.CompareLaws.{compared-same}
 use Rattle.putting.specs.StoredLaws.{stored-text, stored-at, stored-after}
 use Rattle.mapper.specs.Map.{MapAnswer, mapped, OutcomeFor, too-many-classes, no-network, buffer-short, written, OutcomeOf, Outcome}
-use Rattle.mapper.specs.OutcomeLaws.{outcome-for}
-use Rattle.mapper.specs.Demand2.{TableRight, RightNetwork, Demand2}
-use Rattle.mapper.specs.Demand3Laws.{mapped-not-refused, mapped-length, permitted-drawn}
+use Rattle.demands.specs.OutcomeLaws.{outcome-for}
+use Rattle.demands.specs.Demand2.{TableRight, RightNetwork, Demand2}
+use Rattle.demands.specs.Demand3Laws.{mapped-not-refused, mapped-length, permitted-drawn}
 
 -- ---- Table
 table-answered : {m n : ℕ} → tables.written m ≡ tables.written n → m ≡ n

@@ -24,10 +24,10 @@ use Rattle.network.specs.CompareLaws.{same-or-differs, compared-same}
 use Rattle.network.specs.CheckLaws.{check-compares}
 use Rattle.network.specs.PrintedLaws.{printed-drawn, printed-same, drawn-wellformed, drawn-within}
 use Rattle.putting.specs.StoredLaws.{stored-text}
 use Rattle.mapper.specs.Map.{Permitted, MapAnswer, refused-by, mapped, OutcomeFor, too-many-classes, no-network, buffer-short, written, OutcomeOf, Outcome}
-use Rattle.mapper.specs.OutcomeLaws.{outcome-for}
-use Rattle.mapper.specs.SizeLaws.{print-fits}
-use Rattle.mapper.specs.Demand3.{Differs, Cells, Demand3}
+use Rattle.demands.specs.OutcomeLaws.{outcome-for}
+use Rattle.demands.specs.SizeLaws.{print-fits}
+use Rattle.demands.specs.Demand3.{Differs, Cells, Demand3}
 
 -- ---- Check on a network that passes 10 and 11 says "same" or "differs"
 same-differs : (a : Checked) → a ≡ same → Differs a → ⊥

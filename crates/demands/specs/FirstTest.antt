@@ -19,8 +19,8 @@ use Rattle.network.specs.Value.{lutAt, codeAt}
 use Rattle.cells.specs.Core.{bit}
 use Rattle.cells.specs.Written.{readsOf}
 use Rattle.serving.specs.NetworkCore.{has, cellsOf, networkCore}
-use Rattle.mapper.specs.Each.{Each}
-use Rattle.mapper.specs.NeededCells.{conflicting}
+use Rattle.demands.specs.Each.{Each}
+use Rattle.demands.specs.NeededCells.{conflicting}
 
 -- ---- all lists
 -- whether p holds of every list of n digits

@@ -9,11 +9,11 @@ use Rattle.limits.specs.Limits.{maxClasses}
 use Rattle.text.specs.Bytes.{bytes}
 use Rattle.sheet.specs.Examine.{Design, valid, examine}
 use Rattle.classes.specs.Classes.{globalCount}
-use Rattle.mapper.specs.Computing.{computing}
+use Rattle.demands.specs.Computing.{computing}
 use Rattle.mapper.specs.Map.{MapAnswer, refused-by, OutcomeFor, too-many-classes, no-network, buffer-short, written}
-use Rattle.mapper.specs.OutcomeLaws.{outcome-for}
-use Rattle.mapper.specs.Designs.{designI}
-use Rattle.mapper.specs.Worked.{Refuses}
+use Rattle.demands.specs.OutcomeLaws.{outcome-for}
+use Rattle.demands.specs.Designs.{designI}
+use Rattle.demands.specs.Worked.{Refuses}
 
 -- by its limit
 abbrev sheetI : String → List ℕ

@@ -32,15 +32,15 @@ use Rattle.serving.specs.NetworkCore.{networkCore}
 use Rattle.serving.specs.Tells.{core-length}
 use Rattle.serving.specs.TheoremA.{drawn-serves}
 use Rattle.serving.specs.FullReads.{reads-width}
 use Rattle.mapper.specs.Map.{Permitted, First, MapAnswer, refused-by, mapped, OutcomeFor, too-many-classes, no-network, buffer-short, written}
-use Rattle.mapper.specs.LengthLaws.{same-length}
+use Rattle.demands.specs.LengthLaws.{same-length}
 use Rattle.mapper.specs.FunctionLaws.{first-one}
-use Rattle.mapper.specs.Each.{each-below}
-use Rattle.mapper.specs.NeededCells.{AtLeast}
-use Rattle.mapper.specs.FirstTest.{Ask, Tested, Plain}
-use Rattle.mapper.specs.FirstTestLaws.{first-tested, plain-unproduced}
-use Rattle.mapper.specs.OutcomeLaws.{outcome-for, outcome-refused}
-use Rattle.mapper.specs.Worked.{Refuses, Maps, Prints}
+use Rattle.demands.specs.Each.{each-below}
+use Rattle.demands.specs.NeededCells.{AtLeast}
+use Rattle.demands.specs.FirstTest.{Ask, Tested, Plain}
+use Rattle.demands.specs.FirstTestLaws.{first-tested, plain-unproduced}
+use Rattle.demands.specs.OutcomeLaws.{outcome-for, outcome-refused}
+use Rattle.demands.specs.Worked.{Refuses, Maps, Prints}
 
 least-network : (s : List ℕ) (d : Design) (u : ℕ) → examine s ≡ valid d → AtLeast u d → (v : Network) → Wellformed d v → WithinLimits d v → Computes d v → u ≤ length (v .luts)
 least-network s d u e least v f l c =

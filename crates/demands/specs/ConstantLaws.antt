@@ -34,10 +34,10 @@ use Rattle.serving.specs.Build.{built}
 use Rattle.serving.specs.TheoremA.{drawn-serves, built-luts}
 use Rattle.lineorder.specs.CoreDigits.{network-tables, built-tables, network-zero}
 use Rattle.lineorder.specs.PrintOrder.{nodesOrder, print-order}
 use Rattle.mapper.specs.Map.{Permitted, First}
 use Rattle.mapper.specs.BuiltLaws.{built-permitted}
-use Rattle.mapper.specs.CoreNumbers.{core-numbered}
-use Rattle.mapper.specs.SoonerTables.{seenAs, seen-self, seen-other, moved, Same, Sooner, same-or-sooner}
+use Rattle.demands.specs.CoreNumbers.{core-numbered}
+use Rattle.demands.specs.SoonerTables.{seenAs, seen-self, seen-other, moved, Same, Sooner, same-or-sooner}
 
 -- ---- tables 0 at vertex 0 stay so where another vertex changes
 moved-zero : (x y : ℕ) (l : List Cell) → (y ≡ 0 → ⊥) → ZeroFirst l → ZeroFirst (moved x y l)

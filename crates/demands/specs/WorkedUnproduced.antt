@@ -15,9 +15,9 @@ use Rattle.network.specs.Examine.{readNetwork}
 use Rattle.network.specs.Wellformed.{nodeAt}
 use Rattle.network.specs.Value.{codeAt}
 use Rattle.network.specs.Check.{check, same}
 use Rattle.mapper.specs.Map.{Permitted}
-use Rattle.mapper.specs.Designs.{designG, designForced, bits, node, network}
-use Rattle.mapper.specs.Worked.{sheetG, Prints}
+use Rattle.demands.specs.Designs.{designG, designForced, bits, node, network}
+use Rattle.demands.specs.Worked.{sheetG, Prints}
 
 -- no vertex produces the code in the tables that output o's node reads
 abbrev pub Unproduced : Design → Network → ℕ → ℕ → Type 0

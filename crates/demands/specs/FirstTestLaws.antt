@@ -36,13 +36,13 @@ use Rattle.lineorder.specs.NodeOrder.{readsOrder, headOrder, head-alike}
 use Rattle.lineorder.specs.ReadingSets.{chosen-order}
 use Rattle.lineorder.specs.CoreDigits.{network-tables, reads-length, network-reads}
 use Rattle.lineorder.specs.First.{first-from-reads}
 use Rattle.mapper.specs.Map.{Permitted, First}
 use Rattle.mapper.specs.PermittedLaws.{permitted-count, permitted-reads}
 use Rattle.mapper.specs.FirstLaws.{permitted-settled}
-use Rattle.mapper.specs.Each.{each-below}
-use Rattle.mapper.specs.NeededCells.{conflicting, conflicting-below, told}
-use Rattle.mapper.specs.FirstTest.{everyDigits, everyTables, Ask, askAt, allConflicting, Asks, ones, tellsPair, tellsAll, meets, someUnmet}
-use Rattle.mapper.specs.FirstTest.{tablesFirst, readsFirst, Tested, producedOrZero, Plain}
+use Rattle.demands.specs.Each.{each-below}
+use Rattle.demands.specs.NeededCells.{conflicting, conflicting-below, told}
+use Rattle.demands.specs.FirstTest.{everyDigits, everyTables, Ask, askAt, allConflicting, Asks, ones, tellsPair, tellsAll, meets, someUnmet}
+use Rattle.demands.specs.FirstTest.{tablesFirst, readsFirst, Tested, producedOrZero, Plain}
 
 -- ---- truth values
 or-right : (a b : Bool) → b ≡ true → orb a b ≡ true
