@@ -1,7 +1,7 @@
 use mathlib.Core.Path.{sym, ap, subst, _∙_}
-use Rattle.cellmapper.specs.Numbers.{CheckNumber}
-use Rattle.cellmapper.specs.NumberLaws.{check-number}
-use Rattle.cellmapper.specs.Report.{checkReport}
+use Rattle.reports.specs.Numbers.{CheckNumber}
+use Rattle.reports.specs.NumberLaws.{check-number}
+use Rattle.reports.specs.Report.{checkReport}
 use borrow.Author.Needs.{needs}
 use Rattle.cellmapper.proofs.cellmapper_check.Statement.{statement}
 use Rattle.cellmapper.proofs.cellmapper_check.Tie as tie

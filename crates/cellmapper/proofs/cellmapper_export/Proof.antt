@@ -2,9 +2,9 @@
 use mathlib.Core.Path.{sym, ap, subst, _∙_}
 use borrow.Author.Needs.{needs}
 use Rattle.blif.specs.Export.{Exported}
-use Rattle.cellmapper.specs.Numbers.{ExportNumber}
-use Rattle.cellmapper.specs.NumberLaws.{export-number}
-use Rattle.cellmapper.specs.Report.{exportReport}
+use Rattle.reports.specs.Numbers.{ExportNumber}
+use Rattle.reports.specs.NumberLaws.{export-number}
+use Rattle.reports.specs.Report.{exportReport}
 use Rattle.cellmapper.proofs.cellmapper_export.Statement.{statement}
 use Rattle.cellmapper.proofs.cellmapper_export.Tie as tie
 

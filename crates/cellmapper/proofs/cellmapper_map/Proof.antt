@@ -1,4 +1,4 @@
-use Rattle.cellmapper.specs.NumberLaws.{map-number}
+use Rattle.reports.specs.NumberLaws.{map-number}
 use borrow.Author.Needs.{needs}
 use Rattle.cellmapper.proofs.cellmapper_map.Statement.{statement}
 use Rattle.cellmapper.proofs.cellmapper_map.Tie as tie

@@ -1,8 +1,8 @@
 use mathlib.Core.Path.{sym, ap, subst, _∙_}
 use Rattle.design.specs.Tabulate.{Tabulated}
-use Rattle.cellmapper.specs.Numbers.{TableNumber}
-use Rattle.cellmapper.specs.NumberLaws.{table-number}
-use Rattle.cellmapper.specs.Report.{tableReport}
+use Rattle.reports.specs.Numbers.{TableNumber}
+use Rattle.reports.specs.NumberLaws.{table-number}
+use Rattle.reports.specs.Report.{tableReport}
 use borrow.Author.Needs.{needs}
 use Rattle.cellmapper.proofs.cellmapper_table.Statement.{statement}
 use Rattle.cellmapper.proofs.cellmapper_table.Tie as tie

@@ -23,7 +23,7 @@ use Rattle.network.specs.CompareLaws.{same-or-differs}
 use Rattle.blif.specs.Printer.{printBlif}
 use Rattle.blif.specs.Export as blif
 use Rattle.blif.specs.Export.{Exported, putText, exportPair, exportOf, export}
-use Rattle.cellmapper.specs.Numbers.{IsNumber, TableNumber, MapNumber, CheckNumber, ExportNumber}
+use Rattle.reports.specs.Numbers.{IsNumber, TableNumber, MapNumber, CheckNumber, ExportNumber}
 
 -- a design sheet is refused by 1 to 5
 sheet-number : (s : List ℕ) (q l : ℕ) → examine s ≡ refused q l → IsNumber q

@@ -1,8 +1,8 @@
 use mathlib.Core.Path.{refl}
 use native.Mathlib.Omega.{arith}
 use borrow.Author.Needs.{needs}
-use Rattle.cellmapper.proofs.report_map.Statement.{statement}
-use Rattle.cellmapper.proofs.report_map.Tie as tie
+use Rattle.reports.proofs.report_map.Statement.{statement}
+use Rattle.reports.proofs.report_map.Tie as tie
 
 enum-known-m : tie.Need-enum-known-m
 enum-known-m c = search needs

@@ -1,8 +1,8 @@
 use mathlib.Core.Path.{refl}
 use native.Mathlib.Omega.{arith}
 use borrow.Author.Needs.{needs}
-use Rattle.cellmapper.proofs.report_table.Statement.{statement}
-use Rattle.cellmapper.proofs.report_table.Tie as tie
+use Rattle.reports.proofs.report_table.Statement.{statement}
+use Rattle.reports.proofs.report_table.Tie as tie
 
 enum-known-t : tie.Need-enum-known-t
 enum-known-t c = search needs

@@ -11,10 +11,10 @@ use Rattle.network.specs.Check as check
 use Rattle.network.specs.Check.{Checked}
 use Rattle.blif.specs.Export as blif
 use Rattle.blif.specs.Export.{ExportAnswer}
-use Rattle.cellmapper.specs.declared.TableReport.{TableReport}
-use Rattle.cellmapper.specs.declared.MapReport.{MapReport}
-use Rattle.cellmapper.specs.declared.CheckReport.{CheckReport}
-use Rattle.cellmapper.specs.declared.ExportReport.{ExportReport}
+use Rattle.reports.specs.declared.TableReport.{TableReport}
+use Rattle.reports.specs.declared.MapReport.{MapReport}
+use Rattle.reports.specs.declared.CheckReport.{CheckReport}
+use Rattle.reports.specs.declared.ExportReport.{ExportReport}
 
 abbrev pub tableReport : TableAnswer → TableReport
 tableReport (table.refused-by q l) = record { number = q; line = l; written = 0 }

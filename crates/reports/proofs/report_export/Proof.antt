@@ -2,8 +2,8 @@
 use mathlib.Core.Path.{refl}
 use native.Mathlib.Omega.{arith}
 use borrow.Author.Needs.{needs}
-use Rattle.cellmapper.proofs.report_export.Statement.{statement}
-use Rattle.cellmapper.proofs.report_export.Tie as tie
+use Rattle.reports.proofs.report_export.Statement.{statement}
+use Rattle.reports.proofs.report_export.Tie as tie
 
 enum-known-e : tie.Need-enum-known-e
 enum-known-e c = search needs

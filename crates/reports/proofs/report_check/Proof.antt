@@ -1,8 +1,8 @@
 use mathlib.Core.Path.{refl}
 use native.Mathlib.Omega.{arith}
 use borrow.Author.Needs.{needs}
-use Rattle.cellmapper.proofs.report_check.Statement.{statement}
-use Rattle.cellmapper.proofs.report_check.Tie as tie
+use Rattle.reports.proofs.report_check.Statement.{statement}
+use Rattle.reports.proofs.report_check.Tie as tie
 
 enum-known-c : tie.Need-enum-known-c
 enum-known-c c = search needs
