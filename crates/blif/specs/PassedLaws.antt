@@ -26,7 +26,7 @@ use Rattle.network.specs.Numbers.{numbersOf}
 use Rattle.network.specs.LineAnswer.{Stands}
 use Rattle.network.specs.Wellformed.{nodeAt}
 use Rattle.network.specs.TableBoundLaws.{node-narrow}
-use Rattle.checker.specs.DrawingLaws.{digit-stands}
+use Rattle.comparing.specs.DrawingLaws.{digit-stands}
 use Rattle.listing.specs.Listed.{item}
 use Rattle.writing.specs.KnownLaws.{held-name}
 use Rattle.writing.specs.WrittenLaws.{bound-named}

@@ -11,7 +11,7 @@ use Rattle.network.specs.Network.{Network}
 use Rattle.network.specs.Numbers.{numbersOf}
 use Rattle.network.specs.Answers.{WithinLimits}
 use Rattle.classes.specs.declared.Shape.{Shape}
-use Rattle.checker.specs.Drawing.{Drawing, placesOf}
+use Rattle.comparing.specs.Drawing.{Drawing, placesOf}
 
 -- shared tables of b inputs each
 pub record LutsReady (t : List ℕ) (b luts : ℕ) (lutat : List ℕ) : Type 0 where

@@ -11,7 +11,7 @@ use Rattle.bits.specs.Logic.{pick}
 use Rattle.rows.specs.Row.{valuesOf}
 use Rattle.text.specs.Bytes.{bytes, newline}
 use Rattle.network.specs.Printer.{printDigits}
-use Rattle.checker.specs.Code.{isOne}
+use Rattle.comparing.specs.Code.{isOne}
 use Rattle.putting.specs.Written.{Written}
 use Rattle.putting.specs.PutLaws.{put-none, put-next, put-same}
 use Rattle.blif.specs.Printer.{rowLine}

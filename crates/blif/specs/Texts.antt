@@ -12,7 +12,7 @@ use Rattle.names.specs.Name.{Name}
 use Rattle.names.specs.Names.{printNames}
 use Rattle.names.specs.Pack.{nameOf}
 use Rattle.network.specs.Numbers.{numbersOf}
-use Rattle.checker.specs.Code.{oneAt}
+use Rattle.comparing.specs.Code.{oneAt}
 use Rattle.putting.specs.Upto.{textsUpto}
 use Rattle.blif.specs.Printer.{cellName, rowLine}
 

@@ -17,7 +17,7 @@ ghost use Rattle.design.specs.Answer.{ExaminedIs, Right, Examination};
 ghost use Rattle.network.specs.Network.{Network};
 ghost use Rattle.network.specs.Numbers.{numbersOf};
 ghost use Rattle.network.specs.Printer.{printDigits};
-ghost use Rattle.checker.specs.Code.{isOne};
+ghost use Rattle.comparing.specs.Code.{isOne};
 ghost use Rattle.putting.specs.Upto.{textsUpto};
 ghost use Rattle.putting.specs.Written.{reach, itemRoom, Written};
 ghost use Rattle.listing.specs.Listed.{oneDigit, shown};

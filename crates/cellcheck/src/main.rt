@@ -1,6 +1,6 @@
 // Reads a design sheet, a byte 0x00 and a network sheet from standard input, and prints `same`, `differs output O row R`, or
 // `refused N line L`. Everything that matters is in checker.
-use checker::Checked;
+use comparing::Checked;
 use libc::STDOUT_FILENO;
 
 fn answer(sheet: &[u8], network: &[u8]) {

@@ -7,7 +7,7 @@ use Prim.Native.Nat.{ℕ}
 use Rattle.sheet.specs.Examine.{Design}
 use Rattle.network.specs.Network.{Network}
 use Rattle.network.specs.Check.{Pair, refused-pair, pair}
-use Rattle.checker.specs.Drawing.{Drawing, placesOf}
+use Rattle.comparing.specs.Drawing.{Drawing, placesOf}
 use Rattle.checker.specs.declared.Beside as code
 
 pub record RefusedPair (q l : ℕ) (r : code.Beside) : Type 0 where

@@ -31,7 +31,7 @@ use Rattle.netsheet.specs.NamedLaws.{holds-ranged}
 use Rattle.netsheet.specs.declared.NetworkSheet.{NetworkSheet}
 use Rattle.checker.specs.Beside.{RefusedPair, BesideIs}
 use Rattle.checker.specs.Limits.{Small, LimitsAre, Judged}
-use Rattle.checker.specs.Drawing.{placesOf, Drawing, SomeDrawing}
+use Rattle.comparing.specs.Drawing.{placesOf, Drawing, SomeDrawing}
 use Rattle.checker.specs.declared.Beside.{Beside}
 
 pair-is : (t : List ℕ) (r : Beside) (p q : Pair) → p ≡ q → BesideIs t q r → BesideIs t p r

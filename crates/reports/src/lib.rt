@@ -4,12 +4,12 @@
 ghost use mathlib.Core.Path.{_≡_};
 ghost use Rattle.design.specs.Answer.{tableAnswer};
 ghost use Rattle.mapper.specs.Answer.{mapAnswer};
-ghost use Rattle.checker.specs.Answer.{checkedOf};
+ghost use Rattle.comparing.specs.Answer.{checkedOf};
 ghost use Rattle.blif.specs.Answer.{exportAnswer};
 ghost use Rattle.reports.specs.Report.{tableReport, mapReport, checkReport, exportReport};
 ghost use Rattle.reports.specs.Numbers.{TableNumber, MapNumber, CheckNumber, ExportNumber};
 use blif::Exported;
-use checker::Checked;
+use comparing::Checked;
 use design::Tabled;
 use mapper::Mapped;
 

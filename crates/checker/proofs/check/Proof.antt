@@ -1,6 +1,6 @@
 -- `check`: Check on what the design sheet's examination answers. Assumes nothing.
 use Rattle.sheet.specs.Examine as sheets
-use Rattle.checker.specs.Answer.{checkedOf}
+use Rattle.comparing.specs.Answer.{checkedOf}
 use Rattle.checker.specs.CheckLaws.{sheet-right, answer-of-sheet}
 use borrow.Author.Needs.{needs}
 use Rattle.checker.proofs.check.Statement.{statement}

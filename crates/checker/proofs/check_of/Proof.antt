@@ -1,6 +1,6 @@
 -- `check_of`: a refusal, or the comparison of the pair that passed. Assumes nothing.
 use borrow.Author.Tests.{not-true, not-false}
-use Rattle.checker.specs.Answer.{checkedOf}
+use Rattle.comparing.specs.Answer.{checkedOf}
 use Rattle.checker.specs.CheckLaws.{answer-refused, some-drawing, answer-compared}
 use Rattle.checker.proofs.check_of.Statement.{statement}
 use Rattle.checker.proofs.check_of.Tie as tie

@@ -5,7 +5,7 @@ use Prim.Native.Nat.{ℕ, _≤_, _-_}
 use native.Mathlib.Omega.{arith}
 use lib.ListN.{length}
 use Rattle.network.specs.Numbers.{numbersOf}
-use Rattle.checker.specs.CodeLaws.{count-none, count-with, count-without, count-most}
+use Rattle.comparing.specs.CodeLaws.{count-none, count-with, count-without, count-most}
 use borrow.Author.Needs.{needs}
 use Rattle.checker.proofs.count.Statement.{statement}
 use Rattle.checker.proofs.count.Tie as tie

@@ -3,10 +3,10 @@ use mathlib.Core.Path.{_≡_, refl, ap, _∙_}
 use mathlib.Core.Bool.{Bool, Bool·beq, true, false, not}
 use Rattle.bits.specs.Logic.{xorb}
 use Rattle.rows.specs.Words.{rowOn}
-use Rattle.checker.specs.Code.{oneAt}
+use Rattle.comparing.specs.Code.{oneAt}
 use borrow.Author.Needs.{needs}
-use Rattle.checker.proofs.differs.Statement.{statement}
-use Rattle.checker.proofs.differs.Tie as tie
+use Rattle.comparing.proofs.differs.Statement.{statement}
+use Rattle.comparing.proofs.differs.Tie as tie
 
 unequal : (a b : Bool) → not (Bool·beq a b) ≡ xorb a b
 unequal true true = refl

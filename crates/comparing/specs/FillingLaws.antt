@@ -10,8 +10,8 @@ use lib.ListN.{length, getD, set, length-set}
 use lib.Seq.{getD-set-same, getD-set-other}
 use Rattle.limits.specs.Limits.{maxRows}
 use Rattle.classes.specs.declared.Shape.{Shape}
-use Rattle.checker.specs.Code.{isOne, oneAt, codeAt}
-use Rattle.checker.specs.Filling.{Room, Put, rowAt, Ready, Filled}
+use Rattle.comparing.specs.Code.{isOne, oneAt, codeAt}
+use Rattle.comparing.specs.Filling.{Room, Put, rowAt, Ready, Filled}
 
 -- ---- one digit
 module _ (f : ℕ → Bool) (l : List ℕ) (p v : ℕ) (inside : p < length l) (e : isOne v ≡ f p) where

@@ -27,10 +27,10 @@ use Rattle.network.specs.Value.{lutAt}
 use Rattle.serving.specs.Tells.{node-at}
 use Rattle.serving.specs.Compose.{row-append}
 use Rattle.serving.specs.TheoremA.{parts-of}
-use Rattle.checker.specs.Code.{isOne, oneAt, codeAt}
-use Rattle.checker.specs.CodeLaws.{map-numbers}
-use Rattle.checker.specs.Filling.{rowAt, placeAt, Ready, Filled}
-use Rattle.checker.specs.Drawing.{Places, Drawing}
+use Rattle.comparing.specs.Code.{isOne, oneAt, codeAt}
+use Rattle.comparing.specs.CodeLaws.{map-numbers}
+use Rattle.comparing.specs.Filling.{rowAt, placeAt, Ready, Filled}
+use Rattle.comparing.specs.Drawing.{Places, Drawing}
 
 -- ---- digits that stand in a text
 printed-back : (ds : List Bool) → map isOne (map digit ds) ≡ ds

@@ -1,11 +1,11 @@
 -- `in_rows`: each turn sets the digits of one vertex. Assumes nothing.
 use Prim.Native.Nat.{_≤_, _-_}
 use native.Mathlib.Omega.{arith}
-use Rattle.checker.specs.Filling.{Filled}
-use Rattle.checker.specs.FillingLaws.{filled-none, filled-more, filled-all, code-ready, vertex-room}
+use Rattle.comparing.specs.Filling.{Filled}
+use Rattle.comparing.specs.FillingLaws.{filled-none, filled-more, filled-all, code-ready, vertex-room}
 use borrow.Author.Needs.{needs}
-use Rattle.checker.proofs.in_rows.Statement.{statement}
-use Rattle.checker.proofs.in_rows.Tie as tie
+use Rattle.comparing.proofs.in_rows.Statement.{statement}
+use Rattle.comparing.proofs.in_rows.Tie as tie
 
 abbrev Inv-loop : tie.InvT-loop
 Inv-loop t lutat mask luts at shape vertices frees digits₀ x₀ digits x =

@@ -2,8 +2,8 @@
 use mathlib.Core.Path.{sym, ap}
 use borrow.Author.Tests.{eq-eqb, ne-eqb}
 use Rattle.rows.specs.Row.{bit}
-use Rattle.checker.proofs.one.Statement.{statement}
-use Rattle.checker.proofs.one.Tie as tie
+use Rattle.comparing.proofs.one.Statement.{statement}
+use Rattle.comparing.proofs.one.Tie as tie
 
 returns : tie.Need-returns
 returns c = sym (ap bit (eq-eqb (c .before .args .b) 0x31 (c .if1 .taken)))

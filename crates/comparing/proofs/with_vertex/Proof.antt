@@ -2,11 +2,11 @@
 use Prim.Native.Nat.{_≤_, _-_}
 use native.Mathlib.Omega.{arith}
 use lib.ListN.{getD}
-use Rattle.checker.specs.Filling.{Room, Put}
-use Rattle.checker.specs.FillingLaws.{put-none, put-more, put-all}
+use Rattle.comparing.specs.Filling.{Room, Put}
+use Rattle.comparing.specs.FillingLaws.{put-none, put-more, put-all}
 use borrow.Author.Needs.{needs}
-use Rattle.checker.proofs.with_vertex.Statement.{statement}
-use Rattle.checker.proofs.with_vertex.Tie as tie
+use Rattle.comparing.proofs.with_vertex.Statement.{statement}
+use Rattle.comparing.proofs.with_vertex.Tie as tie
 
 abbrev Inv-loop : tie.InvT-loop
 Inv-loop t at v row free frees list₀ y₀ list y = (y ≤ frees) × Put t at row free y list₀ list

@@ -15,7 +15,7 @@ use Rattle.rows.specs.Row.{rowOf, bit}
 use Rattle.rows.specs.RowLaws.{row-lt}
 use Rattle.network.specs.Numbers.{numbersOf}
 use Rattle.serving.specs.Compose.{row-append}
-use Rattle.checker.specs.Code.{oneAt, codeAt}
+use Rattle.comparing.specs.Code.{oneAt, codeAt}
 
 -- ---- one number more
 pub numbers-with : (u m : ℕ) → on m u ≡ true → numbersOf (u + 1) m ≡ numbersOf u m ++ (u ∷ [])

@@ -6,11 +6,11 @@ use Prim.Native.Nat.{_-_, _≤_}
 use native.Mathlib.Omega.{arith}
 use Rattle.limits.specs.Limits.{maxRows}
 use Rattle.sheet.specs.Known.{tableAt}
-use Rattle.checker.specs.Drawing.{placesOf}
-use Rattle.checker.specs.CompareLaws.{Agreed, AgreedRows, Ended, rows-few, agreed-none, rows-none, rows-more, agreed-more, ended-agreed, ended-differs, answer-differs, answer-same, some-ready}
+use Rattle.comparing.specs.Drawing.{placesOf}
+use Rattle.comparing.specs.CompareLaws.{Agreed, AgreedRows, Ended, rows-few, agreed-none, rows-none, rows-more, agreed-more, ended-agreed, ended-differs, answer-differs, answer-same, some-ready}
 use borrow.Author.Needs.{needs}
-use Rattle.checker.proofs.compare.Statement.{statement}
-use Rattle.checker.proofs.compare.Tie as tie
+use Rattle.comparing.proofs.compare.Statement.{statement}
+use Rattle.comparing.proofs.compare.Tie as tie
 
 abbrev Inv-loop : tie.InvT-loop
 Inv-loop t shape k rows outputs luts lutat reads nodeat o r₀ words digits r =

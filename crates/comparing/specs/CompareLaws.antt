@@ -22,10 +22,10 @@ use Rattle.network.specs.Check.{same, differs}
 use Rattle.network.specs.Answers.{LowestDifference}
 use Rattle.network.specs.Check.{compared}
 use Rattle.network.specs.CompareLaws.{xor-none, xor-some, same-compared, differs-compared}
-use Rattle.checker.specs.Code.{oneAt}
-use Rattle.checker.specs.Filling.{Ready, Filled}
-use Rattle.checker.specs.Drawing.{Places, Drawing, SomeDrawing}
-use Rattle.checker.specs.DrawingLaws.{drawing-ready, filled-right}
+use Rattle.comparing.specs.Code.{oneAt}
+use Rattle.comparing.specs.Filling.{Ready, Filled}
+use Rattle.comparing.specs.Drawing.{Places, Drawing, SomeDrawing}
+use Rattle.comparing.specs.DrawingLaws.{drawing-ready, filled-right}
 
 -- ---- what the code knows
 -- the first o outputs agree on every row

@@ -1,6 +1,6 @@
 -- The answers of Check, by the definitions. Assumes nothing.
 use Rattle.network.specs.Check as spec
-use Rattle.checker.specs.declared.Checked.{Checked}
+use Rattle.comparing.specs.declared.Checked.{Checked}
 
 -- the definition's answer for each case of the code's
 abbrev pub checkedOf : Checked → spec.Checked

@@ -4,11 +4,11 @@ use mathlib.Core.Logic.{⊎-elim}
 use Prim.Native.Nat.{_+_, _≤_, _-_}
 use native.Mathlib.Omega.{arith}
 use lib.ListN.{getD}
-use Rattle.checker.specs.Code.{oneAt, codeAt}
-use Rattle.checker.specs.CodeLaws.{code-none, code-with, code-without, code-small, bit-most}
+use Rattle.comparing.specs.Code.{oneAt, codeAt}
+use Rattle.comparing.specs.CodeLaws.{code-none, code-with, code-without, code-small, bit-most}
 use borrow.Author.Needs.{needs}
-use Rattle.checker.proofs.code.Statement.{statement}
-use Rattle.checker.proofs.code.Tie as tie
+use Rattle.comparing.proofs.code.Statement.{statement}
+use Rattle.comparing.proofs.code.Tie as tie
 
 abbrev Inv-loop : tie.InvT-loop
 Inv-loop t mask luts lutat v c₀ i₀ c i = (i ≤ luts) × (c ≡ codeAt t lutat mask v i)

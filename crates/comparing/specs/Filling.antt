@@ -7,7 +7,7 @@ use Prim.Native.Nat.{ℕ, _+_, _*_, _≤_, _<_}
 use lib.ListN.{length, getD}
 use Rattle.limits.specs.Limits.{maxCells, maxVertices, maxFreeRows, maxRows}
 use Rattle.classes.specs.declared.Shape.{Shape}
-use Rattle.checker.specs.Code.{oneAt, codeAt}
+use Rattle.comparing.specs.Code.{oneAt, codeAt}
 
 -- the places that are read and the rows that are set for one vertex
 pub record Room (t : List ℕ) (at row : ℕ) (free : List ℕ) (frees : ℕ) : Type 0 where
