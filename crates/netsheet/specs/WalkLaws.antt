@@ -1,29 +1,26 @@
 -- A network sheet line after line: while every line is spelled right, the lines that are left are asked as the whole
 -- sheet is, beside every design whose names the code holds. Assumes nothing.
 use mathlib.Core.Path.{_≡_, refl, sym, ap, ap₂, subst, _∙_}
-use mathlib.Core.Bool.{Bool, true, false, not, _||_, _&&_}
-use mathlib.Core.List.{List, [], _∷_}
+use mathlib.Core.Bool.{Bool, true, false, _&&_}
+use mathlib.Core.List.{List}
 use Prim.Native.Nat.{ℕ, suc, _+_, _-_, _≤_, _<_}
 use native.Mathlib.Omega.{arith}
-use native.Mathlib.Decide.{decLt}
 use native.Mathlib.Numerals.{add-one}
-use lib.Dec.{eqb, leb}
-use lib.ListN.{length, getD, take, drop, length-drop, take-append-drop}
-use lib.Seq.{drop-cons, getD-drop, length-take-le}
-use borrow.Author.Tests.{eq-eqb, ne-eqb, le-leb, lt-leb}
+use lib.Dec.{leb}
+use lib.ListN.{length, take, drop, length-drop, take-append-drop}
+use lib.Seq.{length-take-le}
+use borrow.Author.Tests.{le-leb, lt-leb}
 use Rattle.bits.specs.Logic.{pick}
 use Rattle.bits.specs.LogicLaws.{true-false}
-use Rattle.text.specs.Bytes.{newline}
 use Rattle.limits.specs.Limits.{maxNetwork}
 use Rattle.text.specs.Line.{lines, endsLine}
 use Rattle.text.specs.LineEnd.{LineEnd}
-use Rattle.text.specs.Unbroken.{unbroken}
-use Rattle.text.specs.LineLaws.{lines-unbroken, none-unbroken}
-use Rattle.text.specs.LineCountLaws.{lines-past, lines-some}
+use Rattle.text.specs.LastLineLaws.{last-line, not-ended, line-here, is-ended, ended-inside}
+use Rattle.text.specs.LineCountLaws.{lines-past}
 use Rattle.sheet.specs.Examine.{Design}
 use Rattle.network.specs.Network.{Network}
 use Rattle.network.specs.Examine as spec
-use Rattle.network.specs.Examine.{Answer, bad-line, Step, misspelled, next, askLine, askLines, atEnd, follow, isLast, nothing, readNetwork}
+use Rattle.network.specs.Examine.{Answer, bad-line, Step, misspelled, next, askLine, askLines, atEnd, follow, nothing, readNetwork}
 use Rattle.netsheet.specs.Answer.{BadLine, NetworkIs}
 use Rattle.netsheet.specs.Named.{NamedIs}
 use Rattle.netsheet.specs.Reading.{placeOf, isOver, fresh, Safe, PartOf, Known, StepIs, Staged}
@@ -55,69 +52,15 @@ module _ (d : Design) (t : List ℕ) where
 pub refused-at : (d : Design) (t : List ℕ) (n : ℕ) (r : NetworkSheet) → readNetwork d t ≡ bad-line n → BadLine n r → NetworkIs d t (readNetwork d t) r
 refused-at d t n r e b = subst (λ (x : Answer). NetworkIs d t x r) (sym e) b
 
--- ---- the last byte
-ends-last : (s : List ℕ) → 1 ≤ length s → endsLine s ≡ eqb (getD s (length s - 1) 0) newline
-unfolding endsLine
-ends-last [] h = absurd (omega arith)
-ends-last (b ∷ []) h = refl
-ends-last (b ∷ c ∷ s) h =
-    let m : suc (suc (length s)) - 1 ≡ suc (length s) = omega arith in
-    let n : suc (length s) - 1 ≡ length s = omega arith in
-    ends-last (c ∷ s) (omega arith) ∙ rw (m, n) refl
-
--- ---- the lines from a place on
+-- ---- the line at a place
 module _ (t : List ℕ) (at e : ℕ) (h : at < length t) (x : LineEnd t at e) where
-  -- no 0x0A is left: one line is left, and 0x0A does not end it
-  last-line : e ≡ length t → lines (drop at t) ≡ drop at t ∷ []
-  last-line g =
-      let whole : unbroken (drop at t) ≡ true
-      = none-unbroken (drop at t)
-      (λ k l q.
+  part-here : PartOf t at (take (e - at) (drop at t))
+  part-here =
       let left = length-drop at t in
-      x .open-ended (at + k) (omega arith) (omega arith) (sym (getD-drop at t k 0) ∙ q)) in
-      let split = drop-cons t at 0 h in
-      ap lines split
-      ∙ lines-unbroken (getD t at 0) (drop (suc at) t) (ap unbroken (sym split) ∙ whole)
-      ∙ ap (λ (l : List ℕ). l ∷ []) (sym split)
-
-  not-ended : e ≡ length t → endsLine t ≡ false
-  not-ended g =
-      ends-last t (omega arith)
-      ∙ ne-eqb (getD t (length t - 1) 0) newline (x .open-ended (length t - 1) (omega arith) (omega arith))
-
-  -- a line that 0x0A ends
-  module _ (g : e ≡ length t → ⊥) where
-    inside : e < length t
-    inside = omega (arith, x .inside)
-
-    line-here : lines (drop at t) ≡ take (e - at) (drop at t) ∷ lines (drop (e + 1) t)
-    line-here = x .ended inside .1
-
-    is-ended : endsLine t || not (isLast (lines (drop (e + 1) t))) ≡ true
-    is-ended =
-        elim (decLt (e + 1) (length t)) as (λ _. endsLine t || not (isLast (lines (drop (e + 1) t))) ≡ true) [
-          | yes l ↦
-              let left = length-drop (e + 1) t in
-              more (endsLine t) (lines (drop (e + 1) t)) (lines-some (drop (e + 1) t) (omega arith))
-          | no k ↦
-              let i = inside in
-              let last : length t - 1 ≡ e = omega arith in
-              ap (λ (b : Bool). b || not (isLast (lines (drop (e + 1) t))))
-              (ends-last t (omega arith) ∙ ap (λ (j : ℕ). eqb (getD t j 0) newline) last ∙ eq-eqb (getD t e 0) newline (x .ended inside .0))
-        ]
-      where
-        more : (b : Bool) (ls : List (List ℕ)) → 0 < length ls → b || not (isLast ls) ≡ true
-        more true ls l = refl
-        more false [] l = absurd (omega arith)
-        more false (a ∷ ls) l = refl
-
-    part-here : PartOf t at (take (e - at) (drop at t))
-    part-here =
-        let left = length-drop at t in
-        let i = x .inside in
-        let size : length (take (e - at) (drop at t)) ≡ e - at = length-take-le (e - at) (drop at t) (omega arith) in
-        let j = x .after-start in
-        record { later = drop (e - at) (drop at t); inside = omega arith; is = sym (take-append-drop (e - at) (drop at t)) }
+      let i = x .inside in
+      let size : length (take (e - at) (drop at t)) ≡ e - at = length-take-le (e - at) (drop at t) (omega arith) in
+      let j = x .after-start in
+      record { later = drop (e - at) (drop at t); inside = omega arith; is = sym (take-append-drop (e - at) (drop at t)) }
 
 -- ---- the walk
 -- the lines from the place at on, the first of which has the number n, are asked as the whole sheet is
@@ -201,7 +144,7 @@ module _ {t : List ℕ} {k : Named} {s : Reading} {at n : ℕ} (v : Walk t k s a
 
       module _ (r : Reading) (q : Asked r) where
         comes-to : (d : Design) → NamedIs d k → (o : 1 ≤ length (d .outputs)) → (a : Along d t s at n) → StepIs d t (askLine d (placeOf (s .place)) (a .says) line) r
-        comes-to d m o a = q t d (a .says) (part-here t at e h x g) m (a .known) o
+        comes-to d m o a = q t d (a .says) (part-here t at e h x) m (a .known) o
 
         pub walk-bad : r .ok ≡ false → (b : NetworkSheet) → BadLine n b → (d : Design) → NamedIs d k → 1 ≤ length (d .outputs) → NetworkIs d t (readNetwork d t) b
         walk-bad f b c d m o =
@@ -217,7 +160,7 @@ module _ {t : List ℕ} {k : Named} {s : Reading} {at n : ℕ} (v : Walk t k s a
             let i = x .inside in
             let j = x .after-start in
             let l = v .few in
-            let c = inside t at e h x g in
+            let c = ended-inside t at e h x g in
             record {
               safe = y;
               inside = omega arith;

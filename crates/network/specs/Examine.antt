@@ -8,7 +8,7 @@ use lib.Dec.{leb, ltb}
 use lib.ListN.{length, getD}
 use Rattle.bits.specs.Logic.{pick}
 use Rattle.text.specs.Bytes.{same}
-use Rattle.text.specs.Line.{lines, endsLine}
+use Rattle.text.specs.Line.{lines, endsLine, isLast}
 use Rattle.limits.specs.Limits.{maxNetwork, maxCells, firstLut}
 use Rattle.sheet.specs.Lines.{endLine}
 use Rattle.sheet.specs.Examine.{Design, outputNames, within}
@@ -81,10 +81,6 @@ atEnd over w n = network w
 abbrev pub follow : Step → ℕ → (Place → Network → Answer) → Answer
 follow misspelled n onward = bad-line n
 follow (next p w) n onward = onward p w
-
-abbrev pub isLast : List (List ℕ) → Bool
-isLast [] = true
-isLast (l ∷ ls) = false
 
 -- the lines from number n on; `ended` says whether 0x0A ends the last one: "A last line without 0x0A is bad"
 unfoldable pub askLines : Design → Bool → Place → Network → ℕ → List (List ℕ) → Answer

@@ -9,12 +9,12 @@ use native.Mathlib.Omega.{arith}
 use lib.ListN.{length}
 use Rattle.bits.specs.Logic.{pick}
 use Rattle.limits.specs.Limits.{maxNetwork}
-use Rattle.text.specs.Line.{lines, endsLine}
+use Rattle.text.specs.Line.{lines, endsLine, isLast}
 use Rattle.sheet.specs.Examine.{Design, within}
 use Rattle.network.specs.Network.{Network}
 use Rattle.network.specs.Printer.{printNetwork}
 use Rattle.network.specs.Examine.{Place, at-network, at-luts, at-node, at-count, at-end, over, Step, misspelled, next}
-use Rattle.network.specs.Examine.{askLine, bad-line, network, atEnd, follow, isLast, askLines, nothing, readNetwork}
+use Rattle.network.specs.Examine.{askLine, bad-line, network, atEnd, follow, askLines, nothing, readNetwork}
 use Rattle.network.specs.Wellformed.{Wellformed, Named}
 use Rattle.network.specs.StepLaws.{bad-network}
 use Rattle.network.specs.SheetReadLaws.{said-of-print}

@@ -14,6 +14,7 @@ pub mod LineLaws
 pub mod EndedLaws
 pub mod LineEndLaws
 pub mod LineCountLaws
+pub mod LastLineLaws
 pub mod NumeralLaws
 pub mod FigureLaws
 pub mod SolidLaws

@@ -1,5 +1,5 @@
 -- "One form a line, each line ended by byte 0x0A". Assumes nothing.
-use mathlib.Core.Bool.{Bool, false}
+use mathlib.Core.Bool.{Bool, true, false}
 use mathlib.Core.List.{List, [], _∷_, _++_}
 use Prim.Native.Nat.{ℕ, _-_}
 use lib.Dec.{eqb}
@@ -29,6 +29,11 @@ unfoldable pub endsLine : List ℕ → Bool
 endsLine [] = false
 endsLine (b ∷ []) = eqb b newline
 endsLine (b ∷ c ∷ s) = endsLine (c ∷ s)
+
+-- whether no line follows
+abbrev pub isLast : List (List ℕ) → Bool
+isLast [] = true
+isLast (l ∷ ls) = false
 
 -- line l of some lines: "Lines count from 1"
 abbrev pub lineAt : List (List ℕ) → ℕ → List ℕ

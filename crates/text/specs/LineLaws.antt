@@ -1,17 +1,18 @@
--- The lines of a text, part by part: a text up to a 0x0A is the first line, and a text with no 0x0A is the only one.
--- Assumes nothing.
+-- The lines of a text, part by part: a text up to a 0x0A is the first line, and a text with no 0x0A is the only one. No line has
+-- a 0x0A in it. Assumes nothing.
 use mathlib.Core.Path.{_≡_, refl}
-use mathlib.Core.Bool.{true, false, not}
+use mathlib.Core.Bool.{Bool, true, false, not}
 use mathlib.Core.List.{List, [], _∷_, _++_}
 use Prim.Native.Nat.{ℕ, zero, suc, _<_}
 use native.Mathlib.Omega.{arith}
 use lib.Dec.{eqb}
 use lib.ListN.{length, getD}
 use borrow.Author.Tests.{ne-eqb, eqb-false, not-true}
+use Rattle.bits.specs.Logic.{pick}
 use Rattle.bits.specs.LogicLaws.{and-left, and-right}
 use Rattle.text.specs.Bytes.{newline}
-use Rattle.text.specs.Line.{lines}
-use Rattle.text.specs.Unbroken.{unbroken}
+use Rattle.text.specs.Line.{lines, onto}
+use Rattle.text.specs.Unbroken.{unbroken, allUnbroken}
 
 -- ---- texts with no 0x0A
 pub unbroken-head : (b : ℕ) (l : List ℕ) → unbroken (b ∷ l) ≡ true → eqb b newline ≡ false
@@ -30,6 +31,10 @@ pub unbroken-append : (l m : List ℕ) → unbroken l ≡ true → unbroken m �
 unbroken-append [] m u v = v
 unbroken-append (b ∷ l) m u v =
     unbroken-cons b (l ++ m) (unbroken-head b l u) (unbroken-append l m (unbroken-tail b l u) v)
+
+pub unbroken-back : (l m : List ℕ) → unbroken (l ++ m) ≡ true → unbroken m ≡ true
+unbroken-back [] m u = u
+unbroken-back (b ∷ l) m u = unbroken-back l m (unbroken-tail b (l ++ m) u)
 
 pub none-unbroken : (l : List ℕ) → ((k : ℕ) → k < length l → getD l k 0 ≡ newline → ⊥) → unbroken l ≡ true
 unfolding unbroken
@@ -56,3 +61,13 @@ pub lines-unbroken : (b : ℕ) (l : List ℕ) → unbroken (b ∷ l) ≡ true �
 unfolding lines
 lines-unbroken b [] u = rw (unbroken-head b [] u) refl
 lines-unbroken b (c ∷ l) u = rw (unbroken-head b (c ∷ l) u, lines-unbroken c l (unbroken-tail b (c ∷ l) u)) refl
+
+pub lines-all-unbroken : (s : List ℕ) → allUnbroken (lines s) ≡ true
+unfolding lines allUnbroken unbroken
+lines-all-unbroken [] = refl
+lines-all-unbroken (b ∷ s) = go (eqb b newline) refl (lines s) (lines-all-unbroken s)
+  where
+    go : (t : Bool) → eqb b newline ≡ t → (ls : List (List ℕ)) → allUnbroken ls ≡ true → allUnbroken (pick t ([] ∷ ls) (onto b ls)) ≡ true
+    go true q ls h = h
+    go false q [] h = rw q refl
+    go false q (l ∷ ls) h = rw q h
