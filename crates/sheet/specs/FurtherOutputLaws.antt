@@ -8,18 +8,15 @@ use native.Mathlib.Decide.{decLt}
 use lib.ListN.{length, length-append, List·getD-append}
 use lib.Seq.{getD-append-seam}
 use borrow.Author.Tests.{not-true}
-use Rattle.bits.specs.LogicLaws.{true-false, and-left, and-right}
+use Rattle.bits.specs.LogicLaws.{and-left, and-right}
 use Rattle.limits.specs.Limits.{maxOutputs}
 use Rattle.names.specs.Name.{Name, sameName, among, distinct}
 use Rattle.names.specs.LookupLaws.{neither-left, neither-right}
-use Rattle.names.specs.SameLaws.{same-name-equal, same-name-different}
+use Rattle.names.specs.SameLaws.{same-name-turned}
 use Rattle.formula.specs.Tree.{constant}
 use Rattle.sheet.specs.Lines.{Output}
 use Rattle.sheet.specs.Examine.{outputNames}
 use Rattle.sheet.specs.WellFormed.{RightOutput, RightOutputs, outputAt}
-
-same-name-turned : (m n : Name) → sameName m n ≡ false → sameName n m ≡ false
-same-name-turned m n e = same-name-different n m (λ h. true-false (sym (same-name-equal m n (sym h)) ∙ e))
 
 among-more : (n m : Name) (ns : List Name) → among n ns ≡ false → sameName m n ≡ false → among n (ns ++ (m ∷ [])) ≡ false
 unfolding among
