@@ -19,7 +19,7 @@ use Rattle.cursor.specs.Item.{Kept, NamesAre}
 use Rattle.cursor.specs.NextName.{NameNext, NamesEnd}
 
 -- the names ns put before those that were read
-abbrev before : List Name → Read (List Name) → Read (List Name)
+abbrev pub before : List Name → Read (List Name) → Read (List Name)
 before ns r = after r (λ ms t. found (ns ++ ms) t)
 
 pub record Gathered (s : List ℕ) (start at count : ℕ) (kept : List ℕ) : Type 0 where
@@ -31,7 +31,7 @@ pub record Gathered (s : List ℕ) (start at count : ℕ) (kept : List ℕ) : Ty
   pub held : Kept passed count kept
 
 -- ---- no name yet
-before-none : (r : Read (List Name)) → r ≡ before [] r
+pub before-none : (r : Read (List Name)) → r ≡ before [] r
 before-none (found ns t) = refl
 before-none bad = refl
 
@@ -47,12 +47,12 @@ gathered-none s at kept h e =
     }
 
 -- ---- one name more
-before-one : (ns : List Name) (n : Name) (r : Read (List Name))
+pub before-one : (ns : List Name) (n : Name) (r : Read (List Name))
     → before ns (after r (λ ms t. found (n ∷ ms) t)) ≡ before (ns ++ (n ∷ [])) r
 before-one ns n (found ms t) = ap (λ (l : List Name). found l t) (sym (append-assoc ns (n ∷ []) ms))
 before-one ns n bad = refl
 
-kept-more : (ns : List Name) (count v : ℕ) (kept : List ℕ)
+pub kept-more : (ns : List Name) (count v : ℕ) (kept : List ℕ)
     → Kept ns count kept → length kept ≡ maxInputs → Kept (ns ++ (nameOf v ∷ [])) (count + 1) (set kept count v)
 kept-more ns count v kept k e =
     let size : length (ns ++ (nameOf v ∷ [])) ≡ length ns + 1 = length-append ns (nameOf v ∷ []) in

@@ -173,7 +173,7 @@ enum NextName {
 }
 
 // Keeps v in the place that count says, where it is one of the ten.
-fn keep(names: &mut [u64; limits::MAX_INPUTS], count: usize, v: u64)
+pub fn keep(names: &mut [u64; limits::MAX_INPUTS], count: usize, v: u64)
     requires { ⌜ length (now names) ≡ maxInputs ⌝ }
     ensures { λ _. ⌜ now (names .exit) ≡ set (now (names .entry)) count v ⌝ }
 {

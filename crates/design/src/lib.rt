@@ -35,7 +35,7 @@ fn plain(b: u8) -> bool
 }
 
 // Question 1.
-fn sized(s: &[u8]) -> bool
+pub fn sized(s: &[u8]) -> bool
     ensures { λ r. ⌜ r ≡ spec.sized (now (s .entry)) ⌝ }
 {
     let n = s.len();
@@ -56,7 +56,7 @@ fn sized(s: &[u8]) -> bool
 }
 
 // A sheet of which nothing is known.
-fn blank() -> Sheet
+pub fn blank() -> Sheet
     ensures { λ r. ⌜ Holds spec.nothing r ⌝ }
 {
     Sheet {

@@ -15,9 +15,12 @@ use Rattle.cursor.specs.declared.Moved.{Moved}
 use Rattle.cursor.specs.declared.NameList.{NameList}
 use Rattle.sheet.specs.Known.{LineIs}
 
--- the names of a text after a word
+-- the names of a text after a word, where q reads them
+abbrev pub listAfter : (List ℕ → Read (List Name)) → Read (Unit {0}) → Option (List Name)
+listAfter q r = whole (after r (λ _ t. q t))
+
 abbrev pub namesAfter : Read (Unit {0}) → Option (List Name)
-namesAfter r = whole (after r (λ _ t. readNames t))
+namesAfter r = listAfter readNames r
 
 -- ---- by where the list ends
 module _ (s : List ℕ) (l : NameList) where
@@ -34,20 +37,20 @@ module _ (s : List ℕ) (l : NameList) where
 
 -- ---- by the word at the front
 module _ (w s : List ℕ) {m : Moved} (h : MovedIs s m (eat w s)) where
-  pub no-word : m ≡ Moved.Bad → (r : NameList) → r .ok ≡ false → LineIs (namesAfter (eat w s)) r
-  no-word e r n =
-      let none-found : bad ≡ eat w s = subst (λ (x : Moved). MovedIs s x (eat w s)) e h in
-      subst (λ (x : Read (Unit {0})). LineIs (namesAfter x) r) none-found n
+  pub word-found : {c : Cursor} → m ≡ Moved.To c → At s tt c (eat w s)
+  word-found e = subst (λ (x : Moved). MovedIs s x (eat w s)) e h
 
-  module _ {c : Cursor} (e : m ≡ Moved.To c) where
-    pub word-found : At s tt c (eat w s)
-    word-found = subst (λ (x : Moved). MovedIs s x (eat w s)) e h
+  module _ (q : List ℕ → Read (List Name)) where
+    pub no-word : m ≡ Moved.Bad → (r : NameList) → r .ok ≡ false → LineIs (listAfter q (eat w s)) r
+    no-word e r n =
+        let none-found : bad ≡ eat w s = subst (λ (x : Moved). MovedIs s x (eat w s)) e h in
+        subst (λ (x : Read (Unit {0})). LineIs (listAfter q x) r) none-found n
 
-    pub whole-line : (l : NameList) → NamesAre s l (readNames (drop (c .at) s)) → length s ≤ l .next .at → LineIs (namesAfter (eat w s)) l
-    whole-line l n g =
-        subst (λ (x : Read (Unit {0})). LineIs (namesAfter x) l) (word-found .is) (list-whole s l (readNames (drop (c .at) s)) n g)
+    module _ {c : Cursor} (e : m ≡ Moved.To c) where
+      pub whole-line : (l : NameList) → NamesAre s l (q (drop (c .at) s)) → length s ≤ l .next .at → LineIs (listAfter q (eat w s)) l
+      whole-line l n g = subst (λ (x : Read (Unit {0})). LineIs (listAfter q x) l) (word-found e .is) (list-whole s l (q (drop (c .at) s)) n g)
 
-    pub longer-line : (l : NameList) → NamesAre s l (readNames (drop (c .at) s)) → l .next .at < length s
-        → (r : NameList) → r .ok ≡ false → LineIs (namesAfter (eat w s)) r
-    longer-line l n d r f =
-        subst (λ (x : Read (Unit {0})). LineIs (namesAfter x) r) (word-found .is) (list-part s l (readNames (drop (c .at) s)) n d r f)
+      pub longer-line : (l : NameList) → NamesAre s l (q (drop (c .at) s)) → l .next .at < length s
+          → (r : NameList) → r .ok ≡ false → LineIs (listAfter q (eat w s)) r
+      longer-line l n d r f =
+          subst (λ (x : Read (Unit {0})). LineIs (listAfter q x) r) (word-found e .is) (list-part s l (q (drop (c .at) s)) n d r f)

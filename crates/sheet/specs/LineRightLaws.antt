@@ -41,10 +41,10 @@ pick-right true t u h k = h
 pick-right false t u h k = k
 
 -- ---- each line
-within-low : (a b n : ℕ) → within a b n ≡ true → a ≤ n
+pub within-low : (a b n : ℕ) → within a b n ≡ true → a ≤ n
 within-low a b n e = leb-true a n (and-left (leb a n) (leb n b) e)
 
-within-high : (a b n : ℕ) → within a b n ≡ true → n ≤ b
+pub within-high : (a b n : ℕ) → within a b n ≡ true → n ≤ b
 within-high a b n e = leb-true n b (and-right (leb a n) (leb n b) e)
 
 in-right : (d : Design) (l : List ℕ) (x : Option (List Name)) → readIn l ≡ x → d .outputs ≡ [] → StepRight (askIn d x)
@@ -86,7 +86,7 @@ bound-right d (some ns) r =
       no-outputs = r .no-outputs;
     })
 
-no-output-wrong : (ns : List Name) (os : List Output) → os ≡ [] → RightOutputs ns os
+pub no-output-wrong : (ns : List Name) (os : List Output) → os ≡ [] → RightOutputs ns os
 unfolding distinct
 no-output-wrong ns os e = rw e (record { few = omega arith; once = refl; each = λ o h. absurd (omega arith) })
 

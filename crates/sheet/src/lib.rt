@@ -2,7 +2,8 @@
 // of a line, and on formula for the formulas and their tables.
 ghost use mathlib.Core.Path.{_≡_};
 ghost use mathlib.Core.Bool.{Bool, true, false};
-ghost use mathlib.Core.List.{map};
+ghost use mathlib.Core.List.{List, map};
+ghost use mathlib.Core.Option.{Option};
 ghost use Prim.Native.Nat.{ℕ, _≤_, _<_};
 ghost use lib.ListN.{length, drop};
 ghost use Rattle.limits.specs.Limits.{maxInputs, maxBound, maxOutputs};
@@ -105,7 +106,7 @@ fn onward(p: Place, k: Sheet) -> Asked
     }
 }
 
-fn no_names() -> NameList
+pub fn no_names() -> NameList
     ensures { λ r. ⌜ r .ok ≡ false ⌝ }
 {
     NameList {
@@ -117,7 +118,7 @@ fn no_names() -> NameList
 }
 
 // The names of a line that begins with head and is nothing besides.
-fn names_line(l: &[u8], head: &[u8]) -> NameList
+pub fn names_line(l: &[u8], head: &[u8]) -> NameList
     ensures { λ r. ⌜ LineIs (whole (after (eat (now (head .entry)) (now (l .entry))) (λ _ s. readNames s))) r ⌝ }
 {
     let m = Cursor::start().text(l, head);
@@ -197,11 +198,10 @@ fn first_no(w: NameList, high: usize) -> usize
     0
 }
 
-// The `in` line.
-fn ask_in(k: Sheet, l: &[u8]) -> Asked
-    ensures { λ r. ⌜ ((d : Design) → Holds d k → Fresh d → StepIs (askIn d (readIn (now (l .entry)))) r) ⌝ }
+// The names of an `in` line.
+pub fn asked_in(k: Sheet, w: NameList) -> Asked
+    ensures { λ r. ⌜ ((d : Design) (x : Option (List names.Name)) → LineIs x w → Holds d k → Fresh d → StepIs (askIn d x) r) ⌝ }
 {
-    let w = names_line(l, b"(in");
     let q = first_no(w, limits::MAX_INPUTS);
     if q != 0 {
         return refuse(q, k);
@@ -212,6 +212,13 @@ fn ask_in(k: Sheet, l: &[u8]) -> Asked
     next.inputs = n;
     next.names = ns;
     onward(Place::Bound, next)
+}
+
+// The `in` line.
+fn ask_in(k: Sheet, l: &[u8]) -> Asked
+    ensures { λ r. ⌜ ((d : Design) → Holds d k → Fresh d → StepIs (askIn d (readIn (now (l .entry)))) r) ⌝ }
+{
+    asked_in(k, names_line(l, b"(in"))
 }
 
 // The `bound` line.
@@ -240,7 +247,7 @@ fn ask_bound(k: Sheet, l: &[u8]) -> Asked
 }
 
 // The number of a line `(limit N)`.
-fn limit_line(l: &[u8]) -> LimitLine
+pub fn limit_line(l: &[u8]) -> LimitLine
     ensures { λ r. ⌜ LimitIs (readLimit (now (l .entry))) r ⌝ }
 {
     let m = Cursor::start().text(l, b"(limit ");
@@ -342,7 +349,7 @@ fn out_formula(l: &[u8], inputs: &[u64], n: u64, c: Cursor) -> OutLine
 }
 
 // The sheet with one output more.
-fn with_output(k: Sheet, n: u64, rows: [u64; limits::TABLE_WORDS]) -> Sheet
+pub fn with_output(k: Sheet, n: u64, rows: [u64; limits::TABLE_WORDS]) -> Sheet
     requires { ⌜ k .outputs < maxOutputs ⌝ }
     ensures { λ r. ⌜ ((d : Design) (o : Output) → Holds d k → nameOf n ≡ o .name → Rowwise (λ (i : ℕ). value (onRow (d .inputs) i) (o .formula)) rows → Holds (withOutput d o) r) ⌝ }
 {
@@ -355,7 +362,7 @@ fn with_output(k: Sheet, n: u64, rows: [u64; limits::TABLE_WORDS]) -> Sheet
 }
 
 // Whether the output name n is new.
-fn is_new(k: Sheet, n: u64) -> bool
+pub fn is_new(k: Sheet, n: u64) -> bool
     requires { ⌜ (k .inputs ≤ maxInputs) × (k .outputs ≤ maxOutputs) ⌝ }
     ensures { λ r. ⌜ ((d : Design) → Holds d k → r ≡ newName d (nameOf n)) ⌝ }
 {
