@@ -7,7 +7,8 @@ use native.Mathlib.Omega.{arith}
 use Rattle.limits.specs.Limits.{maxRows}
 use Rattle.sheet.specs.Known.{tableAt}
 use Rattle.comparing.specs.Drawing.{placesOf}
-use Rattle.comparing.specs.CompareLaws.{Agreed, AgreedRows, Ended, rows-few, agreed-none, rows-none, rows-more, agreed-more, ended-agreed, ended-differs, answer-differs, answer-same, some-ready}
+use Rattle.comparing.specs.CompareLaws.{Agreed, AgreedRows, Ended, rows-few, agreed-none, rows-none, rows-more, agreed-more}
+use Rattle.comparing.specs.CompareLaws.{ended-agreed, ended-differs, answer-differs, answer-same, some-ready}
 use borrow.Author.Needs.{needs}
 use Rattle.comparing.proofs.compare.Statement.{statement}
 use Rattle.comparing.proofs.compare.Tie as tie
