@@ -2,6 +2,7 @@
 // a function has to say beside its result goes through references that the caller lends. Rests on design, mapper, checker and
 // blif, and adds nothing to what they answer; on reports for what a caller is told of an answer.
 ghost use mathlib.Core.Path.{_≡_};
+ghost use Rattle.sheet.specs.Examine as sheets;
 ghost use Rattle.design.specs.Tabulate.{tabulate};
 ghost use Rattle.network.specs.Check.{check};
 ghost use Rattle.blif.specs.Export as spec;
@@ -15,7 +16,8 @@ pub extern "C" fn cellmapper_table(
     line: &mut usize,
     written: &mut usize,
 ) -> u32
-    ensures { λ r. ⌜ record { number = r; line = now (line .exit); written = now (written .exit) } ≡ tableReport (tabulate (now (sheet .entry)) output (now (buffer .entry)) .answer) ⌝ }
+    ensures { λ r. ⌜ record { number = r; line = now (line .exit); written = now (written .exit) }
+        ≡ tableReport (tabulate (now (sheet .entry)) output (now (buffer .entry)) .answer) ⌝ }
     ensures { λ _. ⌜ now (buffer .exit) ≡ tabulate (now (sheet .entry)) output (now (buffer .entry)) .buffer ⌝ }
 {
     let t = design::table(sheet, output, buffer);
@@ -33,7 +35,8 @@ pub extern "C" fn cellmapper_map(
     cells: &mut usize,
     length: &mut usize,
 ) -> u32
-    ensures { λ r. ⌜ ReportedMap (now (sheet .entry)) (now (buffer .entry)) (record { number = r; line = now (line .exit); cells = now (cells .exit); length = now (length .exit) }) (now (buffer .exit)) ⌝ }
+    ensures { λ r. ⌜ ReportedMap (sheets.examine (now (sheet .entry))) (now (buffer .entry))
+        (record { number = r; line = now (line .exit); cells = now (cells .exit); length = now (length .exit) }) (now (buffer .exit)) ⌝ }
 {
     let m = mapper::map(sheet, buffer);
     let r = reports::report_map(m);
@@ -52,7 +55,8 @@ pub extern "C" fn cellmapper_check(
     output: &mut usize,
     row: &mut usize,
 ) -> u32
-    ensures { λ r. ⌜ record { number = r; line = now (line .exit); differs = now (differs .exit); output = now (output .exit); row = now (row .exit) } ≡ checkReport (check (now (sheet .entry)) (now (network .entry))) ⌝ }
+    ensures { λ r. ⌜ record { number = r; line = now (line .exit); differs = now (differs .exit); output = now (output .exit); row = now (row .exit) }
+        ≡ checkReport (check (now (sheet .entry)) (now (network .entry))) ⌝ }
 {
     let c = checker::check(sheet, network);
     let r = reports::report_check(c);

@@ -3,10 +3,11 @@
 use mathlib.Core.Path.{_≡_}
 use mathlib.Core.List.{List}
 use Prim.Native.Nat.{ℕ}
+use Rattle.sheet.specs.Examine.{Examined}
 use Rattle.design.specs.Tabulate as table
 use Rattle.design.specs.Tabulate.{TableAnswer}
 use Rattle.mapper.specs.Map as map
-use Rattle.mapper.specs.Map.{MapAnswer, Outcome}
+use Rattle.mapper.specs.Map.{MapAnswer, OutcomeOf}
 use Rattle.network.specs.Check as check
 use Rattle.network.specs.Check.{Checked}
 use Rattle.blif.specs.Export as blif
@@ -33,8 +34,8 @@ abbrev pub exportReport : ExportAnswer → ExportReport
 exportReport (blif.refused-by q l) = record { number = q; line = l; length = 0 }
 exportReport (blif.written n) = record { number = 0; line = 0; length = n }
 
--- one of Map's outcomes on the sheet s and the buffer b, which is b′ afterwards, and the report of its answer
-pub record ReportedMap (s b : List ℕ) (r : MapReport) (b′ : List ℕ) : Type 0 where
+-- one of Map's outcomes on what an examination answers and the buffer b, which is b′ afterwards, and the report of its answer
+pub record ReportedMap (x : Examined) (b : List ℕ) (r : MapReport) (b′ : List ℕ) : Type 0 where
   pub answer : MapAnswer
-  pub outcome : Outcome s b answer b′
+  pub outcome : OutcomeOf x b answer b′
   pub reported : r ≡ mapReport answer

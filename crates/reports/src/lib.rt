@@ -7,7 +7,7 @@ ghost use Rattle.mapper.specs.Answer.{mapAnswer};
 ghost use Rattle.comparing.specs.Answer.{checkedOf};
 ghost use Rattle.blif.specs.Answer.{exportAnswer};
 ghost use Rattle.reports.specs.Report.{tableReport, mapReport, checkReport, exportReport};
-ghost use Rattle.reports.specs.Numbers.{TableNumber, MapNumber, CheckNumber, ExportNumber};
+ghost use Rattle.reports.specs.Numbers.{panelNumbers, TableNumber, MapNumber, CheckNumber, ExportNumber};
 use blif::Exported;
 use comparing::Checked;
 use design::Tabled;
@@ -45,7 +45,7 @@ pub struct ExportReport {
 }
 
 pub fn report_table(t: Tabled) -> TableReport
-    requires { ⌜ TableNumber (tableAnswer t) ⌝ }
+    requires { ⌜ TableNumber panelNumbers (tableAnswer t) ⌝ }
     ensures { λ r. ⌜ r ≡ tableReport (tableAnswer t) ⌝ }
 {
     match t {
@@ -63,7 +63,7 @@ pub fn report_table(t: Tabled) -> TableReport
 }
 
 pub fn report_map(m: Mapped) -> MapReport
-    requires { ⌜ MapNumber (mapAnswer m) ⌝ }
+    requires { ⌜ MapNumber panelNumbers (mapAnswer m) ⌝ }
     ensures { λ r. ⌜ r ≡ mapReport (mapAnswer m) ⌝ }
 {
     match m {
@@ -83,7 +83,7 @@ pub fn report_map(m: Mapped) -> MapReport
 }
 
 pub fn report_check(c: Checked) -> CheckReport
-    requires { ⌜ CheckNumber (checkedOf c) ⌝ }
+    requires { ⌜ CheckNumber panelNumbers (checkedOf c) ⌝ }
     ensures { λ r. ⌜ r ≡ checkReport (checkedOf c) ⌝ }
 {
     match c {
@@ -112,7 +112,7 @@ pub fn report_check(c: Checked) -> CheckReport
 }
 
 pub fn report_export(e: Exported) -> ExportReport
-    requires { ⌜ ExportNumber (exportAnswer e) ⌝ }
+    requires { ⌜ ExportNumber panelNumbers (exportAnswer e) ⌝ }
     ensures { λ r. ⌜ r ≡ exportReport (exportAnswer e) ⌝ }
 {
     match e {

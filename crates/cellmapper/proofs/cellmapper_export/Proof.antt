@@ -1,8 +1,9 @@
 -- `cellmapper_export`: what Export answers, reported. Assumes nothing.
 use mathlib.Core.Path.{sym, ap, subst, _∙_}
+use native.Mathlib.Omega.{arith}
 use borrow.Author.Needs.{needs}
 use Rattle.blif.specs.Export.{Exported}
-use Rattle.reports.specs.Numbers.{ExportNumber}
+use Rattle.reports.specs.Numbers.{panelNumbers, ExportNumber}
 use Rattle.reports.specs.NumberLaws.{export-number}
 use Rattle.reports.specs.Report.{exportReport}
 use Rattle.cellmapper.proofs.cellmapper_export.Statement.{statement}
@@ -15,7 +16,7 @@ report-export-requires : tie.Need-report-export-requires
 report-export-requires c κs =
     let exported = c .before .before .export .ensures in
     let args = c .before .before .before .before .before .before .before .args in
-    subst ExportNumber (sym (ap (λ (e : Exported). e .answer) exported)) (export-number (args .sheet .now) (args .network .now) (args .buffer .now))
+    subst (ExportNumber panelNumbers) (sym (ap (λ (e : Exported). e .answer) exported)) (export-number (omega arith) (args .sheet .now) (args .network .now) (args .buffer .now))
 
 same-length : tie.Need-same-length
 same-length c = search needs

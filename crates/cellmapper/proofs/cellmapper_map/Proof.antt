@@ -1,4 +1,7 @@
+-- `cellmapper_map`: what Map answers, reported. Assumes nothing.
+use Rattle.reports.specs.Numbers.{panelNumbers}
 use Rattle.reports.specs.NumberLaws.{map-number}
+use native.Mathlib.Omega.{arith}
 use borrow.Author.Needs.{needs}
 use Rattle.cellmapper.proofs.cellmapper_map.Statement.{statement}
 use Rattle.cellmapper.proofs.cellmapper_map.Tie as tie
@@ -9,7 +12,7 @@ map-requires c κs = search needs
 report-map-requires : tie.Need-report-map-requires
 report-map-requires c κs =
     let a = c .before .before .before .before .before .before .args in
-    map-number (a .sheet .now) (a .buffer .now) _ _ (c .before .before .map .ensures)
+    map-number {most = panelNumbers} (omega arith) (a .sheet .now) (a .buffer .now) _ _ (c .before .before .map .ensures)
 
 same-length : tie.Need-same-length
 same-length c = search needs

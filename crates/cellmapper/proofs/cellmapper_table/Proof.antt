@@ -1,8 +1,10 @@
+-- `cellmapper_table`: what Table answers, reported. Assumes nothing.
 use mathlib.Core.Path.{sym, ap, subst, _∙_}
 use Rattle.design.specs.Tabulate.{Tabulated}
-use Rattle.reports.specs.Numbers.{TableNumber}
+use Rattle.reports.specs.Numbers.{panelNumbers, TableNumber}
 use Rattle.reports.specs.NumberLaws.{table-number}
 use Rattle.reports.specs.Report.{tableReport}
+use native.Mathlib.Omega.{arith}
 use borrow.Author.Needs.{needs}
 use Rattle.cellmapper.proofs.cellmapper_table.Statement.{statement}
 use Rattle.cellmapper.proofs.cellmapper_table.Tie as tie
@@ -13,7 +15,7 @@ table-requires c κs = search needs
 report-table-requires : tie.Need-report-table-requires
 report-table-requires c κs =
     let a = c .before .before .before .before .before .before .args in
-    subst TableNumber (sym (ap (λ (t : Tabulated). t .answer) (c .before .before .table .ensures))) (table-number (a .sheet .now) (a .output) (a .buffer .now))
+    subst (TableNumber panelNumbers) (sym (ap (λ (t : Tabulated). t .answer) (c .before .before .table .ensures))) (table-number (omega arith) (a .sheet .now) (a .output) (a .buffer .now))
 
 same-length : tie.Need-same-length
 same-length c = search needs
