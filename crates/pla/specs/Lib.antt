@@ -1,0 +1,8 @@
+-- The demands on a PLA panel, and that it gets the answers of a sheet with the same tables.
+pub mod Demand1
+pub mod DemandLaws
+pub mod SameTables
+pub mod SameTablesLaws
+pub mod SameAnswersLaws
+pub mod Worked
+pub mod WorkedPanel

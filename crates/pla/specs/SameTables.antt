@@ -1,0 +1,26 @@
+-- Two designs with the same tables, whatever their formulas: "From there Table, Map and Check treat it as a sheet with the same
+-- tables". Assumes nothing.
+use mathlib.Core.Path.{_≡_}
+use mathlib.Core.List.{List}
+use Prim.Native.Nat.{ℕ, _^_, _<_}
+use lib.ListN.{length}
+use Rattle.sheet.specs.Examine.{Design, Examined, outputNames}
+use Rattle.sheet.specs.Value.{outputOn}
+use Rattle.design.specs.Tabulate.{tableOf}
+use Rattle.network.specs.Check.{checkOf}
+use Rattle.mapper.specs.Map.{MapAnswer, OutcomeOf}
+
+-- they have the same names and the same limit, and the same value of each output on each row
+pub record SameTables (d e : Design) : Type 0 where
+  pub same-inputs : d .inputs ≡ e .inputs
+  pub same-bound : d .bound ≡ e .bound
+  pub same-limit : d .limit ≡ e .limit
+  pub same-outputs : outputNames (d .outputs) ≡ outputNames (e .outputs)
+  pub same-values : (o r : ℕ) → o < length (d .outputs) → r < 2 ^ length (d .inputs) → outputOn d o r ≡ outputOn e o r
+
+-- Table, Map and Check answer the same on what two examinations answer
+pub record SameAnswers (x y : Examined) : Type 0 where
+  pub table-same : (o : ℕ) (b : List ℕ) → tableOf x o b ≡ tableOf y o b
+  pub map-there : (b : List ℕ) (a : MapAnswer) (b' : List ℕ) → OutcomeOf x b a b' → OutcomeOf y b a b'
+  pub map-back : (b : List ℕ) (a : MapAnswer) (b' : List ℕ) → OutcomeOf y b a b' → OutcomeOf x b a b'
+  pub check-same : (t : List ℕ) → checkOf x t ≡ checkOf y t
