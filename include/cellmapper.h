@@ -1,11 +1,12 @@
-/* The Cell Mapper for a program in C: Table, Map, Check and Export on design sheets and network sheets.
+/* The Cell Mapper for a program in C: Table, Map, Check and Export on design sheets and network sheets, and Table, Map and Check
+ * on panels that arrive as PLA.
  *
  * Link target/staticlib/libcellmapper.a, which `rt staticlib cellmapper` proves and builds for x86-64 Linux. The archive
  * needs nothing but memcpy and memset, keeps no state, allocates nothing, and may be called from several threads at once.
  *
- * What holds of all four functions, proved for all bytes, lengths and output numbers (crates/cellmapper/src/lib.rt):
+ * What holds of all seven functions, proved for all bytes, lengths and output numbers (crates/cellmapper/src/lib.rt):
  * - They end, and read and write nothing outside of what they are lent.
- * - The result is 0, or the number of the question that was answered "no", 1 to 11 (README.md, "Refusals"). On a refusal
+ * - The result is 0, or the number of the question that was answered "no", 1 to 14 (README.md, "Refusals"). On a refusal
  *   *line is the line at fault, counted from 1, or 0 where the question concerns no line, and the buffer is untouched.
  * - Every out-parameter is set on every call; one that does not apply is set to 0.
  * - Bytes of a buffer past what was written are unchanged.
@@ -15,7 +16,7 @@
  * - Out-parameters are not null, are aligned, and are objects of their own: none overlaps another, a text or a buffer. The
  *   buffer overlaps no text.
  *
- * A call needs stack, which the proof takes for granted: at most 223,000 bytes, measured on the most deeply nested texts and
+ * A call needs stack, which the proof takes for granted: at most 178,000 bytes, measured on the most deeply nested texts and
  * on valid sheets (tests/stack/run, which fails above 256 KiB).
  */
 #ifndef CELLMAPPER_H
@@ -28,10 +29,11 @@
 extern "C" {
 #endif
 
-/* The most bytes of a design sheet and of a network sheet, the most digits of a table, and a number of bytes that no text of
- * Export exceeds: buffers of these lengths are long enough for every sheet and every network. */
+/* The most bytes of a design sheet, of a network sheet and of a PLA text, the most digits of a table, and a number of bytes that
+ * no text of Export exceeds: buffers of these lengths are long enough for every sheet, every panel and every network. */
 #define CELLMAPPER_MAX_SHEET 4096
 #define CELLMAPPER_MAX_NETWORK 8192
+#define CELLMAPPER_MAX_PLA 32768
 #define CELLMAPPER_MAX_TABLE 1024
 #define CELLMAPPER_MAX_BLIF 55735
 
@@ -72,6 +74,34 @@ uint32_t cellmapper_check(const uint8_t *sheet, size_t sheet_len, const uint8_t 
  * Refusals: those of Check, 1 to 5, 10 and 11, with the same lines; then 9 where buffer_len is less than the text's length. */
 uint32_t cellmapper_export(const uint8_t *sheet, size_t sheet_len, const uint8_t *network, size_t network_len, uint8_t *buffer,
                            size_t buffer_len, size_t *line, size_t *length);
+
+/* A panel that arrives as PLA is two texts. `pla` has the lines `.i N`, `.o N`, `.ilb names`, `.ob names`, `.p N`, then N cubes,
+ * then `.e`; `board` has the lines `(bound ..)` and `(limit N)` as a design sheet spells them. Both may hold any bytes. A cube
+ * with a 1 for an output is in that output's on-set; a row in no such cube is 0. The three functions below answer as those above
+ * do on a design sheet with the same names, tables, bound inputs and limit. Where the texts are at fault they refuse by these
+ * numbers, asked in this order, with a line of the text at fault:
+ * - 12: `pla` has no bytes or more than CELLMAPPER_MAX_PLA (line 0), or else a line is bad, and the first one is named: one that is
+ *   misspelled, whatever bytes the output parts of cubes are made of; a missing one, one past the last; `.e` where the cubes are
+ *   not as many as `.p` says; any after `.e`; and a last one without 0x0A;
+ * - 13: more inputs (line 1) or more outputs (line 2) than a design sheet may have;
+ * - 14: an output part with another character than 0 and 1 (the line of the first such cube);
+ * - 1 and 2: `board` as a text, and its first misspelled line;
+ * - 4: a repeated input (line 3 of `pla`), an output that equals an input or an earlier output (line 4 of `pla`);
+ * - 3, 4, 5: the bound inputs (line 1 of `board`);
+ * - 3: the limit (line 2 of `board`). */
+
+/* Table of a panel that arrives as PLA. Refusals: those of the two texts, then 6 and 9 as cellmapper_table has them. */
+uint32_t cellmapper_pla_table(const uint8_t *pla, size_t pla_len, const uint8_t *board, size_t board_len, size_t output,
+                              uint8_t *buffer, size_t buffer_len, size_t *line, size_t *written);
+
+/* Map of a panel that arrives as PLA. Refusals: those of the two texts, then 7, 8 and 9 as cellmapper_map has them. */
+uint32_t cellmapper_pla_map(const uint8_t *pla, size_t pla_len, const uint8_t *board, size_t board_len, uint8_t *buffer,
+                            size_t buffer_len, size_t *line, size_t *cells, size_t *length);
+
+/* Check of a network sheet against a panel that arrives as PLA. Refusals: those of the two texts, then 10 and 11 as
+ * cellmapper_check has them. */
+uint32_t cellmapper_pla_check(const uint8_t *pla, size_t pla_len, const uint8_t *board, size_t board_len, const uint8_t *network,
+                              size_t network_len, size_t *line, size_t *differs, size_t *output, size_t *row);
 
 #ifdef __cplusplus
 }

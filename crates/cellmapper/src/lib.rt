@@ -1,11 +1,13 @@
-// Table, Map, Check and Export for a caller in C, as include/cellmapper.h declares them: a slice is a pointer and a length, and what
-// a function has to say beside its result goes through references that the caller lends. Rests on design, mapper, checker and
-// blif, and adds nothing to what they answer; on reports for what a caller is told of an answer.
+// Table, Map, Check and Export on sheets, and Table, Map and Check on PLA panels, for a caller in C, as include/cellmapper.h
+// declares them: a slice is a pointer and a length, and what a function has to say beside its result goes through references that
+// the caller lends. Rests on design, mapper, checker, blif and pla, and adds nothing to what they answer; on reports for what a
+// caller is told of an answer.
 ghost use mathlib.Core.Path.{_≡_};
 ghost use Rattle.sheet.specs.Examine as sheets;
-ghost use Rattle.design.specs.Tabulate.{tabulate};
-ghost use Rattle.network.specs.Check.{check};
+ghost use Rattle.design.specs.Tabulate.{tabulate, tableOf};
+ghost use Rattle.network.specs.Check.{check, checkOf};
 ghost use Rattle.blif.specs.Export as spec;
+ghost use Rattle.panel.specs.Examine.{examine};
 ghost use Rattle.reports.specs.Report.{tableReport, checkReport, exportReport, ReportedMap};
 
 #[no_mangle]
@@ -84,4 +86,66 @@ pub extern "C" fn cellmapper_export(
     *line = r.line;
     *length = r.length;
     r.number
+}
+
+#[no_mangle]
+pub extern "C" fn cellmapper_pla_table(
+    pla: &[u8],
+    board: &[u8],
+    output: usize,
+    buffer: &mut [u8],
+    line: &mut usize,
+    written: &mut usize,
+) -> u32
+    ensures { λ r. ⌜ record { number = r; line = now (line .exit); written = now (written .exit) }
+        ≡ tableReport (tableOf (examine (now (pla .entry)) (now (board .entry))) output (now (buffer .entry)) .answer) ⌝ }
+    ensures { λ _. ⌜ now (buffer .exit) ≡ tableOf (examine (now (pla .entry)) (now (board .entry))) output (now (buffer .entry)) .buffer ⌝ }
+{
+    let t = pla::table(pla, board, output, buffer);
+    let told = reports::report_table(t);
+    *line = told.line;
+    *written = told.written;
+    told.number
+}
+
+#[no_mangle]
+pub extern "C" fn cellmapper_pla_map(
+    pla: &[u8],
+    board: &[u8],
+    buffer: &mut [u8],
+    line: &mut usize,
+    cells: &mut usize,
+    length: &mut usize,
+) -> u32
+    ensures { λ r. ⌜ ReportedMap (examine (now (pla .entry)) (now (board .entry))) (now (buffer .entry))
+        (record { number = r; line = now (line .exit); cells = now (cells .exit); length = now (length .exit) }) (now (buffer .exit)) ⌝ }
+{
+    let m = pla::map(pla, board, buffer);
+    let told = reports::report_map(m);
+    *line = told.line;
+    *cells = told.cells;
+    *length = told.length;
+    told.number
+}
+
+#[no_mangle]
+pub extern "C" fn cellmapper_pla_check(
+    pla: &[u8],
+    board: &[u8],
+    network: &[u8],
+    line: &mut usize,
+    differs: &mut usize,
+    output: &mut usize,
+    row: &mut usize,
+) -> u32
+    ensures { λ r. ⌜ record { number = r; line = now (line .exit); differs = now (differs .exit); output = now (output .exit); row = now (row .exit) }
+        ≡ checkReport (checkOf (examine (now (pla .entry)) (now (board .entry))) (now (network .entry))) ⌝ }
+{
+    let c = pla::check(pla, board, network);
+    let told = reports::report_check(c);
+    *line = told.line;
+    *differs = told.differs;
+    *output = told.output;
+    *row = told.row;
+    told.number
 }

@@ -1,0 +1,2 @@
+-- The numbers that a panel is refused by, for a caller in C.
+pub mod PanelNumberLaws
