@@ -43,15 +43,19 @@ class Refusal(Exception):
 
 
 class Output:
-    """An output: its name, and its formula in postfix order."""
+    """An output of a sheet: its name, and its formula in postfix order."""
 
     def __init__(self, name, formula):
         self.name = name
         self.formula = formula
 
+    def value(self, given):
+        """Its value, where the inputs have the values given."""
+        return value(self.formula, given)
+
 
 class Design:
-    """What a valid design sheet says."""
+    """What a valid design sheet says, or a valid pair (pla.py). Of an output its name and its values are asked alone."""
 
     def __init__(self, inputs, bound, limit, outputs):
         self.inputs = inputs
@@ -269,12 +273,15 @@ def value(formula, given):
 
 def digits_of(design, output):
     rows = range(2 ** len(design.inputs))
-    return "".join(str(value(design.outputs[output].formula, assignment(design.inputs, r))) for r in rows)
+    return "".join(str(design.outputs[output].value(assignment(design.inputs, r))) for r in rows)
 
 
 def table(text, output, buffer=ENDLESS):
     """Table: the digits, or the refusal raised."""
-    design = examine(text)
+    return table_of(examine(text), output, buffer)
+
+
+def table_of(design, output, buffer=ENDLESS):
     if output >= len(design.outputs):
         raise Refusal(6, 0)
     digits = digits_of(design, output)
@@ -289,9 +296,8 @@ def table(text, output, buffer=ENDLESS):
 def column(design, output, vertex):
     """The values of an output at a vertex, over all free rows."""
     fixed = assignment(design.bound, vertex)
-    formula = design.outputs[output].formula
     free_rows = range(2 ** len(design.free))
-    return tuple(value(formula, {**fixed, **assignment(design.free, r)}) for r in free_rows)
+    return tuple(design.outputs[output].value({**fixed, **assignment(design.free, r)}) for r in free_rows)
 
 
 def number_by_first(keys):
@@ -421,21 +427,30 @@ def node_value(design, network, output, given):
     return int(node.digits[int("0" + "".join(listed), 2)])
 
 
+def examine_network(design, network_text):
+    """Questions 10 and 11: the network, or the refusal raised."""
+    network = read_network(design, network_text)
+    ask_cells(design, network)
+    return network
+
+
 def examine_both(design_text, network_text):
     """Questions 1 to 5, 10 and 11: the design and the network, or the refusal raised."""
     design = examine(design_text)
-    network = read_network(design, network_text)
-    ask_cells(design, network)
-    return design, network
+    return design, examine_network(design, network_text)
 
 
 def check(design_text, network_text):
     """Check: None where the network computes the design, else the lowest output that differs and its lowest row."""
-    design, network = examine_both(design_text, network_text)
+    return check_of(examine(design_text), network_text)
+
+
+def check_of(design, network_text):
+    network = examine_network(design, network_text)
     for output, wanted in enumerate(design.outputs):
         for row in range(2 ** len(design.inputs)):
             given = assignment(design.inputs, row)
-            if node_value(design, network, output, given) != value(wanted.formula, given):
+            if node_value(design, network, output, given) != wanted.value(given):
                 return output, row
     return None
 
@@ -640,7 +655,10 @@ def network_text(design, classes, tables):
 
 def map_sheet(text, buffer=ENDLESS):
     """Map: the number of cells and the network, or the refusal raised."""
-    design = examine(text)
+    return map_of(examine(text), buffer)
+
+
+def map_of(design, buffer=ENDLESS):
     classes = Classes(design)
     if classes.global_count() > MAX_GLOBAL:
         raise Refusal(7, 0)
