@@ -10,6 +10,7 @@ ROOT = pathlib.Path(__file__).resolve().parent.parent
 NUMBERS = {
     "CELLMAPPER_MAX_SHEET": ("MAX_SHEET", "maxSheet"),
     "CELLMAPPER_MAX_NETWORK": ("MAX_NETWORK", "maxNetwork"),
+    "CELLMAPPER_MAX_PLA": ("MAX_PLA", "maxPla"),
     "CELLMAPPER_MAX_TABLE": ("MAX_ROWS", "maxRows"),
     "CELLMAPPER_MAX_BLIF": ("MAX_BLIF", "maxBlif"),
 }

@@ -7,6 +7,18 @@
 #include <cstddef>
 #include <string>
 
+// What a panel is written on: a design sheet, or a PLA text with a second text beside it. The functions for the one or for the
+// other are called by what it is; Export is there for sheets alone.
+struct Source {
+    std::string text;
+    bool pla = false;
+    std::string board;
+
+    Source(const std::string &sheet) : text(sheet) {}
+    Source(const char *sheet) : text(sheet) {}
+    Source(const std::string &pla, const std::string &board) : text(pla), pla(true), board(board) {}
+};
+
 struct Tabled {
     unsigned number;
     size_t line, written;
@@ -30,15 +42,15 @@ struct Exported {
     std::string text;
 };
 
-Tabled call_table(const std::string &sheet, size_t output, size_t room);
-Mapped call_map(const std::string &sheet, size_t room);
-Checked call_check(const std::string &sheet, const std::string &network);
-Exported call_export(const std::string &sheet, const std::string &network, size_t room);
+Tabled call_table(const Source &source, size_t output, size_t room);
+Mapped call_map(const Source &source, size_t room);
+Checked call_check(const Source &source, const std::string &network);
+Exported call_export(const Source &sheet, const std::string &network, size_t room);
 
 // Which end the next text stands at, and whether an empty one has a null pointer: four ways, taken in turn from this one on.
 void start_at_way(unsigned way);
 
-// Ends the program with a message, and the sheets at hand, unless `good`.
-void expect(bool good, const std::string &what, const std::string &sheet, const std::string &network = "");
+// Ends the program with a message, and the texts at hand, unless `good`.
+void expect(bool good, const std::string &what, const Source &source, const std::string &network = "");
 
 #endif

@@ -1,6 +1,6 @@
 // Map and Export on the repository's own sheets, from the folder that the repository is in. The sheets of bench/border/ are
 // hard ones; the fewest cells of each, or `inf` where none serve, stand in its file ANSWERS, which two other searches gave.
-// Beside the sheets of bench/first/ and examples/ stand their first networks.
+// Beside the sheets of bench/first/ and examples/ stand their first networks, and beside a sheet the same panel as PLA, if any.
 #include "files.h"
 
 #include "calls.h"
@@ -29,8 +29,8 @@ Mapped mapped(const std::string &sheet)
     if (m.number == 0) {
         Checked c = call_check(sheet, m.network);
         expect(c.number == 0 && c.differs == 0, "Check on Map's network", sheet, m.network);
-        Sheet examined(sheet);
-        compare_export(Pair(examined, m.network), 0);
+        Panel examined(sheet);
+        compare_export(Beside(examined, m.network), 0);
     }
     return m;
 }
@@ -54,6 +54,25 @@ size_t networks(const char *folder)
     return sheets;
 }
 
+// A panel as PLA has the tables of the sheet beside it, and its network.
+size_t plas(const char *folder)
+{
+    size_t panels = 0;
+    for (const auto &entry : std::filesystem::directory_iterator(folder)) {
+        std::filesystem::path path = entry.path();
+        if (path.extension() != ".pla")
+            continue;
+        panels++;
+        std::string pla = contents(path), board = contents(path.replace_extension(".board"));
+        Panel as_pla(Source(pla, board)), sheet(contents(path.replace_extension(".sheet")));
+        expect(as_pla.refusal.number == 0 && sheet.refusal.number == 0, "the panel of " + path.string() + " is valid", as_pla.source);
+        std::string network = compare_both_ways(sheet, as_pla, 0);
+        expect(network == contents(path.replace_extension(".network")), "Map's network is that of " + path.string(), as_pla.source, network);
+        check_both_ways(sheet, as_pla, network);
+    }
+    return panels;
+}
+
 void border()
 {
     std::ifstream answers("bench/border/ANSWERS");
@@ -72,6 +91,7 @@ void border()
 void sheets_of_the_repository()
 {
     expect(networks("examples") >= 5, "there are five example sheets", "");
+    expect(plas("examples") >= 1, "there is an example as PLA", "");
     expect(networks("bench/first") >= 40, "there are 40 sheets in bench/first", "");
     border();
 }

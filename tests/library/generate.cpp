@@ -5,14 +5,9 @@
 using std::string;
 typedef std::vector<string> Names;
 
-// A design sheet before it is put together. Lines are made of these parts as they stand, whatever they hold.
-struct Generator::Draft {
-    Names inputs, bound;
-    string limit;
-    std::vector<std::pair<string, string>> outputs;
-};
-
 namespace {
+
+const string SHEET_BYTES = "() \n01_abz", PLA_BYTES(" .01-2~ioplbe\nabz\0\xFF", 19);
 
 string listed(const string &word, const Names &names)
 {
@@ -28,6 +23,44 @@ bool among(const string &name, const Names &names)
 }
 
 }
+
+// A design sheet before it is put together. Lines are made of these parts as they stand, whatever they hold.
+struct Generator::Draft {
+    Names inputs, bound;
+    string limit;
+    std::vector<std::pair<string, string>> outputs;
+
+    string text() const
+    {
+        string all = "(design 1)\n" + listed("in", inputs) + listed("bound", bound) + "(limit " + limit + ")\n";
+        for (const auto &o : outputs)
+            all += "(out " + o.first + " " + o.second + ")\n";
+        return all + "(end)\n";
+    }
+};
+
+// A PLA text and a second text before they are put together; `counts` are the numbers of `.i`, `.o` and `.p` where they are not
+// those that the lists have, and `rest` is what stands after `.e`.
+struct Generator::PlaDraft {
+    Names inputs, outputs, bound;
+    std::vector<std::pair<string, string>> cubes;
+    string limit, counts[3], rest;
+
+    Source source() const
+    {
+        const size_t sizes[] = {inputs.size(), outputs.size(), cubes.size()};
+        auto count = [&](const char *word, size_t i) { return word + (counts[i].empty() ? std::to_string(sizes[i]) : counts[i]) + "\n"; };
+        auto names = [](string line, const Names &list) {
+            for (const string &n : list)
+                line += " " + n;
+            return line + "\n";
+        };
+        string text = count(".i ", 0) + count(".o ", 1) + names(".ilb", inputs) + names(".ob", outputs) + count(".p ", 2);
+        for (const auto &cube : cubes)
+            text += cube.first + " " + cube.second + "\n";
+        return Source(text + ".e\n" + rest, listed("bound", bound) + "(limit " + limit + ")\n");
+    }
+};
 
 // ---- design sheets
 
@@ -65,6 +98,13 @@ string Generator::deep_formula(const Names &names)
     return f;
 }
 
+Names Generator::shuffled(Names names)
+{
+    for (size_t i = names.size(); i > 1; i--)
+        std::swap(names[i - 1], names[below(i)]);
+    return names;
+}
+
 Generator::Draft Generator::draft()
 {
     Draft d;
@@ -74,10 +114,8 @@ Generator::Draft Generator::draft()
         if (!among(n, d.inputs))
             d.inputs.push_back(n);
     }
-    Names shuffled = d.inputs;
-    for (size_t i = shuffled.size(); i > 1; i--)
-        std::swap(shuffled[i - 1], shuffled[below(i)]);
-    d.bound.assign(shuffled.begin(), shuffled.begin() + long(1 + below(std::min<size_t>(5, inputs))));
+    d.bound = shuffled(d.inputs);
+    d.bound.resize(1 + below(std::min<size_t>(5, inputs)));
     d.limit = std::to_string(below(7));
     size_t outputs = 1 + below(4);
     while (d.outputs.size() < outputs) {
@@ -131,18 +169,207 @@ string Generator::design_sheet()
     size_t kind = below(10);
     if (kind == 0 || kind == 1)
         break_a_rule(d);
-    string text = "(design 1)\n" + listed("in", d.inputs) + listed("bound", d.bound) + "(limit " + d.limit + ")\n";
-    for (const auto &o : d.outputs)
-        text += "(out " + o.first + " " + o.second + ")\n";
-    text += "(end)\n";
+    string text = d.text();
     if (once_in(500))
         text += string(4096, '\n');
-    return kind == 2 || kind == 3 ? damaged(text) : text;
+    return kind == 2 || kind == 3 ? damaged(text, SHEET_BYTES) : text;
+}
+
+// ---- PLA texts
+
+Generator::PlaDraft Generator::pla_draft()
+{
+    Draft d = draft();
+    PlaDraft p;
+    p.inputs = d.inputs;
+    p.bound = d.bound;
+    p.limit = d.limit;
+    for (const auto &o : d.outputs)
+        p.outputs.push_back(o.first);
+    const size_t dashes = below(5);
+    for (size_t n = below(once_in(10) ? 60 : 9); n > 0; n--) {
+        string literals, marks;
+        for (size_t i = 0; i < p.inputs.size(); i++)
+            literals += below(5) < dashes ? '-' : "01"[below(2)];
+        for (size_t i = 0; i < p.outputs.size(); i++)
+            marks += "01"[below(2)];
+        p.cubes.emplace_back(literals, marks);
+    }
+    return p;
+}
+
+void Generator::break_a_rule(PlaDraft &p)
+{
+    static const char *const COUNTS[] = {"0", "00", "01", "1", "2", "10", "11", "99999", "100000", "", " 1", "1 ", "x", "-1"};
+    static const char *const LIMITS[] = {"7", "999", "1000", "07", "", "x", "6)\n(limit 6", "6)\n"};
+    static const char *const WORDS[] = {"and", "xor", "0", "1a", "A", "abcdefghi", "", "a b", "()"};
+    static const char MARKS[] = {'~', '2', '-', '/', ' ', '\r', '\t', '\0', '\x7F', '\x80', '\xFF', '4'};
+    string &some = p.inputs[below(p.inputs.size())], &other = p.outputs[below(p.outputs.size())];
+    switch (below(16)) {
+    case 0: p.counts[below(3)] = COUNTS[below(14)]; break;
+    case 1: p.counts[2] = std::to_string(p.cubes.size() + 1); break;
+    case 2: p.counts[2] = std::to_string(p.cubes.empty() ? 0 : p.cubes.size() - 1); break;
+    case 3: p.rest = once_in(2) ? "\n" : ".e"; break;
+    case 4: some = WORDS[below(9)]; break;
+    case 5: other = WORDS[below(9)]; break;
+    case 6: p.inputs.push_back(some); break;
+    case 7: p.outputs.push_back(once_in(2) ? some : other); break;
+    case 8: some = p.inputs[0]; break;
+    case 9: other = once_in(2) ? p.inputs[0] : p.outputs[0]; break;
+    case 10: p.bound.push_back(p.bound[0]); break;
+    case 11: p.bound.insert(p.bound.begin(), once_in(2) ? "unknown" : WORDS[below(9)]); break;
+    case 12: p.limit = LIMITS[below(8)]; break;
+    case 13:
+        if (!p.cubes.empty())
+            p.cubes[below(p.cubes.size())].second[below(p.outputs.size())] = MARKS[below(sizeof MARKS)];
+        break;
+    case 14:
+        while (p.inputs.size() < 11)
+            p.inputs.push_back("more" + std::to_string(p.inputs.size()));
+        break;
+    default:
+        while (p.outputs.size() < 5)
+            p.outputs.push_back("some" + std::to_string(p.outputs.size()));
+        break;
+    }
+    // Where there are more names now, the cubes follow more often than not.
+    if (!once_in(4))
+        for (auto &cube : p.cubes) {
+            cube.first.resize(p.inputs.size(), '-');
+            cube.second.resize(p.outputs.size(), '0');
+        }
+}
+
+Source Generator::pla()
+{
+    PlaDraft p = pla_draft();
+    size_t kind = below(10);
+    for (size_t times = kind == 0 ? 2 : kind < 4 ? 1 : 0; times > 0; times--)
+        break_a_rule(p);
+    if (once_in(200)) {
+        // near the most bytes that a text may have, on either side of it: cubes for no output
+        string idle(p.inputs.size(), '-'), none(p.outputs.size(), '0');
+        size_t one = idle.size() + none.size() + 2, size = p.source().text.size();
+        size_t more = (32768 - size) / one - below(2);
+        p.cubes.resize(p.cubes.size() + more, {idle, none});
+    }
+    Source source = p.source();
+    if (kind == 4 || kind == 5)
+        source.text = damaged(source.text, PLA_BYTES);
+    if (kind == 6)
+        source.board = damaged(source.board, SHEET_BYTES);
+    return source;
+}
+
+// A cube that covers a row and rows of value 1 alone, grown by leaving out inputs in a random order.
+string Generator::cube_around(size_t row, size_t inputs, const string &table)
+{
+    string cube;
+    std::vector<size_t> rows = {row}, places;
+    for (size_t i = 0; i < inputs; i++) {
+        cube += "01"[row >> (inputs - 1 - i) & 1];
+        places.insert(places.begin() + long(below(i + 1)), i);
+    }
+    for (size_t place : places) {
+        std::vector<size_t> both = rows;
+        for (size_t r : rows)
+            both.push_back(r ^ size_t(1) << (inputs - 1 - place));
+        bool ones = std::all_of(both.begin(), both.end(), [&](size_t r) { return table[r] == '1'; });
+        if (ones && !once_in(10)) {
+            cube[place] = '-';
+            rows = both;
+        }
+    }
+    return cube;
+}
+
+// Cubes with the tables of a design: each is around the first row of some output that no cube before has, and where all its
+// rows have value 1 in another output too it is in that output's on-set now and then.
+Generator::PlaDraft Generator::pla_of(const oracle::Design &design)
+{
+    PlaDraft p;
+    p.inputs = design.inputs;
+    p.bound = design.bound;
+    p.limit = std::to_string(design.limit);
+    const size_t rows = size_t(1) << p.inputs.size();
+    for (const oracle::Output &o : design.outputs)
+        p.outputs.push_back(o.name);
+    auto covers = [](const string &cube, size_t row) {
+        for (size_t i = cube.size(); i-- > 0; row >>= 1)
+            if (cube[i] != '-' && cube[i] != "01"[row & 1])
+                return false;
+        return true;
+    };
+    for (size_t o = 0; o < p.outputs.size(); o++) {
+        string left = design.outputs[o].table;
+        for (const auto &cube : p.cubes)
+            if (cube.second[o] == '1')
+                for (size_t r = 0; r < rows; r++)
+                    if (covers(cube.first, r))
+                        left[r] = '0';
+        for (size_t row = left.find('1'); row != string::npos; row = left.find('1', row)) {
+            string cube = cube_around(row, p.inputs.size(), design.outputs[o].table), marks(p.outputs.size(), '0');
+            marks[o] = '1';
+            std::vector<bool> fits(p.outputs.size(), true);
+            for (size_t r = 0; r < rows; r++)
+                if (covers(cube, r)) {
+                    left[r] = '0';
+                    for (size_t other = 0; other < fits.size(); other++)
+                        fits[other] = fits[other] && design.outputs[other].table[r] == '1';
+                }
+            for (size_t other = 0; other < fits.size(); other++)
+                if (fits[other] && once_in(2))
+                    marks[other] = '1';
+            p.cubes.emplace_back(cube, marks);
+        }
+    }
+    if (once_in(5))
+        p.cubes.emplace_back(string(p.inputs.size(), '-'), string(p.outputs.size(), '0'));
+    for (size_t i = p.cubes.size(); i > 1; i--)
+        std::swap(p.cubes[i - 1], p.cubes[below(i)]);
+    return p;
+}
+
+// A sheet whose formulas are the cubes, each output a sum of products.
+string Generator::sheet_of_products(const PlaDraft &p)
+{
+    auto under = [](const string &word, const string &none, const Names &parts) {
+        string all = "(" + word;
+        for (const string &part : parts)
+            all += " " + part;
+        return parts.empty() ? none : parts.size() == 1 ? parts[0] : all + ")";
+    };
+    Draft d;
+    d.inputs = p.inputs;
+    d.bound = p.bound;
+    d.limit = p.limit;
+    for (size_t o = 0; o < p.outputs.size(); o++) {
+        Names products;
+        for (const auto &cube : p.cubes) {
+            Names literals;
+            for (size_t i = 0; i < p.inputs.size(); i++)
+                if (cube.first[i] != '-')
+                    literals.push_back(cube.first[i] == '1' ? p.inputs[i] : "(not " + p.inputs[i] + ")");
+            if (cube.second[o] == '1')
+                products.push_back(under("and", "1", literals));
+        }
+        d.outputs.emplace_back(p.outputs[o], under("or", "0", products));
+    }
+    return d.text();
+}
+
+void Generator::panel(string &sheet, Source &pla)
+{
+    oracle::Design design;
+    do
+        sheet = once_in(2) ? draft().text() : sheet_of_products(pla_draft());
+    while (oracle::examine(sheet, design).number != 0);
+    pla = pla_of(design).source();
 }
 
 // ---- damage
 
-string Generator::damaged(string text)
+string Generator::damaged(string text, const string &bytes)
 {
     for (size_t times = 1 + below(3); times > 0 && !text.empty(); times--) {
         size_t at = below(text.size()), line = text.rfind('\n', at), next = text.find('\n', at);
@@ -150,10 +377,10 @@ string Generator::damaged(string text)
         next = next == string::npos ? text.size() : next + 1;
         string whole = next > line ? text.substr(line, next - line) : "";
         switch (below(9)) {
-        case 0: text[at] = "() \n01_abz"[below(10)]; break;
+        case 0: text[at] = bytes[below(bytes.size())]; break;
         case 1: text[at] = char(text[at] ^ 1 << below(8)); break;
         case 2: text.erase(at, 1); break;
-        case 3: text.insert(at, 1, "() \n01_abz"[below(10)]); break;
+        case 3: text.insert(at, 1, bytes[below(bytes.size())]); break;
         case 4: text.insert(line, whole); break;
         case 5: text.erase(line, whole.size()); break;
         case 6: text.resize(at); break;
@@ -268,5 +495,5 @@ string Generator::network_sheet(const oracle::Design &design, const string &mapp
         c = c == '0' ? '1' : '0';
     }
     string text = print_network(design, network, network.luts.size() + (once_in(30) ? 1 : 0));
-    return once_in(4) ? damaged(text) : text;
+    return once_in(4) ? damaged(text, SHEET_BYTES) : text;
 }

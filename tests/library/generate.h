@@ -1,7 +1,8 @@
-// Random sheets and networks, valid, nearly valid and damaged, the same for the same seed on every machine.
+// Random sheets, PLA texts and networks, valid, nearly valid and damaged, the same for the same seed on every machine.
 #ifndef GENERATE_H
 #define GENERATE_H
 
+#include "calls.h"
 #include "oracle.h"
 
 #include <random>
@@ -18,18 +19,32 @@ public:
     // A design sheet: mostly valid, else with one rule broken, or with bytes damaged, or bytes at random.
     std::string design_sheet();
 
+    // A PLA text and a second text: mostly valid, else with one rule broken, or with bytes damaged.
+    Source pla();
+
+    // A panel written both ways, the same names, tables, bound inputs and limit: a valid design sheet, with formulas of any form or
+    // with sums of products, and a PLA text of other cubes with its second text.
+    void panel(std::string &sheet, Source &pla);
+
     // A network sheet for a valid design. `mapped` is Map's own network, or empty.
     std::string network_sheet(const oracle::Design &design, const std::string &mapped);
 
 private:
     struct Draft;
+    struct PlaDraft;
 
     std::string name();
     std::string formula(const std::vector<std::string> &names, size_t size);
     std::string deep_formula(const std::vector<std::string> &names);
     Draft draft();
     void break_a_rule(Draft &draft);
-    std::string damaged(std::string text);
+    std::vector<std::string> shuffled(std::vector<std::string> names);
+    PlaDraft pla_draft();
+    void break_a_rule(PlaDraft &draft);
+    std::string cube_around(size_t row, size_t inputs, const std::string &table);
+    PlaDraft pla_of(const oracle::Design &design);
+    std::string sheet_of_products(const PlaDraft &draft);
+    std::string damaged(std::string text, const std::string &bytes);
     std::string random_digits(size_t n);
     oracle::Network random_network(const oracle::Design &design);
     oracle::Network rearranged(const oracle::Design &design, const oracle::Network &network);

@@ -1,6 +1,7 @@
 // main [CASES [SEED]]: the exported functions on sheets worked by hand, on the repository's sheets, and then on CASES random
-// design sheets, each with a random network sheet, compared with the oracle. Shows progress on standard error, and at the end
-// how often each answer came.
+// design sheets, each with a random network sheet, compared with the oracle; then a fifth as many random PLA texts with a second
+// text, and a fifth as many panels that are written both ways, of which the functions must say the same. Shows progress on
+// standard error, and at the end how often each answer came.
 #include "compare.h"
 #include "files.h"
 #include "generate.h"
@@ -11,17 +12,53 @@
 
 namespace {
 
-void one_case(Generator &random)
+void one_panel(Generator &random, const Panel &panel)
 {
-    static const Sheet PLAIN("(design 1)\n(in a)\n(bound a)\n(limit 1)\n(out f a)\n(end)\n");
-    Sheet sheet(random.design_sheet());
+    static const Panel PLAIN("(design 1)\n(in a)\n(bound a)\n(limit 1)\n(out f a)\n(end)\n");
     size_t more = random.once_in(4) ? random.below(1000) : 0;
-    compare_table(sheet, random.once_in(50) ? ~size_t(0) : random.below(5), more);
-    std::string mapped = compare_map(sheet, more, random.once_in(10));
-    const oracle::Design &design = sheet.refusal.number ? PLAIN.design : sheet.design;
-    Pair pair(sheet, random.network_sheet(design, mapped));
-    compare_check(pair);
-    compare_export(pair, more);
+    compare_table(panel, random.once_in(50) ? ~size_t(0) : random.below(5), more);
+    std::string mapped = compare_map(panel, more, random.once_in(10));
+    const oracle::Design &design = panel.refusal.number ? PLAIN.design : panel.design;
+    Beside beside(panel, random.network_sheet(design, mapped));
+    compare_check(beside);
+    if (!panel.source.pla)
+        compare_export(beside, more);
+}
+
+void one_sheet(Generator &random)
+{
+    one_panel(random, Panel(random.design_sheet()));
+}
+
+void one_pla(Generator &random)
+{
+    one_panel(random, Panel(random.pla()));
+}
+
+// The panel is written both ways by the test, so the oracle must find the two the same before the library is asked.
+void one_both_ways(Generator &random)
+{
+    std::string text;
+    Source source("");
+    random.panel(text, source);
+    Panel sheet(text), pla(source);
+    expect(pla.refusal.number == 0, "the test's own pair is valid", source);
+    for (size_t o = 0; o < sheet.design.outputs.size(); o++)
+        expect(pla.design.outputs[o].table == sheet.design.outputs[o].table, "the test's own cubes\n" + text, source);
+    std::string mapped = compare_both_ways(sheet, pla, random.below(50));
+    if (!mapped.empty())
+        check_both_ways(sheet, pla, mapped);
+    for (size_t times = 2; times > 0; times--)
+        check_both_ways(sheet, pla, random.network_sheet(sheet.design, mapped));
+}
+
+void all_cases(const char *what, unsigned long cases, Generator &random, void (*one)(Generator &))
+{
+    for (unsigned long i = 0; i < cases; i++) {
+        if (i % 10000 == 0)
+            fprintf(stderr, "library: %lu of %lu %s\n", i, cases, what);
+        one(random);
+    }
 }
 
 // Prints how often each answer came, and of networks that Check compares how many were the same; each must have come.
@@ -73,19 +110,21 @@ int main(int argc, char **argv)
     sheets_of_the_repository();
     fprintf(stderr, "library: the sheets of examples/, bench/border/ and bench/first/ as they must be\n");
     Generator random(seed);
-    for (unsigned long i = 0; i < cases; i++) {
-        if (i % 10000 == 0)
-            fprintf(stderr, "library: %lu of %lu random cases\n", i, cases);
-        one_case(random);
-    }
+    all_cases("random design sheets", cases, random, one_sheet);
+    all_cases("random PLA texts", cases / 5, random, one_pla);
+    all_cases("panels written both ways", cases / 5, random, one_both_ways);
     if (cases >= 10000) {
-        require("Table", tables, {0, 1, 2, 3, 4, 5, 6, 9});
-        require("Map", maps, {0, 1, 2, 3, 4, 5, 7, 8, 9});
-        require("Check", checks, {0, DIFFERS, 1, 2, 3, 4, 5, 10, 11});
-        require("Export", exports, {0, DIFFERS, 1, 2, 3, 4, 5, 9, 10, 11});
+        require("Table", of_sheets.tables, {0, 1, 2, 3, 4, 5, 6, 9});
+        require("Map", of_sheets.maps, {0, 1, 2, 3, 4, 5, 7, 8, 9});
+        require("Check", of_sheets.checks, {0, DIFFERS, 1, 2, 3, 4, 5, 10, 11});
+        require("Export", of_sheets.exports, {0, DIFFERS, 1, 2, 3, 4, 5, 9, 10, 11});
+        require("Table of PLA", of_plas.tables, {0, 1, 2, 3, 4, 5, 6, 9, 12, 13, 14});
+        require("Map of PLA", of_plas.maps, {0, 1, 2, 3, 4, 5, 7, 8, 9, 12, 13, 14});
+        require("Check of PLA", of_plas.checks, {0, DIFFERS, 1, 2, 3, 4, 5, 10, 11, 12, 13, 14});
         require_shapes();
         require_firsts();
     }
-    printf("library: %lu design sheets and as many network sheets from seed %lu, all answers as they must be\n", cases, seed);
+    printf("library: %lu design sheets and as many network sheets, %lu PLA texts and as many panels both ways from seed %lu, all answers as they must be\n",
+        cases, cases / 5, seed);
     return 0;
 }

@@ -1,7 +1,9 @@
 #include "oracle.h"
 
 #include <algorithm>
+#include <cstdlib>
 #include <set>
+#include <sstream>
 
 namespace oracle {
 
@@ -268,14 +270,22 @@ size_t part_of_row(const Names &some, const Names &inputs, size_t row)
 
 // ---- the design sheet
 
+namespace {
+
+bool passes_first(const std::string &text)
+{
+    if (text.size() < 1 || text.size() > 4096 || text.back() != '\n')
+        return false;
+    return std::all_of(text.begin(), text.end(), [](char c) { return c == '\n' || (c >= 0x20 && c <= 0x7E); });
+}
+
+}
+
 Refusal examine(const std::string &text, Design &design)
 {
     design = Design();
-    if (text.size() < 1 || text.size() > 4096 || text.back() != '\n')
+    if (!passes_first(text))
         return Refusal{1, 0};
-    for (char c : text)
-        if (c != '\n' && (c < 0x20 || c > 0x7E))
-            return Refusal{1, 0};
     bool ended, over = false;
     Names lines = split(text, ended);
     for (size_t i = 0; i < lines.size(); i++) {
@@ -302,6 +312,164 @@ Refusal examine(const std::string &text, Design &design)
     if (!over)
         return Refusal{2, lines.size() + 1};
     tabulate(design);
+    return Refusal{};
+}
+
+// ---- a PLA text and a second text
+
+namespace {
+
+struct Cube {
+    std::string literals, marks;
+};
+
+struct Pla {
+    Names inputs, outputs;
+    std::vector<Cube> cubes;
+};
+
+// A line `word N`: N is read as far as it goes, and then the print must be the line.
+bool read_count(const std::string &line, const std::string &word, size_t &n)
+{
+    n = line.size() > word.size() ? strtoul(line.c_str() + word.size(), nullptr, 10) : 0;
+    return n <= 99999 && line == word + " " + std::to_string(n);
+}
+
+// A line `word name ..` with so many names: they are read whatever stands between them, and then the print must be the line.
+bool read_names(const std::string &line, const std::string &word, size_t count, Names &names)
+{
+    std::istringstream items(line);
+    std::string first, again;
+    items >> first;
+    for (Tree name; items >> name.word; names.push_back(name.word))
+        if (!is_name(name))
+            return false;
+    again = first;
+    for (const std::string &n : names)
+        again += " " + n;
+    return first == word && again == line && names.size() == count;
+}
+
+// The first space parts the literals, which have none, from the marks, which may.
+bool read_cube(const std::string &line, size_t inputs, size_t outputs, Cube &cube)
+{
+    size_t cut = line.find(' ');
+    if (cut != inputs)
+        return false;
+    cube.literals = line.substr(0, cut);
+    cube.marks = line.substr(cut + 1);
+    return cube.literals.find_first_not_of("01-") == std::string::npos && cube.marks.size() == outputs;
+}
+
+// Question 12.
+Refusal read_pla(const std::string &text, Pla &pla)
+{
+    if (text.size() < 1 || text.size() > 32768)
+        return Refusal{12, 0};
+    bool ended, over = false;
+    size_t inputs = 0, outputs = 0, cubes = 0;
+    Names lines = split(text, ended);
+    for (size_t i = 0; i < lines.size(); i++) {
+        bool good;
+        Cube cube;
+        if (over)
+            good = false;
+        else if (i == 0)
+            good = read_count(lines[i], ".i", inputs) && inputs > 0;
+        else if (i == 1)
+            good = read_count(lines[i], ".o", outputs) && outputs > 0;
+        else if (i == 2)
+            good = read_names(lines[i], ".ilb", inputs, pla.inputs);
+        else if (i == 3)
+            good = read_names(lines[i], ".ob", outputs, pla.outputs);
+        else if (i == 4)
+            good = read_count(lines[i], ".p", cubes);
+        else if (lines[i] == ".e") {
+            over = true;
+            good = pla.cubes.size() == cubes;
+        } else {
+            good = read_cube(lines[i], inputs, outputs, cube);
+            pla.cubes.push_back(cube);
+        }
+        bool open = !ended && i + 1 == lines.size();
+        if (open || !good)
+            return Refusal{12, i + 1};
+    }
+    return over ? Refusal{} : Refusal{12, lines.size() + 1};
+}
+
+// Questions 13 and 14.
+Refusal ask_pla(const Pla &pla)
+{
+    if (pla.inputs.size() > 10)
+        return Refusal{13, 1};
+    if (pla.outputs.size() > 4)
+        return Refusal{13, 2};
+    for (size_t i = 0; i < pla.cubes.size(); i++)
+        if (pla.cubes[i].marks.find_first_not_of("01") != std::string::npos)
+            return Refusal{14, i + 6};
+    return Refusal{};
+}
+
+unsigned ask_line(const Names &lines, size_t i, unsigned (*ask)(const Tree &, Design &), Design &design)
+{
+    Tree tree;
+    return i < lines.size() && read_line(lines[i], tree) ? ask(tree, design) : 2;
+}
+
+// The rows that a cube covers are those of its ones, with any of its dashes added.
+void paint(const Cube &cube, Design &design)
+{
+    size_t ones = 0, dashes = 0;
+    for (char c : cube.literals) {
+        ones = 2 * ones + (c == '1');
+        dashes = 2 * dashes + (c == '-');
+    }
+    for (size_t o = 0; o < design.outputs.size(); o++) {
+        if (cube.marks[o] != '1')
+            continue;
+        for (size_t some = dashes;; some = (some - 1) & dashes) {
+            design.outputs[o].table[ones | some] = '1';
+            if (some == 0)
+                break;
+        }
+    }
+}
+
+}
+
+Refusal examine_pla(const std::string &text, const std::string &board, Design &design)
+{
+    design = Design();
+    Pla pla;
+    Refusal refusal = read_pla(text, pla);
+    if (!refusal.number)
+        refusal = ask_pla(pla);
+    if (refusal.number)
+        return refusal;
+    if (!passes_first(board))
+        return Refusal{1, 0};
+    // Both lines are asked all their questions here; a misspelling is told before the names, all else after them.
+    bool ended;
+    Names lines = split(board, ended);
+    design.inputs = pla.inputs;
+    unsigned bound = ask_line(lines, 0, ask_bound, design), limit = ask_line(lines, 1, ask_limit, design);
+    if (bound == 2 || limit == 2 || lines.size() > 2)
+        return Refusal{2, size_t(bound == 2 ? 1 : limit == 2 ? 2 : 3)};
+    Names all = pla.inputs;
+    if (repeats(all))
+        return Refusal{4, 3};
+    all.insert(all.end(), pla.outputs.begin(), pla.outputs.end());
+    if (repeats(all))
+        return Refusal{4, 4};
+    if (bound)
+        return Refusal{bound, 1};
+    if (limit)
+        return Refusal{limit, 2};
+    for (const std::string &name : pla.outputs)
+        design.outputs.push_back(Output{name, Tree(), std::string(size_t(1) << pla.inputs.size(), '0')});
+    for (const Cube &cube : pla.cubes)
+        paint(cube, design);
     return Refusal{};
 }
 

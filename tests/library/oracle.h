@@ -1,6 +1,7 @@
 // Table, Check and Export worked out from the specification by brute force, to compare the library with. A line is read as a tree
 // and printed again: it is spelled right if the print is the line and the tree has the shape its place demands. Values are
-// found by walking the tree for each row, classes by comparing columns as strings. No part is shared with the library.
+// found by walking the tree for each row, classes by comparing columns as strings. The lines of a PLA text are read and printed
+// again too, and each cube is painted into the tables of its outputs. No part is shared with the library.
 #ifndef ORACLE_H
 #define ORACLE_H
 
@@ -19,8 +20,8 @@ struct Tree {
 
 struct Output {
     std::string name;
-    Tree formula;
-    std::string table; // a digit for each row, once the whole sheet is valid
+    Tree formula;      // of a sheet; a PLA text has none
+    std::string table; // a digit for each row, once the whole examination is passed
 };
 
 struct Design {
@@ -56,6 +57,10 @@ struct Comparison {
 };
 
 Refusal examine(const std::string &text, Design &design);
+
+// The examination of a PLA text and a second text with the `bound` line and the `limit` line.
+Refusal examine_pla(const std::string &text, const std::string &board, Design &design);
+
 Refusal read_network(const Design &design, const std::string &text, Network &network);
 
 // Check on a valid design; `network` is what the text says, unless it is refused.

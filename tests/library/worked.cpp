@@ -1,4 +1,4 @@
-// The specification's sheets A to K, texts in BLIF and every refusal, by hand: what each call must answer stands beside it.
+// The specification's sheets A to K, texts in BLIF, PLA texts and every refusal, by hand: what each call must answer stands beside it.
 // Buffers are exactly long enough and one byte short; slices of length 0 have null pointers too (calls.cpp). Then the stack
 // that the header promises to be enough.
 #include "worked.h"
@@ -310,6 +310,146 @@ void longest_text_in_blif()
     expect(e.number == 0 && e.length == 55579, "the longest text has 55,579 bytes", text(design), text(network));
 }
 
+// ---- PLA texts
+
+const std::string BOARD = "(bound a b c)\n(limit 2)\n";
+
+// A PLA text with a second text: the lines before `.p`, the cubes, and a number of cubes where it is not theirs.
+Source pla(const Lines &head, const Lines &cubes, const std::string &board = BOARD, const std::string &count = "")
+{
+    return Source(text(head) + text({".p " + (count.empty() ? std::to_string(cubes.size()) : count)}) + text(cubes) + ".e\n", board);
+}
+
+// Sheet A as PLA.
+const Lines A_HEAD = {".i 4", ".o 2", ".ilb a b c d", ".ob f g"};
+const Lines A_CUBES = {"0001 10", "0010 10", "0100 10", "0111 10", "1000 10", "1011 10", "1101 10", "1110 10", "0011 01", "0101 01", "1001 01", "1111 01"};
+const Source A_PLA = pla(A_HEAD, A_CUBES);
+const size_t A_END = 18;
+
+// A with one line for another.
+Source pla_with(size_t line, const std::string &other, const std::string &board = BOARD)
+{
+    Lines lines = A_HEAD;
+    lines.push_back(".p 12");
+    lines.insert(lines.end(), A_CUBES.begin(), A_CUBES.end());
+    lines.push_back(".e");
+    lines[line - 1] = other;
+    return Source(text(lines), board);
+}
+
+// A refusal of the two texts, by all three.
+void pla_refuses(const Source &source, unsigned number, size_t line)
+{
+    const std::string answer = std::to_string(number) + " line " + std::to_string(line);
+    for (size_t room : {size_t(0), AMPLE}) {
+        Tabled t = call_table(source, room ? 0 : SIZE_MAX, room);
+        expect(t.number == number && t.line == line, "Table must refuse by " + answer, source);
+        Mapped m = call_map(source, room);
+        expect(m.number == number && m.line == line, "Map must refuse by " + answer, source);
+    }
+    for (const std::string &network : {NETWORK, std::string()}) {
+        Checked c = call_check(source, network);
+        expect(c.number == number && c.line == line, "Check must refuse by " + answer, source, network);
+    }
+}
+
+// A with cubes for no output and a first name so long that it has so many bytes.
+Source sized_pla(size_t size)
+{
+    for (size_t more = 0;; more++) {
+        Lines head = A_HEAD, cubes = A_CUBES;
+        const std::string name = "a" + std::string(more, 'x');
+        head[2] = ".ilb " + name + " b c d";
+        const std::string board = "(bound " + name + " b c)\n(limit 2)\n";
+        cubes.resize((size - pla(head, {}, board, "1000").text.size()) / 8, "---- 00");
+        Source source = pla(head, cubes, board);
+        if (source.text.size() == size)
+            return source;
+    }
+}
+
+void plas_to_try()
+{
+    for (size_t room : {NETWORK.size(), AMPLE}) {
+        Mapped m = call_map(A_PLA, room);
+        expect(m.number == 0 && m.cells == 1 && m.network == NETWORK, "Map of sheet A as PLA", A_PLA, m.network);
+    }
+    expect(call_map(A_PLA, NETWORK.size() - 1).number == 9, "Map of sheet A as PLA, one byte short", A_PLA);
+    expect(call_table(A_PLA, 0, 16).digits == "0110100110010110", "Table of sheet A as PLA", A_PLA);
+    expect(call_table(A_PLA, 1, 16).digits == "0001010001000001", "Table of sheet A as PLA", A_PLA);
+    expect(call_table(A_PLA, 1, 15).number == 9 && call_table(A_PLA, 2, 0).number == 6, "Table of sheet A as PLA refuses", A_PLA);
+    Checked c = call_check(A_PLA, NETWORK);
+    expect(c.number == 0 && c.differs == 0, "Check of sheet A as PLA", A_PLA, NETWORK);
+    c = call_check(A_PLA, with(4, "(node g (_0 d) 0011)"));
+    expect(c.number == 0 && c.differs == 1 && c.output == 1 && c.row == 2, "Check of sheet A as PLA, sheet J", A_PLA);
+    c = call_check(A_PLA, with(5, "(count 2)"));
+    expect(c.number == 10 && c.line == 5, "Check of sheet A as PLA, a bad network", A_PLA);
+    c = call_check(pla_with(1, ".i 4", "(bound a b c)\n(limit 0)\n"), NETWORK);
+    expect(c.number == 11 && c.line == 2, "Check of sheet A as PLA, no cells", A_PLA);
+    expect(call_map(pla_with(1, ".i 4", "(bound a b c)\n(limit 0)\n"), 0).number == 8, "Map of sheet A as PLA, no cells", A_PLA);
+    const Source none = pla(A_HEAD, {}), ones = pla(A_HEAD, {"---- 11"});
+    expect(call_table(none, 0, 16).digits == std::string(16, '0'), "Table without cubes", none);
+    expect(call_table(ones, 1, 16).digits == std::string(16, '1'), "Table of a cube without literals", ones);
+    expect(call_map(sized_pla(32768), AMPLE).cells == 1, "Map of 32,768 bytes", sized_pla(32768));
+    const Lines ten = {".i 10", ".o 4", ".ilb a b c d e v w x y z", ".ob f g h i"};
+    const Source wide = pla(ten, {"1-1111111- 1001", "---------1 0010"}, "(bound e a)\n(limit 2)\n");
+    std::string digits(1024, '0');
+    for (size_t row : {0x2FE, 0x2FF, 0x3FE, 0x3FF})
+        digits[row] = '1';
+    expect(call_table(wide, 0, 1024).digits == digits && call_table(wide, 3, 1024).digits == digits, "Table of ten inputs", wide);
+    expect(call_table(wide, 1, 1024).digits == std::string(1024, '0') && call_table(wide, 2, 1023).number == 9, "Table of ten inputs", wide);
+    expect(call_map(wide, AMPLE).cells == 1, "Map of ten inputs and four outputs", wide);
+}
+
+void refusals_of_pla()
+{
+    pla_refuses(Source("", BOARD), 12, 0);
+    pla_refuses(Source("", ""), 12, 0);
+    pla_refuses(sized_pla(32769), 12, 0);
+    pla_refuses(Source(std::string(32769, '\n'), BOARD), 12, 0);
+    pla_refuses(Source(std::string(32768, '\n'), BOARD), 12, 1);
+    pla_refuses(Source(A_PLA.text.substr(0, A_PLA.text.size() - 1), BOARD), 12, A_END);
+    pla_refuses(Source(A_PLA.text.substr(0, A_PLA.text.size() - 3), BOARD), 12, A_END);
+    pla_refuses(Source(A_PLA.text + "\n", BOARD), 12, A_END + 1);
+    pla_refuses(Source(A_PLA.text + "x", BOARD), 12, A_END + 1);
+    pla_refuses(Source(".i 4", BOARD), 12, 1);
+    pla_refuses(Source(".i 4\n", BOARD), 12, 2);
+    for (const char *first : {".i 0", ".i 01", ".i 100000", ".i", ".i ", ".i 4 ", ".i  4", ".o 4", "# a", ""})
+        pla_refuses(pla_with(1, first), 12, 1);
+    for (const char *second : {".o 0", ".o 02", ".o 100000"})
+        pla_refuses(pla_with(2, second), 12, 2);
+    pla_refuses(pla_with(1, ".i 99999"), 12, 3);
+    for (const char *names : {".ilb", ".ilb a b c", ".ilb a b c d e", ".ilb a b c xor", ".ilb a b c abcdefghi", ".ilb a  b c d", ".ilb a b c d ", ".ilb a b c D"})
+        pla_refuses(pla_with(3, names), 12, 3);
+    for (const char *names : {".ob", ".ob f", ".ob f g h", ".ob f not", ".ilb f g"})
+        pla_refuses(pla_with(4, names), 12, 4);
+    for (const char *count : {".p 00", ".p 012", ".p 100000", ".p"})
+        pla_refuses(pla_with(5, count), 12, 5);
+    for (const char *count : {"0", "11", "13", "99999"})
+        pla_refuses(pla(A_HEAD, A_CUBES, BOARD, count), 12, A_END);
+    for (const char *cube : {"0201 10", "001 10", "00001 10", "000110", "0001  10", "0001 100", "0001 1", "0001 ", "", ".e "})
+        pla_refuses(pla_with(7, cube), 12, 7);
+    pla_refuses(pla({".i 11", ".o 5", ".ilb a b c d e v w x y z q", ".ob f g h i j"}, {}), 13, 1);
+    pla_refuses(pla({".i 1", ".o 5", ".ilb a", ".ob f g h i j"}, {"1 0000~"}), 13, 2);
+    for (char mark : {'~', '2', '-', ' ', '/', '\0', '\r', '\x80', '\xFF'})
+        pla_refuses(pla_with(8, std::string("0100 1") + mark), 14, 8);
+    pla_refuses(pla(A_HEAD, {"0001 1~"}, BOARD, "2"), 12, 7);
+    for (const std::string &board : {std::string(), BOARD.substr(0, BOARD.size() - 1), BOARD + "\x7F\n", std::string(4096, ' ') + "\n"})
+        pla_refuses(Source(A_PLA.text, board), 1, 0);
+    pla_refuses(Source(A_PLA.text, "(limit 2)\n"), 2, 1);
+    pla_refuses(Source(A_PLA.text, "(bound a b c d e x)\n"), 2, 2);
+    pla_refuses(Source(A_PLA.text, "(bound a b c d e x)\n(limit 02)\n"), 2, 2);
+    pla_refuses(Source(A_PLA.text, BOARD + "\n"), 2, 3);
+    pla_refuses(pla_with(3, ".ilb a b c a", "(bound a)\n"), 2, 2);
+    pla_refuses(pla_with(3, ".ilb a b c a", "(bound)\n(limit 7)\n"), 4, 3);
+    pla_refuses(pla_with(4, ".ob f a", "(bound)\n(limit 7)\n"), 4, 4);
+    pla_refuses(pla_with(4, ".ob f f"), 4, 4);
+    pla_refuses(Source(A_PLA.text, "(bound)\n(limit 7)\n"), 3, 1);
+    pla_refuses(Source(A_PLA.text, "(bound a zz a)\n(limit 7)\n"), 4, 1);
+    pla_refuses(Source(A_PLA.text, "(bound zz)\n(limit 7)\n"), 5, 1);
+    pla_refuses(Source(A_PLA.text, "(bound a)\n(limit 7)\n"), 3, 2);
+}
+
 // ---- the stack
 
 // As many brackets as a text can open.
@@ -354,6 +494,8 @@ void worked_sheets()
         refusals_by_the_network();
         texts_in_blif();
         longest_text_in_blif();
+        plas_to_try();
+        refusals_of_pla();
     }
     in_one_mebibyte_of_stack();
 }
