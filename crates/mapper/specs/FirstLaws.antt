@@ -31,7 +31,8 @@ use Rattle.lineorder.specs.CoreDigits.{network-tables, built-tables, network-ze
 use Rattle.lineorder.specs.First.{Settled, first-from-reads}
 use Rattle.mapper.specs.Map.{Permitted, First}
 use Rattle.mapper.specs.PermittedLaws.{permitted-count, permitted-reads}
-use Rattle.mapper.specs.MapLaws.{Given, to-labels, found-permitted}
+use Rattle.mapper.specs.Posed.{Given}
+use Rattle.mapper.specs.MapLaws.{to-labels, found-permitted}
 
 pub permitted-settled : (d : Design) (w : Network) → Permitted d w → Settled (Permitted d) d (length (w .luts))
 permitted-settled d w q = record {

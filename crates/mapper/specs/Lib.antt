@@ -4,9 +4,11 @@ pub mod PermittedLaws
 pub mod FunctionLaws
 pub mod WrittenLaws
 pub mod BuiltLaws
+pub mod Posed
 pub mod MapLaws
 pub mod FirstLaws
 pub mod Answer
 pub mod SearchInput
 pub mod FillLaws
+pub mod PosedLaws
 pub mod MapSteps

@@ -11,9 +11,7 @@ use Rattle.limits.specs.Limits.{maxCells}
 use Rattle.sheet.specs.Examine.{Design}
 use Rattle.sheet.specs.WellFormed.{WellFormed}
 use Rattle.classes.specs.ProperLaws.{proper-of}
-use Rattle.classes.specs.Columns.{vertexCount, conflict}
-use Rattle.classes.specs.Classes.{localClass}
-use Rattle.classes.specs.Width.{budget}
+use Rattle.classes.specs.Columns.{conflict}
 use Rattle.classes.specs.VertexLaws.{local-no-conflict, no-conflict-local}
 use Rattle.network.specs.Network.{Network}
 use Rattle.network.specs.Wellformed.{Wellformed}
@@ -28,14 +26,7 @@ use Rattle.serving.specs.Build.{built}
 use Rattle.serving.specs.TheoremA.{drawn-serves}
 use Rattle.mapper.specs.Map.{Permitted}
 use Rattle.mapper.specs.BuiltLaws.{built-permitted}
-
--- the problem that was given to the search is the design's
-pub record Given (d : Design) (cl budgets : List ℕ) (v m limit : ℕ) : Type 0 where
-  pub vertices : v ≡ vertexCount (d .bound)
-  pub outputs : m ≡ length (d .outputs)
-  pub within : limit ≡ d .limit
-  pub labels : (o x : ℕ) → o < length (d .outputs) → x < vertexCount (d .bound) → labelAt cl o x ≡ localClass d (d .bound) o x
-  pub budgeted : (o : ℕ) → o < length (d .outputs) → item budgets o ≡ budget d (d .bound) o
+use Rattle.mapper.specs.Posed.{Given}
 
 true-or-false : (b : Bool) → (b ≡ false → ⊥) → b ≡ true
 true-or-false true h = refl

@@ -6,13 +6,18 @@ ghost use Prim.Native.Nat.{ℕ, _≤_, _<_, _%_};
 ghost use lib.ListN.{getD};
 ghost use Rattle.limits.specs.Limits.{maxBound, maxOutputs, maxVertices};
 ghost use Rattle.sheet.specs.Examine as spec;
+ghost use Rattle.sheet.specs.Known.{Holds};
+ghost use Rattle.classes.specs.Proper.{Proper};
 ghost use Rattle.design.specs.Answer.{ExaminedIs, Right, Examination};
 ghost use Rattle.mapper.specs.Map.{OutcomeOf, Outcome};
 ghost use Rattle.mapper.specs.Answer.{mapAnswer};
 ghost use Rattle.mapper.specs.SearchInput.{LabelsAre, BudgetsAre};
+ghost use Rattle.mapper.specs.Posed.{Designed, Poses};
 use classes::LocalClass;
 use classes::Locals;
+use classes::Shape;
 use design::Examined;
+use sheet::Sheet;
 
 // Map's answer: the refusal, or how many cells and bytes were written.
 pub enum Mapped {
@@ -57,6 +62,34 @@ fn budgets(ws: [usize; limits::MAX_OUTPUTS], outputs: usize) -> [u8; limits::SEA
     r
 }
 
+// What a design asks of the search: whether it has few enough global classes to be asked about, the shape of its rows, and the
+// class labels and budgets of its outputs.
+struct Posed {
+    few: bool,
+    shape: Shape,
+    labels: [u8; limits::LABELS],
+    budgets: [u8; limits::SEARCH_OUTPUTS],
+}
+
+fn pose(k: Sheet) -> Posed
+    requires { ⌜ Designed k ⌝ }
+    ensures { λ r. ⌜ ((d : spec.Design) → Holds d k → Proper d → Poses d k r) ⌝ }
+{
+    let c = classes::classes_of(k);
+    let g = c.globals;
+    let ls = c.locals;
+    let ws = c.widths;
+    let shape = c.shape;
+    let cl = labels(ls);
+    let bs = budgets(ws, k.outputs);
+    Posed {
+        few: g.count <= limits::MAX_CLASSES,
+        shape,
+        labels: cl,
+        budgets: bs,
+    }
+}
+
 // The first network sheet in byte order of all that are permitted for what an examination answered, from the buffer's start.
 // Where a question is answered "no" the buffer is left as it was.
 pub fn map_of(e: Examined, buffer: &mut [u8]) -> Mapped
@@ -70,17 +103,13 @@ pub fn map_of(e: Examined, buffer: &mut [u8]) -> Mapped
         };
     }
     let k = e.sheet;
-    let c = classes::classes_of(k);
-    let g = c.globals;
-    if limits::MAX_CLASSES < g.count {
+    let p = pose(k);
+    if !p.few {
         return Mapped::Refused { number: 7, line: 0 };
     }
-    let ls = c.locals;
-    let ws = c.widths;
-    let sh = c.shape;
-    let cl = labels(ls);
-    let bs = budgets(ws, k.outputs);
-    let core = first::first(&cl, bs, sh.vertices, k.outputs, k.limit as u8);
+    let sh = p.shape;
+    let bs = p.budgets;
+    let core = first::first(&p.labels, bs, sh.vertices, k.outputs, k.limit as u8);
     if !core.found {
         return Mapped::Refused { number: 8, line: 0 };
     }
