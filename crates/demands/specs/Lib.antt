@@ -8,7 +8,6 @@ pub mod Demand3
 pub mod Demand3Laws
 pub mod Demand1Laws
 pub mod Demand2Laws
-pub mod CoreNumbers
 pub mod SoonerTables
 pub mod ConstantLaws
 pub mod Worked

@@ -12,3 +12,4 @@ pub mod SearchInput
 pub mod FillLaws
 pub mod PosedLaws
 pub mod MapSteps
+pub mod CoreNumbers
