@@ -20,13 +20,13 @@ no-two R [] h p = omega arith
 no-two R (x ∷ []) h p = omega arith
 no-two R (x ∷ y ∷ xs) h p = absurd (h x y (p .0 .0))
 
-module _ (table : ℕ → ℕ → Bool) where
+module _ {A : Type 0} (table : A → ℕ → Bool) where
   -- some table of the list differs at x and y
-  abbrev pub Told : List ℕ → ℕ → ℕ → Type 0
+  abbrev pub Told : List A → ℕ → ℕ → Type 0
   Told is x y = map (λ i. table i x) is ≡ map (λ i. table i y) is → ⊥
 
   -- the first table splits the vertices in two, and the others tell those of each part apart
-  pub told-count : (is xs : List ℕ) → Pairs (Told is) xs → length xs ≤ 2 ^ length is
+  pub told-count : (is : List A) (xs : List ℕ) → Pairs (Told is) xs → length xs ≤ 2 ^ length is
   told-count [] xs p = no-two (Told []) xs (λ x y t. t refl) p
   told-count (i ∷ is) xs p =
       let ih = told-count is in
@@ -97,7 +97,7 @@ module _ (same : ℕ → ℕ → Bool) where
           (all-map (λ (y : ℕ). y < v) (Unlike v) (firstMembers v) (none-before (eqb-true (firstLike same v) v e)) (members-below v), p)
       go false e p = p
 
-  pub classes-told : (table : ℕ → ℕ → Bool) (is : List ℕ) (v : ℕ)
+  pub classes-told : {A : Type 0} (table : A → ℕ → Bool) (is : List A) (v : ℕ)
       → ((x y : ℕ) → x < v → y < v → same x y ≡ false → Told table is x y)
       → classCount same v ≤ 2 ^ length is
   classes-told table is v told =

@@ -26,7 +26,7 @@ use Rattle.serving.specs.TheoremA.{parts-of}
 use Rattle.serving.specs.ClassCodes.{Told, classes-told}
 
 -- vertices of different local classes conflict
-unlike-conflict : (d : Design) (bs : List Name) (o x y : ℕ) → alike d bs o x y ≡ false → conflict d bs o x y ≡ true
+pub unlike-conflict : (d : Design) (bs : List Name) (o x y : ℕ) → alike d bs o x y ≡ false → conflict d bs o x y ≡ true
 unlike-conflict d bs o x y u =
     ⊎-elim
     (λ e. e)
