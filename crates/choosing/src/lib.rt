@@ -38,7 +38,7 @@ pub struct Problem {
 }
 
 // The first m outputs as a set.
-fn first_outputs(m: usize) -> u8
+pub fn first_outputs(m: usize) -> u8
     requires { ⌜ m ≤ searchOutputs ⌝ }
     ensures { λ r. ⌜ r ≡ firstOutputs m ⌝ }
 {

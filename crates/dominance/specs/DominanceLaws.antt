@@ -106,11 +106,11 @@ module _ (cl budgets : List ℕ) (v : ℕ) where
 
 -- ======== what is kept stands for all
 module _ (cl from labels : List ℕ) (p : Taken cl from 256 labels) where
-  taken-at : (o x : ℕ) → o < 8 → x < 32 → labelAt labels o x ≡ labelAt cl (item from o) x
+  pub taken-at : (o x : ℕ) → o < 8 → x < 32 → labelAt labels o x ≡ labelAt cl (item from o) x
   taken-at o x h k = p .done (o * 32 + x) (omega arith) ∙ ap₂ (λ (a b : ℕ). labelAt cl (item from a) b) (let e : (o * 32 + x) / 32 ≡ o = omega arith in e)
       (let e : (o * 32 + x) % 32 ≡ x = omega arith in e)
 
-  taken-classes : Classes cl → Indices from → Classes labels
+  pub taken-classes : Classes cl → Indices from → Classes labels
   taken-classes c f = record {
     long = p .long;
     low = λ k h. subst (λ (z : ℕ). z < 32) (sym (p .done k h))

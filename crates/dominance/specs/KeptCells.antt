@@ -47,10 +47,10 @@ module _ (cl budgets labels budgets' : List ℕ) (v m n : ℕ) (by : List ℕ) (
   abbrev pub origin : ℕ → ℕ
   origin i = source i (decLt i n)
 
-  abbrev Like : ℕ → ℕ → Type 0
+  abbrev pub Like : ℕ → ℕ → Type 0
   Like i o = (o < m) × ((x y : ℕ) → x < v → y < v → Conflict labels i x y → Conflict cl o x y) × (item budgets' i ≡ item budgets o)
 
-  origin-like : (i : ℕ) → i < n → Like i (origin i)
+  pub origin-like : (i : ℕ) → i < n → Like i (origin i)
   origin-like i h = go (decLt i n)
     where
       go : (d : Dec (i < n)) → Like i (source i d)

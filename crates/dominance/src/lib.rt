@@ -113,7 +113,7 @@ fn chosen(cl: &[u8], budgets: [u8; SEARCH_OUTPUTS], v: usize, m: usize) -> Choic
 }
 
 // The labels of the outputs of from.
-fn labels(cl: &[u8], from: [u8; SEARCH_OUTPUTS]) -> [u8; LABELS]
+pub fn labels(cl: &[u8], from: [u8; SEARCH_OUTPUTS]) -> [u8; LABELS]
     requires { ⌜ (length (now cl) ≡ labelCount) × Indices from ⌝ }
     ensures { λ r. ⌜ Taken (now (cl .entry)) from labelCount r ⌝ }
 {
@@ -127,7 +127,7 @@ fn labels(cl: &[u8], from: [u8; SEARCH_OUTPUTS]) -> [u8; LABELS]
 }
 
 // The budgets of the outputs of from.
-fn picked(budgets: [u8; SEARCH_OUTPUTS], from: [u8; SEARCH_OUTPUTS]) -> [u8; SEARCH_OUTPUTS]
+pub fn picked(budgets: [u8; SEARCH_OUTPUTS], from: [u8; SEARCH_OUTPUTS]) -> [u8; SEARCH_OUTPUTS]
     requires { ⌜ Indices from ⌝ }
     ensures { λ r. ⌜ Picked budgets from searchOutputs r ⌝ }
 {

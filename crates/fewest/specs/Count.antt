@@ -109,14 +109,14 @@ pub conflict-serves : (cl : List ℕ) (v m : ℕ) (budget : ℕ → ℕ) (l : Li
 unfolding Conflict
 conflict-serves cl v m budget l s = s
 
-no-tables : (given : List ℕ) (v : ℕ) → Tables given v 0 []
+pub no-tables : (given : List ℕ) (v : ℕ) → Tables given v 0 []
 no-tables given v = record { long = refl; digits = λ i x h. absurd (omega arith) }
 
-nothing-known : (val v : ℕ) (l : List Cell) → Known 0 val v l
+pub nothing-known : (val v : ℕ) (l : List Cell) → Known 0 val v l
 nothing-known val v [] = tt
 nothing-known val v (c ∷ l) = λ x h e. absurd (never-both e (on-zero x))
 
-none-read : (l : List Cell) (rows : List ℕ) → l ++ givenCells rows [] ≡ l
+pub none-read : (l : List Cell) (rows : List ℕ) → l ++ givenCells rows [] ≡ l
 unfolding readBy
 none-read l rows = append-nil l
 
