@@ -7,9 +7,13 @@ pub mod BuiltLaws
 pub mod Posed
 pub mod MapLaws
 pub mod FirstLaws
+pub mod Cause
 pub mod Answer
 pub mod SearchInput
 pub mod FillLaws
 pub mod PosedLaws
 pub mod MapSteps
 pub mod CoreNumbers
+pub mod CauseFunctionLaws
+pub mod CauseLaws
+pub mod CauseSteps

@@ -1,6 +1,7 @@
 // Map: what an examination answers to the first network sheet in byte order of all that are permitted, those with the fewest
-// shared tables, or a refusal. Rests on design for the examination of a sheet, on classes for columns, on first for the search,
-// on lineorder for the order of network sheets, and on writer for the network sheet.
+// shared tables, or a refusal; and the cause of a refusal by 8. Rests on design for the examination of a sheet, on classes for
+// columns, on first for the search, on unserved for sets of outputs and on selection for designs with some of their outputs, on
+// lineorder for the order of network sheets, and on writer for the network sheet.
 ghost use mathlib.Core.Path.{_≡_};
 ghost use Prim.Native.Nat.{ℕ, _≤_, _<_, _%_};
 ghost use lib.ListN.{getD};
@@ -10,7 +11,8 @@ ghost use Rattle.sheet.specs.Known.{Holds};
 ghost use Rattle.classes.specs.Proper.{Proper};
 ghost use Rattle.design.specs.Answer.{ExaminedIs, Right, Examination};
 ghost use Rattle.mapper.specs.Map.{OutcomeOf, Outcome};
-ghost use Rattle.mapper.specs.Answer.{mapAnswer};
+ghost use Rattle.mapper.specs.Cause.{CauseOf, CauseIs};
+ghost use Rattle.mapper.specs.Answer.{mapAnswer, causeAnswer};
 ghost use Rattle.mapper.specs.SearchInput.{LabelsAre, BudgetsAre};
 ghost use Rattle.mapper.specs.Posed.{Designed, Poses};
 use classes::LocalClass;
@@ -130,4 +132,39 @@ pub fn map(sheet: &[u8], buffer: &mut [u8]) -> Mapped
     ensures { λ r. ⌜ Outcome (now (sheet .entry)) (now (buffer .entry)) (mapAnswer r) (now (buffer .exit)) ⌝ }
 {
     map_of(design::examine(sheet), buffer)
+}
+
+// The cause of a refusal by 8: none where 8 does not refuse, or the fewest outputs that it refuses on their own, output o being
+// among them where digit o of the number is 1.
+pub enum Caused {
+    None,
+    Outputs(usize),
+}
+
+// The cause for what an examination answered.
+pub fn cause_of(e: Examined) -> Caused
+    requires { ⌜ Examination e ⌝ }
+    ensures { λ r. ⌜ ((x : spec.Examined) → ExaminedIs x e → Right x → CauseOf x (causeAnswer r)) ⌝ }
+{
+    if !e.ok {
+        return Caused::None;
+    }
+    let asked = e.sheet;
+    let q = pose(asked);
+    if q.few {
+        let sh = q.shape;
+        let bs = q.budgets;
+        let s = unserved::unserved(&q.labels, bs, sh.vertices, asked.outputs, asked.limit as u8);
+        if s != 0 {
+            return Caused::Outputs(s as usize);
+        }
+    }
+    Caused::None
+}
+
+// The cause for a design sheet.
+pub fn cause(sheet: &[u8]) -> Caused
+    ensures { λ r. ⌜ CauseIs (now (sheet .entry)) (causeAnswer r) ⌝ }
+{
+    cause_of(design::examine(sheet))
 }
