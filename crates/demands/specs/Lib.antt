@@ -10,6 +10,8 @@ pub mod Demand1Laws
 pub mod Demand2Laws
 pub mod SoonerTables
 pub mod ConstantLaws
+pub mod CauseDemand
+pub mod CauseDemandLaws
 pub mod Worked
 pub mod Computing
 pub mod Designs
