@@ -12,7 +12,7 @@ use Rattle.demands.specs.Worked.{sheetC, networkC, sheetD, networkD, she
 use Rattle.demands.specs.WorkedLaws.{refuses-8, Fewest, fewest-of, prints-tested}
 
 -- ---- C: f tells vertices with different a apart, g those with different b; so they need two cells together
-c-cells : (n : ℕ) → AtLeast 2 (designC n)
+pub c-cells : (n : ℕ) → AtLeast 2 (designC n)
 unfolding computing
 c-cells n = two-needed (designC n) 1 0 0 0 1 2 refl refl refl
 
@@ -53,7 +53,7 @@ pub c-printed : Prints (sheetC "2") 2 networkC
 c-printed = prints-tested (sheetC "2") networkC (designC 2) c-network c-fewest 3 c-asks c-plain c-tested
 
 -- ---- D: f, g and h read one cell each, and any two of them need two cells together, as f and g do
-d-cells : (n : ℕ) → AtLeast 3 (designD n)
+pub d-cells : (n : ℕ) → AtLeast 3 (designD n)
 unfolding computing
 d-cells n =
     three-needed (designD n) 0 1 2 0 1 2 (record { width-1 = refl; first = refl; second = refl })
@@ -138,7 +138,7 @@ pub e-printed : Prints sheetE 2 networkE
 e-printed = prints-tested sheetE networkE designE e-network e-fewest 3 e-asks e-plain e-tested
 
 -- ---- G: f tells vertices 0, 1 and 3 apart pairwise
-g-cells : (n : ℕ) → AtLeast 2 (designG n)
+pub g-cells : (n : ℕ) → AtLeast 2 (designG n)
 unfolding computing
 g-cells n = two-needed (designG n) 0 0 0 0 1 3 refl refl refl
 

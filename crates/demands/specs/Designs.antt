@@ -97,20 +97,33 @@ designH =
       outputs = output "f" (and2 (named "a") (named "b")) ∷ [];
     }
 
--- I with its fourth output
-abbrev pub designI : ℕ → Design
-designI n =
+-- seven inputs, the first five bound
+abbrev sevenInputs : ℕ → List Output → Design
+sevenInputs n os =
     record {
       inputs = bytes "a" ∷ bytes "b" ∷ bytes "c" ∷ bytes "d" ∷ bytes "e" ∷ bytes "x" ∷ bytes "y" ∷ [];
       bound = bytes "a" ∷ bytes "b" ∷ bytes "c" ∷ bytes "d" ∷ bytes "e" ∷ [];
       limit = n;
-      outputs =
-          output "p" (or2 (and2 (named "a") (named "x")) (and2 (named "e") (named "y")))
-          ∷ output "q" (xor2 (named "b") (named "x"))
-          ∷ output "r" (xor2 (named "c") (named "x"))
-          ∷ output "s" (xor2 (named "d") (named "x"))
-          ∷ [];
+      outputs = os;
     }
+
+abbrev pub designI : ℕ → Design
+designI n =
+    sevenInputs n
+    (output "f" (or2 (and2 (named "a") (named "x")) (and2 (named "e") (named "y")))
+    ∷ output "g" (xor2 (named "b") (named "x"))
+    ∷ output "h" (xor2 (named "c") (named "x"))
+    ∷ [])
+
+-- I with its fourth output
+abbrev pub designI4 : ℕ → Design
+designI4 n =
+    sevenInputs n
+    (output "p" (or2 (and2 (named "a") (named "x")) (and2 (named "e") (named "y")))
+    ∷ output "q" (xor2 (named "b") (named "x"))
+    ∷ output "r" (xor2 (named "c") (named "x"))
+    ∷ output "s" (xor2 (named "d") (named "x"))
+    ∷ [])
 
 -- digits, and a node by what it reads and its digits
 abbrev pub bits : String → List Bool

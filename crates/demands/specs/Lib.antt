@@ -18,6 +18,7 @@ pub mod Designs
 pub mod Each
 pub mod CellBounds
 pub mod NeededCells
+pub mod ClassCells
 pub mod FirstTest
 pub mod FirstTestLaws
 pub mod WorkedLaws
@@ -28,3 +29,6 @@ pub mod WorkedUnproduced
 pub mod UnproducedSheets
 pub mod ConstantSheets
 pub mod WorkedClasses
+pub mod WorkedCauseLaws
+pub mod WorkedCauses
+pub mod CauseSheets

@@ -12,12 +12,12 @@ use Rattle.classes.specs.Classes.{globalCount}
 use Rattle.demands.specs.Computing.{computing}
 use Rattle.mapper.specs.Map.{MapAnswer, refused-by, OutcomeFor, too-many-classes, no-network, buffer-short, written}
 use Rattle.demands.specs.OutcomeLaws.{outcome-for}
-use Rattle.demands.specs.Designs.{designI}
+use Rattle.demands.specs.Designs.{designI4}
 use Rattle.demands.specs.Worked.{Refuses}
 
 -- by its limit
-abbrev sheetI : String → List ℕ
-sheetI n =
+abbrev sheetI4 : String → List ℕ
+sheetI4 n =
     bytes "(design 1)\n(in a b c d e x y)\n(bound a b c d e)\n(limit "
     ++ (bytes n ++ bytes ")\n(out p (or (and a x) (and e y)))\n(out q (xor b x))\n(out r (xor c x))\n(out s (xor d x))\n(end)\n")
 
@@ -37,10 +37,10 @@ module _ (s : List ℕ) (d : Design) (e : examine s ≡ valid d) (many : maxClas
       }
 
 pub record WorkedClasses : Type 0 where
-  pub classes-i : (n : ℕ) → globalCount (designI n) (designI n .bound) ≡ 32
-  pub said : examine (sheetI "4") ≡ valid (designI 4)
-  pub sheet-i-4 : Refuses (sheetI "4") 7 0
-  pub sheet-i-0 : Refuses (sheetI "0") 7 0
+  pub classes-i : (n : ℕ) → globalCount (designI4 n) (designI4 n .bound) ≡ 32
+  pub said : examine (sheetI4 "4") ≡ valid (designI4 4)
+  pub sheet-i-4 : Refuses (sheetI4 "4") 7 0
+  pub sheet-i-0 : Refuses (sheetI4 "0") 7 0
 
 pub worked-classes : WorkedClasses
 unfolding computing
@@ -48,6 +48,6 @@ worked-classes =
     record {
       classes-i = λ n. refl;
       said = refl;
-      sheet-i-4 = refuses-7 (sheetI "4") (designI 4) refl (lit< tt);
-      sheet-i-0 = refuses-7 (sheetI "0") (designI 0) refl (lit< tt);
+      sheet-i-4 = refuses-7 (sheetI4 "4") (designI4 4) refl (lit< tt);
+      sheet-i-0 = refuses-7 (sheetI4 "0") (designI4 0) refl (lit< tt);
     }

@@ -48,7 +48,7 @@ least-network s d u e least v f l c =
 
 -- ---- a sheet that needs more cells than its limit is refused by 8
 module _ (s : List ℕ) (d : Design) (e : examine s ≡ valid d) (few : globalCount d (d .bound) ≤ maxClasses) (least : AtLeast (suc (d .limit)) d) where
-  none-within : (v : Network) → Wellformed d v → WithinLimits d v → Computes d v → ⊥
+  pub none-within : (v : Network) → Wellformed d v → WithinLimits d v → Computes d v → ⊥
   none-within v f l c =
       let h = least-network s d (suc (d .limit)) e least v f l c in
       let k = l .luts-within in
