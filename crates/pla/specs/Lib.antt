@@ -3,6 +3,8 @@ pub mod Demand1
 pub mod DemandLaws
 pub mod SameTables
 pub mod SameTablesLaws
+pub mod SameNetworksLaws
+pub mod SameCauseLaws
 pub mod SameAnswersLaws
 pub mod Worked
 pub mod WorkedPanel

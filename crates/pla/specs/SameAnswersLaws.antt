@@ -1,64 +1,32 @@
--- On designs with the same tables Table and Check answer the same, and Map has the same outcomes; and so a pair gets the answers of
--- a sheet with the same tables. Assumes nothing.
+-- On designs with the same tables Table and Check answer the same, Map has the same outcomes, and a refusal by 8 the same cause; and
+-- so a pair gets the answers of a sheet with the same tables. Assumes nothing.
 use mathlib.Core.Path.{_≡_, sym, ap, _∙_, subst}
 use mathlib.Core.Bool.{false}
 use mathlib.Core.List.{List}
-use Prim.Native.Nat.{ℕ, _^_, _≤_, _<_}
+use Prim.Native.Nat.{ℕ, _≤_, _<_}
 use lib.ListN.{length}
 use lib.Seq.{sets}
 use Rattle.limits.specs.Limits.{maxClasses}
-use Rattle.names.specs.Name.{Name}
 use Rattle.order.specs.Order.{before}
 use Rattle.sheet.specs.Lines.{Output}
 use Rattle.sheet.specs.Examine as sheets
 use Rattle.sheet.specs.Examine.{Design, Examined, valid, outputNames}
-use Rattle.sheet.specs.Value.{outputOn}
 use Rattle.design.specs.Tabulate.{tableOf}
 use Rattle.classes.specs.Classes.{globalCount}
 use Rattle.network.specs.Network.{Network}
 use Rattle.network.specs.Printer.{printNetwork}
 use Rattle.network.specs.Wellformed.{Wellformed}
-use Rattle.network.specs.Answers.{WithinLimits, Computes, readCount}
+use Rattle.network.specs.Answers.{WithinLimits, Computes}
 use Rattle.network.specs.Check.{checkOf}
 use Rattle.mapper.specs.Map.{Permitted, First, MapAnswer, mapped, OutcomeFor, too-many-classes, no-network, buffer-short, written}
 use Rattle.panel.specs.Examine as panels
 use Rattle.pla.specs.SameTables.{SameTables, SameAnswers}
-use Rattle.pla.specs.SameTablesLaws.{withOutputs, SameValues, count-same, value-same, budget-same, global-same, print-same, network-same}
-use Rattle.pla.specs.SameTablesLaws.{table-same, check-same}
+use Rattle.pla.specs.SameTablesLaws.{withOutputs, SameValues, global-same, print-same, table-same, check-same}
+use Rattle.pla.specs.SameNetworksLaws.{formed-same, within-same, is-output, computes-same, values-back}
+use Rattle.pla.specs.SameNetworksLaws.{second-is, second-values, tables-back}
+use Rattle.pla.specs.SameCauseLaws.{cause-same}
 
--- ---- two designs that differ in their formulas alone: what is asked of a network
-module _ (d : Design) (ps : List Output) (names : outputNames (d .outputs) ≡ outputNames ps) (values : SameValues d ps) where
-  formed-same : (w : Network) → Wellformed d w → Wellformed (withOutputs d ps) w
-  formed-same w h =
-      record {
-        few-luts = h .few-luts;
-        lut-digits = h .lut-digits;
-        node-each = h .node-each ∙ count-same d ps names values;
-        node-fits = h .node-fits;
-      }
-
-  within-same : (w : Network) → WithinLimits d w → WithinLimits (withOutputs d ps) w
-  within-same w h =
-      record {
-        luts-within = h .luts-within;
-        reads-within = λ o k. subst (λ (n : ℕ). readCount w o ≤ n) (budget-same d ps names values (d .bound) o) (h .reads-within o k);
-      }
-
-  is-output : (o : ℕ) → o < length ps → o < length (d .outputs)
-  is-output o k = subst (λ (n : ℕ). o < n) (sym (count-same d ps names values)) k
-
-  computes-same : (w : Network) → Computes d w → Computes (withOutputs d ps) w
-  computes-same w h =
-      record {
-        agrees = λ o r k l.
-            sym (network-same d ps names values w o r) ∙ h .agrees o r (is-output o k) l ∙ value-same d ps names values o r l;
-      }
-
-  -- and the other way round
-  values-back : SameValues (withOutputs d ps) (d .outputs)
-  values-back o r k l = sym (value-same d ps names values o r l)
-
--- ---- Map
+-- ---- Map on two designs that differ in their formulas alone
 module _ (d : Design) (ps : List Output) (names : outputNames (d .outputs) ≡ outputNames ps) (values : SameValues d ps) where
   formed-back : (w : Network) → Wellformed (withOutputs d ps) w → Wellformed d w
   formed-back w h = formed-same (withOutputs d ps) (d .outputs) (sym names) (values-back d ps names values) w h
@@ -114,42 +82,15 @@ module _ (d : Design) (ps : List Output) (names : outputNames (d .outputs) ≡ o
 
 -- ---- any two designs with the same tables
 module _ {d e : Design} (h : SameTables d e) where
-  -- the second is the first with the second's outputs
-  second-is : withOutputs d (e .outputs) ≡ e
-  second-is =
-      ap (λ (ns : List Name). record { inputs = ns; bound = d .bound; limit = d .limit; outputs = e .outputs }) (h .same-inputs)
-      ∙ ap (λ (bs : List Name). record { inputs = e .inputs; bound = bs; limit = d .limit; outputs = e .outputs }) (h .same-bound)
-      ∙ ap (λ (n : ℕ). record { inputs = e .inputs; bound = e .bound; limit = n; outputs = e .outputs }) (h .same-limit)
-
-  second-values : SameValues d (e .outputs)
-  second-values o r k l = h .same-values o r k l ∙ ap (λ (x : Design). outputOn x o r) (sym second-is)
-
   table-for : (o : ℕ) (b : List ℕ) → tableOf (valid d) o b ≡ tableOf (valid e) o b
-  table-for o b = table-same d (e .outputs) (h .same-outputs) second-values o b ∙ ap (λ (x : Design). tableOf (valid x) o b) second-is
+  table-for o b = table-same d (e .outputs) (h .same-outputs) (second-values h) o b ∙ ap (λ (x : Design). tableOf (valid x) o b) (second-is h)
 
   check-for : (t : List ℕ) → checkOf (valid d) t ≡ checkOf (valid e) t
-  check-for t = check-same d (e .outputs) (h .same-outputs) second-values t ∙ ap (λ (x : Design). checkOf (valid x) t) second-is
+  check-for t = check-same d (e .outputs) (h .same-outputs) (second-values h) t ∙ ap (λ (x : Design). checkOf (valid x) t) (second-is h)
 
   outcome-for : {b : List ℕ} {a : MapAnswer} {b' : List ℕ} → OutcomeFor d b a b' → OutcomeFor e b a b'
   outcome-for {b = b} {a = a} {b' = b'} x =
-      subst (λ (y : Design). OutcomeFor y b a b') second-is (outcome-same d (e .outputs) (h .same-outputs) second-values x)
-
-  -- and the first is the second with the first's outputs
-  tables-back : SameTables e d
-  tables-back =
-      record {
-        same-inputs = sym (h .same-inputs);
-        same-bound = sym (h .same-bound);
-        same-limit = sym (h .same-limit);
-        same-outputs = sym (h .same-outputs);
-        same-values = λ o r k l.
-            sym
-            (h .same-values o r (subst (λ (n : ℕ). o < n) (sym counted) k)
-            (subst (λ (ns : List Name). r < 2 ^ length ns) (sym (h .same-inputs)) l));
-      }
-    where
-      counted : length (d .outputs) ≡ length (e .outputs)
-      counted = count-same d (e .outputs) (h .same-outputs) second-values
+      subst (λ (y : Design). OutcomeFor y b a b') (second-is h) (outcome-same d (e .outputs) (h .same-outputs) (second-values h) x)
 
 pub same-answers : {d e : Design} → SameTables d e → SameAnswers (valid d) (valid e)
 same-answers h =
@@ -157,6 +98,8 @@ same-answers h =
       table-same = table-for h;
       map-there = λ b a b' x. outcome-for h x;
       map-back = λ b a b' x. outcome-for (tables-back h) x;
+      cause-there = cause-same h;
+      cause-back = cause-same (tables-back h);
       check-same = check-for h;
     }
 
