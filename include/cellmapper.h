@@ -1,10 +1,10 @@
-/* The Cell Mapper for a program in C: Table, Map, Check and Export on design sheets and network sheets, and Table, Map and Check
- * on panels that arrive as PLA.
+/* The Cell Mapper for a program in C: Table, Map, Check and Export on design sheets and network sheets, the line that a refusal of
+ * theirs names, the outputs that cause a refusal by 8, and Table, Map, Check and such a cause on panels that arrive as PLA.
  *
  * Link target/staticlib/libcellmapper.a, which `rt staticlib cellmapper` proves and builds for x86-64 Linux. The archive
  * needs nothing but memcpy and memset, keeps no state, allocates nothing, and may be called from several threads at once.
  *
- * What holds of all seven functions, proved for all bytes, lengths and output numbers (crates/cellmapper/src/lib.rt):
+ * What holds of every function, proved for all bytes, lengths and numbers handed in (crates/cellmapper/src/lib.rt):
  * - They end, and read and write nothing outside of what they are lent.
  * - The result is 0, or the number of the question that was answered "no", 1 to 14 (README.md, "Refusals"). On a refusal
  *   *line is the line at fault, counted from 1, or 0 where the question concerns no line, and the buffer is untouched.
@@ -55,6 +55,14 @@ uint32_t cellmapper_table(const uint8_t *sheet, size_t sheet_len, size_t output,
 uint32_t cellmapper_map(const uint8_t *sheet, size_t sheet_len, uint8_t *buffer, size_t buffer_len, size_t *line,
                         size_t *cells, size_t *length);
 
+/* The cause of a refusal by 8: which outputs of a design sheet are too many for its limit.
+ *
+ * Where cellmapper_map refuses the sheet by 8, bit o of *outputs is 1 for each output o of a set: the sheet with only the `out`
+ * lines of the set is refused by 8, the sheet of every smaller set but the empty one is not, and neither is that of an earlier set
+ * of as many outputs. Of two such sets that one is earlier which has the lowest output that is in one of them alone. Where 8 does
+ * not refuse the sheet, whether another number does or it maps, *outputs is 0. The result is always 0. */
+uint32_t cellmapper_cause(const uint8_t *sheet, size_t sheet_len, size_t *outputs);
+
 /* Check: a network sheet against a design sheet.
  *
  * Result 0 and *differs 0: the network has the design's value in every output on every row. Result 0 and *differs 1: *output
@@ -75,9 +83,23 @@ uint32_t cellmapper_check(const uint8_t *sheet, size_t sheet_len, const uint8_t 
 uint32_t cellmapper_export(const uint8_t *sheet, size_t sheet_len, const uint8_t *network, size_t network_len, uint8_t *buffer,
                            size_t buffer_len, size_t *line, size_t *length);
 
+/* Line: the line that a refusal of Table, Map, Check or Export names, as a part of the sheet that it stands in. The result is 0.
+ *
+ * `number` and `line` are the refusal's, as the result and *line were; `network` is of length 0 where there is no network sheet.
+ * Any numbers and any bytes may be handed in:
+ * - 2 to 5: line `line` of the design sheet, with *second 0;
+ * - 10 and 11: line `line` of the network sheet, with *second 1;
+ * - line 0, and a line past the end: the empty part at the end of that same sheet;
+ * - any other number: the empty part at the design sheet's end, with *second 0.
+ * The part is the *length bytes of that sheet from *start on, counted from 0; *start + *length is at most the sheet's length. The
+ * line's 0x0A is left off, and a last line without 0x0A is handed back whole. For a refusal's own number and line, where the sheet
+ * has this line, it is the one for which the examination asked the question that was answered "no". */
+uint32_t cellmapper_line(const uint8_t *sheet, size_t sheet_len, const uint8_t *network, size_t network_len, size_t number,
+                         size_t line, size_t *second, size_t *start, size_t *length);
+
 /* A panel that arrives as PLA is two texts. `pla` has the lines `.i N`, `.o N`, `.ilb names`, `.ob names`, `.p N`, then N cubes,
  * then `.e`; `board` has the lines `(bound ..)` and `(limit N)` as a design sheet spells them. Both may hold any bytes. A cube
- * with a 1 for an output is in that output's on-set; a row in no such cube is 0. The three functions below answer as those above
+ * with a 1 for an output is in that output's on-set; a row in no such cube is 0. The functions below answer as those above
  * do on a design sheet with the same names, tables, bound inputs and limit. Where the texts are at fault they refuse by these
  * numbers, asked in this order, with a line of the text at fault:
  * - 12: `pla` has no bytes or more than CELLMAPPER_MAX_PLA (line 0), or else a line is bad, and the first one is named: one that is
@@ -97,6 +119,9 @@ uint32_t cellmapper_pla_table(const uint8_t *pla, size_t pla_len, const uint8_t 
 /* Map of a panel that arrives as PLA. Refusals: those of the two texts, then 7, 8 and 9 as cellmapper_map has them. */
 uint32_t cellmapper_pla_map(const uint8_t *pla, size_t pla_len, const uint8_t *board, size_t board_len, uint8_t *buffer,
                             size_t buffer_len, size_t *line, size_t *cells, size_t *length);
+
+/* The cause of a refusal by 8 of cellmapper_pla_map, as cellmapper_cause has it. The result is always 0. */
+uint32_t cellmapper_pla_cause(const uint8_t *pla, size_t pla_len, const uint8_t *board, size_t board_len, size_t *outputs);
 
 /* Check of a network sheet against a panel that arrives as PLA. Refusals: those of the two texts, then 10 and 11 as
  * cellmapper_check has them. */

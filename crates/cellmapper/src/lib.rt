@@ -1,14 +1,15 @@
-// Table, Map, Check and Export on sheets, and Table, Map and Check on PLA panels, for a caller in C, as include/cellmapper.h
-// declares them: a slice is a pointer and a length, and what a function has to say beside its result goes through references that
-// the caller lends. Rests on design, mapper, checker, blif and pla, and adds nothing to what they answer; on reports for what a
-// caller is told of an answer.
+// Table, Map, Check and Export on sheets, the line that a refusal names and the cause of a refusal by 8, and Table, Map, Check and
+// the cause on PLA panels, for a caller in C, as include/cellmapper.h declares them: a slice is a pointer and a length, and what a
+// function has to say beside its result goes through references that the caller lends. Rests on design, mapper, checker, blif,
+// locate and pla, and adds nothing to what they answer; on reports for what a caller is told of an answer.
 ghost use mathlib.Core.Path.{_≡_};
 ghost use Rattle.sheet.specs.Examine as sheets;
 ghost use Rattle.design.specs.Tabulate.{tabulate, tableOf};
 ghost use Rattle.network.specs.Check.{check, checkOf};
 ghost use Rattle.blif.specs.Export as spec;
 ghost use Rattle.panel.specs.Examine.{examine};
-ghost use Rattle.reports.specs.Report.{tableReport, checkReport, exportReport, ReportedMap};
+ghost use Rattle.locate.specs.Located.{located};
+ghost use Rattle.reports.specs.Report.{tableReport, checkReport, exportReport, ReportedMap, ReportedCause, lineReport};
 
 #[no_mangle]
 pub extern "C" fn cellmapper_table(
@@ -46,6 +47,16 @@ pub extern "C" fn cellmapper_map(
     *cells = r.cells;
     *length = r.length;
     r.number
+}
+
+#[no_mangle]
+pub extern "C" fn cellmapper_cause(sheet: &[u8], outputs: &mut usize) -> u32
+    ensures { λ r. ⌜ r ≡ 0 ⌝ }
+    ensures { λ _. ⌜ ReportedCause (sheets.examine (now (sheet .entry))) (now (outputs .exit)) ⌝ }
+{
+    let c = mapper::cause(sheet);
+    *outputs = reports::report_cause(c);
+    0
 }
 
 #[no_mangle]
@@ -89,6 +100,26 @@ pub extern "C" fn cellmapper_export(
 }
 
 #[no_mangle]
+pub extern "C" fn cellmapper_line(
+    sheet: &[u8],
+    network: &[u8],
+    number: usize,
+    line: usize,
+    second: &mut usize,
+    start: &mut usize,
+    length: &mut usize,
+) -> u32
+    ensures { λ r. ⌜ record { number = r; second = now (second .exit); start = now (start .exit); length = now (length .exit) }
+        ≡ lineReport (located (now (sheet .entry)) (now (network .entry)) number line) ⌝ }
+{
+    let p = locate::place_of(sheet, network, number, line);
+    *second = p.second as usize;
+    *start = p.start;
+    *length = p.length;
+    0
+}
+
+#[no_mangle]
 pub extern "C" fn cellmapper_pla_table(
     pla: &[u8],
     board: &[u8],
@@ -126,6 +157,16 @@ pub extern "C" fn cellmapper_pla_map(
     *cells = told.cells;
     *length = told.length;
     told.number
+}
+
+#[no_mangle]
+pub extern "C" fn cellmapper_pla_cause(pla: &[u8], board: &[u8], outputs: &mut usize) -> u32
+    ensures { λ r. ⌜ r ≡ 0 ⌝ }
+    ensures { λ _. ⌜ ReportedCause (examine (now (pla .entry)) (now (board .entry))) (now (outputs .exit)) ⌝ }
+{
+    let caused = pla::cause(pla, board);
+    *outputs = reports::report_cause(caused);
+    0
 }
 
 #[no_mangle]

@@ -3,15 +3,20 @@
 use mathlib.Core.Path.{_≡_}
 use mathlib.Core.List.{List}
 use Prim.Native.Nat.{ℕ}
+use lib.ListN as lists
+use Rattle.bits.specs.Logic.{pick}
 use Rattle.sheet.specs.Examine.{Examined}
 use Rattle.design.specs.Tabulate as table
 use Rattle.design.specs.Tabulate.{TableAnswer}
 use Rattle.mapper.specs.Map as map
 use Rattle.mapper.specs.Map.{MapAnswer, OutcomeOf}
+use Rattle.mapper.specs.Cause as cause
+use Rattle.mapper.specs.Cause.{CauseAnswer, CauseOf}
 use Rattle.network.specs.Check as check
 use Rattle.network.specs.Check.{Checked}
 use Rattle.blif.specs.Export as blif
 use Rattle.blif.specs.Export.{ExportAnswer}
+use Rattle.locate.specs.Located.{Part}
 use Rattle.reports.specs.declared.TableReport.{TableReport}
 use Rattle.reports.specs.declared.MapReport.{MapReport}
 use Rattle.reports.specs.declared.CheckReport.{CheckReport}
@@ -39,3 +44,25 @@ pub record ReportedMap (x : Examined) (b : List ℕ) (r : MapReport) (b′ : Lis
   pub answer : MapAnswer
   pub outcome : OutcomeOf x b answer b′
   pub reported : r ≡ mapReport answer
+
+-- what is told of a cause: its outputs, output o where digit o is 1; 0 where there is none
+abbrev pub causeReport : CauseAnswer → ℕ
+causeReport cause.no-cause = 0
+causeReport (cause.outputs-of s) = s
+
+-- the cause on what an examination answers, and what is told of it
+pub record ReportedCause (x : Examined) (n : ℕ) : Type 0 where
+  pub answer : CauseAnswer
+  pub caused : CauseOf x answer
+  pub reported : n ≡ causeReport answer
+
+-- what is told of a refusal's line: 0 for a part of the design sheet and 1 for one of the network sheet, where it starts and how
+-- many bytes it has; there is nothing to refuse
+pub record LineReport : Type 0 where
+  pub number : ℕ
+  pub second : ℕ
+  pub start : ℕ
+  pub length : ℕ
+
+abbrev pub lineReport : Part → LineReport
+lineReport p = record { number = 0; second = pick (p .second) 1 0; start = p .start; length = lists.length (p .text) }

@@ -3,14 +3,15 @@
 // them.
 ghost use mathlib.Core.Path.{_≡_};
 ghost use Rattle.design.specs.Answer.{tableAnswer};
-ghost use Rattle.mapper.specs.Answer.{mapAnswer};
+ghost use Rattle.mapper.specs.Answer.{mapAnswer, causeAnswer};
 ghost use Rattle.comparing.specs.Answer.{checkedOf};
 ghost use Rattle.blif.specs.Answer.{exportAnswer};
-ghost use Rattle.reports.specs.Report.{tableReport, mapReport, checkReport, exportReport};
+ghost use Rattle.reports.specs.Report.{tableReport, mapReport, checkReport, exportReport, causeReport};
 ghost use Rattle.reports.specs.Numbers.{panelNumbers, TableNumber, MapNumber, CheckNumber, ExportNumber};
 use blif::Exported;
 use comparing::Checked;
 use design::Tabled;
+use mapper::Caused;
 use mapper::Mapped;
 
 // What a caller of Table is told.
@@ -126,5 +127,15 @@ pub fn report_export(e: Exported) -> ExportReport
             line: 0,
             length: n,
         },
+    }
+}
+
+// What a caller is told of the cause of a refusal by 8: the outputs as a number, 0 for none.
+pub fn report_cause(c: Caused) -> usize
+    ensures { λ r. ⌜ r ≡ causeReport (causeAnswer c) ⌝ }
+{
+    match c {
+        Caused::None => 0,
+        Caused::Outputs(s) => s,
     }
 }
