@@ -10,6 +10,8 @@ are lists of values, and the fewest cells and the first network are found by try
     cellref.py export SHEET NETWORK [BUFFER]      the network in BLIF, or refused N line L
     cellref.py map [BUFFER] < sheet               the first network in byte order, or refused N line L
     cellref.py fewest [brute] < sheet             the fewest cells whatever the limit, at most six, or none
+    cellref.py cause < sheet                      the numbers of the outputs that are the cause of refusal 8, or none
+    cellref.py line SHEET NETWORK NUMBER LINE     design or network, where the line starts, and the line in quotes
 """
 
 import itertools
@@ -495,8 +497,8 @@ def serves(tables, labels):
     return all(owner.setdefault(tuple(t[v] for t in tables), label) == label for v, label in enumerate(labels))
 
 
-def fewest_by_brute_force(design):
-    """The fewest cells, by trying every set of tables over the vertices: for at most 3 bound inputs.
+def fewest_by_brute_force(design, limit=MAX_LIMIT):
+    """The fewest cells within the limit, by trying every set of tables over the vertices: for at most 3 bound inputs.
 
     Two equal tables serve no better than one of them, and a table serves as well as its complement, so sets of tables
     that are 0 at vertex 0 are all that need trying.
@@ -504,7 +506,7 @@ def fewest_by_brute_force(design):
     classes = Classes(design)
     vertices = 2 ** len(design.bound)
     tables = [(0,) + rest for rest in itertools.product((0, 1), repeat=vertices - 1)]
-    for count in range(MAX_LIMIT + 1):
+    for count in range(limit + 1):
         for chosen in itertools.combinations(tables, count):
             if all(
                 any(serves(read, labels) for read in itertools.combinations(chosen, min(w, count)))
@@ -658,14 +660,19 @@ def map_sheet(text, buffer=ENDLESS):
     return map_of(examine(text), buffer)
 
 
-def map_of(design, buffer=ENDLESS):
+def find_cells(design):
+    """Questions 7 and 8: the classes, the fewest cells, and tables that serve, or the refusal raised."""
     classes = Classes(design)
     if classes.global_count() > MAX_GLOBAL:
         raise Refusal(7, 0)
     found = fewest(classes, design.limit)
     if found is None:
         raise Refusal(8, 0)
-    count, tables = found
+    return classes, *found
+
+
+def map_of(design, buffer=ENDLESS):
+    classes, count, tables = find_cells(design)
     over_classes = first_tables(classes, tables)
     network = network_text(design, classes, [[table[g] for g in classes.whole] for table in over_classes])
     if len(network) > buffer:
@@ -673,7 +680,69 @@ def map_of(design, buffer=ENDLESS):
     return count, network
 
 
+# ---- the line that a refusal names
+
+
+def line_at(design_text, network_text, number, line):
+    """Whether the line is the network sheet's, where it starts there, and its bytes without 0x0A.
+
+    Where a number names no line, or the text has no such line, it is the empty part at the text's end. A text that ends
+    with 0x0A is split into one piece more than it has lines, and that piece is the empty part at its end.
+    """
+    second = number in (10, 11)
+    text = network_text if second else design_text
+    pieces = text.split(b"\n")
+    if number in (2, 3, 4, 5, 10, 11) and 1 <= line <= len(pieces):
+        return second, sum(len(piece) + 1 for piece in pieces[: line - 1]), pieces[line - 1]
+    return second, len(text), b""
+
+
+# ---- the cause of refusal 8
+
+
+def lacks_cells(read, *words):
+    """Whether Map of what is read is refused by 8; a buffer plays no part."""
+    try:
+        find_cells(read(*words))
+    except Refusal as refusal:
+        return refusal.number == 8
+    return False
+
+
+def first_cause(count, refused):
+    """The first set of so many outputs that is refused on its own: those with fewer outputs come first, and of as many
+    the one whose lowest output is lower, then the next. None where there is no such set."""
+    for size in range(1, count + 1):
+        for chosen in itertools.combinations(range(count), size):
+            if refused(chosen):
+                return set(chosen)
+    return None
+
+
+def with_outputs(text, chosen):
+    """A valid sheet with some of its `out` lines alone: four lines stand before them, and `(end)` after them."""
+    lines = text.split(b"\n")
+    outs = lines[4:-2]
+    return b"\n".join([*lines[:4], *(outs[o] for o in chosen), *lines[-2:]])
+
+
+def cause(text):
+    """The outputs that are the cause where Map refuses the sheet by 8, else None."""
+    if not lacks_cells(examine, text):
+        return None
+    return first_cause(len(examine(text).outputs), lambda chosen: lacks_cells(examine, with_outputs(text, chosen)))
+
+
 # ---- the command line
+
+
+def said_cause(outputs):
+    return "none" if outputs is None else " ".join(map(str, sorted(outputs)))
+
+
+def show_line(design_file, network_file, number, line):
+    second, start, part = line_at(*read_files(design_file, network_file), int(number), int(line))
+    print("network" if second else "design", start, repr(part)[1:])
 
 
 def show_classes(text):
@@ -705,6 +774,10 @@ def run(command, words):
         return show_check(*words)
     if command == "export" and len(words) in (2, 3):
         return print(export(*read_files(*words[:2]), *map(int, words[2:])), end="")
+    if command == "line" and len(words) == 4:
+        return show_line(*words)
+    if command == "cause" and not words:
+        return print(said_cause(cause(sys.stdin.buffer.read())))
     if command == "fewest" and words in ([], ["brute"]):
         return show_fewest(sys.stdin.buffer.read(), words == ["brute"])
     if command == "classes" and not words:

@@ -1,12 +1,14 @@
 #!/usr/bin/env python3
 """Panels that arrive as PLA, from the words of request 2026-04: the examination of a pair, which is a PLA text and a second text
-with the `bound` line and the `limit` line. Table, Map and Check are cellref's, on the design that the pair gives.
+with the `bound` line and the `limit` line. Table, Map, Check and the cause of refusal 8 are cellref's, on the design that the pair
+gives.
 
 An output has its cubes as they stand in the text, and is looked up in them row by row; no formula is made of them.
 
     pla.py table PLA BOARD OUTPUT [BUFFER]        written K DIGITS, or refused N line L
     pla.py map PLA BOARD [BUFFER]                 the first network in byte order, or refused N line L
     pla.py check PLA BOARD NETWORK                same, differs output O row R, or refused N line L
+    pla.py cause PLA BOARD                        the numbers of the outputs that are the cause of refusal 8, or none
 """
 
 import re
@@ -193,6 +195,26 @@ def check(pla_text, board_text, network_text):
     return cellref.check_of(examine(pla_text, board_text), network_text)
 
 
+def with_outputs(pla_text, chosen):
+    """A valid PLA text with some of its outputs alone: five lines stand before the cubes, and `.e` after them."""
+    def marks(line):
+        literals, mark = line.split(" ")
+        return literals + " " + "".join(mark[o] for o in chosen)
+
+    inputs, _, input_names, output_names, count, *cubes, end = pla_text.decode("ascii").splitlines()
+    names = output_names.split(" ")[1:]
+    head = [inputs, f".o {len(chosen)}", input_names, " ".join([".ob", *(names[o] for o in chosen)]), count]
+    return "".join(line + "\n" for line in [*head, *map(marks, cubes), end]).encode("ascii")
+
+
+def cause(pla_text, board_text):
+    """The outputs that are the cause where Map refuses the pair by 8, else None."""
+    if not cellref.lacks_cells(examine, pla_text, board_text):
+        return None
+    count = len(examine(pla_text, board_text).outputs)
+    return cellref.first_cause(count, lambda chosen: cellref.lacks_cells(examine, with_outputs(pla_text, chosen), board_text))
+
+
 # ---- the command line
 
 
@@ -203,6 +225,8 @@ def run(command, words):
         return print(f"written {len(digits)} {digits}")
     if command == "map" and len(numbers) < 2:
         return print(map_pair(*texts, *map(int, numbers))[1], end="")
+    if command == "cause" and not numbers:
+        return print(cellref.said_cause(cause(*texts)))
     if command == "check" and len(numbers) == 1:
         found = check(*texts, *cellref.read_files(*numbers))
         return print("same" if found is None else f"differs output {found[0]} row {found[1]}")

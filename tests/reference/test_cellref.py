@@ -1,6 +1,6 @@
 #!/usr/bin/env python3
-"""The reference on the papers' own sheets A to K, its two searches for the fewest cells compared with each other, and its first
-network with all permitted ones and with those of bench/first/."""
+"""The reference on the papers' own sheets A to K, its two searches for the fewest cells compared with each other, its first
+network with all permitted ones and with those of bench/first/, the lines that refusals name, and the causes of refusal 8."""
 
 import itertools
 import pathlib
@@ -247,6 +247,170 @@ class Exports(unittest.TestCase):
             self.assertEqual(refusal(cellref.export, over_limit, network[:-1], buffer), (10, 5))
             self.assertEqual(refusal(cellref.export, over_limit, network, buffer), (11, 2))
             self.assertEqual(refusal(cellref.export, over_width, network, buffer), (11, 3))
+
+
+class Lines(unittest.TestCase):
+    """The lines that refusals name."""
+
+    def test_each_line_of_both_sheets(self):
+        network = A_NETWORK.encode("ascii")
+        for text, numbers, second in ((A, (2, 3, 4, 5), False), (network, (10, 11), True)):
+            start = 0
+            for n, line in enumerate(text.split(b"\n")[:-1], 1):
+                for number in numbers:
+                    self.assertEqual(cellref.line_at(A, network, number, n), (second, start, line))
+                start += len(line) + 1
+            self.assertEqual(start, len(text))
+
+    def test_no_such_line(self):
+        network = A_NETWORK.encode("ascii")
+        for line in (0, 8, 9, 100, 2**64 - 1):
+            for number in (2, 3, 4, 5):
+                self.assertEqual(cellref.line_at(A, network, number, line), (False, len(A), b""))
+            for number in (10, 11):
+                self.assertEqual(cellref.line_at(A, network, number, line), (True, len(network), b""))
+
+    def test_other_numbers(self):
+        for number in (0, 1, 6, 7, 8, 9, *range(12, 21), 2**64 - 1):
+            for line in range(9):
+                self.assertEqual(cellref.line_at(A, b"x\ny\n", number, line), (False, len(A), b""))
+
+    def test_last_line_without_its_end(self):
+        self.assertEqual(cellref.line_at(b"ab\ncd", b"e", 2, 1), (False, 0, b"ab"))
+        self.assertEqual(cellref.line_at(b"ab\ncd", b"e", 2, 2), (False, 3, b"cd"))
+        self.assertEqual(cellref.line_at(b"ab\ncd", b"e", 2, 3), (False, 5, b""))
+        self.assertEqual(cellref.line_at(b"ab\ncd", b"e", 10, 1), (True, 0, b"e"))
+        self.assertEqual(cellref.line_at(b"ab\ncd", b"e", 10, 2), (True, 1, b""))
+
+    def test_empty_texts_and_lines(self):
+        for number in (2, 10):
+            for line in range(3):
+                self.assertEqual(cellref.line_at(b"", b"", number, line), (number == 10, 0, b""))
+        self.assertEqual(cellref.line_at(b"\n\nx\n", b"", 5, 1), (False, 0, b""))
+        self.assertEqual(cellref.line_at(b"\n\nx\n", b"", 5, 2), (False, 1, b""))
+        self.assertEqual(cellref.line_at(b"\n\nx\n", b"", 5, 3), (False, 2, b"x"))
+        self.assertEqual(cellref.line_at(b"\n\nx\n", b"", 5, 4), (False, 4, b""))
+        self.assertEqual(cellref.line_at(b"", b"\x00\xff\n", 11, 1), (True, 0, b"\x00\xff"))
+
+    def test_lines_by_their_bounds(self):
+        """A line within the text starts after as many 0x0A as lines before it, has none, and one or the end stands after it."""
+        dice = random.Random(21)
+        for _ in range(2000):
+            text = bytes(dice.choice(b"\n\nab\x00") for _ in range(dice.randrange(9)))
+            lines = text.count(b"\n") + (text[-1:] not in (b"\n", b""))
+            for line in range(lines + 3):
+                _, start, part = cellref.line_at(text, b"", dice.choice((2, 3, 4, 5)), line)
+                end = start + len(part)
+                self.assertEqual(text[start:end], part)
+                if not 1 <= line <= lines:
+                    self.assertEqual((start, end), (len(text), len(text)))
+                    continue
+                self.assertEqual(text[:start].count(b"\n"), line - 1)
+                self.assertIn(text[:start][-1:], (b"\n", b""))
+                self.assertNotIn(b"\n", part)
+                self.assertIn(text[end : end + 1], (b"\n", b""))
+
+    def test_lines_that_refusals_name(self):
+        self.assertEqual(refusal(cellref.map_sheet, A.replace(b"2)", b"7)")), (3, 4))
+        self.assertEqual(cellref.line_at(A.replace(b"2)", b"7)"), b"", 3, 4), (False, 38, b"(limit 7)"))
+        network = A_NETWORK.replace("0001)", "000)").encode("ascii")
+        self.assertEqual(refusal(cellref.check, A, network), (10, 4))
+        self.assertEqual(cellref.line_at(A, network, 10, 4), (True, 59, b"(node g (_0 d) 000)"))
+        cut = A_NETWORK.encode("ascii")[:-6]
+        self.assertEqual(refusal(cellref.check, A, cut), (10, 6))
+        self.assertEqual(cellref.line_at(A, cut, 10, 6), (True, 90, b""))
+
+
+def sub_design(design, chosen):
+    return cellref.Design(design.inputs, design.bound, design.limit, [design.outputs[o] for o in chosen])
+
+
+def lacking(design, chosen):
+    """Whether these outputs alone need more cells than the limit, by trying all tables."""
+    return cellref.fewest_by_brute_force(sub_design(design, chosen), design.limit) is None
+
+
+def is_cause(design, outputs):
+    """The definition: it lacks cells, every smaller set but the empty one has enough, and so has every earlier one as large."""
+    mine = tuple(sorted(outputs))
+    sets = [chosen for size in range(1, len(mine) + 1) for chosen in itertools.combinations(range(len(design.outputs)), size)]
+    before = [chosen for chosen in sets if len(chosen) < len(mine) or chosen < mine]
+    return lacking(design, mine) and not any(lacking(design, chosen) for chosen in before)
+
+
+class Causes(unittest.TestCase):
+    """The causes of refusal 8."""
+
+    TWO = ("(xor a c)", "(xor b c)")
+    THREE = TWO + ("(xor a b c)",)
+
+    def test_sheets_of_the_paper(self):
+        self.assertEqual(cellref.cause(sheet("a b c", "a b", 1, *self.TWO)), {0, 1})
+        self.assertEqual(cellref.cause(sheet("a b c", "a b", 2, *self.THREE)), {0, 1, 2})
+        self.assertEqual(cellref.cause(sheet("a b c d", "a b", 1, "(or (and a b c) (and (xor a b) d))")), {0})
+        three = ("(or (and a x) (and e y))", "(xor b x)", "(xor c x)")
+        self.assertEqual(cellref.cause(sheet("a b c d e x y", "a b c d e", 3, *three)), {0, 1, 2})
+
+    def test_one_limit_lower(self):
+        """The lower the limit, the fewer outputs."""
+        self.assertEqual(cellref.cause(sheet("a b c", "a b", 1, *self.THREE)), {0, 1})
+        self.assertEqual(cellref.cause(sheet("a b c", "a b", 0, *self.THREE)), {0})
+        three = ("(or (and a x) (and e y))", "(xor b x)", "(xor c x)")
+        self.assertEqual(cellref.cause(sheet("a b c d e x y", "a b c d e", 2, *three)), {0, 1})
+        self.assertEqual(cellref.cause(sheet("a b c d e x y", "a b c d e", 1, *three)), {0})
+
+    def test_first_of_as_many(self):
+        a, b = self.TWO
+        self.assertEqual(cellref.cause(sheet("a b c", "a b", 1, a, a, b, b)), {0, 2})
+        self.assertEqual(cellref.cause(sheet("a b c", "a b", 1, "c", a, a, b)), {1, 3})
+        self.assertEqual(cellref.cause(sheet("a b c", "a b", 0, "c", "(not c)", a, b)), {2})
+        four = ("(xor a x)", "(xor b x)", "(xor a b x)")
+        self.assertEqual(cellref.cause(sheet("a b x", "a b", 2, four[0], *four)), {0, 2, 3})
+        whole = ("(xor a x)", "(xor b x)", "(xor c x)", "(xor d x)")
+        self.assertEqual(cellref.cause(sheet("a b c d x", "a b c d", 3, *whole)), {0, 1, 2, 3})
+
+    def test_examples(self):
+        folder = pathlib.Path(__file__).resolve().parents[2] / "examples"
+        for path in sorted(folder.glob("*.sheet")):
+            self.assertEqual(cellref.cause(path.read_bytes()), {0, 1, 2} if path.stem == "axles" else None, path.name)
+
+    def test_sheets_that_map(self):
+        for text in (A, sheet("a b c", "a b", 2, *self.TWO), sheet("a b c", "a b", 3, *self.THREE), sheet("a b c d", "a b", 0, "(or c d)")):
+            self.assertIsNone(cellref.cause(text))
+
+    def test_refused_by_another_number(self):
+        valid = sheet("a b c", "a b", 1, *self.TWO)
+        self.assertEqual(cellref.cause(valid), {0, 1})
+        changes = [(b"(end)\n", b"(end)", 1), (b"(xor a c)", b"(xor a)", 2), (b"limit 1", b"limit 7", 3)]
+        changes += [(b"out g", b"out f", 4), (b"(xor b c)", b"(xor b d)", 5)]
+        for old, new, number in changes:
+            text = valid.replace(old, new)
+            self.assertEqual(refusal(cellref.map_sheet, text)[0], number)
+            self.assertIsNone(cellref.cause(text))
+        many = ("(or (and a x) (and e y))", "(xor b x)", "(xor c x)", "(xor d x)")
+        text = sheet("a b c d e x y", "a b c d e", 0, *many)
+        self.assertEqual(refusal(cellref.map_sheet, text), (7, 0))
+        self.assertIsNone(cellref.cause(text))
+
+    def test_definition_on_random_sheets(self):
+        """One cell fewer than the fewest: what is found is the cause by its definition. With as many it maps."""
+        dice = random.Random(5)
+        forms = ["(xor {} x)"] * 5 + ["(and {} x)", "(or {} y)", "(xor {} x y)", "(and x y)", "(or (and {} x) (and {} y))"]
+        sizes = {}
+        for _ in range(200):
+            bound = dice.choice(("a b", "a b", "a b c"))
+            pool = [random_sheets.formula(dice, bound.split(), dice.randrange(1, 3)) for _ in range(5)]
+            if dice.random() < 0.5:
+                pool = dice.sample(["a", "b", "(and a b)", "(or a b)", "(xor a b)", "(and a (not b))", "(and b (not a))"], 5)
+            outputs = [dice.choice(forms).format(pool[k], pool[k + 1]) for k in range(dice.randrange(1, 5))]
+            fewest = cellref.fewest(cellref.Classes(cellref.examine(sheet(bound + " x y", bound, 6, *outputs))))[0]
+            self.assertIsNone(cellref.cause(sheet(bound + " x y", bound, fewest, *outputs)))
+            if 0 < fewest < (4 if "c" in bound else 6):
+                text = sheet(bound + " x y", bound, fewest - 1, *outputs)
+                found = cellref.cause(text)
+                self.assertTrue(is_cause(cellref.examine(text), found))
+                sizes[len(found)] = sizes.get(len(found), 0) + 1
+        self.assertTrue(all(sizes.get(size, 0) > 3 for size in range(1, 5)), sizes)
 
 
 class Searches(unittest.TestCase):

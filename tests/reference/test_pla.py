@@ -1,6 +1,6 @@
 #!/usr/bin/env python3
 """The reference on pairs of a PLA text and a second text: the cases by hand, the example, and random panels printed as a sheet and
-as a pair, of which Table, Map and Check must say the same."""
+as a pair, of which Table, Map, Check and the cause must say the same."""
 
 import pathlib
 import random
@@ -62,10 +62,37 @@ class Cases(unittest.TestCase):
             self.assertEqual(pla.table(*pair, output), cellref.table(sheet, output))
 
 
+class Causes(unittest.TestCase):
+    C = b".i 3\n.o 2\n.ilb a b c\n.ob f g\n.p 4\n0-1 10\n1-0 10\n-01 01\n-10 01\n.e\n"
+
+    def test_sheet_c(self):
+        self.assertEqual(pla.cause(self.C, b"(bound a b)\n(limit 1)\n"), {0, 1})
+        self.assertEqual(pla.cause(self.C, b"(bound a b)\n(limit 0)\n"), {0})
+        self.assertIsNone(pla.cause(self.C, b"(bound a b)\n(limit 2)\n"))
+
+    def test_refused_by_another_number(self):
+        board = b"(bound a b)\n(limit 1)\n"
+        pairs = [(b"", board), (self.C[:-1], board), (self.C.replace(b" 10\n", b" 1~\n"), board), (self.C.replace(b" g", b" f"), board)]
+        pairs += [(self.C, b""), (self.C, board[:-1]), (self.C, b"(bound a d)\n(limit 1)\n"), (self.C, b"(bound a b)\n(limit 7)\n")]
+        for pair in pairs:
+            self.assertIn("refused", answer(pla.map_pair, *pair))
+            self.assertIsNone(pla.cause(*pair))
+
+    def test_some_outputs(self):
+        text = self.C.replace(b".p 4", b".p 5").replace(b".e", b"--- 00\n.e")
+        self.assertEqual(pla.with_outputs(text, (1,)), b".i 3\n.o 1\n.ilb a b c\n.ob g\n.p 5\n0-1 0\n1-0 0\n-01 1\n-10 1\n--- 0\n.e\n")
+        self.assertEqual(pla.with_outputs(text, (0, 1)), text)
+
+    def test_cases_by_hand(self):
+        for name, text, board, wanted in pla_cases.CASES:
+            with self.subTest(name):
+                self.assertEqual(pla.cause(text, board) is not None, wanted.startswith("refused 8 "))
+
+
 class Panels(unittest.TestCase):
     def test_a_sheet_and_a_pair_with_the_same_tables(self):
         dice = random.Random(11)
-        mapped = 0
+        mapped = causes = 0
         for _ in range(60):
             lines = random_sheets.sheet(dice, dice.randrange(1, 7), 4, (0, 1, 2, 3, 4))
             sheet = random_sheets.text_of(lines)
@@ -74,6 +101,9 @@ class Panels(unittest.TestCase):
                 self.assertEqual(answer(pla.table, *pair, output), answer(cellref.table, sheet, output))
             said = answer(cellref.map_sheet, sheet)
             self.assertEqual(answer(pla.map_pair, *pair), said)
+            found = cellref.cause(sheet)
+            self.assertEqual(pla.cause(*pair), found)
+            causes += found is not None
             if not isinstance(said, str):
                 mapped += 1
                 network = bytearray(said[1].encode())
@@ -82,6 +112,7 @@ class Panels(unittest.TestCase):
                 network[place] ^= 1
                 self.assertEqual(answer(pla.check, *pair, bytes(network)), answer(cellref.check, sheet, bytes(network)))
         self.assertGreater(mapped, 20)
+        self.assertGreater(causes, 8)
 
     def test_every_number_comes(self):
         """Damaged pairs end, with an answer of the examination's."""
