@@ -179,3 +179,33 @@ Exported call_export(const Source &sheet, const std::string &network, size_t roo
     e.text = first_bytes(b, e.length);
     return e;
 }
+
+size_t call_cause(const Source &source)
+{
+    size_t outputs = GARBAGE;
+    Lent lent(source);
+    size_t n = source.text.size(), m = source.board.size();
+    unsigned result = source.pla ? cellmapper_pla_cause(lent.text, n, lent.board, m, &outputs) : cellmapper_cause(lent.text, n, &outputs);
+    calls++;
+    expect(result == 0, "the result of the cause is 0", source);
+    expect(lent.untouched(), "the cause wrote into a text", source);
+    expect(outputs < 16, "the cause is a set of at most four outputs", source);
+    return outputs;
+}
+
+std::vector<Part> call_lines(const std::string &sheet, const std::string &network, const std::vector<Named> &named)
+{
+    std::vector<Part> parts;
+    const unsigned char *s = lend(sheets, sheet.size(), sheet), *w = lend(networks, network.size(), network);
+    for (const Named &n : named) {
+        Part p = {GARBAGE, GARBAGE, GARBAGE};
+        unsigned result = cellmapper_line(s, sheet.size(), w, network.size(), n.number, n.line, &p.second, &p.start, &p.length);
+        expect(result == 0 && p.second <= 1, "the result of a line is 0, and it is of the first or the second sheet", sheet, network);
+        size_t size = p.second ? network.size() : sheet.size();
+        expect(p.start <= size && p.length <= size - p.start, "a line is a part of its sheet", sheet, network);
+        parts.push_back(p);
+    }
+    calls++;
+    expect(sheets.untouched(sheet, 0) && networks.untouched(network, 0), "a line was asked for and a sheet written into", sheet, network);
+    return parts;
+}

@@ -6,6 +6,7 @@
 
 #include <cstddef>
 #include <string>
+#include <vector>
 
 // What a panel is written on: a design sheet, or a PLA text with a second text beside it. The functions for the one or for the
 // other are called by what it is; Export is there for sheets alone.
@@ -42,10 +43,26 @@ struct Exported {
     std::string text;
 };
 
+// A refusal's number and line, as asked for its text; both may be any number.
+struct Named {
+    size_t number, line;
+};
+
+// A part of the design sheet, or where `second` is 1 of the network sheet.
+struct Part {
+    size_t second, start, length;
+};
+
 Tabled call_table(const Source &source, size_t output, size_t room);
 Mapped call_map(const Source &source, size_t room);
 Checked call_check(const Source &source, const std::string &network);
 Exported call_export(const Source &sheet, const std::string &network, size_t room);
+
+// The set of outputs, bit o for output o.
+size_t call_cause(const Source &source);
+
+// A part for each that is named; the two sheets are lent once for all of them.
+std::vector<Part> call_lines(const std::string &sheet, const std::string &network, const std::vector<Named> &named);
 
 // Which end the next text stands at, and whether an empty one has a null pointer: four ways, taken in turn from this one on.
 void start_at_way(unsigned way);

@@ -1,9 +1,11 @@
-// Map and Export on the repository's own sheets, from the folder that the repository is in. The sheets of bench/border/ are
-// hard ones; the fewest cells of each, or `inf` where none serve, stand in its file ANSWERS, which two other searches gave.
+// Map and Export on the repository's own sheets, from the folder that the repository is in, and the cause where Map refuses, which
+// must be the first set of outputs that Map refuses alone. The sheets of bench/border/ are hard ones; the fewest cells of each, or
+// `inf` where none serve, stand in its file ANSWERS, which two other searches gave.
 // Beside the sheets of bench/first/ and examples/ stand their first networks, and beside a sheet the same panel as PLA, if any.
 #include "files.h"
 
 #include "calls.h"
+#include "cause.h"
 #include "compare.h"
 
 #include <filesystem>
@@ -26,11 +28,15 @@ Mapped mapped(const std::string &sheet)
 {
     Mapped m = call_map(sheet, AMPLE);
     expect(m.number == 0 || m.number == 8, "Map's number on a sheet of the repository", sheet);
+    Panel examined(sheet);
+    size_t cause = call_cause(sheet);
+    expect((cause != 0) == (m.number == 8), "there is a cause where Map refuses by 8", sheet);
     if (m.number == 0) {
         Checked c = call_check(sheet, m.network);
         expect(c.number == 0 && c.differs == 0, "Check on Map's network", sheet, m.network);
-        Panel examined(sheet);
         compare_export(Beside(examined, m.network), 0);
+    } else {
+        compare_cause_with_map(examined, cause);
     }
     return m;
 }
@@ -69,6 +75,7 @@ size_t plas(const char *folder)
         std::string network = compare_both_ways(sheet, as_pla, 0);
         expect(network == contents(path.replace_extension(".network")), "Map's network is that of " + path.string(), as_pla.source, network);
         check_both_ways(sheet, as_pla, network);
+        cause_both_ways(sheet, 0, as_pla);
     }
     return panels;
 }

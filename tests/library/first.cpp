@@ -5,7 +5,6 @@
 #include <algorithm>
 #include <array>
 #include <cstdint>
-#include <optional>
 
 namespace {
 
@@ -146,8 +145,9 @@ private:
     // Gives a code to a class, and takes away what clashes with it; false where an output or a class has nothing left.
     bool give(State &state, size_t g, Code code)
     {
-        if (nodes-- == 0)
+        if (nodes == 0)
             throw TooLong();
+        nodes--;
         state.codes[g] = code;
         state.done[g] = true;
         for (size_t o = 0; o < state.sets.size(); o++) {
@@ -309,4 +309,14 @@ First first_network(const oracle::Design &design, unsigned long nodes)
         return First{};
     }
     return First{true, ""};
+}
+
+std::optional<bool> within_limit(const oracle::Design &design, unsigned long &nodes)
+{
+    Problem p = problem_of(design);
+    try {
+        return Search(p, design.limit, nodes).find(Digits(design.limit)).has_value();
+    } catch (TooLong) {
+        return std::nullopt;
+    }
 }

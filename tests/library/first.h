@@ -9,6 +9,8 @@
 
 #include "oracle.h"
 
+#include <optional>
+
 struct First {
     bool settled = false; // false where the search took more nodes than it may
     std::string network;  // empty where no network within limit and widths computes the design
@@ -16,5 +18,9 @@ struct First {
 
 // `nodes`: how many codes the search may give in all.
 First first_network(const oracle::Design &design, unsigned long nodes);
+
+// Whether some network within limit and widths computes the design; nothing where that took more nodes than are left, from which
+// those that it takes are taken off.
+std::optional<bool> within_limit(const oracle::Design &design, unsigned long &nodes);
 
 #endif

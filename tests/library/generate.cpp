@@ -129,6 +129,33 @@ Generator::Draft Generator::draft()
     return d;
 }
 
+// The pool's formulas are the tables; the more of them an output reads, the more cells it needs alone.
+Generator::Draft Generator::border_draft()
+{
+    static const char *const FORMS[] = {"(xor P x)", "(xor P x)", "(and P x)", "(or x P)", "(or (and P x) (and Q y))", "(xor (and P x) (and Q y))",
+        "(or (and P x) (and Q (not x)) (and R y))", "(xor P Q x)"};
+    Draft d;
+    const size_t bound = 2 + below(4), outputs = once_in(8) ? 1 + below(3) : 4, forms = once_in(2) ? 4 : 8;
+    for (char c = 'a'; d.bound.size() < bound; c++)
+        d.bound.push_back(string(1, c));
+    d.inputs = shuffled(d.bound);
+    d.inputs.insert(d.inputs.begin() + long(below(bound + 1)), {"x", "y"});
+    Names pool;
+    for (size_t n = 3 + below(3); n > 0; n--)
+        pool.push_back(formula(d.bound, 1 + below(bound + 2)));
+    d.limit = "6";
+    for (size_t o = 0; o < outputs; o++) {
+        string f;
+        for (const char *c = FORMS[below(forms)]; *c; c++)
+            f += *c >= 'P' && *c <= 'R' ? pool[below(pool.size())] : string(1, *c);
+        d.outputs.emplace_back(string("o") + "zyxw"[o], o > 0 && once_in(8) ? d.outputs[below(o)].second : f);
+    }
+    // Where the first outputs need no cells, the cause is among those after them.
+    for (size_t o = 0; o + 1 < outputs && once_in(o == 0 ? 3 : 2); o++)
+        d.outputs[o].second = once_in(2) ? "(and x y)" : "y";
+    return d;
+}
+
 void Generator::break_a_rule(Draft &d)
 {
     static const char *const LIMITS[] = {"7", "10", "999", "00", "01", "1000", "", "x", "-1"};
@@ -365,6 +392,23 @@ void Generator::panel(string &sheet, Source &pla)
         sheet = once_in(2) ? draft().text() : sheet_of_products(pla_draft());
     while (oracle::examine(sheet, design).number != 0);
     pla = pla_of(design).source();
+}
+
+void Generator::border_panel(string &sheet, Source &pla)
+{
+    oracle::Design design;
+    sheet = border_draft().text();
+    oracle::examine(sheet, design);
+    pla = pla_of(design).source();
+}
+
+string Generator::bytes()
+{
+    static const char BYTES[] = {'\n', '\n', '\n', 'a', '(', ' ', 0, 0x0B, 0x0D, char(0x8A), char(0xFF)};
+    string all(once_in(40) ? 4000 + below(4000) : below(30), ' ');
+    for (char &c : all)
+        c = BYTES[below(sizeof BYTES)];
+    return all;
 }
 
 // ---- damage

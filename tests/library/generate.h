@@ -26,6 +26,13 @@ public:
     // with sums of products, and a PLA text of other cubes with its second text.
     void panel(std::string &sheet, Source &pla);
 
+    // A panel written both ways with limit 6, whose outputs read some of a few tables over the bound inputs: how many cells a set of
+    // outputs needs depends on which tables they share.
+    void border_panel(std::string &sheet, Source &pla);
+
+    // Any bytes, with many ends of lines.
+    std::string bytes();
+
     // A network sheet for a valid design. `mapped` is Map's own network, or empty.
     std::string network_sheet(const oracle::Design &design, const std::string &mapped);
 
@@ -37,6 +44,7 @@ private:
     std::string formula(const std::vector<std::string> &names, size_t size);
     std::string deep_formula(const std::vector<std::string> &names);
     Draft draft();
+    Draft border_draft();
     void break_a_rule(Draft &draft);
     std::vector<std::string> shuffled(std::vector<std::string> names);
     PlaDraft pla_draft();

@@ -257,15 +257,34 @@ void tabulate(Design &design)
             o.table += value(o.formula, design.inputs, row) ? '1' : '0';
 }
 
-// The row over some of the inputs that a row over all of them has.
-size_t part_of_row(const Names &some, const Names &inputs, size_t row)
-{
-    size_t part = 0;
-    for (const std::string &n : some)
-        part = 2 * part + digit(n, inputs, row);
-    return part;
+// Some of the inputs, by which a row over all of them is told apart.
+class Some {
+public:
+    Some(const Names &some, const Names &inputs)
+    {
+        for (const std::string &n : some)
+            places.push_back(size_t(inputs.end() - std::find(inputs.begin(), inputs.end(), n)) - 1);
+    }
+
+    // The row over these that a row over all has.
+    size_t part_of(size_t row) const
+    {
+        size_t part = 0;
+        for (size_t place : places)
+            part = 2 * part + (row >> place & 1);
+        return part;
+    }
+
+private:
+    std::vector<size_t> places;
+};
+
 }
 
+Names lines(const std::string &text)
+{
+    bool ended;
+    return split(text, ended);
 }
 
 // ---- the design sheet
@@ -487,10 +506,11 @@ Names free_inputs(const Design &design)
 std::vector<std::string> columns(const Design &design, size_t output)
 {
     Names free = free_inputs(design);
+    Some vertex(design.bound, design.inputs), rest(free, design.inputs);
     std::vector<std::string> list(size_t(1) << design.bound.size(), std::string(size_t(1) << free.size(), '?'));
     const std::string &table = design.outputs[output].table;
     for (size_t row = 0; row < table.size(); row++)
-        list[part_of_row(design.bound, design.inputs, row)][part_of_row(free, design.inputs, row)] = table[row];
+        list[vertex.part_of(row)][rest.part_of(row)] = table[row];
     return list;
 }
 
@@ -642,11 +662,11 @@ Comparison check(const Design &design, const std::string &text, Network &network
     if (answer.refusal.number)
         return answer;
     Names free = free_inputs(design);
+    Some vertex(design.bound, design.inputs), rest(free, design.inputs);
     for (size_t o = 0; o < design.outputs.size(); o++) {
         const std::string &wanted = design.outputs[o].table;
         for (size_t row = 0; row < wanted.size(); row++) {
-            size_t vertex = part_of_row(design.bound, design.inputs, row), rest = part_of_row(free, design.inputs, row);
-            if (network.nodes[o].digits[code(network, network.nodes[o], vertex) << free.size() | rest] == wanted[row])
+            if (network.nodes[o].digits[code(network, network.nodes[o], vertex.part_of(row)) << free.size() | rest.part_of(row)] == wanted[row])
                 continue;
             answer.differs = true;
             answer.output = o;

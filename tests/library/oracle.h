@@ -56,6 +56,9 @@ struct Comparison {
     size_t output = 0, row = 0;
 };
 
+// The lines of a text as they are taken one by one, without their ends; a last one without its end is one of them.
+std::vector<std::string> lines(const std::string &text);
+
 Refusal examine(const std::string &text, Design &design);
 
 // The examination of a PLA text and a second text with the `bound` line and the `limit` line.

@@ -1,4 +1,5 @@
-// The specification's sheets A to K, texts in BLIF, PLA texts and every refusal, by hand: what each call must answer stands beside it.
+// The specification's sheets A to K, texts in BLIF, PLA texts, every refusal, the lines that refusals name and the causes of refusal
+// 8, by hand: what each call must answer stands beside it.
 // Buffers are exactly long enough and one byte short; slices of length 0 have null pointers too (calls.cpp). Then the stack
 // that the header promises to be enough.
 #include "worked.h"
@@ -93,6 +94,7 @@ void maps_to(const std::string &s, size_t cells, const std::string &wanted)
     expect(exact.number == 0 && exact.network == m.network, "Map in a buffer just long enough", s);
     expect(shorter.number == 9 && shorter.line == 0, "Map in a buffer one byte short", s);
     expect(none.number == 9 && none.line == 0, "Map in an empty buffer", s);
+    expect(call_cause(s) == 0, "a sheet that maps has no cause", s);
 }
 
 void map_refuses(const std::string &s, unsigned number, size_t line)
@@ -101,6 +103,13 @@ void map_refuses(const std::string &s, unsigned number, size_t line)
         Mapped m = call_map(s, room);
         expect(m.number == number && m.line == line, "Map must refuse by " + std::to_string(number) + " line " + std::to_string(line), s);
     }
+}
+
+// Refusal 8, and the outputs that are its cause.
+void lacks_cells(const std::string &s, size_t cause)
+{
+    map_refuses(s, 8, 0);
+    expect(call_cause(s) == cause, "the cause is the set " + std::to_string(cause), s);
 }
 
 // ---- Check and Export, which examine alike
@@ -152,6 +161,7 @@ void all_refuse(const std::string &s, unsigned number, size_t line)
     map_refuses(s, number, line);
     both_refuse(s, NETWORK, number, line);
     both_refuse(s, "", number, line);
+    expect(call_cause(s) == 0, "a sheet that is refused by another number than 8 has no cause", s);
 }
 
 void sheets_to_try()
@@ -161,15 +171,15 @@ void sheets_to_try()
     tables_to(A, 0, "0110100110010110");
     tables_to(A, 1, "0001010001000001");
     const Lines c = {"(xor a c)", "(xor b c)"}, d = {"(xor a c)", "(xor b c)", "(xor a b c)"};
-    map_refuses(sheet("a b c", "a b", "1", c), 8, 0);
+    lacks_cells(sheet("a b c", "a b", "1", c), 0b11);
     maps_to(sheet("a b c", "a b", "2", c), 2, network("a b", {"0011", "0101"}, {"(_0 c) 0110", "(_1 c) 0110"}));
-    map_refuses(sheet("a b c", "a b", "2", d), 8, 0);
+    lacks_cells(sheet("a b c", "a b", "2", d), 0b111);
     maps_to(sheet("a b c", "a b", "3", d), 3, network("a b", {"0011", "0101", "0110"}, {"(_0 c) 0110", "(_1 c) 0110", "(_2 c) 0110"}));
     const Lines e = {"(or (and a c) (and b d))", "(xor a b c)"};
     maps_to(sheet("a b c d", "a b", "2", e), 2, network("a b", {"0011", "0110"}, {"(_0 _1 c d) 0000010101110011", "(_1 c d) 00111100"}));
     maps_to(sheet("a b c d", "a b", "0", {"(or c d)"}), 0, network("a b", {}, {"(c d) 0111"}));
     const Lines g = {"(or (and a b c) (and (xor a b) d))"};
-    map_refuses(sheet("a b c d", "a b", "1", g), 8, 0);
+    lacks_cells(sheet("a b c d", "a b", "1", g), 0b1);
     maps_to(sheet("a b c d", "a b", "2", g), 2, network("a b", {"0001", "0110"}, {"(_0 _1 c d) 0000010100110000"}));
     maps_to(sheet("a b", "a b", "1", {"(and a b)"}), 1, network("a b", {"0001"}, {"(_0) 01"}));
     const Lines i = {"(or (and a x) (and e y))", "(xor b x)", "(xor c x)"};
@@ -177,10 +187,76 @@ void sheets_to_try()
         "01010101010101010101010101010101"};
     const Lines i_nodes = {"(_0 _3 x y) 0000010100110111", "(_1 x y) 00111100", "(_2 x y) 00111100"};
     maps_to(sheet("a b c d e x y", "a b c d e", "4", i), 4, network("a b c d e", i_tables, i_nodes));
-    map_refuses(sheet("a b c d e x y", "a b c d e", "3", i), 8, 0);
-    map_refuses(sheet("a b c d e x y", "a b c d e", "0", {i[0], i[1], i[2], "(xor d x)"}), 7, 0);
+    lacks_cells(sheet("a b c d e x y", "a b c d e", "3", i), 0b111);
+    const std::string many = sheet("a b c d e x y", "a b c d e", "0", {i[0], i[1], i[2], "(xor d x)"});
+    map_refuses(many, 7, 0);
+    expect(call_cause(many) == 0, "refusal 7 has no cause", many);
     differs_at(A, with(4, "(node g (_0 d) 0011)"), 1, 2);
     same(A, text({"(network 1)", "(lut _0 (a b c) 10010110)", "(node f (_0 d) 1001)", "(node g (_0 d) 0100)", "(count 1)", "(end)"}));
+}
+
+// Of as many outputs the set whose lowest output comes first, then the next.
+void causes_to_try()
+{
+    const std::string a = "(xor a c)", b = "(xor b c)", both = "(xor a b c)";
+    lacks_cells(sheet("a b c", "a b", "0", {"c", "(not c)", a, b}), 0b100);
+    lacks_cells(sheet("a b c", "a b", "1", {a, b, both}), 0b11);
+    lacks_cells(sheet("a b c", "a b", "1", {a, a, b, b}), 0b101);
+    lacks_cells(sheet("a b c", "a b", "1", {a, "1", a, both}), 0b1001);
+    lacks_cells(sheet("a b c", "a b", "1", {"c", a, a, b}), 0b1010);
+    lacks_cells(sheet("a b c", "a b", "1", {"c", "0", a, b}), 0b1100);
+    lacks_cells(sheet("a b c", "a b", "2", {a, a, b, both}), 0b1101);
+    lacks_cells(sheet("a b c", "a b", "2", {"c", a, b, both}), 0b1110);
+    lacks_cells(sheet("a b c d x", "a b c d", "3", {"(xor a x)", "(xor b x)", "(xor c x)", "(xor d x)"}), 0b1111);
+    // One output that needs more cells than the limit is the cause, though two before it need too many together.
+    lacks_cells(sheet("a b c d", "a b", "1", {"(xor a c)", "(xor b c)", "(or (and a c) (and b d))"}), 0b100);
+}
+
+// ---- the lines that refusals name
+
+void part_is(const std::string &s, const std::string &n, Named named, size_t second, size_t start, const std::string &line)
+{
+    Part p = call_lines(s, n, {named})[0];
+    bool good = p.second == second && p.start == start && p.length == line.size() && (second ? n : s).substr(p.start, p.length) == line;
+    expect(good, "the line of refusal " + std::to_string(named.number) + " line " + std::to_string(named.line) + " is '" + line + "'", s, n);
+}
+
+void lines_to_try()
+{
+    const Lines of_a = {"(design 1)", "(in a b c d)", "(bound a b c)", "(limit 2)", "(out f (xor a b c d))", "(out g (and (xor a b c) d))", "(end)"};
+    const size_t starts[] = {0, 11, 24, 38, 48, 70, 98}, network_starts[] = {0, 12, 38, 59, 80, 90};
+    for (size_t number : {2, 3, 4, 5}) {
+        for (size_t line = 1; line <= 7; line++)
+            part_is(A, NETWORK, {number, line}, 0, starts[line - 1], of_a[line - 1]);
+        for (size_t line : {size_t(0), size_t(8), size_t(9), SIZE_MAX - 1, SIZE_MAX})
+            part_is(A, NETWORK, {number, line}, 0, 104, "");
+    }
+    for (size_t number : {10, 11}) {
+        for (size_t line = 1; line <= 6; line++)
+            part_is(A, NETWORK, {number, line}, 1, network_starts[line - 1], NETWORK_LINES[line - 1]);
+        for (size_t line : {size_t(0), size_t(7), size_t(8), SIZE_MAX})
+            part_is(A, NETWORK, {number, line}, 1, 96, "");
+    }
+    const size_t others[] = {0, 1, 6, 7, 8, 9, 12, 13, 14, 15, 16, 17, 18, 19, 20, 255, 258, 266, SIZE_MAX};
+    for (size_t number : others)
+        for (size_t line = 0; line < 9; line++)
+            part_is(A, NETWORK, {number, line}, 0, 104, "");
+    for (size_t line : {0, 1, 2}) {
+        part_is("", NETWORK, {2, line}, 0, 0, "");
+        part_is(A, "", {10, line}, 1, 0, "");
+        part_is("", "", {8, line}, 0, 0, "");
+    }
+    part_is("ab\ncd", "", {3, 1}, 0, 0, "ab");
+    part_is("ab\ncd", "", {3, 2}, 0, 3, "cd");
+    part_is("ab\ncd", "", {3, 3}, 0, 5, "");
+    part_is("", "\n\nx", {11, 1}, 1, 0, "");
+    part_is("", "\n\nx", {11, 2}, 1, 1, "");
+    part_is("", "\n\nx", {11, 3}, 1, 2, "x");
+    part_is("", "\n\nx", {11, 4}, 1, 3, "");
+    part_is(std::string("\0\r\n\xFF", 4), "", {2, 1}, 0, 0, std::string("\0\r", 2));
+    part_is(std::string("\0\r\n\xFF", 4), "", {2, 2}, 0, 3, "\xFF");
+    part_is(std::string(4096, '\n'), "", {2, 4096}, 0, 4095, "");
+    part_is(std::string(4096, '\n') + "z", "", {2, 4097}, 0, 4096, "z");
 }
 
 std::string nested(size_t depth, const std::string &inside)
@@ -347,6 +423,7 @@ void pla_refuses(const Source &source, unsigned number, size_t line)
         Mapped m = call_map(source, room);
         expect(m.number == number && m.line == line, "Map must refuse by " + answer, source);
     }
+    expect(call_cause(source) == 0, "texts that are refused have no cause", source);
     for (const std::string &network : {NETWORK, std::string()}) {
         Checked c = call_check(source, network);
         expect(c.number == number && c.line == line, "Check must refuse by " + answer, source, network);
@@ -386,7 +463,9 @@ void plas_to_try()
     expect(c.number == 10 && c.line == 5, "Check of sheet A as PLA, a bad network", A_PLA);
     c = call_check(pla_with(1, ".i 4", "(bound a b c)\n(limit 0)\n"), NETWORK);
     expect(c.number == 11 && c.line == 2, "Check of sheet A as PLA, no cells", A_PLA);
-    expect(call_map(pla_with(1, ".i 4", "(bound a b c)\n(limit 0)\n"), 0).number == 8, "Map of sheet A as PLA, no cells", A_PLA);
+    const Source no_cells = pla_with(1, ".i 4", "(bound a b c)\n(limit 0)\n");
+    expect(call_map(no_cells, 0).number == 8 && call_cause(no_cells) == 1, "Map of sheet A as PLA, no cells", no_cells);
+    expect(call_cause(A_PLA) == 0, "sheet A as PLA has no cause", A_PLA);
     const Source none = pla(A_HEAD, {}), ones = pla(A_HEAD, {"---- 11"});
     expect(call_table(none, 0, 16).digits == std::string(16, '0'), "Table without cubes", none);
     expect(call_table(ones, 1, 16).digits == std::string(16, '1'), "Table of a cube without literals", ones);
@@ -399,6 +478,22 @@ void plas_to_try()
     expect(call_table(wide, 0, 1024).digits == digits && call_table(wide, 3, 1024).digits == digits, "Table of ten inputs", wide);
     expect(call_table(wide, 1, 1024).digits == std::string(1024, '0') && call_table(wide, 2, 1023).number == 9, "Table of ten inputs", wide);
     expect(call_map(wide, AMPLE).cells == 1, "Map of ten inputs and four outputs", wide);
+}
+
+void causes_of_pla()
+{
+    const Lines head = {".i 3", ".o 3", ".ilb a b c", ".ob f g h"};
+    const Lines a = {"0-1 100", "1-0 100"}, b = {"-01 010", "-10 010"}, both = {"001 001", "010 001", "100 001", "111 001"};
+    Lines cubes = a;
+    cubes.insert(cubes.end(), b.begin(), b.end());
+    cubes.insert(cubes.end(), both.begin(), both.end());
+    const size_t causes[] = {0b1, 0b11, 0b111, 0};
+    for (size_t limit = 0; limit < 4; limit++) {
+        const Source d = pla(head, cubes, "(bound a b)\n(limit " + std::to_string(limit) + ")\n");
+        expect(call_map(d, AMPLE).number == (limit < 3 ? 8 : 0) && call_cause(d) == causes[limit], "the cause of sheet D as PLA", d);
+    }
+    const Source last = pla(head, {"--1 100", "-01 010", "-10 010", "0-1 001", "1-0 001"}, "(bound a b)\n(limit 1)\n");
+    expect(call_cause(last) == 0b110, "the cause of the last two outputs as PLA", last);
 }
 
 void refusals_of_pla()
@@ -471,6 +566,8 @@ void *call_all(void *)
         && cellmapper_check(s, n, buffer, 0, &line, &a, &b, &c) == 2
         && cellmapper_export(s, n, s, n, buffer, sizeof buffer, &line, &a) == 2;
     expect(refused && line == 5, "a sheet of opening brackets", DEEPEST);
+    bool none = cellmapper_cause(s, n, &a) == 0 && a == 0;
+    expect(none && cellmapper_line(s, n, s, n, 2, 5, &a, &b, &c) == 0 && b + c + 1 == n, "the line of opening brackets, and no cause", DEEPEST);
     return nullptr;
 }
 
@@ -490,11 +587,14 @@ void worked_sheets()
     for (unsigned way = 0; way < 4; way++) {
         start_at_way(way);
         sheets_to_try();
+        causes_to_try();
+        lines_to_try();
         refusals_by_the_sheet();
         refusals_by_the_network();
         texts_in_blif();
         longest_text_in_blif();
         plas_to_try();
+        causes_of_pla();
         refusals_of_pla();
     }
     in_one_mebibyte_of_stack();
