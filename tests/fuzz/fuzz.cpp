@@ -1,28 +1,58 @@
 // The exported functions under libFuzzer, compared with the oracle of tests/library/. An input is a design sheet, a byte
 // 0x00 and a network sheet; or, where it begins with a dot, which no sheet that is spelled right does, a PLA text, a byte 0x00, a
 // second text, a byte 0x00 and a network sheet. The last two 0x00 part these three, since a PLA text may hold one itself. The
-// archive has no coverage counters, so it is the oracle's branches, one for each rule of the specification, that lead the search.
+// archive has no coverage counters, so it is the oracle's branches, one for each rule of the specification, that lead the search. The
+// last bytes of an input are also numbers and lines of refusals, whose lines are asked for.
+#include "../library/cause.h"
 #include "../library/compare.h"
+#include "../library/lines.h"
 
 #include <algorithm>
 #include <cstdint>
+#include <cstring>
 
-static void compare_network(const Panel &panel, const std::string &network, size_t more)
+static const size_t LAST = 16;
+
+// Numbers and lines near those of refusals from pairs of bytes, and of any size from all of them.
+static std::vector<Named> named_by(const uint8_t *data, size_t size)
+{
+    uint8_t last[LAST] = {};
+    std::copy(data + size - std::min(size, LAST), data + size, last);
+    std::vector<Named> named(1);
+    memcpy(&named[0].number, last, sizeof(size_t));
+    memcpy(&named[0].line, last + sizeof(size_t), sizeof(size_t));
+    for (size_t i = 0; i + 1 < LAST; i++)
+        named.push_back(Named{last[i] % 22u, last[i + 1] % 32u});
+    return named;
+}
+
+// Of a PLA text no line is asked for; its second text stands for a sheet.
+static void compare_named(const Beside &beside, std::vector<Named> named)
+{
+    const Source &source = beside.panel.source;
+    for (const oracle::Refusal &refusal : {beside.panel.refusal, beside.wanted.refusal})
+        named.insert(named.begin(), Named{refusal.number, refusal.line});
+    compare_lines(source.pla ? source.board : source.text, beside.text, named);
+}
+
+static void compare_network(const Panel &panel, const std::string &network, const std::vector<Named> &named, size_t more)
 {
     Beside beside(panel, network);
     compare_check(beside);
+    compare_named(beside, named);
     if (!panel.source.pla)
         compare_export(beside, more);
 }
 
-static void compare_panel(const Panel &panel, const std::string &network, size_t more)
+static void compare_panel(const Panel &panel, const std::string &network, const std::vector<Named> &named, size_t more)
 {
     for (size_t output = 0; output < 5; output++)
         compare_table(panel, output, more);
     std::string mapped = compare_map(panel, more, false);
+    compare_cause(panel, answer_of_map(panel, mapped), false);
     if (!mapped.empty())
-        compare_network(panel, mapped, more);
-    compare_network(panel, network, more);
+        compare_network(panel, mapped, named, more);
+    compare_network(panel, network, named, more);
 }
 
 // Texts somewhat longer than the longest that pass the question on their size are tried, and none that is longer than that.
@@ -43,6 +73,6 @@ extern "C" int LLVMFuzzerTestOneInput(const uint8_t *data, size_t size)
     std::string network = taken(text, pla ? text.rfind('\0') : text.find('\0'));
     std::string board = pla ? taken(text, text.rfind('\0')) : "";
     if (text.size() <= (pla ? LONGEST_PLA : LONGEST) && board.size() <= LONGEST && network.size() <= LONGEST)
-        compare_panel(Panel(pla ? Source(text, board) : Source(text)), network, size);
+        compare_panel(Panel(pla ? Source(text, board) : Source(text)), network, named_by(data, size), size);
     return 0;
 }

@@ -1,5 +1,6 @@
-/* stack SHEET..: the most stack that a call of Table, Map, Check and Export takes, on texts made here and on the sheets named, which
- * are tried as PLA texts too; a line for each operation, with the text that takes the most. Fails where a call takes more than LIMIT.
+/* stack SHEET..: the most stack that a call of Table, Map, Check, Export, the cause of refusal 8 and the line of a refusal takes, on
+ * texts made here and on the sheets named, which are tried as PLA texts too; a line for each operation, with the text that takes the
+ * most. Fails where a call takes more than LIMIT.
  *
  * Each call runs in a thread of its own on a stack that was filled with a pattern; what it takes is from where the thread
  * calls it down to the lowest byte that no longer has the pattern. */
@@ -69,6 +70,22 @@ static void export(void)
     cellmapper_export((const uint8_t *)sheet, sheet_len, (const uint8_t *)network, network_len, blif, sizeof blif, &line, &length);
 }
 
+static void cause(void)
+{
+    size_t outputs;
+    cellmapper_cause((const uint8_t *)sheet, sheet_len, &outputs);
+}
+
+/* the fifth line of either sheet, and one past their ends */
+static void line(void)
+{
+    static const size_t numbers[] = {2, 10}, lines[] = {5, SIZE_MAX};
+    size_t second, start, length;
+    for (size_t i = 0; i < 4; i++)
+        cellmapper_line((const uint8_t *)sheet, sheet_len, (const uint8_t *)network, network_len, numbers[i / 2], lines[i % 2], &second,
+                        &start, &length);
+}
+
 static void pla_table(void)
 {
     size_t line, count;
@@ -90,17 +107,26 @@ static void pla_check(void)
                          &line, &differs, &output, &row);
 }
 
-/* in this order: Check and Export read the network that Map wrote last; those of PLA texts come last */
-enum { OF_SHEETS = 4, OPERATIONS = 7 };
+static void pla_cause(void)
+{
+    size_t outputs;
+    cellmapper_pla_cause((const uint8_t *)pla, pla_len, (const uint8_t *)board, board_len, &outputs);
+}
+
+/* in this order: Check, Export and the line read the network that Map wrote last; those of PLA texts come last */
+enum { OF_SHEETS = 6, OPERATIONS = 10 };
 
 static struct operation operations[OPERATIONS] = {
     {"table", table, 0, ""},
     {"map", map, 0, ""},
     {"check", check, 0, ""},
     {"export", export, 0, ""},
+    {"cause", cause, 0, ""},
+    {"line", line, 0, ""},
     {"table of PLA", pla_table, 0, ""},
     {"map of PLA", pla_map, 0, ""},
     {"check of PLA", pla_check, 0, ""},
+    {"cause of PLA", pla_cause, 0, ""},
 };
 
 static void *run(void *operation)
