@@ -10,12 +10,12 @@
  * network is known. */
 #define _POSIX_C_SOURCE 200809L
 #include "cellmapper.h"
+#include "batches.h"
 #include "plain.h"
 
 #include <stdio.h>
 #include <stdlib.h>
 #include <string.h>
-#include <time.h>
 
 static uint8_t sheet[CELLMAPPER_MAX_SHEET + 1], network[CELLMAPPER_MAX_NETWORK], table[CELLMAPPER_MAX_TABLE];
 static uint8_t text[CELLMAPPER_MAX_BLIF];
@@ -86,34 +86,6 @@ static void export_here(void)
     size_t line, length;
     if (cellmapper_export(sheet, sheet_len, network, network_len, text, sizeof text, &line, &length) != 0)
         fail("is not exported", "network");
-}
-
-static double now(void)
-{
-    struct timespec t;
-    clock_gettime(CLOCK_PROCESS_CPUTIME_ID, &t);
-    return (double)t.tv_sec * 1e9 + (double)t.tv_nsec;
-}
-
-/* Nanoseconds of a call: the best of five batches of 20 ms or more each, or of two calls where one takes over a second. */
-static double time_of(void (*f)(void))
-{
-    double start = now(), once, best;
-    long calls, i, batch, batches;
-    f();
-    once = now() - start;
-    calls = once < 20e6 ? (long)(20e6 / (once + 1)) + 1 : 1;
-    batches = once > 1e9 ? 1 : 5;
-    best = once;
-    for (batch = 0; batch < batches; batch++) {
-        start = now();
-        for (i = 0; i < calls; i++)
-            f();
-        once = (now() - start) / (double)calls;
-        if (once < best)
-            best = once;
-    }
-    return best;
 }
 
 static void time_map(const char *path)
