@@ -1,5 +1,6 @@
 /* Reads one design sheet, prints the table of each output, its network, the network in BLIF, and what Check says to the network
- * before and after one of its digits is turned. */
+ * before and after one of its digits is turned. Of a sheet that Map refuses it prints the line at fault, or which outputs are the
+ * cause of refusal 8. */
 #include "cellmapper.h"
 
 #include <stdio.h>
@@ -41,6 +42,20 @@ static int print_check(const char *what, size_t sheet_len, size_t network_len)
     return number == 0 && !differs;
 }
 
+static void print_refusal(size_t sheet_len, uint32_t number, size_t line)
+{
+    size_t second, start, length, outputs, output;
+
+    printf("refused %u line %zu\n", (unsigned)number, line);
+    cellmapper_line(sheet, sheet_len, NULL, 0, number, line, &second, &start, &length);
+    if (length > 0)
+        printf("%.*s\n", (int)length, (const char *)sheet + start);
+    cellmapper_cause(sheet, sheet_len, &outputs);
+    for (output = 0; outputs >> output != 0; output++)
+        if (outputs >> output & 1)
+            printf("output %zu is among the cause\n", output);
+}
+
 int main(int argc, char **argv)
 {
     size_t sheet_len, line, cells, length;
@@ -58,7 +73,7 @@ int main(int argc, char **argv)
     print_tables(sheet_len);
     number = cellmapper_map(sheet, sheet_len, network, sizeof network, &line, &cells, &length);
     if (number != 0) {
-        printf("refused %u line %zu\n", (unsigned)number, line);
+        print_refusal(sheet_len, number, line);
         return 0;
     }
     printf("%zu cells, %zu bytes:\n%.*s", cells, length, (int)length, (const char *)network);
