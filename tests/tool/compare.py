@@ -404,6 +404,12 @@ def on_terminal(words):
 def run_terminal():
     """On a quick sheet nothing is shown, on a slow one the seconds, each over the one before, and blanks over the last."""
     global ran
+    try:
+        for end in pty.openpty():
+            os.close(end)
+    except OSError as error:
+        print(f"no terminal to be had ({error}): what is shown on one is left out", flush=True)
+        return
     ran += 2
     quick = on_terminal([TOOL, "map", "examples/departure.sheet"])
     if quick != ((EXAMPLES / "departure.network").read_text(), "", 0):
