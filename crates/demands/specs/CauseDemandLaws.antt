@@ -17,23 +17,13 @@ use Rattle.selection.specs.PartClassLaws.{part-global-most}
 use Rattle.selection.specs.SheetLaws.{only-outs-valid}
 use Rattle.mapper.specs.Map.{Permitted, MapAnswer, refused-by, mapped, OutcomeFor, too-many-classes, no-network, buffer-short, written}
 use Rattle.mapper.specs.Cause as causes
+use Rattle.mapper.specs.CauseFunctionLaws.{none-named, same-set}
 use Rattle.mapper.specs.Cause.{Served, Cause, CauseAnswer, no-cause, outputs-of, CauseFor, refused-by-8, CauseOf, CauseIs}
 use Rattle.demands.specs.OutcomeLaws.{outcome-for, outcome-refused}
 use Rattle.demands.specs.SizeLaws.{print-fits}
+use Rattle.demands.specs.Demand1Laws.{map-same}
+use Rattle.demands.specs.Demand3Laws.{mapped-not-refused}
 use Rattle.demands.specs.CauseDemand.{RefusedBy8, NotBy8, MapsLong, RefusedAlone, MapsAlone, CauseDemand, CauseTrue}
-
--- ---- answers that differ
-same-number : {p m q l : ℕ} → refused-by p m ≡ refused-by q l → p ≡ q
-same-number e = cc
-
-mapped-refused : {u n q l : ℕ} → mapped u n ≡ refused-by q l → ⊥
-mapped-refused e = let z : _≡_ {A = ℕ} 0 1 = cc in omega arith
-
-none-named : {s : ℕ} → no-cause ≡ outputs-of s → ⊥
-none-named e = let z : _≡_ {A = ℕ} 0 1 = cc in omega arith
-
-same-set : {s t : ℕ} → outputs-of s ≡ outputs-of t → s ≡ t
-same-set e = cc
 
 -- ---- Map on a design that some network serves, or none
 permitted-served : {d : Design} {w : _} → Permitted d w → Served d
@@ -56,10 +46,10 @@ by-8-says : (d : Design)
     → OutcomeFor d b a b'
     → a ≡ refused-by 8 0
     → (globalCount d (d .bound) ≤ maxClasses) × (Served d → ⊥)
-by-8-says d (too-many-classes h) e = let q = same-number e in absurd (omega (arith, q))
+by-8-says d (too-many-classes h) e = let q = map-same e .0 in absurd (omega (arith, q))
 by-8-says d (no-network h n) e = (h, λ w. n (w .network) (w .wellformed) (w .within) (w .computes))
-by-8-says d (buffer-short w h p n) e = let q = same-number e in absurd (omega (arith, q))
-by-8-says d (written w h p n) e = absurd (mapped-refused e)
+by-8-says d (buffer-short w h p n) e = let q = map-same e .0 in absurd (omega (arith, q))
+by-8-says d (written w h p n) e = absurd (mapped-not-refused e)
 
 served-maps : (d : Design)
     → WellFormed d
@@ -147,7 +137,7 @@ refused-true t q l e =
     record {
       none = λ _ b a b' o f.
           (let most = refused-right t q l e .at-most-five in
-          let by = same-number (sym (outcome-refused q l e o .refusal) ∙ f) in
+          let by = map-same (sym (outcome-refused q l e o .refusal) ∙ f) .0 in
           omega (arith, most, by));
       named = λ s f. absurd (none-named f);
     }

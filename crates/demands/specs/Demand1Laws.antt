@@ -42,7 +42,7 @@ table-same e = (cc, cc)
 table-written : {n q l : ℕ} → tables.written n ≡ tables.refused-by q l → ⊥
 table-written e = let z : _≡_ {A = ℕ} 0 1 = cc in omega arith
 
-map-same : {q l p m : ℕ} → refused-by q l ≡ refused-by p m → (q ≡ p) × (l ≡ m)
+pub map-same : {q l p m : ℕ} → refused-by q l ≡ refused-by p m → (q ≡ p) × (l ≡ m)
 map-same e = (cc, cc)
 
 check-same : {q l p m : ℕ} → checks.refused-by q l ≡ checks.refused-by p m → (q ≡ p) × (l ≡ m)

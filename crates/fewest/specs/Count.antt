@@ -85,7 +85,8 @@ cells-reading-same o zero i rows rows' codes codes' e = refl
 cells-reading-same o (suc n) i rows rows' codes codes' e = ap₂ (λ (a : Bool) (b : ℕ). bit a + b) (ap (λ (z : ℕ). on z i) e) (cells-reading-same o n (suc i) rows rows' codes codes' e)
 
 -- the open cells of rows, complemented where they are 1 at vertex 0, serve where the open cells do
-zeroed-serves : (v m : ℕ) (Conflict : ℕ → ℕ → ℕ → Type 0) (budget : ℕ → ℕ) (u : ℕ) (rows codes fs r : List ℕ) → v ≤ 32 → m ≤ 8 → Opened rows 8 fs → Zeroed codes 32 r
+zeroed-serves : (v m : ℕ) (Conflict : ℕ → ℕ → ℕ → Type 0) (budget : ℕ → ℕ) (u : ℕ) (rows codes fs r : List ℕ)
+    → v ≤ 32 → m ≤ 8 → Opened rows 8 fs → Zeroed codes 32 r
     → Serves v m Conflict budget (openCells u rows codes) → Serves v m Conflict budget (coreOf u (item fs) (item r))
 zeroed-serves v m Conflict budget u rows codes fs r few outs f z s = record {
   tells = λ o x y h a b c. cells-apart-more o x y u 0 opens (item fs) (item codes) (item r) (f .done o (omega arith))

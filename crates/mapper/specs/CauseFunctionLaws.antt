@@ -8,7 +8,14 @@ use lib.ListN.{length}
 use Rattle.sheet.specs.Examine.{Design, Examined, refused, valid, examine}
 use Rattle.subsets.specs.Subset.{size, Earlier}
 use Rattle.subsets.specs.OrderLaws.{same-or-earlier}
-use Rattle.mapper.specs.Cause.{Cause, CauseAnswer, outputs-of, CauseFor, too-many-classes, mapped, refused-by-8, CauseOf, CauseIs}
+use Rattle.mapper.specs.Cause.{Cause, CauseAnswer, no-cause, outputs-of, CauseFor, too-many-classes, mapped, refused-by-8, CauseOf, CauseIs}
+
+-- ---- answers that differ
+pub none-named : {s : ℕ} → no-cause ≡ outputs-of s → ⊥
+none-named e = let z : _≡_ {A = ℕ} 0 1 = cc in omega arith
+
+pub same-set : {s t : ℕ} → outputs-of s ≡ outputs-of t → s ≡ t
+same-set e = cc
 
 -- ---- one cause
 module _ (d : Design) (s t : ℕ) (p : Cause d s) (q : Cause d t) where

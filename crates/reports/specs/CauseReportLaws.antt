@@ -4,19 +4,14 @@ use Prim.Native.Nat.{ℕ, _≤_}
 use native.Mathlib.Omega.{arith}
 use Rattle.sheet.specs.Examine.{Examined, refused, valid}
 use Rattle.mapper.specs.Cause.{CauseAnswer, no-cause, outputs-of, CauseFor, too-many-classes, mapped, refused-by-8, CauseOf}
+use Rattle.mapper.specs.CauseFunctionLaws.{none-named, same-set}
 use Rattle.reports.specs.Report.{causeReport, ReportedCause}
 
 -- a set that is named is not empty
 named-filled : (x : Examined) (s : ℕ) → CauseOf x (outputs-of s) → 1 ≤ s
-named-filled (refused q l) s e = let z : _≡_ {A = ℕ} 0 1 = cc in absurd (omega arith)
+named-filled (refused q l) s e = absurd (none-named (sym e))
 named-filled (valid d) s c = filled c refl
   where
-    same-set : {u t : ℕ} → outputs-of u ≡ outputs-of t → u ≡ t
-    same-set e = cc
-
-    none-named : {u : ℕ} → no-cause ≡ outputs-of u → ⊥
-    none-named e = let z : _≡_ {A = ℕ} 0 1 = cc in omega arith
-
     filled : {a : CauseAnswer} → CauseFor d a → a ≡ outputs-of s → 1 ≤ s
     filled (too-many-classes h) e = absurd (none-named e)
     filled (mapped h w) e = absurd (none-named e)
