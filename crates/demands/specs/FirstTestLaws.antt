@@ -23,7 +23,6 @@ use Rattle.sheet.specs.WellFormed.{WellFormed}
 use Rattle.classes.specs.ProperLaws.{proper-of}
 use Rattle.classes.specs.Columns.{vertexCount, freeCount}
 use Rattle.network.specs.Network.{Network}
-use Rattle.network.specs.Parts.{freeOf}
 use Rattle.network.specs.Wellformed.{nodeAt}
 use Rattle.network.specs.NamedLaws.{design-named}
 use Rattle.network.specs.Value.{codeAt}
@@ -32,12 +31,12 @@ use Rattle.cells.specs.Written.{tablesOf, readsOf}
 use Rattle.serving.specs.NetworkCore.{networkCore, ServesDesign}
 use Rattle.serving.specs.Tells.{core-length}
 use Rattle.serving.specs.TheoremA.{drawn-serves, parts-of}
-use Rattle.lineorder.specs.NodeOrder.{readsOrder, headOrder, head-alike}
+use Rattle.lineorder.specs.NodeOrder.{readsOrder}
 use Rattle.lineorder.specs.ReadingSets.{chosen-order}
 use Rattle.lineorder.specs.CoreDigits.{network-tables, reads-length, network-reads}
 use Rattle.lineorder.specs.First.{first-from-reads}
 use Rattle.mapper.specs.Map.{Permitted, First}
-use Rattle.mapper.specs.PermittedLaws.{permitted-count, permitted-reads}
+use Rattle.mapper.specs.PermittedLaws.{permitted-count}
 use Rattle.mapper.specs.FirstLaws.{permitted-settled}
 use Rattle.demands.specs.Each.{each-below}
 use Rattle.demands.specs.NeededCells.{conflicting, conflicting-below, told}
@@ -192,7 +191,7 @@ module _ (d : Design) (f : WellFormed d) (n : ℕ) (w : Network) (ks : List Ask)
         record { is-not = not-true less (or-first (not less) (someUnmet (v .luts) ks) e met) }
 
     reads-after : (o : ℕ) → v .luts ≡ w .luts → o < length (d .outputs)
-        → NotLess (headOrder (freeOf d) (nodeAt (v .nodes) o .reads) (nodeAt (w .nodes) o .reads))
+        → NotLess (readsOrder (nodeAt (v .nodes) o .reads) (nodeAt (w .nodes) o .reads))
     unfolding readsFirst
     reads-after o e h =
         let bs = readsOf o (networkCore v) in
@@ -210,14 +209,15 @@ module _ (d : Design) (f : WellFormed d) (n : ℕ) (w : Network) (ks : List Ask)
         let digits : readsOrder is js ≡ tableOrder cs bs =
         sym (ap₂ readsOrder (network-reads d v o (q .wellformed) h) (network-reads d w o (p .wellformed) h))
         ∙ chosen-order 0 bs cs (reads-count o ∙ count ∙ sym long) in
-        subst NotLess (sym (head-alike (freeOf d) is js (permitted-reads d v w o (proper-of d f) q p h) ∙ digits)) after
+        subst NotLess (sym digits) after
 
   pub first-tested : First d w
   first-tested = record {
     permitted = p;
     none-before =
         first-from-reads (Permitted d) d (length (w .luts)) w (design-named d f)
-        (parts-of (d .inputs) (d .bound) (proper-of d f .parted)) (permitted-settled d w p) p tables-after (λ v o q e h. reads-after v q o e h);
+        (parts-of (d .inputs) (d .bound) (proper-of d f .parted)) (permitted-settled d w (proper-of d f) p) p
+        tables-after (λ v o q e h. reads-after v q o e h);
   }
 
 -- ---- entries whose code no vertex produces

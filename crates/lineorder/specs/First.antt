@@ -10,15 +10,14 @@ use Rattle.sheet.specs.Examine.{Design}
 use Rattle.network.specs.Network.{Network}
 use Rattle.network.specs.Printer.{printNode, printNetwork}
 use Rattle.network.specs.Parts.{freeOf, namesOf}
-use Rattle.network.specs.PartLaws.{free-named}
 use Rattle.network.specs.Reads.{Rising}
-use Rattle.network.specs.Answers.{Computes}
+use Rattle.network.specs.Answers.{readCount, Computes}
 use Rattle.serving.specs.Parts.{Parts}
 use Rattle.network.specs.Wellformed.{Wellformed, Named, nodeAt}
 use Rattle.order.specs.Order.{before, tablesOrder}
 use Rattle.order.specs.OrderLaws.{NotLess, tables-total, then-not-less, before-not-less}
 use Rattle.lineorder.specs.LineOrder.{lineOrder}
-use Rattle.lineorder.specs.NodeOrder.{headOrder, node-not-less}
+use Rattle.lineorder.specs.NodeOrder.{readsOrder, node-not-less}
 use Rattle.lineorder.specs.NodeDigits.{Blank, digits-follow}
 use Rattle.lineorder.specs.PrintOrder.{nodesOrder, print-order, nodes-not-less}
 
@@ -32,10 +31,11 @@ pub record Uniform (Permits : Network → Type 0) (d : Design) (u : ℕ) : Type 
   pub wellformed : (v : Network) → Permits v → Wellformed d v
   pub counted : (v : Network) → Permits v → length (v .luts) ≡ u
 
--- and compute the design, with 0 in every entry whose code no vertex produces
+-- and compute the design, read equally many shared tables in an output, and have 0 in every entry whose code no vertex produces
 pub record Settled (Permits : Network → Type 0) (d : Design) (u : ℕ) : Type 0 where
   pub uniform : Uniform Permits d u
   pub computes : (v : Network) → Permits v → Computes d v
+  pub reads-alike : (v w : Network) (o : ℕ) → Permits v → Permits w → o < length (d .outputs) → readCount v o ≡ readCount w o
   pub blank : (v : Network) (o : ℕ) → Permits v → o < length (d .outputs) → Blank d v o
 
 -- ======== laws
@@ -74,7 +74,7 @@ pub first-from-reads : (Permits : Network → Type 0) (d : Design) (u : ℕ) (w 
     → Permits v
     → v .luts ≡ w .luts
     → o < length (d .outputs)
-    → NotLess (headOrder (freeOf d) (nodeAt (v .nodes) o .reads) (nodeAt (w .nodes) o .reads)))
+    → NotLess (readsOrder (nodeAt (v .nodes) o .reads) (nodeAt (w .nodes) o .reads)))
     → (v : Network)
     → Permits v
     → before (printNetwork d v) (printNetwork d w) ≡ false
@@ -91,7 +91,7 @@ first-from-reads Permits d u w h p k q tables reads = first-from-parts Permits d
         let x = fv .node-fits o (subst (λ (n : ℕ). o < n) (sym (fv .node-each)) l) in
         let y = fw .node-fits o (subst (λ (n : ℕ). o < n) (sym (fw .node-each)) l) in
         node-not-less (getD (namesOf d) o []) (freeOf d) (length (w .luts)) (nodeAt (v .nodes) o) (nodeAt (w .nodes) o)
-        (free-named (d .inputs) (d .bound) (h .inputs-named))
+        (k .reads-alike v w o r q l)
         (subst (λ (n : ℕ). Rising 0 n (nodeAt (v .nodes) o .reads)) (ap (λ (ts : List (List Bool)). length ts) e) (x .rises))
         (y .rises)
         (omega (arith, fw .few-luts))

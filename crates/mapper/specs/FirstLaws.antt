@@ -11,9 +11,9 @@ use Rattle.order.specs.Order.{tableOrder, tablesOrder}
 use Rattle.order.specs.OrderLaws.{NotLess}
 use Rattle.sheet.specs.Examine.{Design}
 use Rattle.sheet.specs.WellFormed.{WellFormed}
+use Rattle.classes.specs.Proper.{Proper}
 use Rattle.classes.specs.ProperLaws.{proper-of}
 use Rattle.network.specs.Network.{Network}
-use Rattle.network.specs.Parts.{freeOf}
 use Rattle.network.specs.Wellformed.{nodeAt}
 use Rattle.network.specs.NamedLaws.{design-named}
 use Rattle.cells.specs.Core.{Cell, Serves, Differ, coreOf}
@@ -25,7 +25,7 @@ use Rattle.serving.specs.NetworkCore.{networkCore}
 use Rattle.serving.specs.Tells.{core-length}
 use Rattle.serving.specs.Build.{built}
 use Rattle.serving.specs.TheoremA.{drawn-serves, built-luts, parts-of}
-use Rattle.lineorder.specs.NodeOrder.{readsOrder, headOrder, head-alike}
+use Rattle.lineorder.specs.NodeOrder.{readsOrder}
 use Rattle.lineorder.specs.ReadingSets.{chosen-order}
 use Rattle.lineorder.specs.CoreDigits.{network-tables, built-tables, network-zero, reads-length, network-reads, built-core-reads}
 use Rattle.lineorder.specs.First.{Settled, first-from-reads}
@@ -34,10 +34,11 @@ use Rattle.mapper.specs.PermittedLaws.{permitted-count, permitted-reads}
 use Rattle.mapper.specs.Posed.{Given}
 use Rattle.mapper.specs.MapLaws.{to-labels, found-permitted}
 
-pub permitted-settled : (d : Design) (w : Network) → Permitted d w → Settled (Permitted d) d (length (w .luts))
-permitted-settled d w q = record {
+pub permitted-settled : (d : Design) (w : Network) → Proper d → Permitted d w → Settled (Permitted d) d (length (w .luts))
+permitted-settled d w f q = record {
   uniform = record { wellformed = λ v p. p .wellformed; counted = λ v p. permitted-count d v w p q };
   computes = λ v p. p .computes;
+  reads-alike = λ v x o p r l. permitted-reads d v x o f p r l;
   blank = λ v o p l. record { unproduced = λ j g. p .unproduced o j l g };
 }
 
@@ -83,7 +84,7 @@ module _ (d : Design) (cl budgets : List ℕ) (v m limit : ℕ) (g : Given d cl 
       → Permitted d w
       → w .luts ≡ found .luts
       → o < length (d .outputs)
-      → NotLess (headOrder (freeOf d) (nodeAt (w .nodes) o .reads) (nodeAt (found .nodes) o .reads))
+      → NotLess (readsOrder (nodeAt (w .nodes) o .reads) (nodeAt (found .nodes) o .reads))
   reads-first w o p e h =
       let is = nodeAt (w .nodes) o .reads in
       let js = nodeAt (found .nodes) o .reads in
@@ -93,7 +94,7 @@ module _ (d : Design) (cl budgets : List ℕ) (v m limit : ℕ) (g : Given d cl 
       let digits : readsOrder is js ≡ tableOrder cs bs =
       sym (ap₂ readsOrder (network-reads d w o (p .wellformed) h) (built-core-reads d u (item rows) (item codes) o h))
       ∙ chosen-order 0 bs cs long in
-      subst NotLess (sym (head-alike (freeOf d) is js (permitted-reads d w found o (proper-of d f) p permitted h) ∙ digits))
+      subst NotLess (sym digits)
       (leads .reads (networkCore w) o (subst (λ (n : ℕ). o < n) (sym (g .outputs)) h) (drawn w p)
       (drawn-tables w p ∙ e ∙ sym found-tables))
 
@@ -102,5 +103,6 @@ module _ (d : Design) (cl budgets : List ℕ) (v m limit : ℕ) (g : Given d cl 
     permitted = permitted;
     none-before =
         first-from-reads (Permitted d) d (length (found .luts)) found (design-named d f)
-        (parts-of (d .inputs) (d .bound) (proper-of d f .parted)) (permitted-settled d found permitted) permitted tables-first reads-first;
+        (parts-of (d .inputs) (d .bound) (proper-of d f .parted)) (permitted-settled d found (proper-of d f) permitted) permitted
+        tables-first reads-first;
   }
