@@ -2,7 +2,7 @@
 use mathlib.Core.Path.{_≡_, refl, ap, _∙_}
 use mathlib.Core.Logic.{_⊎_, inl, inr, ⊎-elim}
 use mathlib.Core.Bool.{Bool, true, false, not, _&&_, _||_, and-false}
-use mathlib.Core.List.{List, [], _∷_}
+use mathlib.Core.List.{List, [], _∷_, _++_}
 use Prim.Native.Nat.{ℕ, _≤_, _<_}
 use native.Mathlib.Omega.{arith}
 use lib.Dec.{leb}
@@ -55,6 +55,10 @@ unfolding letter
 letter-between b e =
     (leb-true 0x61 b (and-left (leb 0x61 b) (leb b 0x7A) e), leb-true b 0x7A (and-right (leb 0x61 b) (leb b 0x7A) e))
 
+-- the byte 0x5F, `_`, begins no name
+pub letter-no-underscore : (b : ℕ) → letter b ≡ true → b ≡ 0x5F → ⊥
+letter-no-underscore b l e = omega (arith, letter-between b l)
+
 pub name-byte-between : (b : ℕ) → nameByte b ≡ true → (0x30 ≤ b) × (b ≤ 0x7A)
 unfolding nameByte
 name-byte-between b e =
@@ -72,6 +76,22 @@ bytes-solid (b ∷ n) h =
 
 pub name-solid : (n : Name) → isName n ≡ true → solid n ≡ true
 name-solid n h = bytes-solid n (name-bytes n h)
+
+-- `_` and `\`, which stand between the capitals and the small letters
+pub underscore-no-name-byte : nameByte 0x5F ≡ false
+unfolding nameByte letter numeral
+underscore-no-name-byte = refl
+
+pub backslash-no-name-byte : nameByte 0x5C ≡ false
+unfolding nameByte letter numeral
+backslash-no-name-byte = refl
+
+byte-inside : (s : List ℕ) (b : ℕ) (t : List ℕ) → allNameBytes (s ++ (b ∷ t)) ≡ true → nameByte b ≡ true
+byte-inside [] b t h = and-left (nameByte b) (allNameBytes t) h
+byte-inside (c ∷ s) b t h = byte-inside s b t (and-right (nameByte c) (allNameBytes (s ++ (b ∷ t))) h)
+
+pub name-byte-inside : (s : List ℕ) (b : ℕ) (t : List ℕ) → isName (s ++ (b ∷ t)) ≡ true → nameByte b ≡ true
+name-byte-inside s b t h = byte-inside s b t (name-bytes (s ++ (b ∷ t)) h)
 
 -- ---- what is no name
 module _ (n : Name) where

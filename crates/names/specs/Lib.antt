@@ -1,6 +1,8 @@
 -- What document 01 says of names and lists of names, and laws about it.
+pub mod Case
 pub mod Name
 pub mod Names
+pub mod Spelled
 pub mod Front
 pub mod OperatorLaws
 pub mod ReadLaws
@@ -8,6 +10,7 @@ pub mod NamesLaws
 pub mod Pack
 pub mod Word
 pub mod SameLaws
+pub mod SpelledLaws
 pub mod AllNamesLaws
 pub mod IsNameLaws
 pub mod ShortLaws

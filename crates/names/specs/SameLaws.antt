@@ -1,13 +1,22 @@
--- The test of two names decides whether they are equal. Assumes nothing.
-use mathlib.Core.Path.{_≡_, sym, _∙_}
-use mathlib.Core.Bool.{true, false}
+-- The test of two names is an equivalence: a name is the same as itself, either may stand first, and what is the same as one
+-- of two names that are the same is the same as the other. Assumes nothing.
+use mathlib.Core.Path.{_≡_, refl, sym, ap, _∙_}
+use mathlib.Core.Bool.{Bool, true, false, _||_}
+use mathlib.Core.List.{List, [], _∷_}
+use Prim.Native.Nat.{ℕ}
+use lib.ListN.{length, length-map}
 use Rattle.bits.specs.LogicLaws.{true-false}
+use Rattle.text.specs.Bytes.{same}
 use Rattle.text.specs.BytesLaws.{same-self, same-equal, equal-same, differ-same}
-use Rattle.names.specs.Name.{Name, sameName}
+use Rattle.names.specs.Case.{lower, lowered}
+use Rattle.names.specs.Name.{Name, sameName, among}
 
 pub same-name-true : (m n : Name) → sameName m n ≡ true → m ≡ n
 unfolding sameName
 same-name-true m n e = same-equal m n e
+
+pub same-name-lowered : (m n : Name) → sameName m n ≡ true → lowered m ≡ lowered n
+same-name-lowered m n e = ap lowered (same-name-true m n e)
 
 pub same-name-self : (n : Name) → sameName n n ≡ true
 unfolding sameName
@@ -21,5 +30,33 @@ pub same-name-different : (m n : Name) → (m ≡ n → ⊥) → sameName m n �
 unfolding sameName
 same-name-different m n h = differ-same m n h
 
-pub same-name-turned : (m n : Name) → sameName m n ≡ false → sameName n m ≡ false
-same-name-turned m n e = same-name-different n m (λ h. true-false (sym (same-name-equal m n (sym h)) ∙ e))
+module _ (m n : Name) where
+  pub same-name-back : sameName m n ≡ sameName n m
+  same-name-back = go (sameName m n) (sameName n m) refl refl
+    where
+      go : (a b : Bool) → sameName m n ≡ a → sameName n m ≡ b → a ≡ b
+      go true true e f = refl
+      go true false e f = absurd (true-false (sym (same-name-equal n m (sym (same-name-true m n e))) ∙ f))
+      go false true e f = absurd (true-false (sym (same-name-equal m n (sym (same-name-true n m f))) ∙ e))
+      go false false e f = refl
+
+  pub same-name-turned : sameName m n ≡ false → sameName n m ≡ false
+  same-name-turned e = sym same-name-back ∙ e
+
+  module _ (e : sameName m n ≡ true) where
+    pub same-name-left : (k : Name) → sameName m k ≡ sameName n k
+    same-name-left k = ap (λ (x : Name). sameName x k) (same-name-true m n e)
+
+    pub same-name-right : (k : Name) → sameName k m ≡ sameName k n
+    same-name-right k = ap (sameName k) (same-name-true m n e)
+
+    pub same-name-through : (k : Name) → sameName n k ≡ true → sameName m k ≡ true
+    same-name-through k f = same-name-left k ∙ f
+
+    pub same-name-length : length m ≡ length n
+    same-name-length = sym (length-map m lower) ∙ ap length (same-name-lowered m n e) ∙ length-map n lower
+
+    pub among-same : (ns : List Name) → among m ns ≡ among n ns
+    unfolding among
+    among-same [] = refl
+    among-same (k ∷ ns) = ap (λ (b : Bool). b || among m ns) (same-name-right k) ∙ ap (λ (b : Bool). sameName k n || b) (among-same ns)
