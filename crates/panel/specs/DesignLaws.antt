@@ -2,7 +2,7 @@
 -- say and keeps every rule of a design. One walk over the questions, in their order, gives both. Assumes nothing.
 use mathlib.Core.Path.{_≡_, refl, ap, _∙_, subst}
 use mathlib.Core.Bool.{Bool, true, false}
-use mathlib.Core.List.{List, [], _∷_}
+use mathlib.Core.List.{List, [], _∷_, map}
 use mathlib.Core.Option.{Option, some, none}
 use Prim.Native.Nat.{ℕ, suc, _≤_}
 use native.Mathlib.Omega.{arith}
@@ -13,6 +13,7 @@ use Rattle.bits.specs.Logic.{pick}
 use Rattle.limits.specs.Limits.{maxInputs, maxLimit, maxOutputs}
 use Rattle.text.specs.Line.{lines}
 use Rattle.names.specs.Name.{Name, distinct}
+use Rattle.names.specs.Spelled.{spelledBy}
 use Rattle.names.specs.Names.{allNames}
 use Rattle.sheet.specs.Lines.{readBound, readLimit}
 use Rattle.sheet.specs.Examine.{Design, Examined, refused, valid, at-bound, next, within, askIn, sized}
@@ -72,9 +73,9 @@ panel-right : (p b : List ℕ) (x : Pla) (bs : List Name) (n : ℕ) (e : Design)
     → e .inputs ≡ x .inputs
     → e .outputs ≡ outputsOf x
     → RightOutputs (e .inputs) (e .outputs)
-    → RightBound (e .inputs) bs
+    → RightBound (e .inputs) (map (spelledBy (e .inputs)) bs)
     → n ≤ maxLimit
-    → PairRight p b (valid (record { inputs = e .inputs; bound = bs; limit = n; outputs = e .outputs }))
+    → PairRight p b (valid (record { inputs = e .inputs; bound = map (spelledBy (e .inputs)) bs; limit = n; outputs = e .outputs }))
 panel-right p b x bs n e h s t w once i o r c l = (
   record {
     text = x;
@@ -88,7 +89,7 @@ panel-right p b x bs n e h s t w once i o r c l = (
     board-limit = n;
     board-is-read = t;
     same-inputs = i;
-    same-bound = refl;
+    same-bound = ap (λ (ns : List Name). map (spelledBy ns) bs) i;
     same-limit = refl;
     same-outputs = o;
   },

@@ -2,13 +2,14 @@
 -- Assumes nothing.
 use mathlib.Core.Path.{_≡_}
 use mathlib.Core.Bool.{true}
-use mathlib.Core.List.{List}
+use mathlib.Core.List.{List, map}
 use mathlib.Core.Option.{none}
 use Prim.Native.Nat.{ℕ, _≤_}
 use lib.ListN.{length}
 use Rattle.limits.specs.Limits.{maxInputs, maxOutputs}
 use Rattle.text.specs.Line.{lines}
 use Rattle.names.specs.Name.{Name, distinct}
+use Rattle.names.specs.Spelled.{spelledBy}
 use Rattle.sheet.specs.Examine.{Design, sized}
 use Rattle.platext.specs.Lines.{firstCube}
 use Rattle.platext.specs.Text.{Pla, pla, readPla}
@@ -29,7 +30,7 @@ pub record Panel (p b : List ℕ) (d : Design) : Type 0 where
   pub board-limit : ℕ
   pub board-is-read : readBoard (lines b) ≡ board board-bound board-limit
   pub same-inputs : d .inputs ≡ text .inputs
-  pub same-bound : d .bound ≡ board-bound
+  pub same-bound : d .bound ≡ map (spelledBy (text .inputs)) board-bound
   pub same-limit : d .limit ≡ board-limit
   pub same-outputs : d .outputs ≡ outputsOf text
 

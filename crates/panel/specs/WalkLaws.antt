@@ -2,7 +2,7 @@
 -- second text. What holds of every refusal on the way, and of what is left at the end, holds of the answer. Assumes nothing.
 use mathlib.Core.Path.{_≡_, refl, sym, _∙_}
 use mathlib.Core.Bool.{Bool, true, false, not, _&&_}
-use mathlib.Core.List.{List, [], _∷_, _++_, append-assoc, append-nil}
+use mathlib.Core.List.{List, [], _∷_, _++_, map, append-assoc, append-nil}
 use mathlib.Core.Option.{some}
 use Prim.Native.Nat.{ℕ, suc, _≤_}
 use native.Mathlib.Omega.{arith}
@@ -13,6 +13,7 @@ use Rattle.bits.specs.Logic.{pick}
 use Rattle.bits.specs.LogicLaws.{and-left, and-right}
 use Rattle.limits.specs.Limits.{maxBound, maxLimit, maxOutputs, maxDepth}
 use Rattle.names.specs.Name.{Name, isName, among, distinct, allAmong}
+use Rattle.names.specs.Spelled.{spelledBy}
 use Rattle.names.specs.Names.{allNames}
 use Rattle.formula.specs.Tree.{depth, knows}
 use Rattle.sheet.specs.Lines.{Output}
@@ -21,7 +22,7 @@ use Rattle.sheet.specs.Examine.{Design, Examined, refused, valid, Place, at-lim
 use Rattle.sheet.specs.Examine.{askOut, askBound, askLimit, outputNames, newName, withOutput, follow}
 use Rattle.sheet.specs.WellFormed.{RightBound, RightOutputs}
 use Rattle.sheet.specs.AskedLaws.{AllYes}
-use Rattle.sheet.specs.LineRightLaws.{within-low, within-high}
+use Rattle.sheet.specs.LineRightLaws.{bound-names-right}
 use Rattle.sheet.specs.FurtherOutputLaws.{outputs-more}
 use Rattle.cubes.specs.TermsLaws.{cover-spelled}
 use Rattle.platext.specs.Lines.{outputNamesLine}
@@ -117,11 +118,14 @@ outputs-walk P (o ∷ os) d onward h r w f =
 pub board-walk : (P : Examined → Type 0) (bs : List Name) (n : ℕ) (d : Design)
     → Refusable P boundLine
     → Refusable P limitLine
-    → (RightBound (d .inputs) bs → n ≤ maxLimit → P (valid (record { inputs = d .inputs; bound = bs; limit = n; outputs = d .outputs })))
+    → (RightBound (d .inputs) (map (spelledBy (d .inputs)) bs)
+    → n ≤ maxLimit
+    → P (valid (record { inputs = d .inputs; bound = map (spelledBy (d .inputs)) bs; limit = n; outputs = d .outputs })))
     → P (askBoard bs n d)
 unfolding askBound askLimit
 board-walk P bs n d h k f =
-    let e : Design = record { inputs = d .inputs; bound = bs; limit = d .limit; outputs = d .outputs } in
+    let spelled = map (spelledBy (d .inputs)) bs in
+    let e : Design = record { inputs = d .inputs; bound = spelled; limit = d .limit; outputs = d .outputs } in
     ask-walk P
     ((3, within 1 maxBound (length bs)) ∷ (4, distinct bs) ∷ (5, allAmong bs (d .inputs)) ∷ [])
     (next at-limit e) boundLine (λ _ g. follow (askLimit g (some n)) limitLine (λ _ f. valid f))
@@ -129,14 +133,6 @@ board-walk P bs n d h k f =
     (λ y.
     ask-walk P
     ((3, leb n maxLimit) ∷ [])
-    (next at-out (record { inputs = d .inputs; bound = bs; limit = n; outputs = d .outputs })) limitLine (λ _ f. valid f)
+    (next at-out (record { inputs = d .inputs; bound = spelled; limit = n; outputs = d .outputs })) limitLine (λ _ f. valid f)
     k (omega arith)
-    (λ z.
-    f
-    (record {
-      filled = within-low 1 maxBound (length bs) (y .0);
-      few = within-high 1 maxBound (length bs) (y .0);
-      once = y .1 .0;
-      known = y .1 .1 .0;
-    })
-    (leb-true n maxLimit (z .0))))
+    (λ z. f (bound-names-right (d .inputs) bs (y .0) (y .1 .0) (y .1 .1 .0)) (leb-true n maxLimit (z .0))))

@@ -1,4 +1,5 @@
--- The sheet that has only the `out` lines of the set is the sheet of the design with those outputs, and it is valid. Assumes nothing.
+-- The sheet that has only the `out` lines of the set writes the design with those outputs, the bound names spelled as they were,
+-- and it is valid. Assumes nothing.
 use mathlib.Core.Path.{_≡_, sym, ap, ap₂, _∙_, subst}
 use mathlib.Core.List.{List, [], _∷_, _++_, map}
 use Prim.Native.Nat.{ℕ, _+_, _≤_}
@@ -8,14 +9,18 @@ use lib.Seq.{take-at, drop-at, drop-drop}
 use Rattle.limits.specs.Limits.{maxSheet}
 use Rattle.text.specs.Line.{lines, endedLines}
 use Rattle.text.specs.EndedLaws.{ended-append-length}
+use Rattle.names.specs.Name.{Name}
+use Rattle.names.specs.Spelled.{sameNames}
 use Rattle.sheet.specs.Lines.{designLine, endLine, printIn, printBound, printLimit, printOut}
 use Rattle.sheet.specs.Examine.{Design, valid, examine}
 use Rattle.sheet.specs.Printer.{designLines, printDesign}
-use Rattle.sheet.specs.DesignPrintLaws.{print-lines}
-use Rattle.sheet.specs.DesignLaws.{design-read-of-print, design-print-of-read}
+use Rattle.sheet.specs.Written.{writtenAs, Writes}
+use Rattle.sheet.specs.DesignReadLaws.{design-print-of-read}
+use Rattle.sheet.specs.DesignPrintLaws.{print-lines, design-read-of-print}
 use Rattle.subsets.specs.Subset.{selected, SomeOf}
 use Rattle.subsets.specs.SubsetLaws.{selected-map}
 use Rattle.selection.specs.Selection.{part, headLines, onlyOuts}
+use Rattle.selection.specs.PartLaws.{part-bound}
 use Rattle.selection.specs.PartRightLaws.{part-well-formed}
 use Rattle.selection.specs.FewerLinesLaws.{fewer-lines}
 
@@ -64,24 +69,34 @@ part-print-most s d =
     )
 
 -- ---- the sheet
-module _ (t : List ℕ) (d : Design) (e : examine t ≡ valid d) (s : ℕ) where
-  pub only-outs-printed : onlyOuts s (length (d .outputs)) t ≡ printDesign (part s d)
-  unfolding onlyOuts printDesign
+module _ (t : List ℕ) (d : Design) (s : ℕ) (w : Writes t d) where
+  pub only-outs-printed : onlyOuts s (length (d .outputs)) t ≡ printDesign (writtenAs (part s d) (w .written))
+  unfolding onlyOuts printDesign part
   only-outs-printed =
-      let w = design-print-of-read t d e in
       ap (λ (ls : List (List ℕ)). endedLines (kept s (length (d .outputs)) ls))
-      (ap lines (w .is-print) ∙ print-lines d (w .well-formed))
-      ∙ ap endedLines (part-lines s d)
+      (ap lines (w .is-print) ∙ print-lines d (w .written) (w .well-formed) (w .same-bound))
+      ∙ ap endedLines (part-lines s (writtenAs d (w .written)))
 
+  only-outs-fits : length (onlyOuts s (length (d .outputs)) t) ≤ maxSheet
+  unfolding part
+  only-outs-fits =
+      let all = writtenAs d (w .written) in
+      let whole : length (printDesign all) ≤ maxSheet = subst (λ (u : List ℕ). length u ≤ maxSheet) (w .is-print) (w .fits) in
+      let most : length (printDesign (part s all)) ≤ length (printDesign all) = part-print-most s all in
+      subst (λ (u : List ℕ). length u ≤ maxSheet) (sym only-outs-printed) (omega arith)
+
+  only-outs-written : SomeOf (length (d .outputs)) s → Writes (onlyOuts s (length (d .outputs)) t) (part s d)
+  only-outs-written p =
+      record {
+        well-formed = part-well-formed s d (w .well-formed) p;
+        written = w .written;
+        same-bound = ap (λ (ns : List Name). sameNames ns (w .written)) (part-bound s d) ∙ w .same-bound;
+        is-print = only-outs-printed;
+        fits = only-outs-fits;
+      }
+
+module _ (t : List ℕ) (d : Design) (e : examine t ≡ valid d) (s : ℕ) where
   pub only-outs-valid : SomeOf (length (d .outputs)) s → examine (onlyOuts s (length (d .outputs)) t) ≡ valid (part s d)
   only-outs-valid p =
-      let w = design-print-of-read t d e in
-      let whole : length (printDesign d) ≤ maxSheet = subst (λ (u : List ℕ). length u ≤ maxSheet) (w .is-print) (w .fits) in
-      let most : length (printDesign (part s d)) ≤ length (printDesign d) = part-print-most s d in
-      let fits : length (printDesign (part s d)) ≤ maxSheet = omega arith in
       design-read-of-print (onlyOuts s (length (d .outputs)) t) (part s d)
-      (record {
-        well-formed = part-well-formed s d (w .well-formed) p;
-        is-print = only-outs-printed;
-        fits = subst (λ (u : List ℕ). length u ≤ maxSheet) (sym only-outs-printed) fits;
-      })
+      (only-outs-written t d s (design-print-of-read t d e) p)

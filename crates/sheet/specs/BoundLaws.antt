@@ -5,11 +5,12 @@ use mathlib.Core.Bool.{Bool, true, false}
 use mathlib.Core.List.{List, [], _∷_, map}
 use Prim.Native.Nat.{ℕ, _≤_}
 use native.Mathlib.Omega.{arith}
-use lib.ListN.{length, take}
+use lib.ListN.{length, take, length-map}
 use Rattle.bits.specs.Logic.{pick}
 use Rattle.text.specs.Bytes.{bytes, eat}
 use Rattle.limits.specs.Limits.{maxBound}
 use Rattle.names.specs.Name.{Name, allAmong}
+use Rattle.names.specs.Spelled.{spelledBy}
 use Rattle.names.specs.Pack.{nameOf}
 use Rattle.cursor.specs.declared.NameList.{NameList}
 use Rattle.sheet.specs.Lines.{readBound}
@@ -18,15 +19,16 @@ use Rattle.sheet.specs.Known.{Holds, Refused, StepIs, LineIs, PlacesAre}
 use Rattle.sheet.specs.Value.{outputOn}
 use Rattle.sheet.specs.LineLaws.{namesAfter}
 use Rattle.sheet.specs.ListLaws.{AsksList}
+use Rattle.sheet.specs.PlaceLaws.{spelled-positions}
 use Rattle.sheet.specs.OnwardLaws.{Passed, passed-onward}
 use Rattle.sheet.specs.declared.Place.{Place}
 use Rattle.sheet.specs.declared.Places.{Places}
 use Rattle.sheet.specs.declared.Sheet.{Sheet}
 use Rattle.sheet.specs.declared.Asked.{Asked}
 
--- the design with the bound inputs ns
+-- the design with the bound inputs ns, spelled as its inputs are
 abbrev pub withBound : Design → List Name → Design
-withBound d ns = record { inputs = d .inputs; bound = ns; limit = d .limit; outputs = d .outputs }
+withBound d ns = record { inputs = d .inputs; bound = map (spelledBy (d .inputs)) ns; limit = d .limit; outputs = d .outputs }
 
 -- question 5 and what follows
 abbrev pub afterFour : Design → List Name → Step
@@ -75,9 +77,9 @@ module _ {d : Design} {k : Sheet} (h : Holds d k) (n : ℕ) (vs : List ℕ) (p :
         inputs-counted = h .inputs-counted;
         inputs-few = h .inputs-few;
         inputs-named = h .inputs-named;
-        bound-counted = counted;
+        bound-counted = counted ∙ sym (length-map ns (spelledBy (d .inputs)));
         bound-few = few;
-        bound-placed = ap (λ (b : ℕ). take b (p .list)) counted ∙ places .listed e;
+        bound-placed = ap (λ (b : ℕ). take b (p .list)) counted ∙ places .listed e ∙ sym (spelled-positions (d .inputs) ns);
         limit-is = h .limit-is;
         limit-small = h .limit-small;
         outputs-counted = h .outputs-counted;

@@ -1,4 +1,4 @@
--- From the print of a well-formed design that fits: it is valid, and says that design. Assumes nothing.
+-- From a sheet that writes a design: it is valid, and says that design. Assumes nothing.
 use mathlib.Core.Path.{_≡_, refl, sym, ap, _∙_, subst}
 use mathlib.Core.Bool.{Bool, true, false, not, _&&_}
 use mathlib.Core.List.{List, [], _∷_, _++_, map, map-append, append-assoc, append-nil}
@@ -16,6 +16,8 @@ use Rattle.text.specs.BytesLaws.{same-self}
 use Rattle.text.specs.Line.{lines}
 use Rattle.text.specs.EndedLaws.{lines-of-ended, ended-some}
 use Rattle.names.specs.Name.{Name, among, distinct, allAmong}
+use Rattle.names.specs.Spelled.{sameNames, spelledBy}
+use Rattle.names.specs.SpelledLaws.{same-names-length, same-all-names, all-stand-among, respelled-distinct, respelled-among, spelled-all-of-same}
 use Rattle.names.specs.Names.{allNames}
 use Rattle.names.specs.AllNamesLaws.{all-named}
 use Rattle.formula.specs.Tree.{constant, depth, knows}
@@ -25,6 +27,7 @@ use Rattle.sheet.specs.Examine.{Design, refused, valid, at-design, at-in
 use Rattle.sheet.specs.Examine.{within, askIn, askBound, askLimit, askOut, askEnd, askLine, askLines, outputNames, newName, withOutput, plainLines, sized, nothing, examine}
 use Rattle.sheet.specs.WellFormed.{RightInputs, RightBound, RightOutput, RightOutputs, WellFormed, outputAt}
 use Rattle.sheet.specs.Printer.{designLines, printDesign}
+use Rattle.sheet.specs.Written.{writtenAs, Writes}
 use Rattle.sheet.specs.Visible.{visible, allVisible}
 use Rattle.sheet.specs.VisibleLaws.{in-visible, bound-visible, limit-visible, out-visible}
 use Rattle.sheet.specs.PlainLaws.{all-visible-unbroken, ended-plain}
@@ -42,9 +45,6 @@ not-yes false h = refl
 abbrev withInputs : Design → List Name → Design
 withInputs e ns = record { inputs = ns; bound = e .bound; limit = e .limit; outputs = e .outputs }
 
-abbrev withBound : Design → List Name → Design
-withBound e ms = record { inputs = e .inputs; bound = ms; limit = e .limit; outputs = e .outputs }
-
 abbrev withLimit : Design → ℕ → Design
 withLimit e m = record { inputs = e .inputs; bound = e .bound; limit = m; outputs = e .outputs }
 
@@ -55,15 +55,28 @@ in-read e ns r =
     ∙ all-yes ((3, within 1 maxInputs (length ns)) ∷ (4, distinct ns) ∷ []) (next at-bound (withInputs e ns))
     (within-yes 1 maxInputs (length ns) (r .filled) (r .few), (r .once, tt))
 
-bound-read : (e : Design) (ms : List Name)
-    → allNames (e .inputs) ≡ true
-    → RightBound (e .inputs) ms
-    → askLine at-bound e (printBound ms) ≡ next at-limit (withBound e ms)
-unfolding askLine askBound
-bound-read e ms a r =
-    ap (askBound e) (bound-inverse .read-of-print (printBound ms) ms (all-named ms (e .inputs) a (r .known)) refl)
-    ∙ all-yes ((3, within 1 maxBound (length ms)) ∷ (4, distinct ms) ∷ (5, allAmong ms (e .inputs)) ∷ []) (next at-limit (withBound e ms))
-    (within-yes 1 maxBound (length ms) (r .filled) (r .few), (r .once, (r .known, tt)))
+-- the names ks of the line name what ms do, which the design holds
+module _ (e : Design) (ms ks : List Name) (i : RightInputs (e .inputs)) (r : RightBound (e .inputs) ms) (s : sameNames ms ks ≡ true) where
+  bound-known : allAmong ms (e .inputs) ≡ true
+  bound-known = all-stand-among ms (e .inputs) (r .known)
+
+  bound-named : allNames ks ≡ true
+  bound-named = same-all-names ms ks s (all-named ms (e .inputs) (i .named) bound-known)
+
+  bound-within : within 1 maxBound (length ks) ≡ true
+  bound-within =
+      let as-many = same-names-length ms ks s in
+      within-yes 1 maxBound (length ks) (omega (arith, as-many, r .filled)) (omega (arith, as-many, r .few))
+
+  bound-read : askLine at-bound e (printBound ks) ≡ next at-limit (writtenAs e ms)
+  unfolding askLine askBound
+  bound-read =
+      let ns = e .inputs in
+      ap (askBound e) (bound-inverse .read-of-print (printBound ks) ks bound-named refl)
+      ∙ all-yes ((3, within 1 maxBound (length ks)) ∷ (4, distinct ks) ∷ (5, allAmong ks ns) ∷ [])
+      (next at-limit (writtenAs e (map (spelledBy ns) ks)))
+      (bound-within, (sym (respelled-distinct ms ks s) ∙ r .once, (sym (respelled-among ms ks ns s) ∙ bound-known, tt)))
+      ∙ ap (λ (xs : List Name). next at-limit (writtenAs e xs)) (spelled-all-of-same ns ms ks (i .once) (r .known) s)
 
 limit-read : (e : Design) (m : ℕ) → m ≤ maxLimit → askLine at-limit e (printLimit m) ≡ next at-out (withLimit e m)
 unfolding askLine askLimit
@@ -136,19 +149,22 @@ outs-read (o ∷ os) e n r h =
     ∙ ap (λ (xs : List Output). valid (withOutputs e xs)) regrouped
 
 -- ---- all lines
-lines-read : (d : Design) → WellFormed d → askLines at-design nothing 1 (designLines d) ≡ valid d
+lines-read : (d : Design) (ks : List Name)
+    → WellFormed d
+    → sameNames (d .bound) ks ≡ true
+    → askLines at-design nothing 1 (designLines (writtenAs d ks)) ≡ valid d
 unfolding askLine designLines
-lines-read d w =
+lines-read d ks w s =
     let ins = withInputs nothing (d .inputs) in
-    let bounds = withBound ins (d .bound) in
+    let bounds = writtenAs ins (d .bound) in
     let limits = withLimit bounds (d .limit) in
     let outs = map printOut (d .outputs) ++ (endLine ∷ []) in
-    line-next at-design at-in nothing nothing 1 designLine (printIn (d .inputs) ∷ printBound (d .bound) ∷ printLimit (d .limit) ∷ outs)
+    line-next at-design at-in nothing nothing 1 designLine (printIn (d .inputs) ∷ printBound ks ∷ printLimit (d .limit) ∷ outs)
     (ap (λ (b : Bool). pick b (next at-in nothing) (no-to 2)) (same-self designLine))
-    ∙ line-next at-in at-bound nothing ins 2 (printIn (d .inputs)) (printBound (d .bound) ∷ printLimit (d .limit) ∷ outs)
+    ∙ line-next at-in at-bound nothing ins 2 (printIn (d .inputs)) (printBound ks ∷ printLimit (d .limit) ∷ outs)
     (in-read nothing (d .inputs) (w .inputs-right))
-    ∙ line-next at-bound at-limit ins bounds 3 (printBound (d .bound)) (printLimit (d .limit) ∷ outs)
-    (bound-read ins (d .bound) (w .inputs-right .named) (w .bound-right))
+    ∙ line-next at-bound at-limit ins bounds 3 (printBound ks) (printLimit (d .limit) ∷ outs)
+    (bound-read ins (d .bound) ks (w .inputs-right) (w .bound-right) s)
     ∙ line-next at-limit at-out bounds limits 4 (printLimit (d .limit)) outs (limit-read bounds (d .limit) (w .limit-right))
     ∙ outs-read (d .outputs) limits 5 (w .outputs-right) (w .some-output)
 
@@ -164,34 +180,43 @@ outs-visible ns (o ∷ os) h =
     (out-visible o (r .named) (r .formed))
     (outs-visible ns os (λ i l. h (suc i) (omega arith)))
 
-lines-visible : (d : Design) → WellFormed d → allVisible (designLines d) ≡ true
-unfolding allVisible designLines visible
-lines-visible d w =
-    let outs = map printOut (d .outputs) ++ (endLine ∷ []) in
-    let named = w .inputs-right .named in
-    and-both (visible (printIn (d .inputs))) (visible (printBound (d .bound)) && (visible (printLimit (d .limit)) && allVisible outs))
-    (in-visible (d .inputs) named)
-    (and-both (visible (printBound (d .bound))) (visible (printLimit (d .limit)) && allVisible outs)
-    (bound-visible (d .bound) (all-named (d .bound) (d .inputs) named (w .bound-right .known)))
-    (and-both (visible (printLimit (d .limit))) (allVisible outs)
-    (limit-visible (d .limit))
-    (outs-visible (d .inputs) (d .outputs) (w .outputs-right .each))))
+module _ (d : Design) (ks : List Name) (w : WellFormed d) (e : sameNames (d .bound) ks ≡ true) where
+  lines-visible : allVisible (designLines (writtenAs d ks)) ≡ true
+  unfolding allVisible designLines visible
+  lines-visible =
+      let outs = map printOut (d .outputs) ++ (endLine ∷ []) in
+      and-both (visible (printIn (d .inputs))) (visible (printBound ks) && (visible (printLimit (d .limit)) && allVisible outs))
+      (in-visible (d .inputs) (w .inputs-right .named))
+      (and-both (visible (printBound ks)) (visible (printLimit (d .limit)) && allVisible outs)
+      (bound-visible ks (bound-named d (d .bound) ks (w .inputs-right) (w .bound-right) e))
+      (and-both (visible (printLimit (d .limit))) (allVisible outs)
+      (limit-visible (d .limit))
+      (outs-visible (d .inputs) (d .outputs) (w .outputs-right .each))))
 
-pub print-lines : (d : Design) → WellFormed d → lines (printDesign d) ≡ designLines d
-unfolding printDesign
-print-lines d w = lines-of-ended (designLines d) (all-visible-unbroken (designLines d) (lines-visible d w))
+  pub print-lines : lines (printDesign (writtenAs d ks)) ≡ designLines (writtenAs d ks)
+  unfolding printDesign
+  print-lines = lines-of-ended (designLines (writtenAs d ks)) (all-visible-unbroken (designLines (writtenAs d ks)) lines-visible)
 
-print-sized : (d : Design) → WellFormed d → length (printDesign d) ≤ maxSheet → sized (printDesign d) ≡ true
-unfolding sized printDesign designLines
-print-sized d w h =
-    and-both (within 1 maxSheet (length (printDesign d))) (plainLines (printDesign d))
-    (within-yes 1 maxSheet (length (printDesign d)) (ended-some designLine _) h)
-    (ended-plain designLine _ (lines-visible d w))
+  module _ (h : length (printDesign (writtenAs d ks)) ≤ maxSheet) where
+    print-sized : sized (printDesign (writtenAs d ks)) ≡ true
+    unfolding sized printDesign designLines
+    print-sized =
+        let s = printDesign (writtenAs d ks) in
+        and-both (within 1 maxSheet (length s)) (plainLines s)
+        (within-yes 1 maxSheet (length s) (ended-some designLine _) h)
+        (ended-plain designLine _ lines-visible)
+
+    print-valid : examine (printDesign (writtenAs d ks)) ≡ valid d
+    unfolding examine
+    print-valid =
+        let s = printDesign (writtenAs d ks) in
+        ap (λ (b : Bool). pick b (askLines at-design nothing 1 (lines s)) (refused 1 0)) print-sized
+        ∙ ap (askLines at-design nothing 1) print-lines
+        ∙ lines-read d ks w e
 
 -- ---- the sheet
-pub printed-valid : (d : Design) → WellFormed d → length (printDesign d) ≤ maxSheet → examine (printDesign d) ≡ valid d
-unfolding examine
-printed-valid d w h =
-    ap (λ (b : Bool). pick b (askLines at-design nothing 1 (lines (printDesign d))) (refused 1 0)) (print-sized d w h)
-    ∙ ap (askLines at-design nothing 1) (print-lines d w)
-    ∙ lines-read d w
+pub design-read-of-print : (s : List ℕ) (d : Design) → Writes s d → examine s ≡ valid d
+design-read-of-print s d w =
+    ap examine (w .is-print)
+    ∙ print-valid d (w .written) (w .well-formed) (w .same-bound)
+    (subst (λ (t : List ℕ). length t ≤ maxSheet) (w .is-print) (w .fits))

@@ -1,9 +1,9 @@
--- From a valid sheet: it is the print of its design. Assumes nothing.
-use mathlib.Core.Path.{_≡_, refl, sym, ap, ap₂, _∙_}
+-- From a valid sheet: it writes its design. Assumes nothing.
+use mathlib.Core.Path.{_≡_, refl, sym, ap, ap₂, subst, _∙_}
 use mathlib.Core.Bool.{Bool, true, false, _&&_}
 use mathlib.Core.List.{List, [], _∷_, _++_, map, append-assoc, append-nil}
 use mathlib.Core.Option.{Option, some, none}
-use Prim.Native.Nat.{ℕ, suc, _≤_}
+use Prim.Native.Nat.{ℕ, suc}
 use lib.Dec.{leb, ltb}
 use lib.ListN.{length}
 use borrow.Author.Tests.{leb-true}
@@ -15,12 +15,16 @@ use Rattle.text.specs.BytesLaws.{same-equal}
 use Rattle.text.specs.Line.{lines, endedLines}
 use Rattle.text.specs.EndedLaws.{ended-of-lines}
 use Rattle.names.specs.Name.{Name, distinct, allAmong}
+use Rattle.names.specs.Spelled.{sameNames, spelledBy}
+use Rattle.names.specs.SpelledLaws.{same-names-back, spelled-all-same}
 use Rattle.formula.specs.Tree.{depth, knows}
 use Rattle.sheet.specs.Lines.{Output, designLine, endLine, printIn, printBound, printLimit, printOut, readIn, readBound, readLimit, readOut}
 use Rattle.sheet.specs.LineInverse.{in-inverse, bound-inverse, limit-inverse, out-inverse}
 use Rattle.sheet.specs.Examine.{Design, Examined, refused, valid, Place, at-design, at-in, at-bound, at-limit, at-out, over, no-to, next}
 use Rattle.sheet.specs.Examine.{within, askIn, askBound, askLimit, askOut, askEnd, askLine, askLines, newName, withOutput, follow, plainLines, sized, nothing, examine}
 use Rattle.sheet.specs.Printer.{designLines, printDesign}
+use Rattle.sheet.specs.Written.{writtenAs, Writes}
+use Rattle.sheet.specs.ExaminationLaws.{valid-well-formed}
 use Rattle.sheet.specs.PlainLaws.{plain-ends}
 use Rattle.sheet.specs.AskedLaws.{refused-valid, valid-is, asked}
 
@@ -123,8 +127,14 @@ record LimitSaid (e : Design) (ls : List (List ℕ)) (d : Design) : Type 0 where
   pub same-inputs : e .inputs ≡ d .inputs
   pub same-bound : e .bound ≡ d .bound
 
+-- the lines are those of d, where the bound names may stand in another spelling
+record LinesSaid (linesOf : Design → List (List ℕ)) (ls : List (List ℕ)) (d : Design) : Type 0 where
+  pub written : List Name
+  pub same-bound : sameNames (d .bound) written ≡ true
+  pub lines-are : ls ≡ linesOf (writtenAs d written)
+
 record BoundSaid (e : Design) (ls : List (List ℕ)) (d : Design) : Type 0 where
-  pub lines-are : ls ≡ boundLines d
+  pub said : LinesSaid boundLines ls d
   pub same-inputs : e .inputs ≡ d .inputs
 
 module _ (e d : Design) (n : ℕ) (l : List ℕ) (ls : List (List ℕ)) (first : e .outputs ≡ []) where
@@ -158,12 +168,18 @@ module _ (e d : Design) (n : ℕ) (l : List ℕ) (ls : List (List ℕ)) (first :
   unfolding askBound
   bound-by none r h = absurd (refused-valid h)
   bound-by (some ms) r h =
-      let e′ : Design = record { inputs = e .inputs; bound = ms; limit = e .limit; outputs = e .outputs } in
+      let e′ : Design = writtenAs e (map (spelledBy (e .inputs)) ms) in
       let qs : List (ℕ × Bool)
       = (3, within 1 maxBound (length ms)) ∷ (4, distinct ms) ∷ (5, allAmong ms (e .inputs)) ∷ [] in
       let s = limit-said ls e′ d (suc n) first (asked qs (next at-limit e′) n (later n ls) d h) in
       record {
-        lines-are = ap₂ firstThen (bound-inverse .print-of-read l ms r .1 ∙ ap printBound (s .same-bound)) (s .lines-are);
+        said =
+            record {
+              written = ms;
+              same-bound = same-names-back ms (d .bound)
+                  (subst (λ (xs : List Name). sameNames ms xs ≡ true) (s .same-bound) (spelled-all-same (e .inputs) ms));
+              lines-are = ap₂ firstThen (bound-inverse .print-of-read l ms r .1) (s .lines-are);
+            };
         same-inputs = s .same-inputs;
       }
 
@@ -176,21 +192,28 @@ bound-said [] e d n first h = absurd (refused-valid h)
 bound-said (l ∷ ls) e d n first h = bound-by e d n l ls first (readBound l) refl h
 
 module _ (e d : Design) (n : ℕ) (l : List ℕ) (ls : List (List ℕ)) (first : e .outputs ≡ []) where
-  in-by : (x : Option (List Name)) → readIn l ≡ x → follow (askIn e x) n (later n ls) ≡ valid d → l ∷ ls ≡ inLines d
+  in-by : (x : Option (List Name)) → readIn l ≡ x → follow (askIn e x) n (later n ls) ≡ valid d → LinesSaid inLines (l ∷ ls) d
   unfolding askIn
   in-by none r h = absurd (refused-valid h)
   in-by (some ns) r h =
       let e′ : Design = record { inputs = ns; bound = e .bound; limit = e .limit; outputs = e .outputs } in
       let qs : List (ℕ × Bool) = (3, within 1 maxInputs (length ns)) ∷ (4, distinct ns) ∷ [] in
       let s = bound-said ls e′ d (suc n) first (asked qs (next at-bound e′) n (later n ls) d h) in
-      ap₂ firstThen (in-inverse .print-of-read l ns r .1 ∙ ap printIn (s .same-inputs)) (s .lines-are)
+      record {
+        written = s .said .written;
+        same-bound = s .said .same-bound;
+        lines-are = ap₂ firstThen (in-inverse .print-of-read l ns r .1 ∙ ap printIn (s .same-inputs)) (s .said .lines-are);
+      }
 
-in-said : (ls : List (List ℕ)) (e d : Design) (n : ℕ) → e .outputs ≡ [] → askLines at-in e n ls ≡ valid d → ls ≡ inLines d
+in-said : (ls : List (List ℕ)) (e d : Design) (n : ℕ)
+    → e .outputs ≡ []
+    → askLines at-in e n ls ≡ valid d
+    → LinesSaid inLines ls d
 unfolding askLine askLines
 in-said [] e d n first h = absurd (refused-valid h)
 in-said (l ∷ ls) e d n first h = in-by e d n l ls first (readIn l) refl h
 
-lines-said : (ls : List (List ℕ)) (d : Design) → askLines at-design nothing 1 ls ≡ valid d → ls ≡ designLines d
+lines-said : (ls : List (List ℕ)) (d : Design) → askLines at-design nothing 1 ls ≡ valid d → LinesSaid designLines ls d
 unfolding askLine askLines designLines
 lines-said [] d h = absurd (refused-valid h)
 lines-said (l ∷ ls) d h = go (same l designLine) refl h
@@ -198,8 +221,14 @@ lines-said (l ∷ ls) d h = go (same l designLine) refl h
     go : (b : Bool)
         → same l designLine ≡ b
         → follow (pick b (next at-in nothing) (no-to 2)) 1 (later 1 ls) ≡ valid d
-        → l ∷ ls ≡ designLine ∷ inLines d
-    go true q h = ap₂ firstThen (same-equal l designLine q) (in-said ls nothing d 2 refl h)
+        → LinesSaid designLines (l ∷ ls) d
+    go true q h =
+        let s = in-said ls nothing d 2 refl h in
+        record {
+          written = s .written;
+          same-bound = s .same-bound;
+          lines-are = ap₂ firstThen (same-equal l designLine q) (s .lines-are);
+        }
     go false q h = absurd (refused-valid h)
 
 -- ---- the sheet
@@ -207,11 +236,18 @@ sized-said : (b : Bool) (x : Examined) (d : Design) → pick b x (refused 1 0) �
 sized-said true x d h = (refl, h)
 sized-said false x d h = absurd (refused-valid h)
 
-pub valid-printed : (s : List ℕ) (d : Design) → examine s ≡ valid d → (s ≡ printDesign d) × (length s ≤ maxSheet)
+pub design-print-of-read : (s : List ℕ) (d : Design) → examine s ≡ valid d → Writes s d
 unfolding examine sized printDesign
-valid-printed s d h =
+design-print-of-read s d h =
     let counted = within 1 maxSheet (length s) in
     let (i, f) = sized-said (sized s) (askLines at-design nothing 1 (lines s)) d h in
     let fits = and-right (leb 1 (length s)) (leb (length s) maxSheet) (and-left counted (plainLines s) i) in
     let ends = plain-ends s (and-right counted (plainLines s) i) in
-    (ended-of-lines s ends ∙ ap endedLines (lines-said (lines s) d f), leb-true (length s) maxSheet fits)
+    let said = lines-said (lines s) d f in
+    record {
+      well-formed = valid-well-formed s d h;
+      written = said .written;
+      same-bound = said .same-bound;
+      is-print = ended-of-lines s ends ∙ ap endedLines (said .lines-are);
+      fits = leb-true (length s) maxSheet fits;
+    }

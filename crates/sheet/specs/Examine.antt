@@ -11,10 +11,11 @@ use Rattle.limits.specs.Limits.{maxInputs, maxBound, maxLimit, maxOutputs, maxD
 use Rattle.text.specs.Bytes.{same, newline}
 use Rattle.text.specs.Line.{lines}
 use Rattle.names.specs.Name.{Name, among, distinct, allAmong}
+use Rattle.names.specs.Spelled.{spelledBy}
 use Rattle.formula.specs.Tree.{depth, knows}
 use Rattle.sheet.specs.Lines.{Output, designLine, endLine, readIn, readBound, readLimit, readOut}
 
--- what a valid sheet says
+-- what a valid sheet says; its bound names are spelled as the `in` line spells them
 pub record Design : Type 0 where
   pub inputs : List Name
   pub bound : List Name
@@ -53,7 +54,7 @@ unfoldable pub askBound : Design → Option (List Name) → Step
 askBound d none = no-to 2
 askBound d (some ns) =
     ask ((3, within 1 maxBound (length ns)) ∷ (4, distinct ns) ∷ (5, allAmong ns (d .inputs)) ∷ [])
-    (next at-limit (record { inputs = d .inputs; bound = ns; limit = d .limit; outputs = d .outputs }))
+    (next at-limit (record { inputs = d .inputs; bound = map (spelledBy (d .inputs)) ns; limit = d .limit; outputs = d .outputs }))
 
 unfoldable pub askLimit : Design → Option ℕ → Step
 askLimit d none = no-to 2

@@ -10,6 +10,7 @@ pub mod Printer
 pub mod Value
 pub mod Computing
 pub mod WellFormed
+pub mod Written
 pub mod FurtherOutputLaws
 pub mod AskedLaws
 pub mod LineRightLaws

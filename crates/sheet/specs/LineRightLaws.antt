@@ -2,24 +2,26 @@
 -- right up to the next place. What is spelled right is what can be written. Assumes nothing.
 use mathlib.Core.Path.{_≡_, refl}
 use mathlib.Core.Bool.{Bool, true, false, not, _&&_}
-use mathlib.Core.List.{List, [], _∷_}
+use mathlib.Core.List.{List, [], _∷_, map}
 use mathlib.Core.Option.{Option, some, none}
 use Prim.Native.Nat.{ℕ, _≤_}
 use native.Mathlib.Omega.{arith}
 use lib.Dec.{leb, ltb}
-use lib.ListN.{length}
+use lib.ListN.{length, length-map}
 use borrow.Author.Tests.{leb-true, ltb-true, not-true}
 use Rattle.bits.specs.Logic.{pick}
 use Rattle.bits.specs.LogicLaws.{and-left, and-right}
 use Rattle.limits.specs.Limits.{maxInputs, maxBound, maxLimit, maxOutputs, maxDepth}
 use Rattle.text.specs.Bytes.{same}
 use Rattle.names.specs.Name.{Name, among, distinct, allAmong}
+use Rattle.names.specs.Spelled.{spelledBy}
+use Rattle.names.specs.SpelledLaws.{spelled-all-stand, spelled-distinct}
 use Rattle.formula.specs.Tree.{depth, knows}
 use Rattle.sheet.specs.Lines.{Output, designLine, endLine, readIn, readBound, readLimit, readOut}
 use Rattle.sheet.specs.LineInverse.{in-inverse, out-inverse}
 use Rattle.sheet.specs.Examine.{Design, Place, at-design, at-in, at-bound, at-limit, at-out, over, Step, no-to, next}
 use Rattle.sheet.specs.Examine.{ask, within, askIn, askBound, askLimit, askOut, askEnd, askLine, outputNames, newName, withOutput}
-use Rattle.sheet.specs.WellFormed.{LineQuestion, StepRight, RightOutputs, HasInputs, HasBound, HasLimit, Reached}
+use Rattle.sheet.specs.WellFormed.{LineQuestion, StepRight, RightBound, RightOutputs, HasInputs, HasBound, HasLimit, Reached}
 use Rattle.sheet.specs.AskedLaws.{AllYes}
 use Rattle.sheet.specs.FurtherOutputLaws.{outputs-more}
 
@@ -41,10 +43,10 @@ pick-right true t u h k = h
 pick-right false t u h k = k
 
 -- ---- each line
-pub within-low : (a b n : ℕ) → within a b n ≡ true → a ≤ n
+within-low : (a b n : ℕ) → within a b n ≡ true → a ≤ n
 within-low a b n e = leb-true a n (and-left (leb a n) (leb n b) e)
 
-pub within-high : (a b n : ℕ) → within a b n ≡ true → n ≤ b
+within-high : (a b n : ℕ) → within a b n ≡ true → n ≤ b
 within-high a b n e = leb-true n b (and-right (leb a n) (leb n b) e)
 
 in-right : (d : Design) (l : List ℕ) (x : Option (List Name)) → readIn l ≡ x → d .outputs ≡ [] → StepRight (askIn d x)
@@ -66,23 +68,31 @@ in-right d l (some ns) e r =
       no-outputs = r;
     })
 
+pub bound-names-right : (ns ms : List Name)
+    → within 1 maxBound (length ms) ≡ true
+    → distinct ms ≡ true
+    → allAmong ms ns ≡ true
+    → RightBound ns (map (spelledBy ns) ms)
+bound-names-right ns ms e f g =
+    let as-many : length (map (spelledBy ns) ms) ≡ length ms = length-map ms (spelledBy ns) in
+    record {
+      filled = omega (arith, as-many, within-low 1 maxBound (length ms) e);
+      few = omega (arith, as-many, within-high 1 maxBound (length ms) e);
+      once = spelled-distinct ns ms f;
+      known = spelled-all-stand ns ms g;
+    }
+
 bound-right : (d : Design) (x : Option (List Name)) → HasInputs d → StepRight (askBound d x)
 unfolding askBound
 bound-right d none r = record { low = omega arith; high = omega arith }
 bound-right d (some ns) r =
     ask-right ((3, within 1 maxBound (length ns)) ∷ (4, distinct ns) ∷ (5, allAmong ns (d .inputs)) ∷ [])
-    (next at-limit (record { inputs = d .inputs; bound = ns; limit = d .limit; outputs = d .outputs }))
+    (next at-limit (record { inputs = d .inputs; bound = map (spelledBy (d .inputs)) ns; limit = d .limit; outputs = d .outputs }))
     (omega arith)
     (λ y.
     record {
       inputs-right = r .inputs-right;
-      bound-right =
-          record {
-            filled = within-low 1 maxBound (length ns) (y .0);
-            few = within-high 1 maxBound (length ns) (y .0);
-            once = y .1 .0;
-            known = y .1 .1 .0;
-          };
+      bound-right = bound-names-right (d .inputs) ns (y .0) (y .1 .0) (y .1 .1 .0);
       no-outputs = r .no-outputs;
     })
 

@@ -1,4 +1,5 @@
--- The places of names among the inputs, from the first name on: each name's place is where the lookup finds it. Assumes nothing.
+-- The places of names among the inputs, from the first name on: each name's place is where the lookup finds it, in any
+-- spelling. Assumes nothing.
 use mathlib.Core.Path.{_≡_, refl, sym, ap, ap₂, subst, _∙_}
 use mathlib.Core.Bool.{Bool, true, false, _&&_}
 use mathlib.Core.List.{List, [], _∷_, _++_, map, map-append}
@@ -7,9 +8,13 @@ use native.Mathlib.Omega.{arith}
 use native.Mathlib.Numerals.{add-one}
 use lib.ListN.{length, getD, take, drop, set, length-set, length-map, drop-of-length-le}
 use lib.Seq.{take-suc-set, take-all}
+use Rattle.bits.specs.Logic.{pick}
 use Rattle.bits.specs.LogicLaws.{true-false}
 use Rattle.limits.specs.Limits.{maxBound}
 use Rattle.names.specs.Name.{Name, sameName, among, allAmong}
+use Rattle.names.specs.SameLaws.{same-name-right}
+use Rattle.names.specs.Spelled.{spelledBy}
+use Rattle.names.specs.SpelledLaws.{spelled-same}
 use Rattle.names.specs.Pack.{nameOf}
 use Rattle.names.specs.Word.{PositionIs}
 use Rattle.names.specs.LookupLaws.{found-among, nowhere-among}
@@ -30,6 +35,18 @@ position-first (x ∷ vs) v (suc i) l e h =
 position-found : (vs : List ℕ) (v i : ℕ) → PositionIs vs v (At i) → position (map nameOf vs) (nameOf v) ≡ i
 unfolding PositionIs
 position-found vs v i p = position-first vs v i (p .0) (p .1) (p .2)
+
+-- ---- a name in another spelling has the same place
+pub position-same : (ns : List Name) (m n : Name) → sameName m n ≡ true → position ns m ≡ position ns n
+unfolding position
+position-same [] m n e = refl
+position-same (k ∷ ns) m n e =
+    ap₂ (λ (b : Bool) (later : ℕ). pick b 0 (suc later)) (same-name-right m n e k) (position-same ns m n e)
+
+pub spelled-positions : (ns ms : List Name) → map (position ns) (map (spelledBy ns) ms) ≡ map (position ns) ms
+spelled-positions ns [] = refl
+spelled-positions ns (m ∷ ms) =
+    ap₂ (λ (p : ℕ) (ps : List ℕ). p ∷ ps) (position-same ns (spelledBy ns m) m (spelled-same ns m)) (spelled-positions ns ms)
 
 -- ---- the names up to i have their places in the list
 pub record Placed (ns inputs list : List ℕ) (i : ℕ) : Type 0 where

@@ -6,7 +6,8 @@ use mathlib.Core.List.{List, []}
 use Prim.Native.Nat.{ℕ, _≤_, _<_}
 use lib.ListN.{length, getD}
 use Rattle.limits.specs.Limits.{maxInputs, maxBound, maxLimit, maxOutputs, maxDepth}
-use Rattle.names.specs.Name.{Name, isName, among, distinct, allAmong}
+use Rattle.names.specs.Name.{Name, isName, among, distinct}
+use Rattle.names.specs.Spelled.{allStandIn}
 use Rattle.names.specs.Names.{allNames}
 use Rattle.formula.specs.Tree.{constant, depth, knows}
 use Rattle.formula.specs.Printer.{spelled}
@@ -20,12 +21,12 @@ pub record RightInputs (ns : List Name) : Type 0 where
   pub once : distinct ns ≡ true
   pub named : allNames ns ≡ true
 
--- the names of the `bound` line, where ns are the inputs
+-- the bound names, where ns are the inputs: each is one of these, letter for letter
 pub record RightBound (ns ms : List Name) : Type 0 where
   pub filled : 1 ≤ length ms
   pub few : length ms ≤ maxBound
   pub once : distinct ms ≡ true
-  pub known : allAmong ms ns ≡ true
+  pub known : allStandIn ms ns ≡ true
 
 -- an `out` line by itself
 pub record RightOutput (ns : List Name) (o : Output) : Type 0 where
