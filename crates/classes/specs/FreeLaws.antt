@@ -1,6 +1,6 @@
 -- Names among others, and the free inputs: a free input is an input that is not bound, none stands twice, and there are as
 -- many as inputs are left when the bound ones are taken out. Assumes nothing.
-use mathlib.Core.Path.{_≡_, refl, sym, ap, ap₂, subst, _∙_}
+use mathlib.Core.Path.{_≡_, refl, sym, ap, ap₂, _∙_}
 use mathlib.Core.Logic.{_⊎_, inl, inr, ⊎-elim}
 use mathlib.Core.Bool.{Bool, true, false, not, _||_}
 use mathlib.Core.List.{List, [], _∷_, map}
@@ -10,7 +10,9 @@ use lib.ListN.{length, getD}
 use borrow.Author.Tests.{not-true}
 use Rattle.bits.specs.LogicLaws.{true-false, and-left, and-right, and-both}
 use Rattle.names.specs.Name.{Name, sameName, among, distinct, allAmong}
-use Rattle.names.specs.SameLaws.{same-name-true, same-name-self}
+use Rattle.names.specs.SameLaws.{same-name-self, same-name-back, same-name-turned, among-same}
+use Rattle.names.specs.SpelledLaws.{all-stand-among}
+use Rattle.names.specs.LookupLaws.{neither-left, neither-right}
 use Rattle.classes.specs.Cases.{either, not-both}
 use Rattle.classes.specs.Columns.{free}
 use Rattle.classes.specs.Proper.{Parted}
@@ -23,30 +25,25 @@ or-second : (a b : Bool) → b ≡ true → a || b ≡ true
 or-second true b e = refl
 or-second false b e = e
 
-or-neither : (a b : Bool) → a ≡ false → b ≡ false → a || b ≡ false
-or-neither true b p q = p
-or-neither false b p q = q
-
-false-unless : (b : Bool) → (b ≡ true → ⊥) → b ≡ false
+pub false-unless : (b : Bool) → (b ≡ true → ⊥) → b ≡ false
 false-unless true h = absurd (h refl)
 false-unless false h = refl
 
 -- ---- a name among others
-pub among-first : (n : Name) (ns : List Name) → among n (n ∷ ns) ≡ true
+pub among-here : (m n : Name) (ns : List Name) → sameName m n ≡ true → among n (m ∷ ns) ≡ true
 unfolding among
-among-first n ns = rw (same-name-self n)
+among-here m n ns e = rw e
+
+pub among-first : (n : Name) (ns : List Name) → among n (n ∷ ns) ≡ true
+among-first n ns = among-here n n ns (same-name-self n)
 
 pub among-later : (m n : Name) (ns : List Name) → among n ns ≡ true → among n (m ∷ ns) ≡ true
 unfolding among
 among-later m n ns e = or-second (sameName m n) (among n ns) e
 
-pub among-cases : (m n : Name) (ns : List Name) → among n (m ∷ ns) ≡ true → (m ≡ n) ⊎ (among n ns ≡ true)
+pub among-cases : (m n : Name) (ns : List Name) → among n (m ∷ ns) ≡ true → (sameName m n ≡ true) ⊎ (among n ns ≡ true)
 unfolding among
-among-cases m n ns e =
-    ⊎-elim
-    (λ s. inl (same-name-true m n s))
-    (λ l. inr l)
-    (or-cases (sameName m n) (among n ns) e)
+among-cases m n ns e = or-cases (sameName m n) (among n ns) e
 
 pub among-at : (ns : List Name) (i : ℕ) → i < length ns → among (getD ns i []) ns ≡ true
 among-at [] i l = absurd (omega arith)
@@ -70,18 +67,19 @@ distinct-later n ns e = and-right (not (among n ns)) (distinct ns) e
 -- the first of distinct names is none of the others
 pub first-another : (m n : Name) (ns : List Name) → distinct (m ∷ ns) ≡ true → among n ns ≡ true → sameName m n ≡ false
 first-another m n ns e h =
-    false-unless (sameName m n)
-    (λ s.
-    not-both (among m ns) (subst (λ (k : Name). among k ns ≡ true) (sym (same-name-true m n s)) h) (distinct-first m ns e))
+    false-unless (sameName m n) (λ s. not-both (among m ns) (among-same m n s ns ∙ h) (distinct-first m ns e))
 
 pub all-among : (bs ns : List Name) (n : Name) → allAmong bs ns ≡ true → among n bs ≡ true → among n ns ≡ true
 unfolding allAmong among
 all-among [] ns n e h = absurd (true-false (sym h))
 all-among (b ∷ bs) ns n e h =
     ⊎-elim
-    (λ q. subst (λ (k : Name). among k ns ≡ true) q (and-left (among b ns) (allAmong bs ns) e))
+    (λ s. sym (among-same b n s ns) ∙ and-left (among b ns) (allAmong bs ns) e)
     (λ l. all-among bs ns n (and-right (among b ns) (allAmong bs ns) e) l)
     (among-cases b n bs h)
+
+pub bound-input : (ns bs : List Name) → Parted ns bs → (n : Name) → among n bs ≡ true → among n ns ≡ true
+bound-input ns bs p n e = all-among bs ns n (all-stand-among bs ns (p .bound-inputs)) e
 
 -- ---- the free inputs
 pub free-bound : (n : Name) (ns bs : List Name) → among n bs ≡ true → free (n ∷ ns) bs ≡ free ns bs
@@ -101,7 +99,7 @@ free-input (m ∷ ns) bs n e =
     (λ q.
     let h : among n (m ∷ free ns bs) ≡ true = rw q at e in
     ⊎-elim
-    (λ s. subst (λ (k : Name). among k (m ∷ ns) ≡ true) s (among-first m ns))
+    (λ s. among-here m n ns s)
     (λ l. among-later m n ns (free-input ns bs n l))
     (among-cases m n (free ns bs) h))
     (either (among m bs))
@@ -115,7 +113,7 @@ free-not-bound (m ∷ ns) bs n e =
     (λ q.
     let h : among n (m ∷ free ns bs) ≡ true = rw q at e in
     ⊎-elim
-    (λ s. subst (λ (k : Name). among k bs ≡ false) s q)
+    (λ s. sym (among-same m n s bs) ∙ q)
     (λ l. free-not-bound ns bs n l)
     (among-cases m n (free ns bs) h))
     (either (among m bs))
@@ -126,8 +124,8 @@ unbound-free [] bs n e h = absurd (true-false (sym e))
 unbound-free (m ∷ ns) bs n e h =
     ⊎-elim
     (λ s.
-    let f : among m bs ≡ false = subst (λ (k : Name). among k bs ≡ false) (sym s) h in
-    rw (free-unbound m ns bs f) (subst (λ (k : Name). among k (m ∷ free ns bs) ≡ true) s (among-first m (free ns bs))))
+    let f : among m bs ≡ false = among-same m n s bs ∙ h in
+    rw (free-unbound m ns bs f) (among-here m n (free ns bs) s))
     (λ l.
     let later : among n (free ns bs) ≡ true = unbound-free ns bs n l h in
     ⊎-elim
@@ -161,16 +159,12 @@ miss b n bs e = rw e
 
 -- binding what is no input changes nothing
 free-another : (b : Name) (ns bs : List Name) → among b ns ≡ false → free ns (b ∷ bs) ≡ free ns bs
-unfolding free
+unfolding free among
 free-another b [] bs e = refl
 free-another b (n ∷ ns) bs e =
-    let other : sameName b n ≡ false
-    = false-unless (sameName b n)
-    (λ s. not-both (among b (n ∷ ns)) (subst (λ (k : Name). among k (n ∷ ns) ≡ true) (sym (same-name-true b n s)) (among-first n ns)) e) in
-    let absent : among b ns ≡ false
-    = false-unless (among b ns) (λ h. not-both (among b (n ∷ ns)) (among-later n b ns h) e) in
+    let other : sameName b n ≡ false = same-name-turned n b (neither-left (sameName n b) (among b ns) e) in
     let same : among n (b ∷ bs) ≡ among n bs = miss b n bs other in
-    rw (same, free-another b ns bs absent)
+    rw (same, free-another b ns bs (neither-right (sameName n b) (among b ns) e))
 
 -- binding one input more leaves one free input less
 free-one-less : (b : Name) (ns bs : List Name) → distinct ns ≡ true → among b ns ≡ true → among b bs ≡ false
@@ -180,17 +174,14 @@ free-one-less b [] bs e h f = absurd (true-false (sym h))
 free-one-less b (n ∷ ns) bs e h f =
     ⊎-elim
     (λ s.
-    let gone : among n bs ≡ false = subst (λ (k : Name). among k bs ≡ false) (sym s) f in
-    let bound : among n (b ∷ bs) ≡ true = subst (λ (k : Name). among k (b ∷ bs) ≡ true) (sym s) (among-first b bs) in
-    let absent : among b ns ≡ false = subst (λ (k : Name). among k ns ≡ false) s (distinct-first n ns e) in
+    let gone : among n bs ≡ false = among-same n b s bs ∙ f in
+    let bound : among n (b ∷ bs) ≡ true = among-here b n bs (same-name-back b n ∙ s) in
+    let absent : among b ns ≡ false = sym (among-same n b s ns) ∙ distinct-first n ns e in
     rw (free-unbound n ns bs gone, free-bound n ns (b ∷ bs) bound, free-another b ns bs absent))
     (λ l.
     let later : length (free ns bs) ≡ suc (length (free ns (b ∷ bs))) = free-one-less b ns bs (distinct-later n ns e) l f in
-    let other : sameName n b ≡ false = first-another n b ns e l in
-    let other′ : sameName b n ≡ false
-    = false-unless (sameName b n)
-    (λ s. not-both (sameName n b) (subst (λ (k : Name). sameName n k ≡ true) (sym (same-name-true b n s)) (same-name-self n)) other) in
-    let same : among n (b ∷ bs) ≡ among n bs = miss b n bs other′ in
+    let other : sameName b n ≡ false = same-name-turned n b (first-another n b ns e l) in
+    let same : among n (b ∷ bs) ≡ among n bs = miss b n bs other in
     ⊎-elim
     (λ q. rw (free-bound n ns bs q, free-bound n ns (b ∷ bs) (same ∙ q)) later)
     (λ q. rw (free-unbound n ns bs q, free-unbound n ns (b ∷ bs) (same ∙ q)) (ap suc later))
@@ -210,7 +201,8 @@ counted ns (b ∷ bs) e f g =
 
 -- bound and free inputs are all inputs
 pub bound-and-free : (ns bs : List Name) → Parted ns bs → length bs + length (free ns bs) ≡ length ns
-bound-and-free ns bs p = counted ns bs (p .inputs-distinct) (p .bound-distinct) (p .bound-inputs)
+bound-and-free ns bs p =
+    counted ns bs (p .inputs-distinct) (p .bound-distinct) (all-stand-among bs ns (p .bound-inputs))
 
 pub length-free : (ns bs : List Name) → Parted ns bs → length (free ns bs) ≡ length ns - length bs
 length-free ns bs p = let e : length bs + length (free ns bs) ≡ length ns = bound-and-free ns bs p in omega arith

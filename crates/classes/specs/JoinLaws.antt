@@ -15,7 +15,7 @@ use Rattle.bits.specs.LogicLaws.{true-false}
 use Rattle.bits.specs.Digit.{on, digit}
 use Rattle.bits.specs.DigitLaws.{on-zero}
 use Rattle.names.specs.Name.{Name, sameName, among, distinct}
-use Rattle.names.specs.SameLaws.{same-name-true, same-name-self}
+use Rattle.names.specs.SameLaws.{same-name-self}
 use Rattle.rows.specs.Row.{bit, rowOf, valuesOf}
 use Rattle.rows.specs.RowLaws.{row-lt, row-values}
 use Rattle.rows.specs.PartLaws.{on-low, on-high}
@@ -23,7 +23,8 @@ use Rattle.formula.specs.Value.{onRow}
 use Rattle.classes.specs.Cases.{either}
 use Rattle.classes.specs.Columns.{free, onParts, joinRow, vertexOf, freeRowOf, vertexCount, freeCount}
 use Rattle.classes.specs.Proper.{Parted}
-use Rattle.classes.specs.FreeLaws.{map-agree, distinct-later, first-another, all-among, free-input, free-not-bound, unbound-free, free-distinct}
+use Rattle.classes.specs.FreeLaws.{map-agree, distinct-later, first-another, bound-input, free-input, free-not-bound, unbound-free, free-distinct}
+use Rattle.classes.specs.SameNameLaws.{Respects, row-same, parts-same}
 
 -- ---- names on a row
 on-bit : (b : Bool) → on (bit b) 0 ≡ b
@@ -43,7 +44,7 @@ row-low [] n k r l = refl
 row-low (m ∷ ms) n k r l =
     ap₂ (λ (a b : Bool). pick (sameName m n) a b) (on-low k r (length ms) (omega arith)) (row-low ms n k r (omega arith))
 
-module _ (v : Name → Bool) where
+module _ (v : Name → Bool) (respects : Respects v) where
   -- a name's value comes back out of the row of all values
   pub read-back : (ms : List Name) (n : Name) → among n ms ≡ true → onRow ms (rowOf (map v ms)) n ≡ v n
   unfolding onRow rowOf among
@@ -54,7 +55,7 @@ module _ (v : Name → Bool) where
       let row : ℕ = bit (v m) * 2 ^ length ms + rowOf (map v ms) in
       rw k
       (⊎-elim
-      (λ s. rw s (on-top (v m) (length ms) (rowOf (map v ms)) lt ∙ ap v (same-name-true m n s)))
+      (λ s. rw s (on-top (v m) (length ms) (rowOf (map v ms)) lt ∙ respects m n s))
       (λ s.
       let later : among n ms ≡ true = rw s at e in
       rw s
@@ -115,10 +116,10 @@ module _ (ns bs : List Name) (p : Parted ns bs) where
       ⊎-elim
       (λ e.
       on-bound bs (free ns bs) (rowOf (map (onRow ns r) bs)) (rowOf (map (onRow ns r) (free ns bs))) n e
-      ∙ read-back (onRow ns r) bs n e)
+      ∙ read-back (onRow ns r) (row-same ns r) bs n e)
       (λ e.
       on-free bs (free ns bs) (rowOf (map (onRow ns r) bs)) (rowOf (map (onRow ns r) (free ns bs))) n e
-      ∙ read-back (onRow ns r) (free ns bs) n (unbound-free ns bs n h e))
+      ∙ read-back (onRow ns r) (row-same ns r) (free ns bs) n (unbound-free ns bs n h e))
       (either (among n bs))
 
   pub join-parts : (r : ℕ) → r < 2 ^ length ns → joinRow ns bs (vertexOf ns bs r) (freeRowOf ns bs r) ≡ r
@@ -134,7 +135,8 @@ module _ (ns bs : List Name) (p : Parted ns bs) where
       let v : Name → Bool = onParts bs (free ns bs) x y in
       ap rowOf
       (map-agree (onRow ns (rowOf (map v ns))) (onRow bs x) bs
-      (λ n e. read-back v ns n (all-among bs ns n (p .bound-inputs) e) ∙ on-bound bs (free ns bs) x y n e))
+      (λ n e.
+      read-back v (parts-same bs (free ns bs) x y) ns n (bound-input ns bs p n e) ∙ on-bound bs (free ns bs) x y n e))
       ∙ own-row bs x (p .bound-distinct) l
 
   pub free-row-of-join : (x y : ℕ) → y < freeCount ns bs → freeRowOf ns bs (joinRow ns bs x y) ≡ y
@@ -143,7 +145,9 @@ module _ (ns bs : List Name) (p : Parted ns bs) where
       let v : Name → Bool = onParts bs (free ns bs) x y in
       ap rowOf
       (map-agree (onRow ns (rowOf (map v ns))) (onRow (free ns bs) y) (free ns bs)
-      (λ n e. read-back v ns n (free-input ns bs n e) ∙ on-free bs (free ns bs) x y n (free-not-bound ns bs n e)))
+      (λ n e.
+      read-back v (parts-same bs (free ns bs) x y) ns n (free-input ns bs n e)
+      ∙ on-free bs (free ns bs) x y n (free-not-bound ns bs n e)))
       ∙ own-row (free ns bs) y (free-distinct ns bs (p .inputs-distinct)) l
 
 -- ---- the row of a vertex and the row of a free row add up

@@ -15,7 +15,9 @@ pub mod JoinLaws
 pub mod Masks
 pub mod NextLaws
 pub mod PlaceLaws
+pub mod PositionLaws
 pub mod PowerLaws
+pub mod SameNameLaws
 pub mod SeenLaws
 pub mod ShapeLaws
 pub mod VertexLaws

@@ -15,7 +15,7 @@ use Rattle.bits.specs.DigitLaws.{on-or-one, on-or-none, on-ones}
 use Rattle.bits.specs.Carry.{full}
 use Rattle.bits.specs.CarryLaws.{on-next}
 use Rattle.names.specs.Name.{Name, sameName, among, distinct}
-use Rattle.names.specs.SameLaws.{same-name-true, same-name-self}
+use Rattle.names.specs.SameLaws.{same-name-self, among-same}
 use Rattle.rows.specs.Row.{rowOf}
 use Rattle.rows.specs.Step.{stepped}
 use Rattle.rows.specs.StepLaws.{step-bound, step-free, step-lt}
@@ -26,13 +26,14 @@ use Rattle.classes.specs.Masks.{boundDigits, freeDigits}
 use Rattle.classes.specs.Proper.{Parted}
 use Rattle.classes.specs.Seen.{fromLast}
 use Rattle.classes.specs.FreeLaws.{among-first, among-later, map-agree, distinct-later, first-another, free-bound, free-unbound, unbound-free}
+use Rattle.classes.specs.SameNameLaws.{parts-same}
 use Rattle.classes.specs.JoinLaws.{read-back, own-row, row-zero, join-lt, on-bound, on-free}
 use Rattle.classes.specs.DigitLaws.{from-last-lt, from-last-row}
 
 -- ---- a name's digit
-from-here : (m : Name) (ms : List Name) → fromLast (m ∷ ms) m ≡ length ms
+from-here : (m n : Name) (ms : List Name) → sameName m n ≡ true → fromLast (m ∷ ms) n ≡ length ms
 unfolding fromLast
-from-here m ms = rw (same-name-self m)
+from-here m n ms e = rw e
 
 from-later : (m n : Name) (ms : List Name) → sameName m n ≡ false → fromLast (m ∷ ms) n ≡ fromLast ms n
 unfolding fromLast
@@ -65,9 +66,10 @@ module _ (bs : List Name) (z y : ℕ) where
   unfolding full free
   full-later [] e g = refl
   full-later (m ∷ ms) e g =
+      let self : sameName m m ≡ true = same-name-self m in
       let later : full z (length ms) ≡ full y (length (free ms bs)) = full-later ms (distinct-later m ms e) (follows-later m ms e g) in
       let here : on z (length ms) ≡ pick (among m bs) true (on y (fromLast (free (m ∷ ms) bs) m))
-      = ap (on z) (sym (from-here m ms)) ∙ g .each m (among-first m ms) in
+      = ap (on z) (sym (from-here m m ms self)) ∙ g .each m (among-first m ms) in
       ⊎-elim
       (λ b.
       let one : on z (length ms) ≡ true = here ∙ ap (λ (t : Bool). pick t true (on y (fromLast (free (m ∷ ms) bs) m))) b in
@@ -76,7 +78,7 @@ module _ (bs : List Name) (z y : ℕ) where
       let own : on z (length ms) ≡ on y (length (free ms bs))
       = here
       ∙ ap₂ (λ (t : Bool) (l : List Name). pick t true (on y (fromLast l m))) f (free-unbound m ms bs f)
-      ∙ ap (on y) (from-here m (free ms bs)) in
+      ∙ ap (on y) (from-here m m (free ms bs) self) in
       ap₂ andb own later ∙ ap (λ (l : List Name). full y (length l)) (sym (free-unbound m ms bs f)))
       (either (among m bs))
 
@@ -88,12 +90,11 @@ module _ (bs : List Name) (z y : ℕ) where
   full-below (m ∷ ms) n e g h f =
       ⊎-elim
       (λ s.
-      let same : m ≡ n = same-name-true m n s in
-      let unbound : among m bs ≡ false = ap (λ (k : Name). among k bs) same ∙ f in
-      ap (λ (k : Name). full z (fromLast (m ∷ ms) k)) (sym same) ∙ ap (full z) (from-here m ms)
+      let unbound : among m bs ≡ false = among-same m n s bs ∙ f in
+      ap (full z) (from-here m n ms s)
       ∙ full-later ms (distinct-later m ms e) (follows-later m ms e g)
-      ∙ ap (full y) (sym (from-here m (free ms bs)))
-      ∙ ap₂ (λ (l : List Name) (k : Name). full y (fromLast l k)) (sym (free-unbound m ms bs unbound)) same)
+      ∙ ap (full y) (sym (from-here m n (free ms bs) s))
+      ∙ ap (λ (l : List Name). full y (fromLast l n)) (sym (free-unbound m ms bs unbound)))
       (λ s.
       ap (full z) (from-later m n ms s)
       ∙ full-below ms n (distinct-later m ms e) (follows-later m ms e g) (rw s at h) f
@@ -112,7 +113,7 @@ module _ (ns bs : List Name) where
   on-join : (x y : ℕ) (n : Name) → among n ns ≡ true → on (joinRow ns bs x y) (fromLast ns n) ≡ onParts bs fs x y n
   unfolding joinRow
   on-join x y n h =
-      sym (from-last-row ns n (joinRow ns bs x y) h) ∙ read-back (onParts bs fs x y) ns n h
+      sym (from-last-row ns n (joinRow ns bs x y) h) ∙ read-back (onParts bs fs x y) (parts-same bs fs x y) ns n h
 
   bound-on-bound : (n : Name) → among n ns ≡ true → among n bs ≡ true → on (boundDigits ns bs) (fromLast ns n) ≡ true
   bound-on-bound n h b =

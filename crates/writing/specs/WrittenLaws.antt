@@ -28,7 +28,8 @@ module _ (d : Design) (k : Sheet) (h : Holds d k) (p : Proper d) where
   pub bound-named : map (λ (q : ℕ). nameOf (item (k .names) q)) (take (k .bounds) (k .bound)) ≡ d .bound
   bound-named =
       ap (map (λ (q : ℕ). nameOf (item (k .names) q))) (h .bound-placed)
-      ∙ names-placed (k .names) (k .inputs) (d .inputs) (d .bound) (h .inputs-named) (sym (h .inputs-counted)) (p .parted .bound-inputs)
+      ∙ names-placed (k .names) (k .inputs) (d .inputs) (d .bound) (h .inputs-named) (sym (h .inputs-counted))
+      (p .parted .inputs-distinct) (p .parted .bound-inputs)
 
   output-named : (o : ℕ) → o < k .outputs → nameOf (item (k .outs) o) ≡ getD (outputNames (d .outputs)) o []
   output-named o l = held-name (k .outs) (k .outputs) o l ∙ ap (λ (ns : List Name). getD ns o []) (h .outputs-named)
