@@ -14,6 +14,7 @@ use Rattle.classes.specs.Classes.{globalClass}
 use Rattle.network.specs.Network.{Network}
 use Rattle.network.specs.Examine as networks
 use Rattle.network.specs.Examine.{readNetwork}
+use Rattle.network.specs.Printer.{printNetwork}
 use Rattle.network.specs.Value.{lutAt}
 use Rattle.demands.specs.Computing.{computing}
 use Rattle.mapper.specs.Map.{Permitted, First}
@@ -41,6 +42,7 @@ pub record WorkedConstant : Type 0 where
   pub one-class : globalClass (designG 2) (designG 2 .bound) 1 ≡ globalClass (designG 2) (designG 2 .bound) 2
   -- this one is permitted, and its first table has two values on that class
   pub varied-said : readNetwork (designG 2) variedG ≡ networks.network varied
+  pub varied-printed : variedG ≡ printNetwork (designG 2) varied
   pub varied-permitted : Permitted (designG 2) varied
   pub varies : lutAt varied 0 1 ≡ lutAt varied 0 2 → ⊥
   pub not-first : First (designG 2) varied → ⊥
@@ -73,6 +75,7 @@ worked-constant =
       said = refl;
       one-class = g-one-class;
       varied-said = refl;
+      varied-printed = refl;
       varied-permitted = plain-permitted (sheetG "2") variedG (designG 2) varied varied-fewest varied-plain;
       varies = λ e. true-false (sym e);
       not-first = varied-not-first;

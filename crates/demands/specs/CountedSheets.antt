@@ -50,7 +50,8 @@ unfolding computing testing
 c-plain = record { zero-first = (refl, (refl, tt)); entries = (refl, (refl, tt)) }
 
 pub c-printed : Prints (sheetC "2") 2 networkC
-c-printed = prints-tested (sheetC "2") networkC (designC 2) c-network c-fewest 3 c-asks c-plain c-tested
+unfolding computing
+c-printed = prints-tested (sheetC "2") networkC (designC 2) c-network c-fewest refl 3 c-asks c-plain c-tested
 
 -- ---- D: f, g and h read one cell each, and any two of them need two cells together, as f and g do
 pub d-cells : (n : ℕ) → AtLeast 3 (designD n)
@@ -96,7 +97,8 @@ unfolding computing testing
 d-plain = record { zero-first = (refl, (refl, (refl, tt))); entries = (refl, (refl, (refl, tt))) }
 
 pub d-printed : Prints (sheetD "3") 3 networkD
-d-printed = prints-tested (sheetD "3") networkD (designD 3) d-network d-fewest 3 d-asks d-plain d-tested
+unfolding computing
+d-printed = prints-tested (sheetD "3") networkD (designD 3) d-network d-fewest refl 3 d-asks d-plain d-tested
 
 -- ---- E: f alone tells three vertices apart pairwise
 e-cells : AtLeast 2 designE
@@ -135,7 +137,8 @@ unfolding computing testing
 e-plain = record { zero-first = (refl, (refl, tt)); entries = (refl, (refl, tt)) }
 
 pub e-printed : Prints sheetE 2 networkE
-e-printed = prints-tested sheetE networkE designE e-network e-fewest 3 e-asks e-plain e-tested
+unfolding computing
+e-printed = prints-tested sheetE networkE designE e-network e-fewest refl 3 e-asks e-plain e-tested
 
 -- ---- G: f tells vertices 0, 1 and 3 apart pairwise
 pub g-cells : (n : ℕ) → AtLeast 2 (designG n)

@@ -7,19 +7,19 @@ use native.Mathlib.Omega.{arith}
 use lib.ListN.{length, take}
 use lib.Seq.{sets}
 use Rattle.limits.specs.Limits.{maxClasses, firstLut}
+use Rattle.text.specs.Line.{lines, lineAt}
 use Rattle.sheet.specs.Examine.{Design, Examined, valid, examine}
 use Rattle.sheet.specs.WellFormed.{WellFormed}
 use Rattle.sheet.specs.ExaminationLaws.{valid-well-formed}
 use Rattle.classes.specs.Classes.{globalCount}
 use Rattle.network.specs.Network.{Network}
-use Rattle.network.specs.Printer.{printNetwork, networkLines}
-use Rattle.text.specs.Line.{lineAt}
+use Rattle.network.specs.Printer.{printNetwork}
 use Rattle.network.specs.Wellformed.{Wellformed}
 use Rattle.network.specs.Answers.{WithinLimits, Computes, Drawn}
 use Rattle.network.specs.Check.{Checked, same, differs, checkOf}
 use Rattle.network.specs.NamedLaws.{design-named}
-use Rattle.network.specs.LinePlaceLaws.{count-line-at}
-use Rattle.network.specs.SheetReadLaws.{print-lines}
+use Rattle.network.specs.LinePlaceLaws.{count-line}
+use Rattle.network.specs.SpellingLaws.{print-spells, spells-lines}
 use Rattle.network.specs.CompareLaws.{same-or-differs, compared-same}
 use Rattle.network.specs.CheckLaws.{check-compares}
 use Rattle.network.specs.PrintedLaws.{printed-drawn, printed-same, drawn-wellformed, drawn-within}
@@ -73,14 +73,14 @@ module _ (d : Design) (f : WellFormed d) where
     permitted-cells =
         let u = length (w .luts) in
         let m = length (d .outputs) in
+        let t = printNetwork d w in
         let n : firstLut + u + m ≡ u + firstLut + m = omega arith in
+        let spelled = spells-lines d (design-named d f) w t (print-spells d w (p .wellformed .node-each)) in
         record {
           said = w;
           drawn = permitted-drawn;
           lut-lines = refl;
-          count-line =
-              ap (λ (ls : List (List ℕ)). lineAt ls (firstLut + u + m)) (print-lines d w (design-named d f))
-              ∙ ap (lineAt (networkLines d w)) n ∙ count-line-at d w (p .wellformed .node-each);
+          count-line = ap (lineAt (lines t)) n ∙ count-line d w (lines t) spelled;
         }
 
     rival : (t : List ℕ) (v : Network) → Drawn d t v → checkOf (valid d) t ≡ same → length (w .luts) ≤ length (v .luts)

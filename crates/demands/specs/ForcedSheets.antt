@@ -96,7 +96,8 @@ f-only w p =
     e ∙ ap (λ (x : List Bool). network [] (node [] x ∷ [])) (f-node ds n (subst (Computes designF) e (p .computes)))
 
 pub f-printed : Prints sheetF 0 networkF
-f-printed = prints-only sheetF networkF designF f-network f-fewest f-only
+unfolding computing
+f-printed = prints-only sheetF networkF designF f-network f-fewest refl f-only
 
 -- ---- H
 h-cells : AtLeast 1 designH
@@ -165,7 +166,8 @@ h-only w p =
     (p .zero-first 0 k) (subst (Computes designH) e (p .computes))
 
 pub h-printed : Prints sheetH 1 networkH
-h-printed = prints-only sheetH networkH designH h-network h-fewest h-only
+unfolding computing
+h-printed = prints-only sheetH networkH designH h-network h-fewest refl h-only
 
 -- ---- A
 a-cells : AtLeast 1 designA
@@ -240,4 +242,5 @@ a-only w p =
     (subst (Computes designA) e (p .computes))
 
 pub a-printed : Prints sheetA 1 networkA
-a-printed = prints-only sheetA networkA designA a-network a-fewest a-only
+unfolding computing
+a-printed = prints-only sheetA networkA designA a-network a-fewest refl a-only

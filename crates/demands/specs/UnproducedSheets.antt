@@ -60,7 +60,8 @@ unfolding computing testing
 g-plain = record { zero-first = (refl, (refl, tt)); entries = (refl, tt) }
 
 g-printed : Prints (sheetG "2") 2 (networkG "0000")
-g-printed = prints-tested (sheetG "2") (networkG "0000") (designG 2) g-network g-fewest 3 g-asks g-plain g-tested
+unfolding computing
+g-printed = prints-tested (sheetG "2") (networkG "0000") (designG 2) g-network g-fewest refl 3 g-asks g-plain g-tested
 
 g-zero : (w : Network)
     → Permitted (designG 2) w
@@ -121,8 +122,9 @@ unfolding computing testing
 forced-plain = record { zero-first = (refl, (refl, tt)); entries = (refl, (refl, (refl, tt))) }
 
 forced-printed : Prints sheetForced 2 (networkForced "0000")
+unfolding computing
 forced-printed =
-    prints-tested sheetForced (networkForced "0000") designForced forced-network forced-fewest 3 forced-asks forced-plain forced-tested
+    prints-tested sheetForced (networkForced "0000") designForced forced-network forced-fewest refl 3 forced-asks forced-plain forced-tested
 
 -- an output of width 1 reads one table or none
 one-or-none : {u : ℕ} {is : List ℕ}

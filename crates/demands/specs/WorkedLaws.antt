@@ -27,7 +27,8 @@ use Rattle.network.specs.Check.{same}
 use Rattle.network.specs.Value.{lutAt}
 use Rattle.network.specs.NamedLaws.{design-named}
 use Rattle.network.specs.CompareLaws.{compared-same}
-use Rattle.network.specs.PrintedLaws.{drawn-wellformed, drawn-within, drawn-print}
+use Rattle.network.specs.LoweredLaws.{spells-length}
+use Rattle.network.specs.PrintedLaws.{drawn-wellformed, drawn-within, drawn-spells}
 use Rattle.serving.specs.NetworkCore.{networkCore}
 use Rattle.serving.specs.Tells.{core-length}
 use Rattle.serving.specs.TheoremA.{drawn-serves}
@@ -42,7 +43,14 @@ use Rattle.demands.specs.FirstTestLaws.{first-tested, plain-unproduced}
 use Rattle.demands.specs.OutcomeLaws.{outcome-for, outcome-refused}
 use Rattle.demands.specs.Worked.{Refuses, Maps, Prints}
 
-least-network : (s : List ℕ) (d : Design) (u : ℕ) → examine s ≡ valid d → AtLeast u d → (v : Network) → Wellformed d v → WithinLimits d v → Computes d v → u ≤ length (v .luts)
+least-network : (s : List ℕ) (d : Design) (u : ℕ)
+    → examine s ≡ valid d
+    → AtLeast u d
+    → (v : Network)
+    → Wellformed d v
+    → WithinLimits d v
+    → Computes d v
+    → u ≤ length (v .luts)
 least-network s d u e least v f l c =
     subst (λ (n : ℕ). u ≤ n) (core-length v) (least .cells (networkCore v) (drawn-serves d v (proper-of d (valid-well-formed s d e)) f l c))
 
@@ -128,7 +136,7 @@ module _ (s t : List ℕ) (d : Design) (w : Network) (x : Fewest s t d w) where
       (λ o h.
       (let k = subst (λ (n : ℕ). o < n) (p .wellformed .node-each) h in
       reads-of v p o k ∙ sym (reads-width d w proper well inside drawn-computes o k)))
-      ∙ ap length (sym (drawn-print d w named t (x .drawn)))
+      ∙ sym (spells-length d w t (drawn-spells d w named t (x .drawn)))
 
   says-mapped : {b : List ℕ} {a : MapAnswer} {b' : List ℕ} → length t ≤ length b → OutcomeFor d b a b' → a ≡ mapped (length (w .luts)) (length t)
   says-mapped k (too-many-classes h) = let f = x .few in absurd (omega (arith, h, f))
@@ -150,27 +158,6 @@ module _ (s t : List ℕ) (d : Design) (w : Network) (x : Fewest s t d w) where
         untouched = λ b a b' k o. says-short k (outcome-for d e o) .1;
       }
 
-  says-text : ((v : Network) → First d v → printNetwork d v ≡ printNetwork d w)
-      → {b : List ℕ} {a : MapAnswer} {b' : List ℕ}
-      → length t ≤ length b
-      → OutcomeFor d b a b'
-      → b' ≡ sets b 0 t
-  says-text alike k (too-many-classes h) = let f = x .few in absurd (omega (arith, h, f))
-  says-text alike k (no-network h n) = absurd (n w well inside drawn-computes)
-  says-text alike k (buffer-short v h p n) = let g = length-of v (p .permitted) in absurd (omega (arith, g, n, k))
-  says-text alike {b = b} k (written v h p n) = ap (sets b 0) (alike v p ∙ sym (drawn-print d w named t (x .drawn)))
-
-  prints-alike : ((v : Network) → First d v → printNetwork d v ≡ printNetwork d w) → Prints s (length (w .luts)) t
-  prints-alike alike =
-      record {
-        maps = maps-fewest;
-        writes = λ b a b' k o. says-text alike k (outcome-for d e o);
-      }
-
-  -- where no other network is permitted, its sheet is what is written
-  pub prints-only : ((v : Network) → Permitted d v → v ≡ w) → Prints s (length (w .luts)) t
-  prints-only only = prints-alike (λ v p. ap (printNetwork d) (only v (p .permitted)))
-
   -- ---- a network whose tables are 0 at vertex 0, with 0 in every entry whose code no vertex produces, is permitted
   pub plain-permitted : Plain d w → Permitted d w
   plain-permitted p =
@@ -183,12 +170,36 @@ module _ (s t : List ℕ) (d : Design) (w : Network) (x : Fewest s t d w) where
         unproduced = λ o j h g. plain-unproduced d w o j p h g;
       }
 
-  -- where it passes the test, it is the first, and its sheet is what is written
+  -- where it passes the test, it is the first
   pub tested-first : (n : ℕ) (ks : List Ask) → Plain d w → Tested d n w ks → First d w
   tested-first n ks p k = first-tested d formed n w ks (plain-permitted p) k
 
-  pub prints-tested : (n : ℕ) (ks : List Ask) → Plain d w → Tested d n w ks → Prints s (length (w .luts)) t
-  prints-tested n ks p k = prints-alike (λ v q. first-one d v w q (tested-first n ks p k) .0)
+  -- ---- where the sheet is its network's print, and no other is first, the sheet is what is written
+  module _ (printed : t ≡ printNetwork d w) where
+    says-text : ((v : Network) → First d v → printNetwork d v ≡ printNetwork d w)
+        → {b : List ℕ} {a : MapAnswer} {b' : List ℕ}
+        → length t ≤ length b
+        → OutcomeFor d b a b'
+        → b' ≡ sets b 0 t
+    says-text alike k (too-many-classes h) = let f = x .few in absurd (omega (arith, h, f))
+    says-text alike k (no-network h n) = absurd (n w well inside drawn-computes)
+    says-text alike k (buffer-short v h p n) = let g = length-of v (p .permitted) in absurd (omega (arith, g, n, k))
+    says-text alike {b = b} k (written v h p n) = ap (sets b 0) (alike v p ∙ sym printed)
+
+    prints-alike : ((v : Network) → First d v → printNetwork d v ≡ printNetwork d w) → Prints s (length (w .luts)) t
+    prints-alike alike =
+        record {
+          maps = maps-fewest;
+          writes = λ b a b' k o. says-text alike k (outcome-for d e o);
+        }
+
+    -- since it is the only one that is permitted
+    pub prints-only : ((v : Network) → Permitted d v → v ≡ w) → Prints s (length (w .luts)) t
+    prints-only only = prints-alike (λ v p. ap (printNetwork d) (only v (p .permitted)))
+
+    -- since it passes the test
+    pub prints-tested : (n : ℕ) (ks : List Ask) → Plain d w → Tested d n w ks → Prints s (length (w .luts)) t
+    prints-tested n ks p k = prints-alike (λ v q. first-one d v w q (tested-first n ks p k) .0)
 
 -- ---- a sheet that the examination refuses
 pub refuses-sheet : (s : List ℕ) (q l : ℕ) → examine s ≡ refused q l → Refuses s q l

@@ -14,7 +14,7 @@ use Rattle.network.specs.Network.{Network, Node}
 use Rattle.network.specs.Printer.{printDigits, networkLine, lutHead, printLut, printNode, lutLines, nodeLines, networkLines, printNetwork}
 use Rattle.network.specs.Parts.{freeOf, namesOf, lastLines}
 use Rattle.network.specs.Wellformed.{Wellformed, Named, nodeAt}
-use Rattle.network.specs.SheetReadLaws.{lines-unbroken}
+use Rattle.network.specs.SpellingLaws.{print-lines-spelled, lines-unbroken}
 use Rattle.order.specs.Order.{then, listOrder, byteOrder, bitOrder, tableOrder, tablesOrder}
 use Rattle.order.specs.OrderLaws.{NotLess, compare-total, bytes-total, same-front, front-first, map-order}
 use Rattle.order.specs.OrderLaws.{then-eq, then-not-less, not-less-eq}
@@ -125,7 +125,10 @@ module _ (d : Design) (h : Named d) (v w : Network) (f : Wellformed d v) (g : We
       ≡ then (tablesOrder (v .luts) (w .luts)) (nodesOrder d (v .nodes) (w .nodes))
   unfolding printNetwork
   print-order =
-      ended-order (networkLines d v) (networkLines d w) (lines-unbroken d h v) (lines-unbroken d h w) ∙ lines-order
+      ended-order (networkLines d v) (networkLines d w)
+      (lines-unbroken d h v (print-lines-spelled d v (f .node-each)))
+      (lines-unbroken d h w (print-lines-spelled d w (g .node-each)))
+      ∙ lines-order
 
 -- ---- each node line is not less, so all together are not
 pub nodes-not-less : (fs ns : List Name) (xs ys : List Node)

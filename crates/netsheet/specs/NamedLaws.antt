@@ -1,60 +1,44 @@
 -- The names of a proper design that its sheet holds: the name at a name's place is the name, so the names at the places
 -- of the bound inputs are theirs, and the others are the free inputs'. Assumes nothing.
 use mathlib.Core.Path.{_≡_, refl, sym, ap, ap₂, _∙_}
-use mathlib.Core.Bool.{Bool, true, false, _||_}
+use mathlib.Core.Bool.{true}
 use mathlib.Core.List.{List, [], _∷_, map}
 use Prim.Native.Nat.{ℕ, zero, suc, _≤_, _<_}
 use native.Mathlib.Omega.{arith}
 use lib.ListN.{length, getD, take, List·getD-map}
 use lib.Seq.{getD-take, length-take-le}
-use Rattle.bits.specs.Logic.{pick}
-use Rattle.bits.specs.LogicLaws.{true-false, and-left, and-right}
+use Rattle.bits.specs.LogicLaws.{and-left, and-right}
 use Rattle.limits.specs.Limits.{maxInputs, maxBound}
-use Rattle.names.specs.Name.{Name, sameName, among, allAmong}
-use Rattle.names.specs.SameLaws.{same-name-true}
+use Rattle.names.specs.Name.{Name, distinct}
+use Rattle.names.specs.Spelled.{standsIn, allStandIn}
+use Rattle.names.specs.SpelledLaws.{stands-among}
 use Rattle.names.specs.Pack.{nameOf, unpackWithin}
 use Rattle.sheet.specs.Examine.{Design}
 use Rattle.sheet.specs.Known.{position, Holds}
 use Rattle.sheet.specs.declared.Sheet.{Sheet}
 use Rattle.classes.specs.Columns.{free}
 use Rattle.classes.specs.Proper.{Proper}
+use Rattle.classes.specs.PositionLaws.{own-position, position-lt}
 use Rattle.netsheet.specs.Named.{Ranged, FreesAre, NamedFor}
 use Rattle.netsheet.specs.declared.Frees.{Frees}
 
--- ---- the name at a name's place
-name-at-place : (ns : List Name) (n : Name) → among n ns ≡ true → getD ns (position ns n) [] ≡ n
-unfolding position among
-name-at-place [] n e = absurd (true-false (sym e))
-name-at-place (m ∷ ms) n e = go (sameName m n) refl e (λ f. name-at-place ms n f)
-  where
-    go : (b : Bool) → sameName m n ≡ b → b || among n ms ≡ true → (among n ms ≡ true → getD ms (position ms n) [] ≡ n)
-        → getD (m ∷ ms) (pick b 0 (suc (position ms n))) [] ≡ n
-    go true s f h = same-name-true m n s
-    go false s f h = h f
-
-place-inside : (ns : List Name) (n : Name) → among n ns ≡ true → position ns n < length ns
-unfolding position among
-place-inside [] n e = absurd (true-false (sym e))
-place-inside (m ∷ ms) n e = go (sameName m n) e (λ f. place-inside ms n f)
-  where
-    go : (b : Bool) → b || among n ms ≡ true → (among n ms ≡ true → position ms n < length ms)
-        → pick b 0 (suc (position ms n)) < suc (length ms)
-    go true f h = omega arith
-    go false f h = let i = h f in omega arith
-
-names-at-places : (ns bs : List Name) → allAmong bs ns ≡ true → map (λ (p : ℕ). getD ns p []) (map (position ns) bs) ≡ bs
-unfolding allAmong
-names-at-places ns [] e = refl
-names-at-places ns (b ∷ bs) e =
+-- ---- the names at the places of names
+names-at-places : (ns bs : List Name)
+    → distinct ns ≡ true
+    → allStandIn bs ns ≡ true
+    → map (λ (p : ℕ). getD ns p []) (map (position ns) bs) ≡ bs
+unfolding allStandIn
+names-at-places ns [] d e = refl
+names-at-places ns (b ∷ bs) d e =
     ap₂ (λ (n : Name) (ms : List Name). n ∷ ms)
-    (name-at-place ns b (and-left (among b ns) (allAmong bs ns) e))
-    (names-at-places ns bs (and-right (among b ns) (allAmong bs ns) e))
+    (own-position ns b d (and-left (standsIn b ns) (allStandIn bs ns) e))
+    (names-at-places ns bs d (and-right (standsIn b ns) (allStandIn bs ns) e))
 
-places-inside : (ns bs : List Name) (i : ℕ) → allAmong bs ns ≡ true → i < length bs → getD (map (position ns) bs) i 0 < length ns
-unfolding allAmong
+places-inside : (ns bs : List Name) (i : ℕ) → allStandIn bs ns ≡ true → i < length bs → getD (map (position ns) bs) i 0 < length ns
+unfolding allStandIn
 places-inside ns [] i e h = absurd (omega arith)
-places-inside ns (b ∷ bs) zero e h = place-inside ns b (and-left (among b ns) (allAmong bs ns) e)
-places-inside ns (b ∷ bs) (suc i) e h = places-inside ns bs i (and-right (among b ns) (allAmong bs ns) e) (omega arith)
+places-inside ns (b ∷ bs) zero e h = position-lt ns b (stands-among b ns (and-left (standsIn b ns) (allStandIn bs ns) e))
+places-inside ns (b ∷ bs) (suc i) e h = places-inside ns bs i (and-right (standsIn b ns) (allStandIn bs ns) e) (omega arith)
 
 -- ---- a proper design's sheet is within the ranges
 pub holds-ranged : (d : Design) (k : Sheet) → Holds d k → Proper d → Ranged k
@@ -108,7 +92,7 @@ module _ (k : Sheet) (r : Ranged k) (names-size : length (k .names) ≡ maxInput
         ∙ ap (map nameOf) bound-is
         ∙ names-of-all (take (k .inputs) (k .names)) (take (k .bounds) (k .bound))
         ∙ ap₂ (λ (ns : List Name) (ps : List ℕ). map (λ (q : ℕ). getD ns q []) ps) (h .inputs-named) (h .bound-placed)
-        ∙ names-at-places (d .inputs) (d .bound) (p .parted .bound-inputs)
+        ∙ names-at-places (d .inputs) (d .bound) (p .parted .inputs-distinct) (p .parted .bound-inputs)
 
     pub names-gathered : NamedFor k (record { bounds = k .bounds; bound = bound; frees = f .count; free = f .list; outputs = k .outputs; outs = k .outs })
     names-gathered =

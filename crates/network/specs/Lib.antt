@@ -9,6 +9,7 @@ pub mod Check
 pub mod Reads
 pub mod Wellformed
 pub mod Parts
+pub mod Spelling
 pub mod Answers
 pub mod DigitsLaws
 pub mod RisingLaws
@@ -20,8 +21,10 @@ pub mod PartLaws
 pub mod NamedLaws
 pub mod TableBoundLaws
 pub mod StepLaws
+pub mod SpellingLaws
+pub mod LoweredLaws
 pub mod SheetReadLaws
-pub mod SheetPrintLaws
+pub mod SheetSpellingLaws
 pub mod SheetLaws
 pub mod FirstOfLaws
 pub mod OffendingLaws

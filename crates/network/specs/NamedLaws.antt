@@ -9,6 +9,7 @@ use Rattle.bits.specs.LogicLaws.{and-both}
 use Rattle.names.specs.Name.{isName}
 use Rattle.names.specs.Names.{allNames}
 use Rattle.names.specs.AllNamesLaws.{all-named}
+use Rattle.names.specs.SpelledLaws.{all-stand-among}
 use Rattle.sheet.specs.Lines.{Output}
 use Rattle.sheet.specs.Examine.{Design, outputNames}
 use Rattle.sheet.specs.WellFormed.{WellFormed, outputAt}
@@ -28,7 +29,7 @@ pub design-named : (d : Design) → WellFormed d → Named d
 design-named d f =
     record {
       inputs-named = f .inputs-right .named;
-      bound-named = all-named (d .bound) (d .inputs) (f .inputs-right .named) (f .bound-right .known);
+      bound-named = all-named (d .bound) (d .inputs) (f .inputs-right .named) (all-stand-among (d .bound) (d .inputs) (f .bound-right .known));
       outputs-named = outputs-named (d .outputs) (λ o l. f .outputs-right .each o l .named);
       some-output = f .some-output;
     }

@@ -4,14 +4,12 @@ use mathlib.Core.Path.{_≡_, refl, sym, ap, _∙_}
 use mathlib.Core.Bool.{Bool, true, false}
 use mathlib.Core.List.{List, [], _∷_, _++_, map, append-assoc}
 use Prim.Native.Nat.{ℕ}
-use native.Mathlib.Omega.{arith}
-use lib.Dec.{leb}
-use borrow.Author.Tests.{ne-eqb, leb-true}
+use borrow.Author.Tests.{ne-eqb}
 use Rattle.bits.specs.LogicLaws.{true-false, and-left}
 use Rattle.text.specs.Bytes.{bad, eat, bytes}
-use Rattle.names.specs.Name.{Name, letter, isName}
+use Rattle.names.specs.Name.{Name, isName}
 use Rattle.names.specs.Names.{allNames}
-use Rattle.names.specs.IsNameLaws.{name-starts}
+use Rattle.names.specs.IsNameLaws.{name-starts, letter-no-underscore}
 use Rattle.network.specs.Printer.{led, ledAll, lutName}
 use Rattle.network.specs.Reader.{none-of}
 use Rattle.network.specs.Reads.{still, restOf}
@@ -50,11 +48,9 @@ list-split fs is t =
 
 -- ---- a name begins with a letter, which is no underscore
 name-underscore : (n : Name) (t : List ℕ) → isName n ≡ true → eat (bytes "_") (n ++ t) ≡ bad
-unfolding eat letter
+unfolding eat
 name-underscore [] t h = absurd (true-false (sym (name-starts [] h)))
-name-underscore (b ∷ n) t h =
-    let l = leb-true 0x61 b (and-left (leb 0x61 b) (leb b 0x7A) (name-starts (b ∷ n) h)) in
-    rw (ne-eqb 0x5F b (λ e. omega arith)) refl
+name-underscore (b ∷ n) t h = rw (ne-eqb 0x5F b (λ e. letter-no-underscore b (name-starts (b ∷ n) h) (sym e))) refl
 
 led-underscore : (first : Bool) (n : Name) (t : List ℕ)
     → isName n ≡ true

@@ -1,12 +1,11 @@
 -- The parts of a network sheet, line by line, and the names that stand in them. Assumes nothing.
 use mathlib.Core.Path.{_≡_, refl, ap}
 use mathlib.Core.Bool.{Bool, true, false}
-use mathlib.Core.List.{List, [], _∷_, _++_}
+use mathlib.Core.List.{List, [], _∷_}
 use mathlib.Core.Option.{none}
 use Prim.Native.Nat.{ℕ, zero, suc, _≤_, _<_}
 use native.Mathlib.Omega.{arith}
-use lib.ListN.{length, getD, drop, length-map}
-use lib.Seq.{drop-cons}
+use lib.ListN.{length, getD, length-map}
 use borrow.Author.Tests.{lt-ltb, le-ltb}
 use Rattle.bits.specs.Logic.{pick}
 use Rattle.bits.specs.LogicLaws.{and-left, and-right, and-both}
@@ -17,10 +16,10 @@ use Rattle.sheet.specs.Lines.{Output}
 use Rattle.sheet.specs.Examine.{Design}
 use Rattle.classes.specs.Columns.{free}
 use Rattle.network.specs.Network.{Node}
-use Rattle.network.specs.Printer.{printNode, nodeHead, nodeLines}
+use Rattle.network.specs.Printer.{printNode, nodeHead}
 use Rattle.network.specs.Reader.{readLutHead, readLut}
 use Rattle.network.specs.Examine.{at-node, at-count}
-use Rattle.network.specs.Parts.{freeOf, namesOf, nodePlace, linesFromNode, lastLines}
+use Rattle.network.specs.Parts.{namesOf, nodePlace}
 
 -- ---- names
 pub free-named : (ns bs : List Name) → allNames ns ≡ true → allNames (free ns bs) ≡ true
@@ -49,28 +48,12 @@ module _ (d : Design) where
   pub output-named : (o : ℕ) → allNames (namesOf d) ≡ true → o < length (d .outputs) → isName (getD (namesOf d) o []) ≡ true
   output-named o h l = name-at (namesOf d) o h (omega (arith, names-count))
 
-  -- ---- node lines
+  -- ---- the places of node lines
   pub place-node : (o : ℕ) → o < length (d .outputs) → nodePlace d o ≡ at-node o
   place-node o h = ap (λ (x : Bool). pick x (at-node o) at-count) (lt-ltb o (length (d .outputs)) h)
 
   pub place-count : (o : ℕ) → length (d .outputs) ≤ o → nodePlace d o ≡ at-count
   place-count o h = ap (λ (x : Bool). pick x (at-node o) at-count) (le-ltb o (length (d .outputs)) h)
-
-  pub no-nodes : (u o : ℕ) → linesFromNode d u o [] ≡ lastLines u
-  unfolding nodeLines
-  no-nodes u o = go (drop o (namesOf d))
-    where
-      go : (ns : List Name) → nodeLines (freeOf d) ns [] ++ lastLines u ≡ lastLines u
-      go [] = refl
-      go (n ∷ ns) = refl
-
-  pub node-line : (u o : ℕ) (x : Node) (xs : List Node)
-      → o < length (d .outputs)
-      → linesFromNode d u o (x ∷ xs) ≡ printNode (getD (namesOf d) o []) (freeOf d) x ∷ linesFromNode d u (suc o) xs
-  unfolding nodeLines
-  node-line u o x xs h =
-      ap (λ (ns : List Name). nodeLines (freeOf d) ns (x ∷ xs) ++ lastLines u)
-      (drop-cons (namesOf d) o [] (omega (arith, names-count)))
 
 -- a node line is no lut line
 pub node-no-lut : (bs : List Name) (i : ℕ) (n : Name) (fs : List Name) (x : Node)

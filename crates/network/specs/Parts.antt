@@ -1,17 +1,18 @@
--- The parts of a network sheet, from each place on: what is left of its lines. Assumes nothing.
+-- The parts of a network sheet beside a design: the names that it repeats, the places of its nodes, and its last lines.
+-- Assumes nothing.
 use mathlib.Core.Bool.{Bool}
 use mathlib.Core.List.{List, [], _∷_, _++_}
 use mathlib.Core.Option.{Option}
 use Prim.Native.Nat.{ℕ}
 use lib.Dec.{ltb}
-use lib.ListN.{length, getD, drop}
+use lib.ListN.{length, getD}
 use Rattle.bits.specs.Logic.{pick}
 use Rattle.names.specs.Name.{Name}
 use Rattle.sheet.specs.Lines.{endLine}
 use Rattle.sheet.specs.Examine.{Design, outputNames}
 use Rattle.classes.specs.Columns.{free}
 use Rattle.network.specs.Network.{Network, Node}
-use Rattle.network.specs.Printer.{printCount, lutLines, nodeLines}
+use Rattle.network.specs.Printer.{printCount}
 use Rattle.network.specs.Reader.{readNode}
 use Rattle.network.specs.Examine.{Place, at-node, at-count}
 
@@ -32,14 +33,6 @@ nodePlace d o = pick (ltb o (length (d .outputs))) (at-node o) at-count
 -- the lines from the count on, beside u shared tables
 abbrev pub lastLines : ℕ → List (List ℕ)
 lastLines u = printCount u ∷ endLine ∷ []
-
--- the lines from the node of output o on
-abbrev pub linesFromNode : Design → ℕ → ℕ → List Node → List (List ℕ)
-linesFromNode d u o xs = nodeLines (freeOf d) (drop o (namesOf d)) xs ++ lastLines u
-
--- the lines from lut line u on, where there are m of them in all
-abbrev pub linesFromLut : Design → ℕ → ℕ → List (List Bool) → List Node → List (List ℕ)
-linesFromLut d u m ts xs = lutLines (d .bound) u ts ++ linesFromNode d m 0 xs
 
 -- a network with more nodes, and with more shared tables too
 abbrev pub withNodes : Network → List Node → Network

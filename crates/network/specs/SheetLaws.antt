@@ -1,5 +1,5 @@
--- The networks that pass question 10 beside a design are exactly the prints of the well formed ones, and a bad line is the
--- size, line 0, or a line from the first to one past the last. Assumes nothing.
+-- The network sheets that pass question 10 beside a design are exactly the spellings of the well formed networks, and a bad
+-- line is the size, line 0, or a line from the first to one past the last. Assumes nothing.
 use mathlib.Core.Path.{_≡_, refl, sym, ap, _∙_}
 use mathlib.Core.Bool.{Bool, true, false, not, _||_}
 use mathlib.Core.Logic.{_↔_}
@@ -15,31 +15,39 @@ use Rattle.network.specs.Network.{Network}
 use Rattle.network.specs.Printer.{printNetwork}
 use Rattle.network.specs.Examine.{Place, at-network, at-luts, at-node, at-count, at-end, over, Step, misspelled, next}
 use Rattle.network.specs.Examine.{askLine, bad-line, network, atEnd, follow, askLines, nothing, readNetwork}
+use Rattle.network.specs.Spelling.{Spells}
 use Rattle.network.specs.Wellformed.{Wellformed, Named}
 use Rattle.network.specs.StepLaws.{bad-network}
-use Rattle.network.specs.SheetReadLaws.{said-of-print}
-use Rattle.network.specs.SheetPrintLaws.{print-of-said}
+use Rattle.network.specs.SpellingLaws.{print-spells}
+use Rattle.network.specs.SheetReadLaws.{said-of-spelling}
+use Rattle.network.specs.SheetSpellingLaws.{spelling-of-said}
 
+pub network-read-of-spelling : (d : Design) (t : List ℕ) (w : Network)
+    → Named d
+    → Wellformed d w
+    → Spells d w t
+    → length t ≤ maxNetwork
+    → readNetwork d t ≡ network w
+network-read-of-spelling = said-of-spelling
+
+pub network-spelling-of-read : (d : Design) (t : List ℕ) (w : Network)
+    → readNetwork d t ≡ network w
+    → Named d
+    → Wellformed d w × Spells d w t × (length t ≤ maxNetwork)
+network-spelling-of-read d t w e h = spelling-of-said d t w (h .some-output) e
+
+pub network-spelled : (d : Design) (t : List ℕ) (w : Network)
+    → Named d
+    → (readNetwork d t ≡ network w) ↔ (Wellformed d w × Spells d w t × (length t ≤ maxNetwork))
+network-spelled d t w h = (λ e. network-spelling-of-read d t w e h, λ (f, s, k). network-read-of-spelling d t w h f s k)
+
+-- the print is one of them
 pub network-read-of-print : (d : Design) (w : Network)
     → Named d
     → Wellformed d w
     → length (printNetwork d w) ≤ maxNetwork
     → readNetwork d (printNetwork d w) ≡ network w
-network-read-of-print = said-of-print
-
-pub network-print-of-read : (d : Design) (t : List ℕ) (w : Network)
-    → readNetwork d t ≡ network w
-    → Named d
-    → Wellformed d w × (t ≡ printNetwork d w) × (length t ≤ maxNetwork)
-network-print-of-read d t w e h = print-of-said d t w h e
-
-pub network-spelled : (d : Design) (t : List ℕ) (w : Network)
-    → Named d
-    → (readNetwork d t ≡ network w) ↔ (Wellformed d w × (t ≡ printNetwork d w) × (length t ≤ maxNetwork))
-network-spelled d t w h = (
-  λ e. network-print-of-read d t w e h,
-  λ (f, e, k). ap (readNetwork d) e ∙ network-read-of-print d w h f (rw e at k),
-)
+network-read-of-print d w h f k = network-read-of-spelling d (printNetwork d w) w h f (print-spells d w (f .node-each)) k
 
 -- ---- the bad line
 line-is : {m n : ℕ} → bad-line m ≡ bad-line n → m ≡ n

@@ -1,26 +1,26 @@
--- A refusal of a network sheet by 11: the sheet is its network's print, it has the line, and on it stands the shared table or the
+-- A refusal of a network sheet by 11: the sheet spells its network, it has the line, and on it stands the shared table or the
 -- node that offends first. Assumes nothing.
-use mathlib.Core.Path.{_≡_, sym, ap, subst, _∙_}
+use mathlib.Core.Path.{_≡_, sym, ap, subst}
 use mathlib.Core.Bool.{Bool, true}
 use mathlib.Core.List.{List, []}
 use mathlib.Core.Option.{some}
-use Prim.Native.Nat.{ℕ, suc, _+_, _-_, _≤_, _<_}
+use Prim.Native.Nat.{ℕ, suc, _-_, _≤_, _<_}
 use native.Mathlib.Omega.{arith}
 use native.Mathlib.Decide.{decLt}
 use lib.ListN.{length, take, drop, List·getD-eq-default}
-use Rattle.limits.specs.Limits.{firstLut}
 use Rattle.names.specs.Name.{Name}
 use Rattle.text.specs.Line.{lines, lineAt}
 use Rattle.sheet.specs.Examine.{Design}
 use Rattle.network.specs.Network.{Network, Node}
 use Rattle.network.specs.Examine.{network, readNetwork, offending}
-use Rattle.network.specs.Printer.{printLut, printNode, lutHead, nodeHead, networkLines}
-use Rattle.network.specs.Wellformed.{Wellformed, Named}
+use Rattle.network.specs.Printer.{printLut, printNode, lutHead, nodeHead}
+use Rattle.network.specs.Spelling.{LinesSpelled}
+use Rattle.network.specs.Wellformed.{Named}
 use Rattle.network.specs.Answers.{Offends, lut-over, node-over}
 use Rattle.network.specs.OffendingLaws.{offending-some}
-use Rattle.network.specs.LinePlaceLaws.{lut-line, node-line-at}
-use Rattle.network.specs.SheetLaws.{network-print-of-read}
-use Rattle.network.specs.SheetReadLaws.{print-lines}
+use Rattle.network.specs.LinePlaceLaws.{lut-line, node-line}
+use Rattle.network.specs.SpellingLaws.{spells-lines}
+use Rattle.network.specs.SheetLaws.{network-spelling-of-read}
 use Rattle.locate.specs.Located.{hasLine, partOf}
 use Rattle.locate.specs.LineLaws.{has-line, has-is-line, text-has}
 use Rattle.reports.specs.Stopped.{Stands, a-lut, a-node, LimitStop}
@@ -44,30 +44,25 @@ line-there ls l h =
     ]
 
 -- ---- the lines of a network
-module _ (d : Design) (w : Network) (f : Wellformed d w) where
-  line-stands : (l : ℕ) → Offends d w l → Stands d w l (lineAt (networkLines d w) l)
-  line-stands l (lut-over i a b) = subst (Stands d w (i + firstLut)) (sym (lut-line d w i b)) (a-lut i b)
-  line-stands l (node-over o a b) =
-      subst (Stands d w (length (w .luts) + firstLut + o)) (sym (node-line-at d w (f .node-each) o a)) (a-node o a)
+module _ (d : Design) (w : Network) where
+  line-stands : (ls : List (List ℕ)) (l : ℕ) → LinesSpelled d w ls → Offends d w l → Stands d w l (lineAt ls l)
+  line-stands ls l s (lut-over i a b) = a-lut i b (lut-line d w ls s i b)
+  line-stands ls l s (node-over o a b) = a-node o a (node-line d w ls s o a)
 
   stands-some : (l : ℕ) (x : List ℕ) → Stands d w l x → (1 ≤ l) × (0 < length x)
-  stands-some l x (a-lut i b) = (omega arith, lut-some _ i _)
-  stands-some l x (a-node o a) = (omega arith, node-some _ _ _)
+  stands-some l x (a-lut i b p) = (omega arith, subst (λ (y : List ℕ). 0 < length y) (sym (p .is-line)) (lut-some _ i _))
+  stands-some l x (a-node o a p) = (omega arith, subst (λ (y : List ℕ). 0 < length y) (sym (p .is-line)) (node-some _ _ _))
 
 -- ---- the sheet
 module _ (b : Bool) (d : Design) (t : List ℕ) (w : Network) (l : ℕ) (named : Named d) (r : readNetwork d t ≡ network w)
     (o : offending d w ≡ some l) where
-  sheet-lines : lines t ≡ networkLines d w
-  sheet-lines = ap lines (network-print-of-read d t w r named .1) ∙ print-lines d w named
-
   there : Stands d w l (lineAt (lines t) l)
   there =
-      subst (λ (ls : List (List ℕ)). Stands d w l (lineAt ls l)) (sym sheet-lines)
-      (line-stands d w (network-print-of-read d t w r named .0) l (offending-some d w l o .offends))
+      line-stands d w (lines t) l (spells-lines d named w t (network-spelling-of-read d t w r named .1)) (offending-some d w l o .offends)
 
   pub limit-has-line : hasLine t l ≡ true
   limit-has-line =
-      let (i, j) = stands-some d w (network-print-of-read d t w r named .0) l (lineAt (lines t) l) there in
+      let (i, j) = stands-some d w l (lineAt (lines t) l) there in
       let k = line-there (lines t) l j in
       has-line t l i (omega arith)
 

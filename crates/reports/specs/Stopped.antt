@@ -13,7 +13,7 @@ use Rattle.sheet.specs.Examine.{Design, valid, examine}
 use Rattle.network.specs.Network.{Network}
 use Rattle.network.specs.Examine as net
 use Rattle.network.specs.Examine.{readNetwork}
-use Rattle.network.specs.Printer.{printLut, printNode}
+use Rattle.network.specs.Spelling.{LutSpelled, NodeSpelled}
 use Rattle.network.specs.Parts.{freeOf, namesOf}
 use Rattle.network.specs.Wellformed.{nodeAt}
 use Rattle.network.specs.Answers.{FirstOffending}
@@ -60,12 +60,16 @@ pub record NetworkStop (d : Design) (t : List ℕ) (l : ℕ) (p : Part) : Type 0
   pub bad : (net.askLine d place known (p .text) ≡ net.misspelled) ⊎ ((after ≡ []) × (endsLine t ≡ false))
 
 -- ---- the network sheet, question 11
--- what stands on a line of a network: shared table i, or the node of output o
+-- what stands on a line of a network: shared table i, or the node of output o, each in some spelling of its names
 pub data Stands (d : Design) (w : Network) : ℕ → List ℕ → Type 0 where
-  a-lut : (i : ℕ) → i < length (w .luts) → Stands d w (i + firstLut) (printLut (d .bound) i (getD (w .luts) i []))
-  a-node : (o : ℕ)
+  a-lut : {l : List ℕ} (i : ℕ)
+      → i < length (w .luts)
+      → LutSpelled (d .bound) i (getD (w .luts) i []) l
+      → Stands d w (i + firstLut) l
+  a-node : {l : List ℕ} (o : ℕ)
       → o < length (w .nodes)
-      → Stands d w (length (w .luts) + firstLut + o) (printNode (getD (namesOf d) o []) (freeOf d) (nodeAt (w .nodes) o))
+      → NodeSpelled (getD (namesOf d) o []) (freeOf d) (nodeAt (w .nodes) o) l
+      → Stands d w (length (w .luts) + firstLut + o) l
 
 -- p is line l of the network sheet t, and the first line of its network that offends against the limit or a width
 pub record LimitStop (d : Design) (t : List ℕ) (l : ℕ) (p : Part) : Type 0 where

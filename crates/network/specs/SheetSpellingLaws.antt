@@ -1,5 +1,5 @@
--- From a sheet that passes question 10: what it says is well formed, and the sheet is its print. Assumes nothing.
-use mathlib.Core.Path.{_≡_, refl, sym, ap, ap₂, _∙_}
+-- From a sheet that passes question 10: what it says is well formed, and the sheet is a spelling of it. Assumes nothing.
+use mathlib.Core.Path.{_≡_, refl, sym, ap, subst, _∙_}
 use mathlib.Core.Bool.{Bool, true, false}
 use mathlib.Core.List.{List, [], _∷_, _++_, append-assoc, append-nil}
 use mathlib.Core.Option.{Option, some, none}
@@ -7,23 +7,26 @@ use Prim.Native.Nat.{ℕ, zero, suc, _+_, _^_, _≤_, _<_}
 use native.Mathlib.Omega.{arith}
 use native.Mathlib.Decide.{decLt}
 use lib.Dec.{leb}
-use lib.ListN.{length, getD, length-append}
+use lib.ListN.{length, getD, drop, length-append, drop-of-length-le}
+use lib.Seq.{drop-cons}
 use borrow.Author.Tests.{leb-true}
 use Rattle.bits.specs.Logic.{pick}
 use Rattle.bits.specs.LogicLaws.{and-right}
 use Rattle.limits.specs.Limits.{maxCells, maxNetwork}
-use Rattle.text.specs.Line.{lines, endsLine, endedLines}
+use Rattle.text.specs.Line.{lines, endsLine}
 use Rattle.text.specs.EndedLaws.{ended-of-lines}
+use Rattle.names.specs.Name.{Name}
 use Rattle.sheet.specs.Examine.{Design, within}
 use Rattle.network.specs.Network.{Network, Node}
-use Rattle.network.specs.Printer.{networkLine, lutLines, networkLines, printNetwork}
+use Rattle.network.specs.Printer.{networkLine}
 use Rattle.network.specs.Reader.{readLut}
 use Rattle.network.specs.Examine.{Place, at-network, at-luts, at-node, Step, misspelled, next, withLut, withNode}
 use Rattle.network.specs.Examine.{askLine, network, bad-line, follow, askLines, nothing, readNetwork}
-use Rattle.network.specs.Wellformed.{NodeFits, nodeAt, Wellformed, Named}
-use Rattle.network.specs.Parts.{freeOf, namesOf, nodeRead, nodePlace, lastLines, linesFromNode, linesFromLut, withNodes, withAll}
-use Rattle.network.specs.LineLaws.{lut-print-of-read, node-print-of-read}
-use Rattle.network.specs.PartLaws.{free-named, output-named, place-node, place-count, no-nodes, node-line}
+use Rattle.network.specs.Wellformed.{NodeFits, nodeAt, Wellformed}
+use Rattle.network.specs.Parts.{freeOf, namesOf, nodeRead, nodePlace, lastLines, withNodes, withAll}
+use Rattle.network.specs.Spelling.{LutsSpelled, no-lut, one-lut, NodesSpelled, no-node, one-node, LinesSpelled, Spells}
+use Rattle.network.specs.LineLaws.{lut-spelling-of-read, node-spelling-of-read}
+use Rattle.network.specs.PartLaws.{names-count, place-node, place-count}
 use Rattle.network.specs.StepLaws.{bad-network, line-next, line-bad, fixed-line, last-said, node-next, node-bad, lut-next, lut-many, lut-none, same-lines}
 
 -- what holds of the first and of each other holds of each
@@ -36,14 +39,16 @@ each : {A : Type 0} (P : A → Type 0) (z a : A) (l : List A)
 each P z a l p q zero h = p
 each P z a l p q (suc k) h = q k (omega arith)
 
-module _ (d : Design) (named : Named d) where
+module _ (d : Design) (some-output : 1 ≤ length (d .outputs)) where
   -- ---- from the node of output o on
   -- what the lines say, where v is said before, and m nodes are left
   record NodesSaid (v : Network) (u o m : ℕ) (ls : List (List ℕ)) (w : Network) : Type 0 where
     pub xs : List Node
+    pub nodes : List (List ℕ)
     pub counted : length xs ≡ m
     pub fits : (k : ℕ) → k < length xs → NodeFits (freeOf d) u (nodeAt xs k)
-    pub lines-are : ls ≡ linesFromNode d u o xs
+    pub nodes-spelled : NodesSpelled (freeOf d) (drop o (namesOf d)) xs nodes
+    pub lines-are : ls ≡ nodes ++ lastLines u
     pub said : withNodes v xs ≡ w
 
   no-node-said : (v : Network) (u o n : ℕ) (ls : List (List ℕ)) (w : Network)
@@ -55,9 +60,13 @@ module _ (d : Design) (named : Named d) where
       let (i, j) = last-said d v w n ls (rw (place-count d o c) at e) in
       record {
         xs = [];
+        nodes = [];
         counted = refl;
         fits = λ k h. absurd (omega arith);
-        lines-are = i ∙ ap lastLines q ∙ sym (no-nodes d u o);
+        nodes-spelled =
+            subst (λ (ns : List Name). NodesSpelled (freeOf d) ns [] [])
+            (sym (drop-of-length-le (namesOf d) {i = o} (omega (arith, names-count d)))) no-node;
+        lines-are = i ∙ ap lastLines q;
         said = ap (λ (xs : List Node). record { luts = v .luts; nodes = xs }) (append-nil (v .nodes)) ∙ j;
       }
 
@@ -68,14 +77,16 @@ module _ (d : Design) (named : Named d) where
       → NodesSaid (withNode v x) u (suc o) m ls w
       → NodesSaid v u o (suc m) (l ∷ ls) w
   one-node-said v u o m l ls w x q c r s =
-      let (f, p) =
-      node-print-of-read (getD (namesOf d) o []) (freeOf d) u l x (output-named d o (named .outputs-named) c)
-      (free-named (d .inputs) (d .bound) (named .inputs-named)) (rw q at r) in
+      let (f, p) = node-spelling-of-read (getD (namesOf d) o []) (freeOf d) u l x (rw q at r) in
       record {
         xs = x ∷ s .xs;
+        nodes = l ∷ s .nodes;
         counted = ap suc (s .counted);
         fits = each (NodeFits (freeOf d) u) (record { reads = []; digits = [] }) x (s .xs) f (s .fits);
-        lines-are = ap₂ (λ (y : List ℕ) (ys : List (List ℕ)). y ∷ ys) p (s .lines-are) ∙ sym (node-line d u o x (s .xs) c);
+        nodes-spelled =
+            subst (λ (ns : List Name). NodesSpelled (freeOf d) ns (x ∷ s .xs) (l ∷ s .nodes))
+            (sym (drop-cons (namesOf d) o [] (omega (arith, names-count d)))) (one-node p (s .nodes-spelled));
+        lines-are = ap (λ (ys : List (List ℕ)). l ∷ ys) (s .lines-are);
         said =
             ap (λ (ys : List Node). record { luts = v .luts; nodes = ys }) (sym (append-assoc (v .nodes) (x ∷ []) (s .xs))) ∙ s .said;
       }
@@ -111,35 +122,41 @@ module _ (d : Design) (named : Named d) where
   record LutsSaid (v : Network) (u : ℕ) (ls : List (List ℕ)) (w : Network) : Type 0 where
     pub ts : List (List Bool)
     pub xs : List Node
+    pub luts : List (List ℕ)
+    pub nodes : List (List ℕ)
     pub total : ℕ
     pub total-is : u + length ts ≡ total
     pub few : total ≤ maxCells
     pub digits : (i : ℕ) → i < length ts → length (getD ts i []) ≡ 2 ^ length (d .bound)
     pub counted : length xs ≡ length (d .outputs)
     pub fits : (k : ℕ) → k < length xs → NodeFits (freeOf d) total (nodeAt xs k)
-    pub lines-are : ls ≡ linesFromLut d u total ts xs
+    pub luts-spelled : LutsSpelled (d .bound) u ts luts
+    pub nodes-spelled : NodesSpelled (freeOf d) (namesOf d) xs nodes
+    pub lines-are : ls ≡ luts ++ (nodes ++ lastLines total)
     pub said : withAll v ts xs ≡ w
 
   no-lut-said : (v : Network) (u n : ℕ) (l : List ℕ) (ls : List (List ℕ)) (w : Network)
-      → 0 < length (d .outputs)
       → length (v .luts) ≡ u
       → u ≤ maxCells
       → askLine d at-luts v l ≡ askLine d (at-node 0) v l
       → askLines d true at-luts v n (l ∷ ls) ≡ network w
       → LutsSaid v u (l ∷ ls) w
-  unfolding lutLines
-  no-lut-said v u n l ls w h q c a e =
+  no-lut-said v u n l ls w q c a e =
       let s = nodes-said (length (d .outputs)) v u 0 n (l ∷ ls) w q (omega arith)
-      (rw (place-node d 0 h) (sym (same-lines d at-luts (at-node 0) v n l ls a) ∙ e)) in
+      (rw (place-node d 0 some-output) (sym (same-lines d at-luts (at-node 0) v n l ls a) ∙ e)) in
       record {
         ts = [];
         xs = s .xs;
+        luts = [];
+        nodes = s .nodes;
         total = u;
         total-is = omega arith;
         few = c;
         digits = λ i k. absurd (omega arith);
         counted = s .counted;
         fits = s .fits;
+        luts-spelled = no-lut;
+        nodes-spelled = s .nodes-spelled;
         lines-are = s .lines-are;
         said = ap (λ (ys : List (List Bool)). record { luts = ys; nodes = v .nodes ++ s .xs }) (append-nil (v .luts)) ∙ s .said;
       }
@@ -148,19 +165,22 @@ module _ (d : Design) (named : Named d) where
       → readLut (d .bound) u l ≡ some t
       → LutsSaid (withLut v t) (suc u) ls w
       → LutsSaid v u (l ∷ ls) w
-  unfolding lutLines
   one-lut-said v u l ls w t r s =
-      let (c, p) = lut-print-of-read (d .bound) u l t (named .bound-named) r in
+      let (c, p) = lut-spelling-of-read (d .bound) u l t r in
       record {
         ts = t ∷ s .ts;
         xs = s .xs;
+        luts = l ∷ s .luts;
+        nodes = s .nodes;
         total = s .total;
         total-is = omega (arith, s .total-is);
         few = s .few;
         digits = each (λ (y : List Bool). length y ≡ 2 ^ length (d .bound)) [] t (s .ts) c (s .digits);
         counted = s .counted;
         fits = s .fits;
-        lines-are = ap₂ (λ (y : List ℕ) (ys : List (List ℕ)). y ∷ ys) p (s .lines-are);
+        luts-spelled = one-lut p (s .luts-spelled);
+        nodes-spelled = s .nodes-spelled;
+        lines-are = ap (λ (ys : List (List ℕ)). l ∷ ys) (s .lines-are);
         said =
             ap (λ (ys : List (List Bool)). record { luts = ys; nodes = v .nodes ++ s .xs })
             (sym (append-assoc (v .luts) (t ∷ []) (s .ts))) ∙ s .said;
@@ -168,60 +188,58 @@ module _ (d : Design) (named : Named d) where
 
   lut-by : (r : Option (List Bool)) (v : Network) (u n : ℕ) (l : List ℕ) (ls : List (List ℕ)) (w : Network)
       → readLut (d .bound) u l ≡ r
-      → 0 < length (d .outputs)
       → length (v .luts) ≡ u
       → u < maxCells
       → ((t : List Bool) → askLines d true at-luts (withLut v t) (suc n) ls ≡ network w → LutsSaid (withLut v t) (suc u) ls w)
       → askLines d true at-luts v n (l ∷ ls) ≡ network w
       → LutsSaid v u (l ∷ ls) w
-  lut-by none v u n l ls w r h q c f e = no-lut-said v u n l ls w h q (omega arith) (lut-none d v l (rw q r)) e
-  lut-by (some t) v u n l ls w r h q c f e =
+  lut-by none v u n l ls w r q c f e = no-lut-said v u n l ls w q (omega arith) (lut-none d v l (rw q r)) e
+  lut-by (some t) v u n l ls w r q c f e =
       one-lut-said v u l ls w t r
       (f t (sym (line-next d at-luts at-luts v (withLut v t) n l ls (lut-next d v l t (omega arith) (rw q r))) ∙ e))
 
   luts-said : (ls : List (List ℕ)) (v : Network) (u n : ℕ) (w : Network)
-      → 0 < length (d .outputs)
       → length (v .luts) ≡ u
       → u ≤ maxCells
       → askLines d true at-luts v n ls ≡ network w
       → LutsSaid v u ls w
   unfolding askLines
-  luts-said [] v u n w h q c e = absurd (bad-network e)
-  luts-said (l ∷ ls) v u n w h q c e =
+  luts-said [] v u n w q c e = absurd (bad-network e)
+  luts-said (l ∷ ls) v u n w q c e =
       elim (decLt u maxCells) as (λ _. LutsSaid v u (l ∷ ls) w) [
         | yes k ↦
-            lut-by (readLut (d .bound) u l) v u n l ls w refl h q k
-            (λ t f. luts-said ls (withLut v t) (suc u) (suc n) w h (omega (arith, length-append (v .luts) (t ∷ []))) k f) e
-        | no k ↦ no-lut-said v u n l ls w h q c (lut-many d v l (omega arith)) e
+            lut-by (readLut (d .bound) u l) v u n l ls w refl q k
+            (λ t f. luts-said ls (withLut v t) (suc u) (suc n) w (omega (arith, length-append (v .luts) (t ∷ []))) k f) e
+        | no k ↦ no-lut-said v u n l ls w q c (lut-many d v l (omega arith)) e
       ]
 
   -- ---- all lines
-  all-said : (ts : List (List Bool)) (xs : List Node) (u : ℕ) (ls : List (List ℕ))
-      → length ts ≡ u
-      → u ≤ maxCells
-      → ((i : ℕ) → i < length ts → length (getD ts i []) ≡ 2 ^ length (d .bound))
-      → length xs ≡ length (d .outputs)
-      → ((k : ℕ) → k < length xs → NodeFits (freeOf d) u (nodeAt xs k))
-      → ls ≡ linesFromLut d 0 u ts xs
-      → Wellformed d (record { luts = ts; nodes = xs }) × (networkLine ∷ ls ≡ networkLines d (record { luts = ts; nodes = xs }))
-  unfolding networkLines
-  all-said ts xs u ls q c t k f e = (
-    record { few-luts = omega arith; lut-digits = t; node-each = k; node-fits = λ o i. rw q (f o i) },
-    ap (λ (y : List (List ℕ)). networkLine ∷ y) (e ∙ ap (λ (m : ℕ). linesFromLut d 0 m ts xs) (sym q)),
-  )
+  all-said : (ls : List (List ℕ)) (w : Network) → LutsSaid nothing 0 ls w → Wellformed d w × LinesSpelled d w (networkLine ∷ ls)
+  all-said ls w s =
+      let u = length (s .ts) in
+      let q : s .total ≡ u = omega (arith, s .total-is) in
+      let said : Network = record { luts = s .ts; nodes = s .xs } in
+      let well : Wellformed d said =
+      record { few-luts = omega (arith, s .few); lut-digits = s .digits; node-each = s .counted; node-fits = λ o i. rw (← q) (s .fits o i) } in
+      let spelled : LinesSpelled d said (networkLine ∷ ls) =
+      record {
+        luts = s .luts;
+        nodes = s .nodes;
+        luts-spelled = s .luts-spelled;
+        nodes-spelled = s .nodes-spelled;
+        are-lines =
+            ap (λ (ks : List (List ℕ)). networkLine ∷ ks)
+            (s .lines-are ∙ ap (λ (m : ℕ). s .luts ++ (s .nodes ++ lastLines m)) q);
+      } in
+      (rw (s .said) at well, rw (s .said) at spelled)
 
-  lines-said : (ls : List (List ℕ)) (w : Network)
-      → 0 < length (d .outputs)
-      → askLines d true at-network nothing 1 ls ≡ network w
-      → Wellformed d w × (ls ≡ networkLines d w)
+  lines-said : (ls : List (List ℕ)) (w : Network) → askLines d true at-network nothing 1 ls ≡ network w → Wellformed d w × LinesSpelled d w ls
   unfolding askLine askLines
-  lines-said [] w h e = absurd (bad-network e)
-  lines-said (l ∷ ls) w h e =
+  lines-said [] w e = absurd (bad-network e)
+  lines-said (l ∷ ls) w e =
       let (i, f) = fixed-line d at-network at-luts nothing w 1 l networkLine ls refl e in
-      let s = luts-said ls nothing 0 2 w h refl (omega arith) f in
-      let q : length (s .ts) ≡ s .total = omega (arith, s .total-is) in
-      let (x, y) = all-said (s .ts) (s .xs) (s .total) ls q (s .few) (s .digits) (s .counted) (s .fits) (s .lines-are) in
-      (rw (s .said) at x, ap (λ (m : List ℕ). m ∷ ls) i ∙ (rw (s .said) at y))
+      let (x, y) = all-said ls w (luts-said ls nothing 0 2 w refl (omega arith) f) in
+      (x, subst (λ (m : List ℕ). LinesSpelled d w (m ∷ ls)) (sym i) y)
 
   -- ---- a last line without 0x0A is bad
   never-ended : (ls : List (List ℕ)) (p : Place) (v w : Network) (n : ℕ) (l : List ℕ)
@@ -253,14 +271,14 @@ module _ (d : Design) (named : Named d) where
   sized-said true t w e = (refl, e)
   sized-said false t w e = absurd (bad-network e)
 
-pub print-of-said : (d : Design) (t : List ℕ) (w : Network)
-    → Named d
+pub spelling-of-said : (d : Design) (t : List ℕ) (w : Network)
+    → 1 ≤ length (d .outputs)
     → readNetwork d t ≡ network w
-    → Wellformed d w × (t ≡ printNetwork d w) × (length t ≤ maxNetwork)
-unfolding readNetwork printNetwork
-print-of-said d t w h e =
+    → Wellformed d w × Spells d w t × (length t ≤ maxNetwork)
+unfolding readNetwork
+spelling-of-said d t w h e =
     let (s, f) = sized-said d h (within 1 maxNetwork (length t)) t w e in
     let x = ended-said d h (endsLine t) (lines t) w f in
-    let (i, j) = lines-said d h (lines t) w (h .some-output) (rw x at f) in
+    let (i, j) = lines-said d h (lines t) w (rw x at f) in
     let k = leb-true (length t) maxNetwork (and-right (leb 1 (length t)) (leb (length t) maxNetwork) s) in
-    (i, ended-of-lines t x ∙ ap endedLines j, k)
+    (i, record { lines = lines t; lines-spelled = j; is-text = ended-of-lines t x }, k)
