@@ -154,7 +154,7 @@ def mapped_cases(dice, count):
     if not examples:
         fail("no example sheet maps")
     while len(cases) < examples + count:
-        sheet = random_sheets.text_of(random_sheets.valid(dice))
+        sheet = random_sheets.mixed(dice)
         network = program("bin/cellmap", sheet)
         if network.startswith(b"refused"):
             refusals[network.split()[1].decode()] += 1
@@ -216,7 +216,7 @@ def other_cases(dice, mapped, count):
     """Networks that are not Map's"""
     cases = [longest_case()]
     for number in range(count):
-        sheet = random_sheets.text_of(random_sheets.valid(dice))
+        sheet = random_sheets.mixed(dice)
         cases.append(Case(f"drawn-{number}", sheet, drawn_network(dice, cellref.examine(sheet))))
     for number in range(count // 2):
         case = dice.choice(mapped)

@@ -1,32 +1,29 @@
--- No cell has the name of another cell, or one that a design can have. Assumes nothing.
+-- No cell has the name of another cell, or one that is a design's name in any case: a name has no underscore.
+-- Assumes nothing.
 use mathlib.Core.Path.{_≡_, refl, sym, ap, _∙_}
 use mathlib.Core.Bool.{true, false}
-use mathlib.Core.List.{List, [], _++_, append-nil}
+use mathlib.Core.List.{List, [], _∷_, _++_, append-nil}
 use Prim.Native.Nat.{ℕ, _<_}
 use lib.ListN.{drop}
+use Rattle.bits.specs.LogicLaws.{and-left, and-right, and-both}
 use Rattle.text.specs.Number.{printNumber, readNumber}
 use Rattle.text.specs.Numerals.{stops}
 use Rattle.text.specs.NumberLaws.{read-printed}
 use Rattle.text.specs.EatLaws.{found-item}
-use Rattle.text.specs.Bytes.{found}
-use Rattle.names.specs.Name.{Name, letter, isName, among}
+use Rattle.text.specs.Bytes.{bytes, found}
+use Rattle.names.specs.Name.{Name, nameByte, isName, sameName, among}
 use Rattle.names.specs.Names.{allNames}
-use Rattle.names.specs.IsNameLaws.{no-letter-no-name}
-use Rattle.names.specs.AllNamesLaws.{named-among}
+use Rattle.names.specs.IsNameLaws.{underscore-no-name-byte, name-byte-inside}
+use Rattle.names.specs.SameNamesLaws.{same-is-name}
 use Rattle.sheet.specs.Examine.{Design, outputNames}
 use Rattle.sheet.specs.WellFormed.{WellFormed}
 use Rattle.cells.specs.Lists.{false-where}
 use Rattle.classes.specs.Cases.{not-both}
 use Rattle.network.specs.NamedLaws.{design-named}
+use Rattle.listing.specs.Listed.{underscore}
 use Rattle.blif.specs.Printer.{cellName}
-use Rattle.blif.specs.Reader.{stands}
-use Rattle.blif.specs.OnceLaws.{stands-among, among-none}
 
--- `C` is no small letter
-pub cell-no-name : (i : ℕ) → isName (cellName i) ≡ false
-unfolding cellName letter
-cell-no-name i = no-letter-no-name (cellName i) refl
-
+-- ---- other cells
 -- a print is read back
 print-read : (i : ℕ) → i < 1000 → readNumber (printNumber i) ≡ found i []
 unfolding stops
@@ -35,17 +32,36 @@ print-read i h = ap readNumber (sym (append-nil (printNumber i))) ∙ read-print
 pub cells-apart : (i j : ℕ) → i < 1000 → j < 1000 → cellName i ≡ cellName j → i ≡ j
 unfolding cellName
 cells-apart i j h k e =
-    let printed : printNumber i ≡ printNumber j = ap (drop 1) e in
+    let printed : printNumber i ≡ printNumber j = ap (drop 3) e in
     found-item (sym (print-read i h) ∙ ap readNumber printed ∙ print-read j k)
 
-pub cell-not-among : (i : ℕ) (ns : List Name) → allNames ns ≡ true → among (cellName i) ns ≡ false
-cell-not-among i ns a =
-    false-where (among (cellName i) ns) (λ e. not-both (isName (cellName i)) (named-among (cellName i) ns a e) (cell-no-name i))
+-- ---- names
+pub cell-no-name : (i : ℕ) → isName (cellName i) ≡ false
+unfolding cellName
+cell-no-name i =
+    false-where (isName (cellName i))
+    (λ h. not-both (nameByte underscore) (name-byte-inside (bytes "CC") underscore (printNumber i) h) underscore-no-name-byte)
 
-pub cell-new : (d : Design) → WellFormed d → (i : ℕ) → stands (cellName i) (d .inputs ++ outputNames (d .outputs)) ≡ false
+pub name-no-cell : (n : Name) (i : ℕ) → isName n ≡ true → sameName n (cellName i) ≡ false
+name-no-cell n i h =
+    false-where (sameName n (cellName i)) (λ e. not-both (isName (cellName i)) (same-is-name n (cellName i) e h) (cell-no-name i))
+
+pub cell-not-among : (i : ℕ) (ns : List Name) → allNames ns ≡ true → among (cellName i) ns ≡ false
+unfolding allNames among
+cell-not-among i [] a = refl
+cell-not-among i (n ∷ ns) a =
+    rw (name-no-cell n i (and-left (isName n) (allNames ns) a)) (cell-not-among i ns (and-right (isName n) (allNames ns) a))
+
+names-both : (ms ns : List Name) → allNames ms ≡ true → allNames ns ≡ true → allNames (ms ++ ns) ≡ true
+unfolding allNames
+names-both [] ns a b = b
+names-both (m ∷ ms) ns a b =
+    and-both (isName m) (allNames (ms ++ ns))
+    (and-left (isName m) (allNames ms) a)
+    (names-both ms ns (and-right (isName m) (allNames ms) a) b)
+
+pub cell-new : (d : Design) → WellFormed d → (i : ℕ) → among (cellName i) (d .inputs ++ outputNames (d .outputs)) ≡ false
 cell-new d f i =
+    let ns = outputNames (d .outputs) in
     let named = design-named d f in
-    stands-among (cellName i) (d .inputs ++ outputNames (d .outputs))
-    ∙ among-none (cellName i) (d .inputs) (outputNames (d .outputs))
-    (cell-not-among i (d .inputs) (named .inputs-named))
-    (cell-not-among i (outputNames (d .outputs)) (named .outputs-named))
+    cell-not-among i (d .inputs ++ ns) (names-both (d .inputs) ns (named .inputs-named) (named .outputs-named))

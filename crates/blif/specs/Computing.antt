@@ -3,10 +3,11 @@
 use Rattle.rows.specs.Row.{valuesOf}
 use Rattle.text.specs.Line.{endedLines}
 use Rattle.names.specs.Names.{printNames}
+use Rattle.names.specs.Spelled.{standsIn}
 use Rattle.network.specs.Computing as network
 use Rattle.blif.specs.Printer.{cellName, rowLines, block, lutBlocks, nodeBlocks, blifLines, printBlif}
 use Rattle.blif.specs.Words.{plainByte, plain, allPlain, blank, words}
-use Rattle.blif.specs.Reader.{marksOf, said, readRest, wordLines, stands, once, readBlif}
+use Rattle.blif.specs.Reader.{marksOf, said, readRest, wordLines, once, readBlif}
 use Rattle.blif.specs.Value.{covers, given, driver, allValues, valueWithin, valueIn}
 use Rattle.blif.specs.Export.{putText, exportOf, export}
 
@@ -15,7 +16,7 @@ unfolding valuesOf endedLines printNames cellName rowLines block lutBlocks nodeB
 printing = tt
 
 reading : Unit {0}
-unfolding plainByte plain allPlain blank words marksOf said readRest wordLines stands once readBlif
+unfolding plainByte plain allPlain blank words marksOf said readRest wordLines standsIn once readBlif
 reading = tt
 
 valuing : Unit {0}

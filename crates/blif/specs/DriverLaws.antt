@@ -9,10 +9,11 @@ use lib.ListN.{length, getD, length-append, List·getD-append}
 use lib.Seq.{getD-append-add}
 use Rattle.text.specs.Bytes.{same}
 use Rattle.text.specs.BytesLaws.{same-self}
-use Rattle.names.specs.Name.{Name, sameName, among, distinct}
+use Rattle.names.specs.Name.{Name}
+use Rattle.names.specs.Spelled.{standsIn}
+use Rattle.names.specs.StandLaws.{stands-first, stands-later}
 use Rattle.sheet.specs.Examine.{Design}
 use Rattle.sheet.specs.WellFormed.{WellFormed}
-use Rattle.classes.specs.FreeLaws.{among-first, among-later, distinct-later, first-another}
 use Rattle.network.specs.Network.{Network, Node}
 use Rattle.network.specs.Parts.{freeOf, namesOf}
 use Rattle.network.specs.PartLaws.{names-count}
@@ -20,32 +21,34 @@ use Rattle.network.specs.Wellformed.{Wellformed, nodeAt}
 use Rattle.blif.specs.Printer.{cellName}
 use Rattle.blif.specs.Model.{Block, drivesOf}
 use Rattle.blif.specs.Modelled.{blockOf, lutBlocksOf, nodeBlocksOf, modelOf}
+use Rattle.blif.specs.Reader.{once}
 use Rattle.blif.specs.Value.{driver}
-use Rattle.blif.specs.NamesOnceLaws.{blocks-distinct}
+use Rattle.blif.specs.OnceLaws.{once-later, once-another}
+use Rattle.blif.specs.NamesOnceLaws.{blocks-once}
 
--- ---- distinct signals
+-- ---- signals that stand once each
 abbrev noBlock : Block
 noBlock = record { reads = []; drives = []; cover = [] }
 
 abbrev blockAt : List Block → ℕ → Block
 blockAt bs k = getD bs k noBlock
 
-drives-among : (bs : List Block) (k : ℕ) → k < length bs → among (blockAt bs k .drives) (drivesOf bs) ≡ true
-drives-among [] k l = absurd (omega arith)
-drives-among (b ∷ bs) zero l = among-first (b .drives) (drivesOf bs)
-drives-among (b ∷ bs) (suc k) l = among-later (b .drives) (blockAt bs k .drives) (drivesOf bs) (drives-among bs k (omega arith))
+drives-stand : (bs : List Block) (k : ℕ) → k < length bs → standsIn (blockAt bs k .drives) (drivesOf bs) ≡ true
+drives-stand [] k l = absurd (omega arith)
+drives-stand (b ∷ bs) zero l = stands-first (b .drives) (b .drives) (drivesOf bs) refl
+drives-stand (b ∷ bs) (suc k) l = stands-later (b .drives) (blockAt bs k .drives) (drivesOf bs) (drives-stand bs k (omega arith))
 
 driver-at : (bs : List Block) (k : ℕ)
     → k < length bs
-    → distinct (drivesOf bs) ≡ true
+    → once (drivesOf bs) ≡ true
     → driver bs (blockAt bs k .drives) ≡ some (blockAt bs k)
-unfolding driver sameName
+unfolding driver
 driver-at [] k l e = absurd (omega arith)
 driver-at (b ∷ bs) zero l e = rw (same-self (b .drives)) refl
 driver-at (b ∷ bs) (suc k) l e =
     let n = blockAt bs k .drives in
-    let other : same (b .drives) n ≡ false = first-another (b .drives) n (drivesOf bs) e (drives-among bs k (omega arith)) in
-    rw other (driver-at bs k (omega arith) (distinct-later (b .drives) (drivesOf bs) e))
+    let other : same (b .drives) n ≡ false = once-another (b .drives) n (drivesOf bs) e (drives-stand bs k (omega arith)) in
+    rw other (driver-at bs k (omega arith) (once-later (b .drives) (drivesOf bs) e))
 
 -- ---- the blocks in their order
 lut-block : (bs : List Name) (i : ℕ) (ts : List (List Bool)) (k : ℕ)
@@ -120,7 +123,7 @@ module _ (d : Design) (w : Network) (g : Wellformed d w) where
         → driver (modelOf d w .blocks) (b .drives) ≡ some b
     driver-is k b l e =
         subst (λ (c : Block). driver (modelOf d w .blocks) (c .drives) ≡ some c) e
-        (driver-at (modelOf d w .blocks) k (omega (arith, block-count)) (blocks-distinct d w f g))
+        (driver-at (modelOf d w .blocks) k (omega (arith, block-count)) (blocks-once d w f g))
 
     pub cell-driver : (i : ℕ)
         → i < length (w .luts)

@@ -12,17 +12,18 @@ use Rattle.bits.specs.Logic.{pick}
 use Rattle.bits.specs.Digit.{on}
 use Rattle.rows.specs.Row.{valuesOf}
 use Rattle.rows.specs.Digits.{digit}
-use Rattle.text.specs.Bytes.{space}
+use Rattle.text.specs.Bytes.{bytes, space}
 use Rattle.names.specs.Name.{Name}
 use Rattle.names.specs.Names.{printNames}
-use Rattle.names.specs.Pack.{nameOf}
+use Rattle.names.specs.Pack.{pack, nameOf}
+use Rattle.names.specs.PackLaws.{NoZero}
 use Rattle.network.specs.Numbers.{numbersOf}
 use Rattle.network.specs.Printer.{printDigits}
 use Rattle.putting.specs.Written.{itemRoom, Written}
 use Rattle.putting.specs.PutLaws.{put-none, put-next, put-same}
-use Rattle.listing.specs.Listed.{zeroByte, oneDigit}
+use Rattle.listing.specs.Listed.{underscore, zeroByte, oneDigit}
 use Rattle.listing.specs.ShownLaws.{front-more}
-use Rattle.listing.specs.NumbersLaws.{byte-digit-held}
+use Rattle.listing.specs.NumbersLaws.{digit-held}
 use Rattle.blif.specs.Printer.{cellName}
 use Rattle.putting.specs.Upto.{textsUpto}
 use Rattle.blif.specs.Texts.{itemText, cellText}
@@ -31,9 +32,14 @@ use Rattle.blif.specs.Texts.{itemText, cellText}
 abbrev capitalC : ℕ
 capitalC = 0x43
 
-pub cell-held : (i : ℕ) → i < oneDigit → nameOf ((i + zeroByte) * 256 + capitalC) ≡ cellName i
-unfolding cellName
-cell-held i l = byte-digit-held capitalC i (omega arith) (omega arith) l
+pub cell-held : (i : ℕ) → i < oneDigit → nameOf ((((i + zeroByte) * 256 + underscore) * 256 + capitalC) * 256 + capitalC) ≡ cellName i
+unfolding cellName pack
+cell-held i l =
+    let held : (((i + zeroByte) * 256 + underscore) * 256 + capitalC) * 256 + capitalC
+    ≡ pack (capitalC ∷ capitalC ∷ underscore ∷ (zeroByte + i) ∷ [])
+    = omega arith in
+    let filled : NoZero (bytes "CC_") = (omega arith, omega arith, (omega arith, omega arith, (omega arith, omega arith, tt))) in
+    ap nameOf held ∙ digit-held (bytes "CC_") i (omega arith) filled l
 
 -- ---- names
 pub names-append : (ms ns : List Name) → printNames (ms ++ ns) ≡ printNames ms ++ printNames ns

@@ -24,6 +24,7 @@ pub mod ReadLaws
 pub mod Longest
 pub mod LengthLaws
 -- values
+pub mod StandLaws
 pub mod OnceLaws
 pub mod CellNameLaws
 pub mod CellNames

@@ -16,9 +16,9 @@ use Rattle.text.specs.NumeralLaws.{numeral-low, numeral-high}
 use Rattle.text.specs.FigureLaws.{print-numerals}
 use Rattle.text.specs.Unbroken.{unbroken, allUnbroken}
 use Rattle.text.specs.LineLaws.{unbroken-cons}
-use Rattle.names.specs.Name.{Name, letter, nameByte, allNameBytes, isName}
+use Rattle.names.specs.Name.{Name, nameByte, allNameBytes, isName}
 use Rattle.names.specs.Names.{allNames, printNames}
-use Rattle.names.specs.IsNameLaws.{name-bytes, name-byte-between}
+use Rattle.names.specs.IsNameLaws.{name-bytes, name-byte-between, backslash-no-name-byte}
 use Rattle.network.specs.Network.{Node}
 use Rattle.network.specs.Printer.{printDigits}
 use Rattle.blif.specs.Printer.{cellName, rowLine, rowLines, block, lutBlocks, nodeBlocks}
@@ -64,10 +64,10 @@ unfolding plainByte
 plain-byte b l h c k = rw (le-leb 0x20 b l, le-leb b 0x7E h, ne-eqb b numberSign c, ne-eqb b backslash k) refl
 
 name-byte-plain : (b : ℕ) → nameByte b ≡ true → plainByte b ≡ true
-unfolding nameByte letter numeral
 name-byte-plain b h =
     let r = name-byte-between b h in
-    plain-byte b (omega (arith, r)) (omega (arith, r)) (λ e. omega (arith, r, e)) (λ e. true-false (sym h ∙ ap nameByte e))
+    plain-byte b (omega (arith, r)) (omega (arith, r)) (λ e. omega (arith, r, e))
+    (λ e. true-false (sym h ∙ ap nameByte e ∙ backslash-no-name-byte))
 
 name-bytes-plain : (n : List ℕ) → allNameBytes n ≡ true → plain n ≡ true
 unfolding plain

@@ -16,9 +16,9 @@ use Rattle.classes.specs.Columns.{free}
 use Rattle.network.specs.Network.{Network, Node}
 use Rattle.network.specs.Printer.{printDigits}
 
--- "Cell names lose the underscore and gain a capital C, which no design name has": `C0`, `C1` and so on
+-- the name of cell i: `CC_0`, `CC_1` and so on; no name of a design has an underscore
 unfoldable pub cellName : ℕ → Name
-cellName i = bytes "C" ++ printNumber i
+cellName i = bytes "CC_" ++ printNumber i
 
 -- the line of a row of value 1: the row's digits, first listed input first, a space, `1`; without inputs just `1`
 abbrev pub rowLine : List Bool → List ℕ

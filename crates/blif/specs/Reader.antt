@@ -2,7 +2,7 @@
 -- Interchange Format (BLIF)", University of California, Berkeley, 1992. The directives `.model`, `.inputs`, `.outputs`,
 -- `.names` and `.end` and covers with 1 in the output plane are understood, and everything else is refused, comments and
 -- continued lines too. Assumes nothing.
-use mathlib.Core.Bool.{Bool, true, false, not, _&&_, _||_}
+use mathlib.Core.Bool.{Bool, true, false, not, _&&_}
 use mathlib.Core.List.{List, [], _∷_, _++_, map}
 use mathlib.Core.Option.{Option, some, none}
 use Prim.Native.Nat.{ℕ}
@@ -11,6 +11,7 @@ use lib.ListN.{length}
 use Rattle.bits.specs.Logic.{pick}
 use Rattle.text.specs.Bytes.{bytes, same}
 use Rattle.text.specs.Line.{lines}
+use Rattle.names.specs.Spelled.{standsIn}
 use Rattle.blif.specs.Words.{allPlain, words}
 use Rattle.blif.specs.Model.{Signal, Mark, must-be, any, Block, drivesOf, Model}
 
@@ -154,13 +155,9 @@ readModel [] = none
 readModel (l ∷ ls) = pick (isModel l) (readRest (map said ls)) none
 
 -- ---- no signal is driven twice, by inputs and blocks together
-unfoldable pub stands : Signal → List Signal → Bool
-stands s [] = false
-stands s (t ∷ ts) = same t s || stands s ts
-
 unfoldable pub once : List Signal → Bool
 once [] = true
-once (s ∷ ss) = not (stands s ss) && once ss
+once (s ∷ ss) = not (standsIn s ss) && once ss
 
 abbrev pub drivenSignals : Model → List Signal
 drivenSignals m = m .inputs ++ drivesOf (m .blocks)

@@ -3,7 +3,7 @@
 use mathlib.Core.Path.{_≡_, refl, sym, ap, ap₂, _∙_}
 use mathlib.Core.Logic.{⊎-elim}
 use mathlib.Core.Bool.{Bool, true, false}
-use mathlib.Core.List.{List, [], _∷_, _++_, map, map-append, map-map}
+use mathlib.Core.List.{List, [], _∷_, _++_, map, map-append}
 use mathlib.Core.Option.{Option, some, none}
 use Prim.Native.Nat.{ℕ, zero, suc, _+_, _^_, _≤_, _<_}
 use native.Mathlib.Omega.{arith}
@@ -11,7 +11,11 @@ use lib.ListN.{length, getD, length-append, length-map, List·getD-map}
 use Rattle.bits.specs.LogicLaws.{true-false}
 use Rattle.rows.specs.Row.{rowOf, valuesOf}
 use Rattle.text.specs.Bytes.{same}
-use Rattle.names.specs.Name.{Name, sameName, among}
+use Rattle.text.specs.BytesLaws.{same-equal}
+use Rattle.names.specs.Name.{Name, among, distinct}
+use Rattle.names.specs.Spelled.{standsIn}
+use Rattle.names.specs.SameLaws.{same-name-equal}
+use Rattle.names.specs.StandLaws.{stands-among, stands-first, stands-later}
 use Rattle.names.specs.LookupLaws.{neither-left, neither-right}
 use Rattle.formula.specs.Value.{onRow}
 use Rattle.sheet.specs.Lines.{Output}
@@ -19,7 +23,7 @@ use Rattle.sheet.specs.Examine.{Design}
 use Rattle.sheet.specs.WellFormed.{WellFormed, outputAt}
 use Rattle.classes.specs.Cases.{either}
 use Rattle.classes.specs.Columns.{vertexOf}
-use Rattle.classes.specs.FreeLaws.{map-agree, all-among, free-input}
+use Rattle.classes.specs.FreeLaws.{distinct-later, first-another}
 use Rattle.network.specs.Network.{Network, Node}
 use Rattle.network.specs.Reads.{Rising, rising-none, rising-more}
 use Rattle.network.specs.Value.{lutOn, nodeRow, networkOn}
@@ -30,26 +34,33 @@ use Rattle.blif.specs.Model.{Signal, Block}
 use Rattle.blif.specs.Modelled.{coverOf, blockOf, modelOf}
 use Rattle.blif.specs.Value.{covers, given, driver, allValues, onInputs, driven, orElse, valueWithin, valueIn}
 use Rattle.blif.specs.Simulated.{outputSignal}
+use Rattle.blif.specs.StandLaws.{all-stand, free-stands}
+use Rattle.blif.specs.OnceLaws.{absent}
 use Rattle.blif.specs.CellNameLaws.{cell-not-among}
 use Rattle.blif.specs.MatchLaws.{cover-row}
 use Rattle.blif.specs.DriverLaws.{block-count, cell-driver, output-driver}
 
 -- ---- what is given
-given-input : (ns : List Name) (r : ℕ) (n : Name) → among n ns ≡ true → given ns (valuesOf (length ns) r) n ≡ some (onRow ns r n)
-unfolding given valuesOf onRow among sameName
-given-input [] r n e = absurd (true-false (sym e))
-given-input (m ∷ ns) r n e =
+given-input : (ns : List Name) (r : ℕ) (n : Name)
+    → distinct ns ≡ true
+    → standsIn n ns ≡ true
+    → given ns (valuesOf (length ns) r) n ≡ some (onRow ns r n)
+unfolding given valuesOf onRow standsIn
+given-input [] r n d e = absurd (true-false (sym e))
+given-input (m ∷ ns) r n d e =
     ⊎-elim
-    (λ q. rw q refl)
-    (λ q. rw q (given-input ns r n (rw q at e)))
+    (λ q. rw q (rw (same-name-equal m n (same-equal m n q)) refl))
+    (λ q.
+    let later : standsIn n ns ≡ true = rw q at e in
+    rw q (rw (first-another m n ns d (stands-among n ns later)) (given-input ns r n (distinct-later m ns d) later)))
     (either (same m n))
 
-given-none : (ns : List Name) (vs : List Bool) (n : Name) → among n ns ≡ false → given ns vs n ≡ none
-unfolding given among sameName
-given-none [] vs n e = refl
-given-none (m ∷ ns) [] n e = refl
-given-none (m ∷ ns) (v ∷ vs) n e =
-    rw (neither-left (same m n) (among n ns) e) (given-none ns vs n (neither-right (same m n) (among n ns) e))
+given-none : (ns : List Signal) (vs : List Bool) (s : Signal) → standsIn s ns ≡ false → given ns vs s ≡ none
+unfolding given standsIn
+given-none [] vs s e = refl
+given-none (t ∷ ns) [] s e = refl
+given-none (t ∷ ns) (v ∷ vs) s e =
+    rw (neither-left (same t s) (standsIn s ns) e) (given-none ns vs s (neither-right (same t s) (standsIn s ns) e))
 
 -- ---- what a block reads
 all-some : (us : List Bool) → allValues (map some us) ≡ some us
@@ -59,9 +70,13 @@ all-some (u ∷ us) = rw (all-some us) refl
 
 module _ (f : Signal → Option Bool) where
   inputs-valued : (v : Name → Bool) (ns : List Name)
-      → ((n : Name) → among n ns ≡ true → f n ≡ some (v n))
+      → ((n : Name) → standsIn n ns ≡ true → f n ≡ some (v n))
       → map f ns ≡ map some (map v ns)
-  inputs-valued v ns h = map-agree f (λ (n : Name). some (v n)) ns h ∙ sym (map-map some v ns)
+  inputs-valued v [] h = refl
+  inputs-valued v (n ∷ ns) h =
+      ap₂ (λ (x : Option Bool) (xs : List (Option Bool)). x ∷ xs)
+      (h n (stands-first n n ns refl))
+      (inputs-valued v ns (λ m e. h m (stands-later n m ns e)))
 
   cells-valued : (v : ℕ → Bool) {i u : ℕ} {js : List ℕ}
       → Rising i u js
@@ -95,14 +110,15 @@ module _ (d : Design) (w : Network) (f : WellFormed d) (g : Wellformed d w) (r :
   abbrev within : ℕ → Signal → Option Bool
   within k = valueWithin k (modelOf d w) (valuesOf (length (d .inputs)) r)
 
-  input-valued : (k : ℕ) (n : Name) → among n (d .inputs) ≡ true → within (suc k) n ≡ some (onRow (d .inputs) r n)
+  input-valued : (k : ℕ) (n : Name) → standsIn n (d .inputs) ≡ true → within (suc k) n ≡ some (onRow (d .inputs) r n)
   unfolding valueWithin modelOf
   input-valued k n e =
-      ap (λ (x : Option Bool). orElse x (driven (within k) (driver (modelOf d w .blocks) n))) (given-input (d .inputs) r n e)
+      ap (λ (x : Option Bool). orElse x (driven (within k) (driver (modelOf d w .blocks) n)))
+      (given-input (d .inputs) r n (f .inputs-right .once) e)
 
   -- a signal that is no input has the value of what drives it
   driven-valued : (k : ℕ) (s : Signal) (b : Block)
-      → among s (d .inputs) ≡ false
+      → standsIn s (d .inputs) ≡ false
       → driver (modelOf d w .blocks) s ≡ some b
       → within (suc k) s ≡ driven (within k) (some b)
   unfolding valueWithin modelOf
@@ -116,23 +132,24 @@ module _ (d : Design) (w : Network) (f : WellFormed d) (g : Wellformed d w) (r :
   cell-valued k i l =
       let ds = getD (w .luts) i [] in
       driven-valued (suc k) (cellName i) (blockOf (d .bound) (cellName i) ds)
-      (cell-not-among i (d .inputs) (f .inputs-right .named))
+      (absent (cellName i) (d .inputs) (cell-not-among i (d .inputs) (f .inputs-right .named)))
       (cell-driver d w g f i l)
       ∙ block-valued (within (suc k)) (d .bound) (cellName i) ds (map (onRow (d .inputs) r) (d .bound))
       (inputs-valued (within (suc k)) (onRow (d .inputs) r) (d .bound)
-      (λ n e. input-valued k n (all-among (d .bound) (d .inputs) n (f .bound-right .known) e)))
+      (λ n e. input-valued k n (all-stand (d .bound) (d .inputs) n (f .bound-right .known) e)))
       (g .lut-digits i l)
 
   -- ---- an output
   abbrev node : ℕ → Node
   node o = nodeAt (w .nodes) o
 
-  output-no-input : (o : ℕ) → o < length (d .outputs) → among (outputSignal d o) (d .inputs) ≡ false
+  output-no-input : (o : ℕ) → o < length (d .outputs) → standsIn (outputSignal d o) (d .inputs) ≡ false
   output-no-input o l =
-      ap (λ (n : Name). among n (d .inputs)) (List·getD-map (λ (x : Output). x .name) (d .outputs) o (outputAt [] 0))
-      ∙ f .outputs-right .each o l .new
+      absent (outputSignal d o) (d .inputs)
+      (ap (λ (n : Name). among n (d .inputs)) (List·getD-map (λ (x : Output). x .name) (d .outputs) o (outputAt [] 0))
+      ∙ f .outputs-right .each o l .new)
 
-  input-enough : (k : ℕ) (n : Name) → 1 ≤ k → among n (d .inputs) ≡ true → within k n ≡ some (onRow (d .inputs) r n)
+  input-enough : (k : ℕ) (n : Name) → 1 ≤ k → standsIn n (d .inputs) ≡ true → within k n ≡ some (onRow (d .inputs) r n)
   input-enough zero n h e = absurd (omega arith)
   input-enough (suc k) n h e = input-valued k n e
 
@@ -150,7 +167,7 @@ module _ (d : Design) (w : Network) (f : WellFormed d) (g : Wellformed d w) (r :
       reads-valued (within k) (node o .reads) (freeOf d) (map (lutOn d w r) (node o .reads)) (map (onRow (d .inputs) r) (freeOf d))
       (cells-valued (within k) (lutOn d w r) (g .node-fits o l .rises) (λ j m. cell-enough k j (omega arith) m))
       (inputs-valued (within k) (onRow (d .inputs) r) (freeOf d)
-      (λ n e. input-enough k n (omega arith) (free-input (d .inputs) (d .bound) n e)))
+      (λ n e. input-enough k n (omega arith) (free-stands (d .inputs) (d .bound) n e)))
 
   node-counted : (o : ℕ) → o < length (w .nodes) → length (node o .digits) ≡ 2 ^ length (map cellName (node o .reads) ++ freeOf d)
   node-counted o l =

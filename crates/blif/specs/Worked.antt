@@ -30,16 +30,16 @@ network = luts ++ bytes "(node f (_0 d) 0110)\n(node g (_0 d) 0000)\n(count 2)\n
 abbrev wide : List ℕ
 wide = luts ++ bytes "(node f (_0 d) 0110)\n(node g (_0 _1 d) 00000001)\n(count 2)\n(end)\n"
 
--- the first network's text, of 141 bytes
+-- the first network's text, of 149 bytes
 abbrev text : List ℕ
 text =
     bytes ".model panel\n.inputs a b c d\n.outputs f g\n"
-    ++ (bytes ".names a b c C0\n001 1\n010 1\n100 1\n111 1\n"
-    ++ (bytes ".names a b c C1\n" ++ (bytes ".names C0 d f\n01 1\n10 1\n" ++ bytes ".names C0 d g\n.end\n")))
+    ++ (bytes ".names a b c CC_0\n001 1\n010 1\n100 1\n111 1\n"
+    ++ (bytes ".names a b c CC_1\n" ++ (bytes ".names CC_0 d f\n01 1\n10 1\n" ++ bytes ".names CC_0 d g\n.end\n")))
 
--- 70 bytes
+-- 74 bytes
 abbrev blanks : List ℕ
-blanks = bytes "                                                                      "
+blanks = bytes "                                                                          "
 
 -- two bytes more than the text
 abbrev buffer : List ℕ
@@ -77,11 +77,11 @@ refused s = readBlif (among s) ≡ none
 
 pub record Worked : Type 0 where
   -- Export
-  pub written-out : export sheet network buffer ≡ record { answer = written 141; buffer = text ++ bytes "!?" }
+  pub written-out : export sheet network buffer ≡ record { answer = written 149; buffer = text ++ bytes "!?" }
   pub one-byte-short : export sheet network (blanks ++ blanks) ≡ untouched 9 0 (blanks ++ blanks)
   pub over-its-width : export sheet wide [] ≡ untouched 11 5 []
   pub constants-written : export constants constantNetwork blanks
-      ≡ record { answer = written 61; buffer = constantText ++ bytes "         " }
+      ≡ record { answer = written 61; buffer = constantText ++ bytes "             " }
   -- reading
   pub f-odd : atF text (true ∷ false ∷ false ∷ false ∷ []) ≡ some true
   pub f-even : atF text (true ∷ false ∷ false ∷ true ∷ []) ≡ some false

@@ -38,8 +38,10 @@ pub enum Exported {
     Written(usize),
 }
 
-// The bytes of a cell's name: the first one, and that of cell 0's number.
+// The bytes of a cell's name: `C` twice, an underscore, and that of cell 0's number.
 const CAPITAL_C: u64 = b'C' as u64;
+
+const UNDERSCORE: u64 = b'_' as u64;
 
 const ZERO: u64 = b'0' as u64;
 
@@ -48,7 +50,8 @@ fn cell_name(i: usize) -> u64
     requires { ⌜ i < oneDigit ⌝ }
     ensures { λ r. ⌜ nameOf r ≡ cellName i ⌝ }
 {
-    (i as u64 + ZERO) * names::BASE + CAPITAL_C
+    let numbered = (i as u64 + ZERO) * names::BASE + UNDERSCORE;
+    (numbered * names::BASE + CAPITAL_C) * names::BASE + CAPITAL_C
 }
 
 // The name v after a space.

@@ -9,7 +9,7 @@ use native.Mathlib.Nat.{add-zero, zero-add, pow-suc, add-suc, suc-add}
 use native.Mathlib.Numerals.{add-one}
 use lib.Pow.{pow-mono}
 use lib.ListN.{length, length-append}
-use Rattle.limits.specs.Limits.{maxCells, maxCodes}
+use Rattle.limits.specs.Limits.{maxName, maxCells, maxCodes}
 use Rattle.bits.specs.Logic.{pick}
 use Rattle.bits.specs.Digit.{on}
 use Rattle.rows.specs.Row.{bit, rowOf}
@@ -17,7 +17,7 @@ use Rattle.text.specs.Number.{printNumber}
 use Rattle.text.specs.FigureLaws.{print-digit}
 use Rattle.names.specs.Name.{Name}
 use Rattle.names.specs.Pack.{pack, nameOf}
-use Rattle.names.specs.PackLaws.{name-of-pack}
+use Rattle.names.specs.PackLaws.{NoZero, name-of-pack}
 use Rattle.network.specs.Printer.{lutName}
 use Rattle.serving.specs.Build.{numbers, codeIn}
 use Rattle.listing.specs.Listed.{underscore, zeroByte, oneDigit}
@@ -105,18 +105,23 @@ reading-all {mask} {u} {i} {count} {now} g l =
     subst (λ (k : ℕ). Reading mask u k count now) e g
 
 -- ---- the number that holds the name of table i
--- a byte b and the digit i
-pub byte-digit-held : (b i : ℕ) → 0 < b → b < 256 → i < oneDigit → nameOf ((i + zeroByte) * 256 + b) ≡ b ∷ printNumber i
-unfolding pack
-byte-digit-held b i p h l =
-    let name : Name = b ∷ (zeroByte + i) ∷ [] in
-    let e : (i + zeroByte) * 256 + b ≡ pack name = omega arith in
-    ap nameOf e ∙ name-of-pack name (omega arith) (p, h, (omega arith, omega arith, tt))
-    ∙ ap (λ (t : List ℕ). b ∷ t) (sym (print-digit i l))
+no-zero-after : (s : List ℕ) (b : ℕ) → NoZero s → 0 < b → b < 256 → NoZero (s ++ (b ∷ []))
+no-zero-after [] b z p h = (p, h, tt)
+no-zero-after (c ∷ s) b z p h = (z .0, z .1, no-zero-after s b (z .2) p h)
+
+-- the bytes s, and the digit i after them
+pub digit-held : (s : List ℕ) (i : ℕ) → length s < maxName → NoZero s → i < oneDigit
+    → nameOf (pack (s ++ ((zeroByte + i) ∷ []))) ≡ s ++ printNumber i
+digit-held s i h z l =
+    let name : Name = s ++ ((zeroByte + i) ∷ []) in
+    name-of-pack name (omega (arith, length-append s ((zeroByte + i) ∷ []))) (no-zero-after s (zeroByte + i) z (omega arith) (omega arith))
+    ∙ ap (λ (t : List ℕ). s ++ t) (sym (print-digit i l))
 
 pub table-name : (i : ℕ) → i < oneDigit → nameOf ((i + zeroByte) * 256 + underscore) ≡ lutName i
-unfolding lutName
-table-name i l = byte-digit-held underscore i (omega arith) (omega arith) l
+unfolding lutName pack
+table-name i l =
+    let held : (i + zeroByte) * 256 + underscore ≡ pack (underscore ∷ (zeroByte + i) ∷ []) = omega arith in
+    ap nameOf held ∙ digit-held (underscore ∷ []) i (omega arith) (omega arith, omega arith, tt) l
 
 -- ---- the code in the tables
 row-step : (a : Bool) (p q r s d : ℕ) → p ≡ q * 2 → r ≡ s * 2 + d → bit a * p + r ≡ (bit a * q + s) * 2 + d
