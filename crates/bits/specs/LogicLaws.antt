@@ -1,6 +1,7 @@
--- What a true conjunction and a true comparison say, and that true is not false. Assumes nothing.
+-- What a true conjunction, a true disjunction and a true comparison say, and that true is not false. Assumes nothing.
 use mathlib.Core.Path.{_≡_, refl, sym}
-use mathlib.Core.Bool.{Bool, true, false, Bool·beq}
+use mathlib.Core.Logic.{_⊎_, inl, inr}
+use mathlib.Core.Bool.{Bool, true, false, _||_, Bool·beq}
 use Prim.Native.Nat.{ℕ}
 use native.Mathlib.Omega.{arith}
 use Rattle.bits.specs.Logic.{andb}
@@ -21,6 +22,14 @@ and-right false b e = absurd (true-false (sym e))
 pub and-both : (a b : Bool) → a ≡ true → b ≡ true → andb a b ≡ true
 and-both true b e f = f
 and-both false b e f = e
+
+pub or-second : (a b : Bool) → b ≡ true → a || b ≡ true
+or-second true b e = refl
+or-second false b e = e
+
+pub or-cases : (a b : Bool) → a || b ≡ true → (a ≡ true) ⊎ (b ≡ true)
+or-cases true b e = inl refl
+or-cases false b e = inr e
 
 pub beq-self : (b : Bool) → Bool·beq b b ≡ true
 beq-self true = refl

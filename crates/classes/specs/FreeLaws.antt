@@ -1,29 +1,21 @@
 -- Names among others, and the free inputs: a free input is an input that is not bound, none stands twice, and there are as
 -- many as inputs are left when the bound ones are taken out. Assumes nothing.
 use mathlib.Core.Path.{_≡_, refl, sym, ap, ap₂, _∙_}
-use mathlib.Core.Logic.{_⊎_, inl, inr, ⊎-elim}
-use mathlib.Core.Bool.{Bool, true, false, not, _||_}
+use mathlib.Core.Logic.{_⊎_, ⊎-elim}
+use mathlib.Core.Bool.{Bool, true, false, not}
 use mathlib.Core.List.{List, [], _∷_, map}
 use Prim.Native.Nat.{ℕ, zero, suc, _+_, _-_, _<_}
 use native.Mathlib.Omega.{arith}
 use lib.ListN.{length, getD}
 use borrow.Author.Tests.{not-true}
-use Rattle.bits.specs.LogicLaws.{true-false, and-left, and-right, and-both}
+use Rattle.bits.specs.LogicLaws.{true-false, and-left, and-right, and-both, or-second, or-cases}
 use Rattle.names.specs.Name.{Name, sameName, among, distinct, allAmong}
 use Rattle.names.specs.SameLaws.{same-name-self, same-name-back, same-name-turned, among-same}
-use Rattle.names.specs.SpelledLaws.{all-stand-among}
+use Rattle.names.specs.StandLaws.{all-stand-among}
 use Rattle.names.specs.LookupLaws.{neither-left, neither-right}
 use Rattle.classes.specs.Cases.{either, not-both}
 use Rattle.classes.specs.Columns.{free}
 use Rattle.classes.specs.Proper.{Parted}
-
-or-cases : (a b : Bool) → a || b ≡ true → (a ≡ true) ⊎ (b ≡ true)
-or-cases true b e = inl refl
-or-cases false b e = inr e
-
-or-second : (a b : Bool) → b ≡ true → a || b ≡ true
-or-second true b e = refl
-or-second false b e = e
 
 pub false-unless : (b : Bool) → (b ≡ true → ⊥) → b ≡ false
 false-unless true h = absurd (h refl)

@@ -11,7 +11,8 @@ use Rattle.bits.specs.LogicLaws.{true-false}
 use Rattle.names.specs.Name.{Name, sameName, among, distinct}
 use Rattle.names.specs.Spelled.{spelledBy, standsIn}
 use Rattle.names.specs.SameLaws.{same-name-self}
-use Rattle.names.specs.SpelledLaws.{stands-among, spelled-own}
+use Rattle.names.specs.StandLaws.{stands-among}
+use Rattle.names.specs.SpelledLaws.{spelled-own}
 use Rattle.sheet.specs.Known.{position}
 use Rattle.classes.specs.Cases.{either}
 use Rattle.classes.specs.FreeLaws.{among-at, distinct-later, first-another}

@@ -14,17 +14,17 @@ use Rattle.text.specs.Bytes.{openBracket}
 use Rattle.text.specs.Number.{numeral}
 use Rattle.text.specs.NumeralLaws.{numeral-between}
 use Rattle.names.specs.Name.{letter, word, startsWithLetter}
+use Rattle.names.specs.ByteLaws.{letter-below, numeral-below}
 use Rattle.names.specs.NameLaws.{word-starts}
 use Rattle.names.specs.WordLaws.{word-empty}
 use Rattle.cursor.specs.declared.First.{First}
 use Rattle.cursor.specs.declared.First.the-variants.{Letter, Digit, Bracket, Other}
 use Rattle.cursor.specs.First.{firstOf, firstAt}
-use Rattle.cursor.specs.ByteLaws.{letter-between, letter-below, numeral-below}
 
 module _ (b : ℕ) where
-  pub first-letter : 0x61 ≤ b → b ≤ 0x7A → Letter ≡ firstOf b
+  pub first-letter : letter b ≡ true → Letter ≡ firstOf b
   unfolding firstOf
-  first-letter h g = rw (letter-between b h g) refl
+  first-letter e = rw e refl
 
   pub first-digit : 0x30 ≤ b → b ≤ 0x39 → Digit ≡ firstOf b
   unfolding firstOf

@@ -11,7 +11,6 @@ pub mod OperatorRead
 pub mod EatingLaws
 pub mod PartLaws
 pub mod ReadNumberLaws
-pub mod ByteLaws
 pub mod FirstLaws
 pub mod NamedLaws
 pub mod OpenedLaws

@@ -1,21 +1,19 @@
--- A name is read where its word ends: the word's length, its first letter and the operator that it is decide.
+-- A name is read where its word ends: the word's length, its first letter and whether it is an operator word decide.
 -- Assumes nothing.
-use mathlib.Core.Path.{_≡_, refl, sym, ap, _∙_}
-use mathlib.Core.Bool.{true}
+use mathlib.Core.Path.{_≡_, sym, ap, _∙_}
+use mathlib.Core.Bool.{true, false}
 use mathlib.Core.List.{List}
 use Prim.Native.Nat.{ℕ, _-_, _≤_, _<_}
 use native.Mathlib.Omega.{arith}
 use lib.ListN.{length, take, drop}
 use Rattle.limits.specs.Limits.{maxName}
 use Rattle.text.specs.Bytes.{bad}
-use Rattle.names.specs.Name.{word, operator, isOperator, readName}
+use Rattle.names.specs.Name.{word, operator, among, operatorWords, readName}
 use Rattle.names.specs.Pack.{pack, nameOf}
 use Rattle.names.specs.Word.{WordEnd, operatorOf}
 use Rattle.names.specs.NameLaws.{word-name-bytes, word-back, read-name-found, read-name-bad}
 use Rattle.names.specs.IsNameLaws.{is-name, no-letter-no-name, long-no-name, operator-no-name}
 use Rattle.names.specs.declared.Operator.{Operator}
-use Rattle.names.specs.declared.Operator.the-variants.{Not, And, Or, Xor, Nothing}
-use Rattle.names.specs.Name as spec
 use Rattle.cursor.specs.declared.Cursor.{Cursor}
 use Rattle.cursor.specs.declared.First.the-variants.{Letter}
 use Rattle.cursor.specs.First.{firstAt}
@@ -42,25 +40,15 @@ module _ (s : List ℕ) (at e : ℕ) (w : WordEnd s at e) where
     operator-held o q = q ∙ ap operator word-held
 
     pub named-there : (c : Cursor)
-        → firstAt (drop at s) ≡ Letter → spec.none-op ≡ operator (nameOf v)
+        → firstAt (drop at s) ≡ Letter → among (nameOf v) operatorWords ≡ false
         → c .at ≡ e → At s (nameOf v) c (readName (drop at s))
     named-there c f q k =
         let t = drop at s in
-        let n = is-name (word t) (letter-starts t f) (word-name-bytes t) (rw word-length h) (sym (q ∙ ap operator word-held)) in
+        let n = is-name (word t) (letter-starts t f) (word-name-bytes t) (rw word-length h) (rw word-held at q) in
         record {
           inside = omega (arith, w .inside);
           is = rw (word-held, k, w .is-rest) (sym (read-name-found (drop at s) n));
         }
 
-    pub operator-bad : (o : Operator)
-        → operatorOf o ≡ operator (nameOf v) → (o ≡ Nothing → ⊥)
-        → bad ≡ readName (drop at s)
-    operator-bad o q k =
-        sym (read-name-bad (drop at s) (operator-no-name (word (drop at s)) (sym (ap isOperator (operator-held o q)) ∙ some o k)))
-      where
-        some : (o : Operator) → (o ≡ Nothing → ⊥) → isOperator (operatorOf o) ≡ true
-        some Not k = refl
-        some And k = refl
-        some Or k = refl
-        some Xor k = refl
-        some Nothing k = absurd (k refl)
+    pub operator-bad : among (nameOf v) operatorWords ≡ true → bad ≡ readName (drop at s)
+    operator-bad q = sym (read-name-bad (drop at s) (operator-no-name (word (drop at s)) (rw word-held at q)))

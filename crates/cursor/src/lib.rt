@@ -142,6 +142,7 @@ fn first_of(b: u8) -> First
 {
     match b {
         b'a'..=b'z' => First::Letter,
+        b'A'..=b'Z' => First::Letter,
         b'0'..=b'9' => First::Digit,
         b'(' => First::Bracket,
         _ => First::Other,
@@ -268,15 +269,13 @@ impl Cursor {
             return NameRead::Bad;
         }
         let v = names::packed(s, at, e);
-        let o = names::as_operator(v);
-        if let Operator::Nothing = o {
-            NameRead::Name(v, Cursor { at: e })
-        } else {
-            NameRead::Bad
+        if names::is_operator_word(v) {
+            return NameRead::Bad;
         }
+        NameRead::Name(v, Cursor { at: e })
     }
 
-    // A name: a word of at most 8 bytes with a letter first, and no operator.
+    // A name: a word of at most 8 bytes with a letter first, and no operator word in any case.
     pub fn name(self, s: &[u8]) -> NameRead
         requires { ⌜ self .at ≤ length (now s) ⌝ }
         ensures { λ r. ⌜ NameIs (now (s .entry)) r (readName (drop (self .at) (now (s .entry)))) ⌝ }

@@ -3,3 +3,4 @@ pub mod Words
 pub mod Packs
 pub mod Operators
 pub mod Lookup
+pub mod Matches

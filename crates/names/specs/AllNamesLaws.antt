@@ -1,18 +1,18 @@
 -- Names among names are names. Assumes nothing.
-use mathlib.Core.Path.{_≡_, refl, sym, subst}
+use mathlib.Core.Path.{_≡_, refl, sym}
 use mathlib.Core.Bool.{Bool, true, false, _||_}
 use mathlib.Core.List.{List, [], _∷_}
 use Rattle.bits.specs.LogicLaws.{true-false, and-left, and-right, and-both}
 use Rattle.names.specs.Name.{Name, isName, sameName, among, allAmong}
 use Rattle.names.specs.Names.{allNames}
-use Rattle.names.specs.SameLaws.{same-name-true}
+use Rattle.names.specs.SameNamesLaws.{same-is-name}
 
 pub named-among : (n : Name) (ns : List Name) → allNames ns ≡ true → among n ns ≡ true → isName n ≡ true
 unfolding allNames among
 named-among n [] a e = absurd (true-false (sym e))
 named-among n (m ∷ ns) a e =
     go (sameName m n)
-    (λ q. subst (λ (x : Name). isName x ≡ true) (same-name-true m n q) (and-left (isName m) (allNames ns) a))
+    (λ q. same-is-name m n q (and-left (isName m) (allNames ns) a))
     (named-among n ns (and-right (isName m) (allNames ns) a))
     e
   where

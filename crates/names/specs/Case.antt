@@ -5,10 +5,10 @@ use Prim.Native.Nat.{ℕ, _+_}
 use lib.Dec.{leb}
 use Rattle.bits.specs.Logic.{pick}
 
-unfoldable pub small : ℕ → Bool
+abbrev pub small : ℕ → Bool
 small b = leb 0x61 b && leb b 0x7A
 
-unfoldable pub capital : ℕ → Bool
+abbrev pub capital : ℕ → Bool
 capital b = leb 0x41 b && leb b 0x5A
 
 -- a capital as its small letter; any other byte is itself

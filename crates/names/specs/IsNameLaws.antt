@@ -1,32 +1,35 @@
 -- Which texts are names: what makes one, and what a name is. Assumes nothing.
-use mathlib.Core.Path.{_≡_, refl, ap, _∙_}
-use mathlib.Core.Logic.{_⊎_, inl, inr, ⊎-elim}
-use mathlib.Core.Bool.{Bool, true, false, not, _&&_, _||_, and-false}
+use mathlib.Core.Path.{_≡_, refl, sym, ap, _∙_}
+use mathlib.Core.Logic.{_⊎_, ⊎-elim}
+use mathlib.Core.Bool.{Bool, true, false, not, _&&_, and-false}
 use mathlib.Core.List.{List, [], _∷_, _++_}
 use Prim.Native.Nat.{ℕ, _≤_, _<_}
 use native.Mathlib.Omega.{arith}
 use lib.Dec.{leb}
 use lib.ListN.{length}
-use borrow.Author.Tests.{leb-true, le-leb, lt-leb, not-true}
-use Rattle.bits.specs.LogicLaws.{and-left, and-right, and-both}
+use borrow.Author.Tests.{leb-true, le-leb, lt-leb}
+use Rattle.bits.specs.LogicLaws.{true-false, and-left, and-right, and-both, or-cases}
 use Rattle.limits.specs.Limits.{maxName}
 use Rattle.text.specs.Number.{numeral}
 use Rattle.text.specs.NumeralLaws.{numeral-low, numeral-high}
 use Rattle.text.specs.Solid.{solid}
 use Rattle.text.specs.SolidLaws.{solid-more}
-use Rattle.names.specs.Name.{Name, Operator, none-op, operator, isOperator, letter, nameByte, allNameBytes, startsWithLetter, isName}
+use Rattle.names.specs.Case.{small, capital}
+use Rattle.names.specs.Name.{Name, among, operatorWords, letter, nameByte, allNameBytes, startsWithLetter, isName}
+use Rattle.names.specs.ByteLaws.{letter-amid}
+use Rattle.names.specs.CaseLaws.{small-between, capital-between}
 
-pub is-name : (n : Name) → startsWithLetter n ≡ true → allNameBytes n ≡ true → length n ≤ maxName → operator n ≡ none-op → isName n ≡ true
+pub is-name : (n : Name) → startsWithLetter n ≡ true → allNameBytes n ≡ true → length n ≤ maxName → among n operatorWords ≡ false → isName n ≡ true
 unfolding isName
 is-name n l a h o =
-    and-both (startsWithLetter n && allNameBytes n && leb (length n) maxName) (not (isOperator (operator n)))
+    and-both (startsWithLetter n && allNameBytes n && leb (length n) maxName) (not (among n operatorWords))
     (and-both (startsWithLetter n && allNameBytes n) (leb (length n) maxName) (and-both (startsWithLetter n) (allNameBytes n) l a) (le-leb (length n) maxName h))
-    (ap (λ (p : Operator). not (isOperator p)) o)
+    (ap not o)
 
 module _ (n : Name) (e : isName n ≡ true) where
   short-and-bytes : startsWithLetter n && allNameBytes n && leb (length n) maxName ≡ true
   unfolding isName
-  short-and-bytes = and-left (startsWithLetter n && allNameBytes n && leb (length n) maxName) (not (isOperator (operator n))) e
+  short-and-bytes = and-left (startsWithLetter n && allNameBytes n && leb (length n) maxName) (not (among n operatorWords)) e
 
   letter-and-bytes : startsWithLetter n && allNameBytes n ≡ true
   letter-and-bytes = and-left (startsWithLetter n && allNameBytes n) (leb (length n) maxName) short-and-bytes
@@ -40,24 +43,18 @@ module _ (n : Name) (e : isName n ≡ true) where
   pub name-short : length n ≤ maxName
   name-short = leb-true (length n) maxName (and-right (startsWithLetter n && allNameBytes n) (leb (length n) maxName) short-and-bytes)
 
-  pub name-no-operator : isOperator (operator n) ≡ false
-  unfolding isName
-  name-no-operator =
-      not-true (isOperator (operator n)) (and-right (startsWithLetter n && allNameBytes n && leb (length n) maxName) (not (isOperator (operator n))) e)
-
 -- ---- its bytes
-either-true : (a b : Bool) → a || b ≡ true → (a ≡ true) ⊎ (b ≡ true)
-either-true true b e = inl refl
-either-true false b e = inr e
-
-letter-between : (b : ℕ) → letter b ≡ true → (0x61 ≤ b) × (b ≤ 0x7A)
+letter-between : (b : ℕ) → letter b ≡ true → (0x41 ≤ b) × (b ≤ 0x7A)
 unfolding letter
 letter-between b e =
-    (leb-true 0x61 b (and-left (leb 0x61 b) (leb b 0x7A) e), leb-true b 0x7A (and-right (leb 0x61 b) (leb b 0x7A) e))
+    ⊎-elim
+    (λ s. omega (arith, small-between b s))
+    (λ c. omega (arith, capital-between b c))
+    (or-cases (small b) (capital b) e)
 
 -- the byte 0x5F, `_`, begins no name
 pub letter-no-underscore : (b : ℕ) → letter b ≡ true → b ≡ 0x5F → ⊥
-letter-no-underscore b l e = omega (arith, letter-between b l)
+letter-no-underscore b l e = true-false (sym l ∙ letter-amid b (omega arith) (omega arith))
 
 pub name-byte-between : (b : ℕ) → nameByte b ≡ true → (0x30 ≤ b) × (b ≤ 0x7A)
 unfolding nameByte
@@ -65,7 +62,7 @@ name-byte-between b e =
     ⊎-elim
     (λ l. omega (arith, letter-between b l))
     (λ d. omega (arith, numeral-low b d, numeral-high b d))
-    (either-true (letter b) (numeral b) e)
+    (or-cases (letter b) (numeral b) e)
 
 bytes-solid : (n : List ℕ) → allNameBytes n ≡ true → solid n ≡ true
 unfolding solid
@@ -97,15 +94,15 @@ name-byte-inside s b t h = byte-inside s b t (name-bytes (s ++ (b ∷ t)) h)
 module _ (n : Name) where
   pub no-letter-no-name : startsWithLetter n ≡ false → isName n ≡ false
   unfolding isName
-  no-letter-no-name e = ap (λ (t : Bool). t && allNameBytes n && leb (length n) maxName && not (isOperator (operator n))) e
+  no-letter-no-name e = ap (λ (t : Bool). t && allNameBytes n && leb (length n) maxName && not (among n operatorWords)) e
 
   pub long-no-name : maxName < length n → isName n ≡ false
   unfolding isName
   long-no-name h =
-      ap (λ (t : Bool). startsWithLetter n && allNameBytes n && t && not (isOperator (operator n))) (lt-leb (length n) maxName h)
-      ∙ ap (λ (t : Bool). t && not (isOperator (operator n))) (and-false (startsWithLetter n && allNameBytes n))
+      ap (λ (t : Bool). startsWithLetter n && allNameBytes n && t && not (among n operatorWords)) (lt-leb (length n) maxName h)
+      ∙ ap (λ (t : Bool). t && not (among n operatorWords)) (and-false (startsWithLetter n && allNameBytes n))
 
-  pub operator-no-name : isOperator (operator n) ≡ true → isName n ≡ false
+  pub operator-no-name : among n operatorWords ≡ true → isName n ≡ false
   unfolding isName
   operator-no-name e =
       ap (λ (t : Bool). startsWithLetter n && allNameBytes n && leb (length n) maxName && not t) e

@@ -9,7 +9,11 @@ pub mod ReadLaws
 pub mod NamesLaws
 pub mod Pack
 pub mod Word
+pub mod ByteLaws
+pub mod CaseLaws
 pub mod SameLaws
+pub mod SameNamesLaws
+pub mod StandLaws
 pub mod SpelledLaws
 pub mod AllNamesLaws
 pub mod IsNameLaws

@@ -3,7 +3,7 @@
 use mathlib.Core.Path.{_≡_, refl, ap, _∙_}
 use mathlib.Core.Bool.{Bool, true, false, _||_}
 use mathlib.Core.List.{List, [], _∷_, map}
-use Prim.Native.Nat.{ℕ, zero, suc, _-_, _^_, _<_}
+use Prim.Native.Nat.{ℕ, zero, suc, _-_, _<_}
 use native.Mathlib.Omega.{arith}
 use lib.ListN.{length, getD, length-map, List·getD-map}
 use Rattle.bits.specs.Logic.{pick}
@@ -11,8 +11,6 @@ use Rattle.bits.specs.LogicLaws.{true-false}
 use Rattle.names.specs.Name.{Name, sameName, among}
 use Rattle.names.specs.Pack.{unpackWithin, nameOf}
 use Rattle.names.specs.Word.{PositionIs}
-use Rattle.names.specs.SameLaws.{same-name-true}
-use Rattle.names.specs.PackLaws.{name-of-one}
 use Rattle.names.specs.declared.Position.the-variants.{At, Nowhere}
 
 pub neither-left : (a b : Bool) → a || b ≡ false → a ≡ false
@@ -82,11 +80,6 @@ module _ (vs : List ℕ) (v : ℕ) where
   unfolding PositionIs
   nowhere-among p = p
 
-  -- the number at the place is the one looked for
   pub found-inside : (i : ℕ) → PositionIs vs v (At i) → i < length vs
   unfolding PositionIs
   found-inside i p = p .0
-
-  pub found-number : (i : ℕ) → PositionIs vs v (At i) → getD vs i 0 < 2 ^ 64 → v < 2 ^ 64 → getD vs i 0 ≡ v
-  unfolding PositionIs
-  found-number i p h g = name-of-one (getD vs i 0) v h g (same-name-true (nameOf (getD vs i 0)) (nameOf v) (p .1))

@@ -1,5 +1,5 @@
--- "A name is 1 to 8 characters, first a to z, then a to z or 0 to 9; the four operator words are no names."
--- Assumes nothing.
+-- A name is 1 to 8 characters, first a letter, then letters or digits; an operator word in any case is no name. Two names
+-- are the same where they match with case ignored. Assumes nothing.
 use mathlib.Core.Bool.{Bool, true, false, not, _&&_, _||_}
 use mathlib.Core.List.{List, [], _∷_}
 use Prim.Native.Nat.{ℕ}
@@ -9,12 +9,13 @@ use Rattle.bits.specs.Logic.{pick}
 use Rattle.text.specs.Bytes.{bytes, same, Read, found, bad}
 use Rattle.text.specs.Number.{numeral}
 use Rattle.limits.specs.Limits.{maxName}
+use Rattle.names.specs.Case.{small, capital, lowered}
 
 abbrev pub Name : Type 0
 Name = List ℕ
 
 unfoldable pub letter : ℕ → Bool
-letter b = leb 0x61 b && leb b 0x7A
+letter b = small b || capital b
 
 unfoldable pub nameByte : ℕ → Bool
 nameByte b = letter b || numeral b
@@ -32,7 +33,27 @@ afterWord (b ∷ s) =
     let rest = afterWord s in
     pick (nameByte b) rest (b ∷ s)
 
--- the operators
+-- ---- comparison
+-- whether two names are the same: the one place where names are compared
+unfoldable pub sameName : Name → Name → Bool
+sameName m n = same (lowered m) (lowered n)
+
+-- whether a name is among some
+unfoldable pub among : Name → List Name → Bool
+among n [] = false
+among n (m ∷ ms) = sameName m n || among n ms
+
+-- whether no name stands twice
+unfoldable pub distinct : List Name → Bool
+distinct [] = true
+distinct (n ∷ ns) = not (among n ns) && distinct ns
+
+-- whether every name of a list is among others
+unfoldable pub allAmong : List Name → List Name → Bool
+allAmong [] ms = true
+allAmong (n ∷ ns) ms = among n ms && allAmong ns ms
+
+-- ---- operators, in small letters
 pub data Operator : Type 0 where
   not-op and-op or-op xor-op none-op : Operator
 
@@ -51,6 +72,10 @@ isOperator or-op = true
 isOperator xor-op = true
 isOperator none-op = false
 
+abbrev pub operatorWords : List Name
+operatorWords = bytes "not" ∷ bytes "and" ∷ bytes "or" ∷ bytes "xor" ∷ []
+
+-- ---- names
 abbrev pub allNameBytes : List ℕ → Bool
 allNameBytes [] = true
 allNameBytes (b ∷ s) = nameByte b && allNameBytes s
@@ -60,27 +85,8 @@ startsWithLetter [] = false
 startsWithLetter (b ∷ s) = letter b
 
 unfoldable pub isName : List ℕ → Bool
-isName n = startsWithLetter n && allNameBytes n && leb (length n) maxName && not (isOperator (operator n))
+isName n = startsWithLetter n && allNameBytes n && leb (length n) maxName && not (among n operatorWords)
 
 -- the name at the front of a text
 unfoldable pub readName : List ℕ → Read Name
 readName s = pick (isName (word s)) (found (word s) (afterWord s)) bad
-
--- whether two names are the same: the one place where names are compared
-unfoldable pub sameName : Name → Name → Bool
-sameName m n = same m n
-
--- whether a name is among some
-unfoldable pub among : Name → List Name → Bool
-among n [] = false
-among n (m ∷ ms) = sameName m n || among n ms
-
--- whether no name stands twice
-unfoldable pub distinct : List Name → Bool
-distinct [] = true
-distinct (n ∷ ns) = not (among n ns) && distinct ns
-
--- whether every name of a list is among others
-unfoldable pub allAmong : List Name → List Name → Bool
-allAmong [] ms = true
-allAmong (n ∷ ns) ms = among n ms && allAmong ns ms

@@ -1,5 +1,5 @@
 -- Names and their numbers: every number below 2 ^ 64 is the number of the name that it holds, and every list of at most 8
--- bytes, none of them 0, is the name that its number holds. So numbers are equal where names are. Assumes nothing.
+-- bytes, none of them 0, is the name that its number holds. Assumes nothing.
 use mathlib.Core.Path.{_≡_, refl, sym, ap, ap₂, subst, _∙_}
 use mathlib.Core.Bool.{Bool, true, false}
 use mathlib.Core.List.{List, [], _∷_}
@@ -15,10 +15,9 @@ use Rattle.bits.specs.Logic.{pick}
 use Rattle.bits.specs.LogicLaws.{and-left, and-right}
 use Rattle.text.specs.Bytes.{same}
 use Rattle.text.specs.BytesLaws.{differ-same}
-use Rattle.names.specs.Name.{Name, nameByte, allNameBytes, isName, sameName}
+use Rattle.names.specs.Name.{Name, nameByte, allNameBytes, isName}
 use Rattle.names.specs.Pack.{pack, unpackWithin, nameOf}
 use Rattle.names.specs.IsNameLaws.{name-bytes, name-short, name-byte-between}
-use Rattle.names.specs.SameLaws.{same-name-equal, same-name-different}
 
 -- ---- a number, unpacked and packed
 below-step : (p v : ℕ) → v < p * 256 → v / 256 < p
@@ -88,17 +87,25 @@ name-bytes-back n e h = name-of-pack n h (name-bytes-no-zero n e)
 pub name-back : (n : Name) → isName n ≡ true → nameOf (pack n) ≡ n
 name-back n e = name-bytes-back n (name-bytes n e) (name-short n e)
 
--- ---- names are the same where their numbers are
-pub name-of-one : (a b : ℕ) → a < 2 ^ 64 → b < 2 ^ 64 → nameOf a ≡ nameOf b → a ≡ b
-name-of-one a b h g e = sym (pack-name-of a h) ∙ ap pack e ∙ pack-name-of b g
+-- ---- byte by byte
+unpack-more : (k v : ℕ) → v < 256 ^ k → unpackWithin (suc k) v ≡ unpackWithin k v
+unfolding unpackWithin
+unpack-more zero v h = let none : v ≡ 0 = omega arith in rw none refl
+unpack-more (suc k) v h =
+    let less : v / 256 < 256 ^ k = below-step (256 ^ k) v (subst (λ (m : ℕ). v < m) (pow-suc 256 k) h) in
+    ap (λ (s : List ℕ). pick (eqb v 0) [] (v % 256 ∷ s)) (unpack-more k (v / 256) less)
 
-pub same-name-numbers : (a b : ℕ) → a < 2 ^ 64 → b < 2 ^ 64 → sameName (nameOf a) (nameOf b) ≡ eqb a b
-same-name-numbers a b h g =
-    elim (ℕ-discrete a b) as (λ _. sameName (nameOf a) (nameOf b) ≡ eqb a b) [
-      | yes e ↦ same-name-equal (nameOf a) (nameOf b) (ap nameOf e) ∙ sym (eq-eqb a b e)
-      | no d ↦ same-name-different (nameOf a) (nameOf b) (λ e. d (name-of-one a b h g e)) ∙ sym (ne-eqb a b d)
-    ]
+pub name-of-none : nameOf 0 ≡ []
+unfolding nameOf
+name-of-none = unpack-none maxName
 
+pub name-of-more : (v : ℕ) → v < 2 ^ 64 → (v ≡ 0 → ⊥) → nameOf v ≡ v % 256 ∷ nameOf (v / 256)
+unfolding nameOf unpackWithin
+name-of-more v h d =
+    ap (λ (t : Bool). pick t [] (v % 256 ∷ unpackWithin 7 (v / 256))) (ne-eqb v 0 d)
+    ∙ ap (λ (s : List ℕ). v % 256 ∷ s) (sym (unpack-more 7 (v / 256) (below-step (256 ^ 7) v h)))
+
+-- ---- texts that are no names
 -- a number other than that of a text holds another text
 pub other-text : (v : ℕ) (t : List ℕ) → v < 2 ^ 64 → (v ≡ pack t → ⊥) → same (nameOf v) t ≡ false
 other-text v t h d = differ-same (nameOf v) t (λ e. d (sym (pack-name-of v h) ∙ ap pack e))

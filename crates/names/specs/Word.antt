@@ -1,10 +1,10 @@
 -- What the code that reads words and looks names up answers, by the definitions of names. Assumes nothing.
 use mathlib.Core.Path.{_≡_}
-use mathlib.Core.Bool.{Bool, true, false}
+use mathlib.Core.Bool.{true, false}
 use mathlib.Core.List.{List, map}
 use Prim.Native.Nat.{ℕ, _-_, _≤_, _<_}
 use lib.ListN.{length, getD, take, drop}
-use Rattle.names.specs.Name.{Name, word, afterWord, sameName, among}
+use Rattle.names.specs.Name.{word, afterWord, sameName, among}
 use Rattle.names.specs.Name as spec
 use Rattle.names.specs.Pack.{nameOf}
 use Rattle.names.specs.declared.Operator.{Operator}

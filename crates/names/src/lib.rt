@@ -1,10 +1,11 @@
 // Names on a slice of bytes, and names as numbers: a name has at most 8 bytes, so a u64 holds it. Names are compared in
-// `same_name` only. Rests on text.
+// `same_name` only, with case ignored. Rests on text.
 ghost use mathlib.Core.Path.{_≡_};
 ghost use Prim.Native.Nat.{ℕ, _+_, _-_, _≤_};
 ghost use lib.ListN.{length, take, drop};
 ghost use Rattle.limits.specs.Limits.{maxName};
-ghost use Rattle.names.specs.Name.{nameByte, sameName};
+ghost use Rattle.names.specs.Case as letters;
+ghost use Rattle.names.specs.Name.{nameByte, sameName, operatorWords};
 ghost use Rattle.names.specs.Name as names;
 ghost use Rattle.names.specs.Pack.{pack, nameOf};
 ghost use Rattle.names.specs.Word.{WordEnd, operatorOf, PositionIs};
@@ -12,12 +13,16 @@ ghost use Rattle.names.specs.Word.{WordEnd, operatorOf, PositionIs};
 // A name's bytes are the digits of its number to this base, the first byte lowest.
 pub const BASE: u64 = 256;
 
+// What a small letter is above its capital.
+const CASE: u8 = 32;
+
 // Whether a byte may stand in a name.
 pub fn name_byte(b: u8) -> bool
     ensures { λ r. ⌜ r ≡ nameByte b ⌝ }
 {
     match b {
         b'a'..=b'z' => true,
+        b'A'..=b'Z' => true,
         b'0'..=b'9' => true,
         _ => false,
     }
@@ -52,14 +57,36 @@ pub fn packed(s: &[u8], a: usize, e: usize) -> u64
     v
 }
 
-// Whether two names are the same.
+// A capital as its small letter; any other byte is itself.
+fn lower(b: u8) -> u8
+    ensures { λ r. ⌜ r ≡ letters.lower b ⌝ }
+{
+    match b {
+        b'A'..=b'Z' => b + CASE,
+        _ => b,
+    }
+}
+
+// Whether two names are the same: byte by byte, letters in either case.
 pub fn same_name(a: u64, b: u64) -> bool
     ensures { λ r. ⌜ r ≡ sameName (nameOf a) (nameOf b) ⌝ }
 {
-    a == b
+    let mut x = a;
+    let mut y = b;
+    while x != 0 {
+        if y == 0 {
+            return false;
+        }
+        if lower((x % BASE) as u8) != lower((y % BASE) as u8) {
+            return false;
+        }
+        x = x / BASE;
+        y = y / BASE;
+    }
+    y == 0
 }
 
-// The operator that a word is.
+// The operator that a word in small letters is.
 pub enum Operator {
     Not,
     And,
@@ -97,4 +124,16 @@ pub fn find(among: &[u64], n: u64) -> Position
         i += 1;
     }
     Position::Nowhere
+}
+
+// Whether a word is an operator word, in any case.
+pub fn is_operator_word(w: u64) -> bool
+    ensures { λ r. ⌜ r ≡ names.among (nameOf w) operatorWords ⌝ }
+{
+    let words: [u64; 4] = [0x74_6f_6e, 0x64_6e_61, 0x72_6f, 0x72_6f_78];
+    let p = find(&words, w);
+    match p {
+        Position::At(_) => true,
+        Position::Nowhere => false,
+    }
 }

@@ -14,7 +14,7 @@ use Rattle.text.specs.After.{byte-found}
 use Rattle.names.specs.Name.{Name, isName}
 use Rattle.names.specs.Names.{allNames}
 use Rattle.names.specs.Spelled.{sameNames}
-use Rattle.names.specs.SpelledLaws.{same-is-name, same-all-names}
+use Rattle.names.specs.SameNamesLaws.{same-is-name, same-all-names}
 use Rattle.sheet.specs.Lines.{closed}
 use Rattle.network.specs.Network.{Node}
 use Rattle.network.specs.Printer.{ledAll, lutName, printDigits, lutHead, printLut, nodeHead, printNode}

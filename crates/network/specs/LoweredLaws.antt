@@ -7,7 +7,7 @@ use lib.ListN.{length, length-map}
 use Rattle.bits.specs.LogicLaws.{true-false, and-left, and-right}
 use Rattle.text.specs.Bytes.{bytes, newline, closeBracket}
 use Rattle.text.specs.Line.{endedLines}
-use Rattle.names.specs.Case.{capital, lower, lowered}
+use Rattle.names.specs.Case.{lower, lowered}
 use Rattle.names.specs.Name.{Name, sameName}
 use Rattle.names.specs.SameLaws.{same-name-lowered}
 use Rattle.names.specs.Spelled.{sameNames}
@@ -30,7 +30,7 @@ parts-recased {s} {t} {u} {v} p q =
     record { same-letters = map-append lower s u ∙ ap₂ _++_ (p .same-letters) (q .same-letters) ∙ sym (map-append lower t v) }
 
 list-lowered : (first : Bool) (items : List (List ℕ)) → lowered (ledAll first items) ≡ ledAll first (map lowered items)
-unfolding ledAll lower capital
+unfolding ledAll lower
 list-lowered first [] = refl
 list-lowered true (item ∷ items) =
     map-append lower item (ledAll false items) ∙ ap (λ (t : List ℕ). lowered item ++ t) (list-lowered false items)
@@ -39,7 +39,7 @@ list-lowered false (item ∷ items) =
     (map-append lower item (ledAll false items) ∙ ap (λ (t : List ℕ). lowered item ++ t) (list-lowered false items))
 
 ended-lowered : (ls : List (List ℕ)) → lowered (endedLines ls) ≡ endedLines (map lowered ls)
-unfolding endedLines lower capital
+unfolding endedLines lower
 ended-lowered [] = refl
 ended-lowered (l ∷ ls) =
     map-append lower l (newline ∷ endedLines ls) ∙ ap (λ (t : List ℕ). lowered l ++ (newline ∷ t)) (ended-lowered ls)

@@ -9,7 +9,7 @@ use Rattle.bits.specs.LogicLaws.{and-both}
 use Rattle.names.specs.Name.{isName}
 use Rattle.names.specs.Names.{allNames}
 use Rattle.names.specs.AllNamesLaws.{all-named}
-use Rattle.names.specs.SpelledLaws.{all-stand-among}
+use Rattle.names.specs.StandLaws.{all-stand-among}
 use Rattle.sheet.specs.Lines.{Output}
 use Rattle.sheet.specs.Examine.{Design, outputNames}
 use Rattle.sheet.specs.WellFormed.{WellFormed, outputAt}

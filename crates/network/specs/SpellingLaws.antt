@@ -13,7 +13,7 @@ use Rattle.text.specs.EndedLaws.{lines-of-ended, ended-ends, ended-some}
 use Rattle.names.specs.Name.{Name, isName}
 use Rattle.names.specs.Names.{allNames}
 use Rattle.names.specs.SameLaws.{same-name-self}
-use Rattle.names.specs.SpelledLaws.{same-names-self, same-is-name, same-all-names}
+use Rattle.names.specs.SameNamesLaws.{same-names-self, same-is-name, same-all-names}
 use Rattle.sheet.specs.Examine.{Design}
 use Rattle.network.specs.Network.{Network, Node}
 use Rattle.network.specs.Printer.{networkLine, lutLines, nodeLines, networkLines, printNetwork}

@@ -4,6 +4,7 @@ use Rattle.bits.specs.Digit.{on, digit}
 use Rattle.text.specs.Bytes.{same, eat}
 use Rattle.text.specs.Line.{lines, endedLines}
 use Rattle.text.specs.Number.{numeral, numerals, afterNumerals, valueFrom, isNumberOf, readNumberOf, printNumberOf, readNumber, printNumber}
+use Rattle.names.specs.Case.{lower}
 use Rattle.names.specs.Name.{letter, nameByte, word, afterWord, operator, isName, readName, sameName, among, distinct, allAmong}
 use Rattle.names.specs.Spelled.{spelledBy}
 use Rattle.names.specs.Names.{printNames, namesWithin, readNames}
@@ -22,7 +23,7 @@ unfolding same eat lines numeral numerals afterNumerals valueFrom isNumberOf rea
 texts = tt
 
 names : Unit {0}
-unfolding letter nameByte word afterWord operator isName readName sameName among distinct allAmong spelledBy namesWithin readNames
+unfolding lower letter nameByte word afterWord operator isName readName sameName among distinct allAmong spelledBy namesWithin readNames
 names = tt
 
 formulas : Unit {0}

@@ -9,7 +9,7 @@ use lib.ListN.{length}
 use Rattle.limits.specs.Limits.{maxSheet}
 use Rattle.names.specs.Name.{Name}
 use Rattle.names.specs.Spelled.{sameNames}
-use Rattle.names.specs.SpelledLaws.{same-names-self, same-names-back, same-names-through}
+use Rattle.names.specs.SameNamesLaws.{same-names-self, same-names-back, same-names-through}
 use Rattle.sheet.specs.Examine.{Design, valid, examine}
 use Rattle.sheet.specs.WellFormed.{WellFormed}
 use Rattle.sheet.specs.Printer.{printDesign}

@@ -17,7 +17,9 @@ use Rattle.text.specs.Line.{lines}
 use Rattle.text.specs.EndedLaws.{lines-of-ended, ended-some}
 use Rattle.names.specs.Name.{Name, among, distinct, allAmong}
 use Rattle.names.specs.Spelled.{sameNames, spelledBy}
-use Rattle.names.specs.SpelledLaws.{same-names-length, same-all-names, all-stand-among, respelled-distinct, respelled-among, spelled-all-of-same}
+use Rattle.names.specs.SameNamesLaws.{same-names-length, same-all-names, respelled-distinct, respelled-among}
+use Rattle.names.specs.StandLaws.{all-stand-among}
+use Rattle.names.specs.SpelledLaws.{spelled-all-of-same}
 use Rattle.names.specs.Names.{allNames}
 use Rattle.names.specs.AllNamesLaws.{all-named}
 use Rattle.formula.specs.Tree.{constant, depth, knows}

@@ -16,7 +16,8 @@ use Rattle.text.specs.Line.{lines, endedLines}
 use Rattle.text.specs.EndedLaws.{ended-of-lines}
 use Rattle.names.specs.Name.{Name, distinct, allAmong}
 use Rattle.names.specs.Spelled.{sameNames, spelledBy}
-use Rattle.names.specs.SpelledLaws.{same-names-back, spelled-all-same}
+use Rattle.names.specs.SameNamesLaws.{same-names-back}
+use Rattle.names.specs.SpelledLaws.{spelled-all-same}
 use Rattle.formula.specs.Tree.{depth, knows}
 use Rattle.sheet.specs.Lines.{Output, designLine, endLine, printIn, printBound, printLimit, printOut, readIn, readBound, readLimit, readOut}
 use Rattle.sheet.specs.LineInverse.{in-inverse, bound-inverse, limit-inverse, out-inverse}

@@ -11,7 +11,7 @@ use Rattle.bits.specs.LogicLaws.{and-left, and-right}
 use Rattle.names.specs.Name.{Name, distinct}
 use Rattle.names.specs.Pack.{unpackWithin, nameOf}
 use Rattle.names.specs.Spelled.{standsIn, allStandIn}
-use Rattle.names.specs.SpelledLaws.{stands-among}
+use Rattle.names.specs.StandLaws.{stands-among}
 use Rattle.sheet.specs.Known.{position}
 use Rattle.classes.specs.PositionLaws.{own-position, position-lt}
 

@@ -2,7 +2,7 @@
 use mathlib.Core.Path.{sym}
 use native.Mathlib.Omega.{arith}
 use Rattle.text.specs.NumeralLaws.{numeral-between}
-use Rattle.cursor.specs.ByteLaws.{numeral-below, numeral-above}
+use Rattle.names.specs.ByteLaws.{numeral-below, numeral-above}
 use Rattle.cursor.proofs.is_numeral.Statement.{statement}
 use Rattle.cursor.proofs.is_numeral.Tie as tie
 

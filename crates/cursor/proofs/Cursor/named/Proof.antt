@@ -1,10 +1,7 @@
--- `Cursor::named`: the word is too long, an operator, or a name; a word that is no `Nothing` has another tag. Assumes nothing.
-use mathlib.Core.List.{[], _∷_}
-use mathlib.Core.Path.{refl, sym, ap, _∙_}
+-- `Cursor::named`: the word is too long, an operator word, or a name. Assumes nothing.
+use mathlib.Core.Path.{refl, sym, _∙_}
 use native.Mathlib.Omega.{arith}
 use borrow.Author.Needs.{needs}
-use types.Run.{miss}
-use Rattle.names.specs.Word.{operatorOf}
 use Rattle.cursor.specs.NamedLaws.{long-bad, named-there, operator-bad}
 use Rattle.cursor.proofs.Cursor.named.Statement.{statement}
 use Rattle.cursor.proofs.Cursor.named.Tie as tie
@@ -21,25 +18,23 @@ returns c = long-bad _ _ _ (c .before .word-end .ensures) (omega arith)
 packed-requires : tie.Need-packed-requires
 packed-requires c κs = search needs
 
-as-operator-requires : tie.Need-as-operator-requires
-as-operator-requires c κs = search needs
-
-enum-told : tie.Need-enum-told
-enum-told c = search needs
+is-operator-word-requires : tie.Need-is-operator-word-requires
+is-operator-word-requires c κs = search needs
 
 returns-2 : tie.Need-returns-2
 returns-2 c =
-    let w = c .before .before .before .before .before in
-    named-there _ _ _ (w .word-end .ensures) _ (omega arith) (c .before .before .before .packed .ensures) _ (w .before .before .pre .1)
-    (sym (ap operatorOf (c .enum-told .given .1)) ∙ c .before .before .as-operator .ensures)
-    refl
+    let word = c .before .before .before .before in
+    let asked = c .before .is-operator-word in
+    operator-bad _ _ _ (word .word-end .ensures) _ (omega arith) (c .before .before .packed .ensures)
+    (sym (asked .ensures) ∙ c .if2 .taken)
 
 returns-3 : tie.Need-returns-3
 returns-3 c =
-    let o = c .before .as-operator in
-    operator-bad _ _ _ (c .before .before .before .before .word-end .ensures) _ (omega arith)
-    (c .before .before .packed .ensures) (o .result) (o .ensures)
-    (λ q. miss (0 ∷ 1 ∷ 2 ∷ 3 ∷ []) 4 tt (rw q at (c .match .keys2)))
+    let word = c .before .before .before .before in
+    let asked = c .before .is-operator-word in
+    named-there _ _ _ (word .word-end .ensures) _ (omega arith) (c .before .before .packed .ensures) _ (word .before .before .pre .1)
+    (sym (asked .ensures) ∙ c .if2 .left)
+    refl
 
 pub named-spec : {M : Type 1} → statement M
 named-spec =
@@ -49,7 +44,6 @@ named-spec =
     sub-if1
     returns
     packed-requires
-    as-operator-requires
-    enum-told
+    is-operator-word-requires
     returns-2
     returns-3)
