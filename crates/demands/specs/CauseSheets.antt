@@ -17,6 +17,7 @@ use Rattle.demands.specs.Computing.{computing}
 use Rattle.demands.specs.Designs.{designC, designD, designG, designI, bits, node, network}
 use Rattle.demands.specs.NeededCells.{AtLeast}
 use Rattle.demands.specs.ClassCells.{classes-needed}
+use Rattle.demands.specs.ClassSheets.{tableA5, tableB5, tableC5, tableE5, i-classes}
 use Rattle.demands.specs.Worked.{sheetC, sheetD, sheetG, Refuses}
 use Rattle.demands.specs.WorkedLaws.{refuses-8}
 use Rattle.demands.specs.CountedSheets.{c-cells, d-cells, g-cells}
@@ -82,18 +83,6 @@ unfolding computing
 g-cause = all-outputs (sheetG "1") (designG 1) refl (lit≤ tt) (g-cells 1) tt
 
 -- ---- I: a, b, c and e as shared tables; f of a and e, and the exclusive or of table i and x
-abbrev tableA5 : List Bool
-tableA5 = bits "00000000000000001111111111111111"
-
-abbrev tableB5 : List Bool
-tableB5 = bits "00000000111111110000000011111111"
-
-abbrev tableC5 : List Bool
-tableC5 = bits "00001111000011110000111100001111"
-
-abbrev tableE5 : List Bool
-tableE5 = bits "01010101010101010101010101010101"
-
 abbrev ofAE : Node
 ofAE = node (0 ∷ 1 ∷ []) (bits "0000010100110111")
 
@@ -128,14 +117,10 @@ i-said : examine (sheetI "3") ≡ valid (designI 3)
 unfolding computing
 i-said = refl
 
--- three cells have only eight codes for them
-i-classes : (n : ℕ) → globalCount (designI n) (designI n .bound) ≡ 16
-unfolding computing
-i-classes n = refl
-
 i-few : globalCount (designI 3) (designI 3 .bound) ≤ maxClasses
 i-few = omega (arith, i-classes 3)
 
+-- three cells have only eight codes for sixteen classes
 i-cells : AtLeast 4 (designI 3)
 i-cells = classes-needed (designI 3) 3 (let e = i-classes 3 in omega (arith, e))
 

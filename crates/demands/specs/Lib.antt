@@ -22,9 +22,13 @@ pub mod ClassCells
 pub mod FirstTest
 pub mod FirstTestLaws
 pub mod WorkedLaws
+pub mod WrittenColumns
+pub mod ClassSheets
 pub mod CountedSheets
 pub mod ForcedSheets
 pub mod WorkedSheets
+pub mod WorkedCapitals
+pub mod CapitalSheets
 pub mod WorkedUnproduced
 pub mod UnproducedSheets
 pub mod ConstantSheets

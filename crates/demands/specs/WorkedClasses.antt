@@ -4,7 +4,6 @@ use mathlib.Core.List.{List, _++_}
 use Prim.Native.Nat.{ℕ, _<_}
 use Prim.Native.String.{String}
 use native.Mathlib.Omega.{arith}
-use lib.Dec.{lit<}
 use Rattle.limits.specs.Limits.{maxClasses}
 use Rattle.text.specs.Bytes.{bytes}
 use Rattle.sheet.specs.Examine.{Design, valid, examine}
@@ -13,6 +12,7 @@ use Rattle.demands.specs.Computing.{computing}
 use Rattle.mapper.specs.Map.{MapAnswer, refused-by, OutcomeFor, too-many-classes, no-network, buffer-short, written}
 use Rattle.demands.specs.OutcomeLaws.{outcome-for}
 use Rattle.demands.specs.Designs.{designI4}
+use Rattle.demands.specs.ClassSheets.{i4-classes}
 use Rattle.demands.specs.Worked.{Refuses}
 
 -- by its limit
@@ -46,8 +46,8 @@ pub worked-classes : WorkedClasses
 unfolding computing
 worked-classes =
     record {
-      classes-i = λ n. refl;
+      classes-i = i4-classes;
       said = refl;
-      sheet-i-4 = refuses-7 (sheetI4 "4") (designI4 4) refl (lit< tt);
-      sheet-i-0 = refuses-7 (sheetI4 "0") (designI4 0) refl (lit< tt);
+      sheet-i-4 = refuses-7 (sheetI4 "4") (designI4 4) refl (let e = i4-classes 4 in omega (arith, e));
+      sheet-i-0 = refuses-7 (sheetI4 "0") (designI4 0) refl (let e = i4-classes 0 in omega (arith, e));
     }

@@ -14,6 +14,13 @@ sheetA = bytes "(design 1)\n(in a b c d)\n(bound a b c)\n(limit 2)\n(out f (xor 
 abbrev named : String → Formula
 named n = input (bytes n)
 
+-- the formulas of f and g, by the spelling of each name
+abbrev formulaF : String → String → String → String → Formula
+formulaF a b c d = gate xor-gate (named a) (named b) (more (named c) (more (named d) none))
+
+abbrev formulaG : String → String → String → String → Formula
+formulaG a b c d = gate and-gate (gate xor-gate (named a) (named b) (more (named c) none)) (named d) none
+
 abbrev pub designA : Design
 designA =
     record {
@@ -21,11 +28,25 @@ designA =
       bound = bytes "a" ∷ bytes "b" ∷ bytes "c" ∷ [];
       limit = 2;
       outputs =
-          record { name = bytes "f"; formula = gate xor-gate (named "a") (named "b") (more (named "c") (more (named "d") none)) }
-          ∷ record {
-            name = bytes "g";
-            formula = gate and-gate (gate xor-gate (named "a") (named "b") (more (named "c") none)) (named "d") none;
-          }
+          record { name = bytes "f"; formula = formulaF "a" "b" "c" "d" }
+          ∷ record { name = bytes "g"; formula = formulaG "a" "b" "c" "d" }
+          ∷ [];
+    }
+
+-- sheet A with capitals, its bound line and its formulas in spellings of their own, and what it says: the bound names are
+-- spelled as the `in` line spells them, and each output as its own line does
+abbrev pub sheetCapitals : List ℕ
+sheetCapitals = bytes "(design 1)\n(in A B C d)\n(bound a B c)\n(limit 2)\n(out F (xor A b C D))\n(out g (and (xor a B c) d))\n(end)\n"
+
+abbrev pub designCapitals : Design
+designCapitals =
+    record {
+      inputs = bytes "A" ∷ bytes "B" ∷ bytes "C" ∷ bytes "d" ∷ [];
+      bound = bytes "A" ∷ bytes "B" ∷ bytes "C" ∷ [];
+      limit = 2;
+      outputs =
+          record { name = bytes "F"; formula = formulaF "A" "b" "C" "D" }
+          ∷ record { name = bytes "g"; formula = formulaG "a" "B" "c" "d" }
           ∷ [];
     }
 

@@ -15,7 +15,7 @@ use Rattle.sheet.specs.Lines.{readIn, readOut}
 use Rattle.sheet.specs.Examine.{refused, valid, examine}
 use Rattle.sheet.specs.Printer.{printDesign}
 use Rattle.design.specs.Tabulate.{tabulate, written, untouched}
-use Rattle.design.specs.Sheets.{sheetA, designA, withLimit, afterDesign, afterLimit, nested, negations, withFormula, designOf}
+use Rattle.design.specs.Sheets.{sheetA, designA, sheetCapitals, designCapitals, withLimit, afterDesign, afterLimit, nested, negations, withFormula, designOf}
 use Rattle.design.specs.Computing.{computing}
 
 -- ---- sheet A: what it says, that this is printed to its text, and the tables of f and g
@@ -47,6 +47,36 @@ a-table-short = refl
 a-table-no-output : (b : List ℕ) → tabulate sheetA 2 b ≡ untouched 6 0 b
 unfolding computing
 a-table-no-output b = refl
+
+-- ---- the same with capitals
+capitals-design : examine sheetCapitals ≡ valid designCapitals
+unfolding computing
+capitals-design = refl
+
+capitals-table : tabulate sheetCapitals 1 (bytes "................") ≡ record { answer = written 16; buffer = bytes "0001010001000001" }
+unfolding computing
+capitals-table = refl
+
+-- questions 4 and 5 ignore case: an input or a bound input again, an output beside an input or an output, and what is found
+capitals-asked : (examine (afterDesign "(in a A)\n") ≡ refused 4 2)
+    × (examine (afterDesign "(in a b)\n(bound A a)\n") ≡ refused 4 3)
+    × (examine (afterLimit "(out A 1)\n") ≡ refused 4 5)
+    × (examine (afterLimit "(out f a)\n(out F b)\n") ≡ refused 4 6)
+    × (examine (afterLimit "(out f C)\n") ≡ refused 5 5)
+    × (examine (afterLimit "(out f B)\n(end)\n") ≡ valid (designOf (input (bytes "B"))))
+unfolding computing
+capitals-asked = (refl, refl, refl, refl, refl, refl)
+
+-- an operator word in any case is no name, operators keep small letters, and so do the words that begin lines
+capitals-spelled : (readIn (bytes "(in Xor)") ≡ none)
+    × (readIn (bytes "(IN a)") ≡ none)
+    × (readOut (bytes "(out NOT a)") ≡ none)
+    × (readOut (bytes "(out f And)") ≡ none)
+    × (readOut (bytes "(out f (AND a b))") ≡ none)
+    × (readOut (bytes "(out f (Not a))") ≡ none)
+    × (isName (bytes "ANDy") ≡ true)
+unfolding computing
+capitals-spelled = (refl, refl, refl, refl, refl, refl, refl)
 
 -- ---- sheet K: the empty text, and `(limit 7)`
 k-empty : examine [] ≡ refused 1 0
