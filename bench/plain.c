@@ -31,13 +31,29 @@ static int take(struct reader *r, const char *word)
     return 1;
 }
 
+static char lower(char c)
+{
+    return c >= 'A' && c <= 'Z' ? (char)(c - 'A' + 'a') : c;
+}
+
+/* A name in small letters, whatever case it has. */
 static int take_name(struct reader *r, char *name)
 {
     int n = 0;
-    while (r->at < r->end && n < NAME - 1 && ((*r->at >= 'a' && *r->at <= 'z') || (n > 0 && *r->at >= '0' && *r->at <= '9')))
-        name[n++] = *r->at++;
+    for (; r->at < r->end && n < NAME - 1; r->at++) {
+        char c = lower(*r->at);
+        if ((c < 'a' || c > 'z') && (n == 0 || c < '0' || c > '9'))
+            break;
+        name[n++] = c;
+    }
     name[n] = 0;
     return n > 0;
+}
+
+static int take_same(struct reader *r, const char *name)
+{
+    char other[NAME];
+    return take_name(r, other) && strcmp(other, name) == 0;
 }
 
 static int take_number(struct reader *r)
@@ -163,7 +179,7 @@ static int take_list(struct reader *r, struct design *d, const int *input, int n
 {
     int i;
     for (i = 0; i < n; i++)
-        if (((i > 0 || some) && !take(r, " ")) || !take(r, d->name[input[i]]))
+        if (((i > 0 || some) && !take(r, " ")) || !take_same(r, d->name[input[i]]))
             return 0;
     return take(r, ") ");
 }
@@ -192,8 +208,7 @@ static int read_network(const char *text, size_t length, struct design *d, const
             return 0;
     }
     for (o = 0; o < d->outputs; o++) {
-        sprintf(word, "(node %s (", d->output[o]);
-        if (!take(&r, word))
+        if (!take(&r, "(node ") || !take_same(&r, d->output[o]) || !take(&r, " ("))
             return 0;
         for (w->reads[o] = i = 0; i < w->luts; i++) {
             sprintf(word, w->reads[o] > 0 ? " _%d" : "_%d", i);

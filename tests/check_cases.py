@@ -1,8 +1,9 @@
 #!/usr/bin/env python3
 """check_cases.py [COUNT]: Check, Export and Map on the programs target/bin/cellcheck, cellblif and cellmap. First cases by hand
-at each boundary of questions 10 and 11, with what Check must answer beside it, which the reference must answer too; then COUNT
-random sheets (300 unless given): Map must answer as the reference does, byte for byte, Check must say "same" of its network, and
-damaged networks must be answered as the reference says.
+at each boundary of questions 10 and 11, and with each letter of a network in the other case, with what Check must answer beside it,
+which the reference must answer too; then COUNT random sheets (300 unless given), half of them in any case: Map must answer as the
+reference does, byte for byte, Check must say "same" of its network and of the same network with its names in any case, and damaged
+networks must be answered as the reference says.
 Of every case Export must print the reference's text, or the refusal that Check prints. Shows progress; the last line counts."""
 import pathlib
 import random
@@ -21,6 +22,7 @@ WIDE = A.replace(b"(limit 2)", b"(limit 6)")
 OPEN = b"(design 1)\n(in c d)\n(bound c)\n(limit 1)\n(out f d)\n(end)\n"  # width 0, a free input
 SHUT = b"(design 1)\n(in a b)\n(bound a b)\n(limit 1)\n(out f (and a b))\n(end)\n"  # no free inputs
 FLAT = b"(design 1)\n(in a)\n(bound a)\n(limit 0)\n(out f 1)\n(end)\n"  # width 0, no free inputs
+MIXED = b"(design 1)\n(in A B C d)\n(bound a B c)\n(limit 2)\n(out f (xor a b C D))\n(out G (and (xor A b c) d))\n(end)\n"
 
 
 def luts(count, tail):
@@ -76,9 +78,26 @@ CASES = [
     ("a surplus empty line", A, NET + b"\n", "refused 10 line 7"),
     ("byte 0x80", A, NET.replace(b"(end)", b"(end\x80"), "refused 10 line 6"),
     ("a bad design sheet", A.replace(b"(limit 2)", b"(limit 7)"), NET, "refused 3 line 4"),
+    ("names as the sheet gives them first", MIXED, NET.replace(b"a b c", b"A B C").replace(b"node g", b"node G"), "same"),
+    ("names as the sheet gives them elsewhere", MIXED, NET.replace(b"a b c", b"a B c").replace(b"d) 0110", b"D) 0110"), "same"),
+    ("names in small letters", MIXED, NET, "same"),
+    ("names in small letters, g's digits", MIXED, NET.replace(b"0001", b"0011"), "differs output 1 row 2"),
+    ("capitals, another order", A, NET.replace(b"(a b c)", b"(A C B)"), "refused 10 line 2"),
+    ("capitals, another output", A, NET.replace(b"node f", b"node G"), "refused 10 line 3"),
+    ("an input in two cases", A.replace(b"(in a b c d)", b"(in a b c d A)"), NET, "refused 4 line 2"),
+    ("an operator word in another case as an input", A.replace(b"(in a b c d)", b"(in a b c d Xor)"), NET, "refused 2 line 2"),
+    ("an operator in another case", A.replace(b"(out f (xor", b"(out f (Xor"), NET, "refused 2 line 5"),
+    ("an output that is an input in another case", A.replace(b"(out g", b"(out D"), NET, "refused 4 line 6"),
+    ("a bound input that is no input in any case", A.replace(b"(bound a b c)", b"(bound a b E)"), NET, "refused 5 line 3"),
 ]
 for number in range(len(LINES)):
     CASES.append((f"line {number + 1} missing", A, b"".join(LINES[:number] + LINES[number + 1 :]), f"refused 10 line {number + 1}"))
+for place, byte in enumerate(NET):
+    if chr(byte).isalpha():
+        # the first word of a line has small letters
+        *before, line = NET[:place].split(b"\n")
+        wanted = "same" if b" " in line else f"refused 10 line {len(before) + 1}"
+        CASES.append((f"byte {place} in the other case", A, NET[:place] + bytes([byte ^ 0x20]) + NET[place + 1 :], wanted))
 
 
 def program(name, text):
@@ -106,11 +125,11 @@ def damage(dice, network):
         place = dice.randrange(len(body))
         kind = dice.randrange(4)
         if kind == 0:
-            body[place] = dice.choice(b"01()_ \nab")
+            body[place] = dice.choice(b"01()_ \nabAB")
         elif kind == 1:
             del body[place]
         elif kind == 2:
-            body.insert(place, dice.choice(b"01()_ \nab"))
+            body.insert(place, dice.choice(b"01()_ \nabAB"))
         else:
             digits = [i for i, b in enumerate(body) if b in b"01"]
             body[dice.choice(digits)] ^= 1
@@ -144,14 +163,16 @@ dice = random.Random(20261115)
 count = int(sys.argv[1]) if len(sys.argv) > 1 else 300
 mapped = 0
 for turn in range(count):
-    design = random_sheets.text_of(random_sheets.valid(dice))
+    design = random_sheets.mixed(dice) if turn % 2 else random_sheets.text_of(random_sheets.valid(dice))
     network = program("cellmap", design)
     expect("Map's answer", network.decode(), reference_map(design))
     if network.startswith(b"refused"):
         continue
     mapped += 1
     compare("Map's own network", design, network, "same")
-    for _ in range(5):
+    network = random_sheets.in_any_case(dice, network, random_sheets.NETWORK_NAMES)
+    compare("Map's own network in any case", design, network, "same")
+    for _ in range(4):
         other = damage(dice, network)
         if b"\0" not in other:
             compare("damaged", design, other, reference(design, other))

@@ -2,9 +2,10 @@
 """first.py [--program PROGRAM] [COUNT [SEED]]: Map's network against the first of all permitted networks in byte order.
 
 COUNT designs (2,000) of 2 or 3 bound inputs, 0 to 2 free inputs and 1 to 3 outputs are drawn from SEED (1). PROGRAM (by default
-target/bin/cellmap) maps each as a sheet, and first.cpp (needs g++) prints every network that the section on cells permits with
-the fewest tables and takes the least text; the two must be equal byte for byte, or both refuse by 8. It tries up to 3 tables over 3
-bound inputs and 6 over 2; a design of a higher limit that needs more is left out. Takes about 0.1 seconds a design. The last
+target/bin/cellmap) maps each as a sheet, with names in any case wherever they stand, and first.cpp (needs g++) prints every network
+that the section on cells permits with the fewest tables, names as the sheet gives them first, and takes the least text; the two must
+be equal byte for byte, or both refuse by 8. It tries up to 3 tables over 3 bound inputs and 6 over 2; a design of a higher limit that
+needs more is left out. Takes about 0.1 seconds a design. The last
 lines count what came. No first network has a table that varies inside a global class: all vertices of the class could take the
 least of their codes, and the text would come before it. Many designs have other permitted networks that do."""
 import argparse
@@ -20,6 +21,11 @@ OUT = ROOT / "target" / "first"
 MOST = {2: 6, 3: 3}
 BATCH = 100
 NAMES = [letter + digit for letter in "abcxyz" for digit in ("", "0", "7")]
+OUTPUTS = "fGh"
+
+
+def any_case(draw, name):
+    return draw.choice((name.lower(), name.upper()))
 
 
 class Design:
@@ -28,13 +34,14 @@ class Design:
     def __init__(self, draw):
         self.bound_count = draw.choice([2, 3, 3])
         self.free_count = draw.choice([0, 1, 1, 2, 2])
-        names = draw.sample(NAMES, self.bound_count + self.free_count)
+        names = [any_case(draw, name) for name in draw.sample(NAMES, self.bound_count + self.free_count)]
         self.inputs = draw.sample(names, len(names))
         self.bound = names[: self.bound_count]
         self.free = [name for name in self.inputs if name not in self.bound]
         self.limit = draw.choice([0, 1, 2, 3, 3, 3, 3, 4, 5, 6])
         planted = [[draw.randrange(2) for _ in range(2**self.bound_count)] for _ in range(3)]
         self.columns = [self.drawn_columns(draw, planted) for _ in range(draw.choice([1, 2, 2, 3, 3]))]
+        self.sheet = self.drawn_sheet(draw)
 
     def drawn_columns(self, draw, planted):
         """at random, or such that some of the planted tables tell different ones apart"""
@@ -53,21 +60,23 @@ class Design:
         vertex = int("".join(values[name] for name in self.bound), 2)
         return columns[vertex][int("0" + "".join(values[name] for name in self.free), 2)]
 
-    def formula(self, columns):
+    def formula(self, draw, columns):
         """the rows of value 1, or the rows of value 0 complemented where they are fewer"""
         terms = {"0": [], "1": []}
         for number in range(2 ** len(self.inputs)):
             row = f"{number:0{len(self.inputs)}b}"
-            literals = [name if digit == "1" else f"(not {name})" for name, digit in zip(self.inputs, row)]
+            names = [any_case(draw, name) for name in self.inputs]
+            literals = [name if digit == "1" else f"(not {name})" for name, digit in zip(names, row)]
             terms[self.value(columns, row)].append(f"(and {' '.join(literals)})")
         digit = "1" if len(terms["1"]) <= len(terms["0"]) else "0"
         some = terms[digit]
         text = "0" if not some else some[0] if len(some) == 1 else f"(or {' '.join(some)})"
         return text if digit == "1" else f"(not {text})"
 
-    def sheet(self):
-        lines = ["(design 1)", f"(in {' '.join(self.inputs)})", f"(bound {' '.join(self.bound)})", f"(limit {self.limit})"]
-        lines += [f"(out {name} {self.formula(columns)})" for name, columns in zip("fgh", self.columns)]
+    def drawn_sheet(self, draw):
+        bound = [any_case(draw, name) for name in self.bound]
+        lines = ["(design 1)", f"(in {' '.join(self.inputs)})", f"(bound {' '.join(bound)})", f"(limit {self.limit})"]
+        lines += [f"(out {name} {self.formula(draw, columns)})" for name, columns in zip(OUTPUTS, self.columns)]
         return "".join(line + "\n" for line in [*lines, "(end)"])
 
     def most(self):
@@ -76,7 +85,7 @@ class Design:
     def words(self):
         """as first.cpp reads it"""
         words = [self.bound_count, self.free_count, len(self.columns), self.most(), *self.bound, *self.free]
-        for name, columns in zip("fgh", self.columns):
+        for name, columns in zip(OUTPUTS, self.columns):
             words += [name, *columns]
         return " ".join(map(str, words)) + "\n"
 
@@ -124,10 +133,10 @@ def main():
             if answer[0] == "none" and design.most() < design.limit:
                 left += 1
                 continue
-            done = subprocess.run([args.program], input=design.sheet(), capture_output=True, text=True, check=False)
+            done = subprocess.run([args.program], input=design.sheet, capture_output=True, text=True, check=False)
             wanted = "refused 8 line 0\n" if answer[0] == "none" else answer[-1]
             if done.stdout != wanted:
-                sys.exit(f"Map says\n{done.stdout}and the first of {answer[1]} networks is\n{wanted}of the sheet\n{design.sheet()}")
+                sys.exit(f"Map says\n{done.stdout}and the first of {answer[1]} networks is\n{wanted}of the sheet\n{design.sheet}")
             count_kinds(design, answer, kinds)
         print(f"{start + len(designs)} of {args.count}", file=sys.stderr, flush=True)
     for kind, count in sorted(kinds.items()):

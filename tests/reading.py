@@ -43,6 +43,8 @@ THEOREMS = [
     ("reports", "StoppedLaws", "map-stopped"),
     ("reports", "StoppedLaws", "check-stopped"),
     ("reports", "StoppedLaws", "export-stopped"),
+    ("sheet", "DesignLaws", "design-spelled"),
+    ("network", "SheetLaws", "network-spelled"),
     ("blif", "SimulatedLaws", "simulated"),
     ("blif", "SimulatedLaws", "sheet-export-demand"),
     ("blif", "SimulatedLaws", "export-demand"),
@@ -52,6 +54,7 @@ THEOREMS = [
     ("pla", "DemandLaws", "panel-demand-2"),
     ("pla", "DemandLaws", "panel-demand-3"),
     ("blif", "CellNameLaws", "cells-apart"),
+    ("blif", "CellNameLaws", "name-no-cell"),
     ("blif", "CellNameLaws", "cell-new"),
     ("blif", "LengthLaws", "text-fits"),
 ]

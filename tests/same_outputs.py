@@ -1,18 +1,25 @@
 #!/usr/bin/env python3
-"""same_outputs.py OTHER [COUNT [SEED]]: whether cellmap, cellcheck and cellblif answer byte for byte as those of another checkout
-do, whose target/bin/ has them built (cellblif is left out where it has none). The sheets are those of bench/ and examples/, COUNT
-random valid ones, as many of many free inputs, and as many damaged (3,000 unless given); beside each sheet that maps Check and
-Export are asked of the network, of it with a table's digit turned, with any one byte changed, with a line lost, and cut off. The
-last line counts the answers by kind, and those that differ."""
+"""same_outputs.py [--small] OTHER [COUNT [SEED]]: whether cellmap, cellcheck and cellblif answer byte for byte as those of another
+checkout do, whose target/bin/ has them built (cellblif is left out where it has none). The sheets are those of bench/ and examples/,
+COUNT random valid ones, as many of many free inputs, as many damaged, and as many of the first and the last kind in any case (3,000
+unless given); beside each sheet that maps Check and Export are asked of the network, of it with its names in any case, with a table's
+digit turned, with any one byte changed, with a line lost, and cut off. With --small only texts without capitals are asked, and the
+cells in OTHER's BLIF may be C0, C1 and so on, as before request 2026-06. The last line counts the answers by kind, and those that
+differ."""
+import argparse
 import collections
 import pathlib
 import random
+import re
 import subprocess
 import sys
 
 ROOT = pathlib.Path(__file__).resolve().parent.parent
 sys.path.insert(0, str(ROOT / "tests/reference"))
 import random_sheets  # noqa: E402
+
+
+CELL = re.compile(rb"(?<= )C(?=[0-9])")
 
 
 def run(checkout, program, text):
@@ -48,23 +55,32 @@ def kind(answer):
 
 
 def main():
-    other = pathlib.Path(sys.argv[1]).resolve()
-    count = int(sys.argv[2]) if len(sys.argv) > 2 else 3000
-    dice = random.Random(int(sys.argv[3]) if len(sys.argv) > 3 else 1)
+    parser = argparse.ArgumentParser(description=__doc__, formatter_class=argparse.RawDescriptionHelpFormatter)
+    parser.add_argument("--small", action="store_true")
+    parser.add_argument("other", type=pathlib.Path)
+    parser.add_argument("count", nargs="?", type=int, default=3000)
+    parser.add_argument("seed", nargs="?", type=int, default=1)
+    args = parser.parse_args()
+    other, dice = args.other.resolve(), random.Random(args.seed)
     sheets = [p.read_bytes() for d in ("bench/border", "bench/large", "bench/wide", "examples") for p in sorted((ROOT / d).glob("*.sheet"))]
-    for _ in range(count):
+    for _ in range(args.count):
         drawn = [random_sheets.valid(dice), random_sheets.wide(dice)]
-        sheets += [*map(random_sheets.text_of, drawn), random_sheets.damaged(dice)]
+        sheets += [*map(random_sheets.text_of, drawn), random_sheets.damaged(dice), random_sheets.mixed(dice), random_sheets.mixed_damaged(dice)]
     of_pairs = [name for name in ("cellcheck", "cellblif") if (other / "target/bin" / name).exists()]
     kinds, differ = collections.Counter(), 0
     for sheet in sheets:
         asked = [("cellmap", sheet)]
         network = run(ROOT, "cellmap", sheet)
         if network.startswith(b"(network"):
-            cases = [network, turned(dice, network), changed(dice, network), shortened(dice, network), network[:-3]]
+            cases = [network, random_sheets.in_any_case(dice, network, random_sheets.NETWORK_NAMES), turned(dice, network)]
+            cases += [changed(dice, network), shortened(dice, network), network[:-3]]
             asked += [(name, sheet + b"\0" + case) for name in of_pairs for case in cases]
         for program, text in asked:
+            if args.small and text != text.lower():
+                continue
             mine, others = run(ROOT, program, text), run(other, program, text)
+            if args.small and program == "cellblif":
+                others = CELL.sub(b"CC_", others)
             kinds[f"{program} {kind(mine)}"] += 1
             if mine != others:
                 differ += 1

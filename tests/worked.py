@@ -1,6 +1,6 @@
 #!/usr/bin/env python3
-"""Runs Map's program on the sheets to try of document 01, A, C to I and K, and compares what it prints byte for byte. Sheet B, with
-buffers of its own, is executed by the program `worked`."""
+"""Runs Map's program on the sheets to try of document 01, A, C to I and K, and on A with capitals, and compares what it prints byte
+for byte. Sheet B, with buffers of its own, is executed by the program `worked`."""
 import pathlib
 import subprocess
 import sys
@@ -32,6 +32,10 @@ I_TABLES = ["0" * 16 + "1" * 16, ("0" * 8 + "1" * 8) * 2, ("0" * 4 + "1" * 4) * 
 CASES = [
     ("A", sheet("a b c d", "a b c", 2, "(xor a b c d)", "(and (xor a b c) d)"),
      network("a b c", ["01101001"], "(_0 d) 0110", "(_0 d) 0001")),
+    ("A, capitals", sheet("A B C d", "a B c", 2, "(xor a b C D)", "(and (xor A b c) d)"),
+     network("A B C", ["01101001"], "(_0 d) 0110", "(_0 d) 0001")),
+    ("A, an input in two cases", sheet("a b c A", "a b c", 2, "(xor a b c)"), "refused 4 line 2\n"),
+    ("A, an operator word in another case", sheet("a b c Xor", "a b c", 2, "(xor a b c)"), "refused 2 line 2\n"),
     ("C, limit 1", sheet("a b c", "a b", 1, *C), "refused 8 line 0\n"),
     ("C, limit 2", sheet("a b c", "a b", 2, *C), network("a b", ["0011", "0101"], "(_0 c) 0110", "(_1 c) 0110")),
     ("D, limit 2", sheet("a b c", "a b", 2, *D), "refused 8 line 0\n"),

@@ -2,10 +2,12 @@
 // 0x00 and a network sheet; or, where it begins with a dot, which no sheet that is spelled right does, a PLA text, a byte 0x00, a
 // second text, a byte 0x00 and a network sheet. The last two 0x00 part these three, since a PLA text may hold one itself. The
 // archive has no coverage counters, so it is the oracle's branches, one for each rule of the specification, that lead the search. The
-// last bytes of an input are also numbers and lines of refusals, whose lines are asked for.
+// last bytes of an input are also numbers and lines of refusals, whose lines are asked for. With the names of a text in the other case
+// the answers must be the same, by the archive alone.
 #include "../library/cause.h"
 #include "../library/compare.h"
 #include "../library/lines.h"
+#include "../library/spelling.h"
 
 #include <algorithm>
 #include <cstdint>
@@ -44,6 +46,33 @@ static void compare_network(const Panel &panel, const std::string &network, cons
         compare_export(beside, more);
 }
 
+static const size_t AMPLE = 8192;
+
+static Source in_the_other_case(const Source &source)
+{
+    std::string text = turned(source.text, names_of_sheet(source.text));
+    return source.pla ? Source(text, turned(source.board, names_of_sheet(source.board))) : Source(text);
+}
+
+// Map spells each name as the panel gives it first, so its network has the other case in all of them.
+static void map_in_the_other_case(const Source &source)
+{
+    Mapped m = call_map(source, AMPLE), other = call_map(in_the_other_case(source), AMPLE);
+    bool same = other.number == m.number && other.line == m.line && other.cells == m.cells;
+    same = same && other.network == turned(m.network, names_of_network(m.network));
+    expect(same, "Map with names in the other case\n" + other.network, source, m.network);
+}
+
+static void check_in_the_other_case(const Source &source, const std::string &network)
+{
+    Checked c = call_check(source, network);
+    std::string turned_network = turned(network, names_of_network(network));
+    for (const Checked &other : {call_check(source, turned_network), call_check(in_the_other_case(source), network)}) {
+        bool same = other.number == c.number && other.line == c.line && other.differs == c.differs;
+        expect(same && other.output == c.output && other.row == c.row, "Check with names in the other case", source, network);
+    }
+}
+
 static void compare_panel(const Panel &panel, const std::string &network, const std::vector<Named> &named, size_t more)
 {
     for (size_t output = 0; output < 5; output++)
@@ -53,6 +82,8 @@ static void compare_panel(const Panel &panel, const std::string &network, const 
     if (!mapped.empty())
         compare_network(panel, mapped, named, more);
     compare_network(panel, network, named, more);
+    map_in_the_other_case(panel.source);
+    check_in_the_other_case(panel.source, network);
 }
 
 // Texts somewhat longer than the longest that pass the question on their size are tried, and none that is longer than that.

@@ -3,6 +3,7 @@
 #include "cellmapper.h"
 #include "fewest.h"
 #include "first.h"
+#include "generate.h"
 
 #include <algorithm>
 #include <set>
@@ -16,14 +17,14 @@ const size_t AMPLE = 8192;
 const unsigned long NODES = 5000;
 
 const std::string CONSTANT = "constant ", NODE_OF = "a node of digits ";
-const std::string CELL_OF_ZEROS = "a cell of digits 0", CELL_UNREAD = "a cell unread", NO_CELLS = "no cells";
+const std::string CELL_OF_ZEROS = "a cell of digits 0", CELL_UNREAD = "a cell unread", NO_CELLS = "no cells", OTHER_CASE = "a name in another case";
 
 }
 
 Tallies of_sheets, of_plas;
 unsigned long firsts, not_settled;
 std::map<std::string, unsigned long> shapes = {
-    {NO_CELLS, 0}, {CELL_UNREAD, 0}, {CELL_OF_ZEROS, 0}, {NODE_OF + '0', 0}, {NODE_OF + '1', 0}, {CONSTANT + '0', 0}, {CONSTANT + '1', 0},
+    {NO_CELLS, 0}, {CELL_UNREAD, 0}, {CELL_OF_ZEROS, 0}, {NODE_OF + '0', 0}, {NODE_OF + '1', 0}, {CONSTANT + '0', 0}, {CONSTANT + '1', 0}, {OTHER_CASE, 0},
 };
 
 namespace {
@@ -93,8 +94,10 @@ bool all(char digit, const std::string &digits)
     return digits.find_first_not_of(digit) == std::string::npos;
 }
 
-void count_shapes(const oracle::Network &network)
+// A network that was read is the print of itself, but for the case of its names.
+void count_shapes(const Beside &beside)
 {
+    const oracle::Network &network = beside.network;
     std::vector<bool> read(network.luts.size());
     std::set<std::string> found;
     for (const oracle::Node &node : network.nodes) {
@@ -111,6 +114,8 @@ void count_shapes(const oracle::Network &network)
         found.insert(NO_CELLS);
     if (std::find(read.begin(), read.end(), false) != read.end())
         found.insert(CELL_UNREAD);
+    if (print_network(beside.panel.design, network, network.luts.size()) != beside.text)
+        found.insert(OTHER_CASE);
     for (const std::string &shape : found)
         shapes[shape]++;
 }
@@ -196,7 +201,7 @@ void compare_export(const Beside &beside, size_t more)
         return;
     }
     expect(none.number == 9 && none.line == 0, "Export in an empty buffer", sheet, beside.text);
-    count_shapes(beside.network);
+    count_shapes(beside);
     std::string text = oracle::blif(beside.panel.design, beside.network);
     expect(e.text == text, "Export's text:\n" + e.text + "---- by the oracle\n" + text, sheet, beside.text);
     expect(call_export(sheet, beside.text, text.size()).text == text, "Export in a buffer just long enough", sheet, beside.text);

@@ -1,13 +1,16 @@
 // Map and Export on the repository's own sheets, from the folder that the repository is in, and the cause where Map refuses, which
 // must be the first set of outputs that Map refuses alone. The sheets of bench/border/ are hard ones; the fewest cells of each, or
 // `inf` where none serve, stand in its file ANSWERS, which two other searches gave.
-// Beside the sheets of bench/first/ and examples/ stand their first networks, and beside a sheet the same panel as PLA, if any.
+// Beside the sheets of bench/first/ and examples/ stand their first networks, and beside a sheet the same panel as PLA, if any. Each
+// letter of such a network is tried in the other case.
 #include "files.h"
 
 #include "calls.h"
 #include "cause.h"
 #include "compare.h"
+#include "spelling.h"
 
+#include <cctype>
 #include <filesystem>
 #include <fstream>
 #include <sstream>
@@ -41,6 +44,23 @@ Mapped mapped(const std::string &sheet)
     return m;
 }
 
+// A name may have either case, each letter for itself; the first word of a line, up to its first space, has small letters.
+void letters_in_the_other_case(const std::string &sheet, const std::string &network)
+{
+    size_t line = 1;
+    bool first = true;
+    for (size_t at = 0; at < network.size(); at++) {
+        first = network[at] == '\n' || (first && network[at] != ' ');
+        line += network[at] == '\n';
+        if (!isalpha(static_cast<unsigned char>(network[at])))
+            continue;
+        std::string other = turned(network, {Word{at, at + 1}});
+        Checked c = call_check(sheet, other);
+        bool good = first ? c.number == 10 && c.line == line : c.number == 0 && c.differs == 0;
+        expect(good, "Check of a network with byte " + std::to_string(at) + " in the other case", sheet, other);
+    }
+}
+
 // Map's network is the one beside the sheet, byte for byte; a sheet without a network beside it is refused by 8.
 size_t networks(const char *folder)
 {
@@ -52,10 +72,12 @@ size_t networks(const char *folder)
         sheets++;
         std::string sheet = contents(path);
         Mapped m = mapped(sheet);
-        if (std::filesystem::exists(path.replace_extension(".network")))
+        if (std::filesystem::exists(path.replace_extension(".network"))) {
             expect(m.number == 0 && m.network == contents(path), "Map's network is that of " + path.string(), sheet, m.network);
-        else
+            letters_in_the_other_case(sheet, m.network);
+        } else {
             expect(m.number == 8, "a sheet without a network is refused by 8", sheet, m.network);
+        }
     }
     return sheets;
 }
@@ -97,7 +119,7 @@ void border()
 
 void sheets_of_the_repository()
 {
-    expect(networks("examples") >= 5, "there are five example sheets", "");
+    expect(networks("examples") >= 6, "there are six example sheets", "");
     expect(plas("examples") >= 1, "there is an example as PLA", "");
     expect(networks("bench/first") >= 40, "there are 40 sheets in bench/first", "");
     border();

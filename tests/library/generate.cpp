@@ -1,13 +1,15 @@
 #include "generate.h"
 
 #include <algorithm>
+#include <cctype>
 
 using std::string;
 typedef std::vector<string> Names;
 
 namespace {
 
-const string SHEET_BYTES = "() \n01_abz", PLA_BYTES(" .01-2~ioplbe\nabz\0\xFF", 19);
+const string SHEET_BYTES = "() \n01_abzAZ", PLA_BYTES(" .01-2~ioplbe\nabzAZ\0\xFF", 21);
+const string LETTERS = "abcdefghijklmnopqrstuvwxyzABCDEFGHIJKLMNOPQRSTUVWXYZ";
 
 string listed(const string &word, const Names &names)
 {
@@ -159,7 +161,7 @@ Generator::Draft Generator::border_draft()
 void Generator::break_a_rule(Draft &d)
 {
     static const char *const LIMITS[] = {"7", "10", "999", "00", "01", "1000", "", "x", "-1"};
-    static const char *const WORDS[] = {"and", "not", "0", "1a", "A", "abcdefghi", "", "()", "(not a)"};
+    static const char *const WORDS[] = {"and", "not", "0", "1a", "a_", "abcdefghi", "", "()", "(not a)"};
     string &some = d.inputs[below(d.inputs.size())];
     switch (below(12)) {
     case 0: d.inputs.push_back(some); break;
@@ -168,7 +170,7 @@ void Generator::break_a_rule(Draft &d)
     case 3: d.limit = LIMITS[below(9)]; break;
     case 4: some = WORDS[below(9)]; break;
     case 5: d.bound[below(d.bound.size())] = WORDS[below(9)]; break;
-    case 6: d.outputs[below(d.outputs.size())].second = formula({"a", "b", "unknown"}, 9); break;
+    case 6: d.outputs[below(d.outputs.size())].second = formula({"a", "b", once_in(3) ? "xor" : "unknown"}, 9); break;
     case 7: d.outputs[below(d.outputs.size())].first = once_in(2) ? some : WORDS[below(9)]; break;
     case 8: d.outputs.push_back(d.outputs[0]); break;
     case 9: d.outputs.clear(); break;
@@ -196,7 +198,7 @@ string Generator::design_sheet()
     size_t kind = below(10);
     if (kind == 0 || kind == 1)
         break_a_rule(d);
-    string text = d.text();
+    string text = sheet_in_any_case(d.text());
     if (once_in(500))
         text += string(4096, '\n');
     return kind == 2 || kind == 3 ? damaged(text, SHEET_BYTES) : text;
@@ -229,7 +231,7 @@ void Generator::break_a_rule(PlaDraft &p)
 {
     static const char *const COUNTS[] = {"0", "00", "01", "1", "2", "10", "11", "99999", "100000", "", " 1", "1 ", "x", "-1"};
     static const char *const LIMITS[] = {"7", "999", "1000", "07", "", "x", "6)\n(limit 6", "6)\n"};
-    static const char *const WORDS[] = {"and", "xor", "0", "1a", "A", "abcdefghi", "", "a b", "()"};
+    static const char *const WORDS[] = {"and", "xor", "0", "1a", "a_", "abcdefghi", "", "a b", "()"};
     static const char MARKS[] = {'~', '2', '-', '/', ' ', '\r', '\t', '\0', '\x7F', '\x80', '\xFF', '4'};
     string &some = p.inputs[below(p.inputs.size())], &other = p.outputs[below(p.outputs.size())];
     switch (below(16)) {
@@ -281,6 +283,7 @@ Source Generator::pla()
         p.cubes.resize(p.cubes.size() + more, {idle, none});
     }
     Source source = p.source();
+    source = Source(sheet_in_any_case(source.text), sheet_in_any_case(source.board));
     if (kind == 4 || kind == 5)
         source.text = damaged(source.text, PLA_BYTES);
     if (kind == 6)
@@ -389,15 +392,16 @@ void Generator::panel(string &sheet, Source &pla)
 {
     oracle::Design design;
     do
-        sheet = once_in(2) ? draft().text() : sheet_of_products(pla_draft());
+        sheet = sheet_in_any_case(once_in(2) ? draft().text() : sheet_of_products(pla_draft()));
     while (oracle::examine(sheet, design).number != 0);
     pla = pla_of(design).source();
+    pla.board = sheet_in_any_case(pla.board);
 }
 
 void Generator::border_panel(string &sheet, Source &pla)
 {
     oracle::Design design;
-    sheet = border_draft().text();
+    sheet = sheet_in_any_case(border_draft().text());
     oracle::examine(sheet, design);
     pla = pla_of(design).source();
 }
@@ -411,6 +415,20 @@ string Generator::bytes()
     return all;
 }
 
+// ---- capitals
+
+// A name is in capitals, has a capital first, has them as they come, or stays as it is; and half of the texts stay as they are.
+string Generator::in_any_case(string text, const std::vector<Word> &names)
+{
+    if (once_in(2))
+        return text;
+    for (const Word &name : names)
+        for (size_t way = below(4), at = name.start; at < name.end; at++)
+            if (way == 0 || (way == 1 && at == name.start) || (way == 2 && once_in(2)))
+                text[at] = char(toupper(static_cast<unsigned char>(text[at])));
+    return text;
+}
+
 // ---- damage
 
 string Generator::damaged(string text, const string &bytes)
@@ -420,7 +438,7 @@ string Generator::damaged(string text, const string &bytes)
         line = line == string::npos ? 0 : line + 1;
         next = next == string::npos ? text.size() : next + 1;
         string whole = next > line ? text.substr(line, next - line) : "";
-        switch (below(9)) {
+        switch (below(10)) {
         case 0: text[at] = bytes[below(bytes.size())]; break;
         case 1: text[at] = char(text[at] ^ 1 << below(8)); break;
         case 2: text.erase(at, 1); break;
@@ -429,6 +447,11 @@ string Generator::damaged(string text, const string &bytes)
         case 5: text.erase(line, whole.size()); break;
         case 6: text.resize(at); break;
         case 7: text += whole; break;
+        case 8:
+            // a letter in the other case
+            at = text.find_first_of(LETTERS, at);
+            text = at == string::npos ? text : turned(text, {Word{at, at + 1}});
+            break;
         default: std::swap(text[at], text[below(text.size())]); break;
         }
     }
@@ -539,5 +562,6 @@ string Generator::network_sheet(const oracle::Design &design, const string &mapp
         c = c == '0' ? '1' : '0';
     }
     string text = print_network(design, network, network.luts.size() + (once_in(30) ? 1 : 0));
+    text = in_any_case(text, names_of_network(text));
     return once_in(4) ? damaged(text, SHEET_BYTES) : text;
 }

@@ -1,9 +1,11 @@
-// Random sheets, PLA texts and networks, valid, nearly valid and damaged, the same for the same seed on every machine.
+// Random sheets, PLA texts and networks, valid, nearly valid and damaged, half of them with names in any case at each place, the same
+// for the same seed on every machine.
 #ifndef GENERATE_H
 #define GENERATE_H
 
 #include "calls.h"
 #include "oracle.h"
+#include "spelling.h"
 
 #include <random>
 #include <string>
@@ -52,6 +54,8 @@ private:
     std::string cube_around(size_t row, size_t inputs, const std::string &table);
     PlaDraft pla_of(const oracle::Design &design);
     std::string sheet_of_products(const PlaDraft &draft);
+    std::string in_any_case(std::string text, const std::vector<Word> &names);
+    std::string sheet_in_any_case(const std::string &text) { return in_any_case(text, names_of_sheet(text)); }
     std::string damaged(std::string text, const std::string &bytes);
     std::string random_digits(size_t n);
     oracle::Network random_network(const oracle::Design &design);

@@ -11,7 +11,43 @@ namespace {
 
 typedef std::vector<std::string> Names;
 
-const char *const OPERATORS[] = {"not", "and", "or", "xor"};
+const Names OPERATORS = {"not", "and", "or", "xor"};
+
+// ---- names
+
+char lower(char c)
+{
+    return c >= 'A' && c <= 'Z' ? char(c - 'A' + 'a') : c;
+}
+
+bool same_name(const std::string &a, const std::string &b)
+{
+    return std::equal(a.begin(), a.end(), b.begin(), b.end(), [](char c, char d) { return lower(c) == lower(d); });
+}
+
+// Where a name stands among some, or their end.
+Names::const_iterator find_name(const std::string &name, const Names &names)
+{
+    return std::find_if(names.begin(), names.end(), [&](const std::string &n) { return same_name(n, name); });
+}
+
+bool among(const std::string &name, const Names &names)
+{
+    return find_name(name, names) != names.end();
+}
+
+bool all_among(const Names &some, const Names &names)
+{
+    return std::all_of(some.begin(), some.end(), [&](const std::string &n) { return among(n, names); });
+}
+
+bool repeats(const Names &names)
+{
+    for (auto n = names.begin(); n != names.end(); n++)
+        if (find_name(*n, names) != n)
+            return true;
+    return false;
+}
 
 // ---- lines and trees
 
@@ -96,15 +132,16 @@ bool read_line(const std::string &line, Tree &tree)
 
 bool is_operator(const std::string &word)
 {
-    return std::find(std::begin(OPERATORS), std::end(OPERATORS), word) != std::end(OPERATORS);
+    return std::find(OPERATORS.begin(), OPERATORS.end(), word) != OPERATORS.end();
 }
 
 bool is_name(const Tree &tree)
 {
     const std::string &w = tree.word;
-    if (tree.bracket || w.empty() || w.size() > 8 || is_operator(w) || w[0] < 'a' || w[0] > 'z')
+    auto letter = [](char c) { return lower(c) >= 'a' && lower(c) <= 'z'; };
+    if (tree.bracket || w.empty() || w.size() > 8 || among(w, OPERATORS) || !letter(w[0]))
         return false;
-    return std::all_of(w.begin(), w.end(), [](char c) { return (c >= 'a' && c <= 'z') || (c >= '0' && c <= '9'); });
+    return std::all_of(w.begin(), w.end(), [&](char c) { return letter(c) || (c >= '0' && c <= '9'); });
 }
 
 bool is_number(const Tree &tree)
@@ -153,14 +190,13 @@ void collect_names(const Tree &tree, Names &names)
         collect_names(t, names);
 }
 
-bool among(const std::string &name, const Names &names)
+// Spells each name as the inputs do, all of which it is among.
+void spell(Tree &tree, const Names &inputs)
 {
-    return std::find(names.begin(), names.end(), name) != names.end();
-}
-
-bool all_among(const Names &some, const Names &names)
-{
-    return std::all_of(some.begin(), some.end(), [&](const std::string &n) { return among(n, names); });
+    if (is_name(tree))
+        tree.word = *find_name(tree.word, inputs);
+    for (Tree &t : tree.items)
+        spell(t, inputs);
 }
 
 Names words_after_first(const Tree &tree)
@@ -169,11 +205,6 @@ Names words_after_first(const Tree &tree)
     for (size_t i = 1; i < tree.items.size(); i++)
         words.push_back(tree.items[i].word);
     return words;
-}
-
-bool repeats(const Names &names)
-{
-    return std::set<std::string>(names.begin(), names.end()).size() < names.size();
 }
 
 // ---- questions 2 to 5 on one line; the answer is the number, or 0
@@ -197,7 +228,11 @@ unsigned ask_bound(const Tree &tree, Design &design)
         return 3;
     if (repeats(design.bound))
         return 4;
-    return all_among(design.bound, design.inputs) ? 0 : 5;
+    if (!all_among(design.bound, design.inputs))
+        return 5;
+    for (std::string &n : design.bound)
+        n = *find_name(n, design.inputs);
+    return 0;
 }
 
 unsigned ask_limit(const Tree &tree, Design &design)
@@ -218,12 +253,15 @@ unsigned ask_out(const Tree &tree, Design &design)
     if (among(name, design.inputs))
         return 4;
     for (const Output &o : design.outputs)
-        if (o.name == name)
+        if (same_name(o.name, name))
             return 4;
     Names used;
     collect_names(tree.items[2], used);
+    if (!all_among(used, design.inputs))
+        return 5;
     design.outputs.push_back(Output{name, tree.items[2], ""});
-    return all_among(used, design.inputs) ? 0 : 5;
+    spell(design.outputs.back().formula, design.inputs);
+    return 0;
 }
 
 // ---- values
@@ -557,7 +595,7 @@ bool is_lut(const Design &design, const Tree &tree, size_t number)
     if (!list.bracket || list.items.size() != design.bound.size())
         return false;
     for (size_t i = 0; i < list.items.size(); i++)
-        if (list.items[i].bracket || list.items[i].word != design.bound[i])
+        if (list.items[i].bracket || !same_name(list.items[i].word, design.bound[i]))
             return false;
     return are_digits(tree.items[3], design.bound.size());
 }
@@ -565,7 +603,7 @@ bool is_lut(const Design &design, const Tree &tree, size_t number)
 // The list must be some of the shared tables, rising, and then the free inputs: the tables are those at its front.
 bool is_node(const Design &design, const Tree &tree, size_t output, size_t luts, Node &node)
 {
-    if (!opens_with(tree, "node") || tree.items.size() != 4 || tree.items[1].bracket || tree.items[1].word != design.outputs[output].name)
+    if (!opens_with(tree, "node") || tree.items.size() != 4 || tree.items[1].bracket || !same_name(tree.items[1].word, design.outputs[output].name))
         return false;
     const Tree &list = tree.items[2];
     Names free = free_inputs(design);
@@ -576,7 +614,7 @@ bool is_node(const Design &design, const Tree &tree, size_t output, size_t luts,
         if (list.items[i].bracket)
             return false;
         if (i >= reads) {
-            if (list.items[i].word != free[i - reads])
+            if (!same_name(list.items[i].word, free[i - reads]))
                 return false;
             continue;
         }
@@ -702,7 +740,7 @@ void print_block(const Names &inputs, const std::string &name, const std::string
 
 std::string cell_name(size_t number)
 {
-    return "C" + std::to_string(number);
+    return "CC_" + std::to_string(number);
 }
 
 }

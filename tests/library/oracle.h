@@ -2,6 +2,8 @@
 // and printed again: it is spelled right if the print is the line and the tree has the shape its place demands. Values are
 // found by walking the tree for each row, classes by comparing columns as strings. The lines of a PLA text are read and printed
 // again too, and each cube is painted into the tables of its outputs. No part is shared with the library.
+//
+// A design has every name as it is given first: those of the inputs stand in the list of bound inputs and in formulas too.
 #ifndef ORACLE_H
 #define ORACLE_H
 

@@ -1,5 +1,5 @@
-// The specification's sheets A to K, texts in BLIF, PLA texts, every refusal, the lines that refusals name and the causes of refusal
-// 8, by hand: what each call must answer stands beside it.
+// The specification's sheets A to K, names in either case, texts in BLIF, PLA texts, every refusal, the lines that refusals name and
+// the causes of refusal 8, by hand: what each call must answer stands beside it.
 // Buffers are exactly long enough and one byte short; slices of length 0 have null pointers too (calls.cpp). Then the stack
 // that the header promises to be enough.
 #include "worked.h"
@@ -7,6 +7,7 @@
 #include "calls.h"
 #include "cellmapper.h"
 
+#include <algorithm>
 #include <cstdint>
 #include <pthread.h>
 #include <vector>
@@ -348,9 +349,9 @@ void refusals_by_the_network()
 void texts_in_blif()
 {
     Lines head = {".model panel", ".inputs a b c d", ".outputs f g"};
-    const Lines c0 = {".names a b c C0", "001 1", "010 1", "100 1", "111 1"}, f = {".names C0 d f", "01 1", "10 1"};
-    exports_to(A, NETWORK, {head, c0, f, {".names C0 d g", "11 1", ".end"}});
-    exports_to(A, with(4, "(node g (_0 d) 0011)"), {head, c0, f, {".names C0 d g", "10 1", "11 1", ".end"}});
+    const Lines c0 = {".names a b c CC_0", "001 1", "010 1", "100 1", "111 1"}, f = {".names CC_0 d f", "01 1", "10 1"};
+    exports_to(A, NETWORK, {head, c0, f, {".names CC_0 d g", "11 1", ".end"}});
+    exports_to(A, with(4, "(node g (_0 d) 0011)"), {head, c0, f, {".names CC_0 d g", "10 1", "11 1", ".end"}});
     const std::string constants = sheet("a b", "b a", "0", {"1", "0"});
     head = {".model panel", ".inputs a b", ".outputs f g"};
     const Lines one_zero = {"(network 1)", "(node f () 1)", "(node g () 0)", "(count 0)", "(end)"};
@@ -361,8 +362,8 @@ void texts_in_blif()
     const Lines luts = {"(network 1)", "(lut _0 (b) 00)", "(lut _1 (b) 11)"};
     const Lines nodes = {"(node f (x y) 0000)", "(node g (x y) 1111)", "(node h (_1 x y) 10000001)", "(count 2)", "(end)"};
     head = {".model panel", ".inputs x b y", ".outputs f g h"};
-    const Lines cells = {".names b C0", ".names b C1", "0 1", "1 1"};
-    const Lines outputs = {".names x y f", ".names x y g", "00 1", "01 1", "10 1", "11 1", ".names C1 x y h", "000 1", "111 1", ".end"};
+    const Lines cells = {".names b CC_0", ".names b CC_1", "0 1", "1 1"};
+    const Lines outputs = {".names x y f", ".names x y g", "00 1", "01 1", "10 1", "11 1", ".names CC_1 x y h", "000 1", "111 1", ".end"};
     exports_to(plain, text(luts) + text(nodes), {head, cells, outputs});
 }
 
@@ -383,7 +384,50 @@ void longest_text_in_blif()
     design.push_back("(end)");
     network.insert(network.end(), {"(count 6)", "(end)"});
     Exported e = call_export(text(design), text(network), CELLMAPPER_MAX_BLIF);
-    expect(e.number == 0 && e.length == 55579, "the longest text has 55,579 bytes", text(design), text(network));
+    expect(e.number == 0 && e.length == 55631, "the longest text has 55,631 bytes", text(design), text(network));
+}
+
+// ---- names in either case
+
+// Sheet A with capitals, and Map's network of it, which has each name as the sheet gives it first.
+const std::string MIXED = text({"(design 1)", "(in A B C d)", "(bound a B c)", "(limit 2)", "(out f (xor a b C D))", "(out G (and (xor A b c) d))", "(end)"});
+const std::string MIXED_NETWORK = text({"(network 1)", "(lut _0 (A B C) 01101001)", "(node f (_0 d) 0110)", "(node G (_0 d) 0001)", "(count 1)", "(end)"});
+
+void names_in_either_case()
+{
+    maps_to(MIXED, 1, MIXED_NETWORK);
+    tables_to(MIXED, 1, "0001010001000001");
+    const std::string other = text({"(network 1)", "(lut _0 (A b C) 01101001)", "(node F (_0 D) 0110)", "(node g (_0 d) 0011)", "(count 1)", "(end)"});
+    for (const std::string &s : {A, MIXED}) {
+        same(s, NETWORK);
+        same(s, MIXED_NETWORK);
+        differs_at(s, other, 1, 2);
+    }
+    const Lines head = {".model panel", ".inputs A B C d", ".outputs f G"}, cell = {".names A B C CC_0", "001 1", "010 1", "100 1", "111 1"};
+    for (const std::string &n : {NETWORK, MIXED_NETWORK})
+        exports_to(MIXED, n, {head, cell, {".names CC_0 d f", "01 1", "10 1", ".names CC_0 d G", "11 1", ".end"}});
+    for (const char *keyword : {"network", "lut", "node", "count", "end"}) {
+        std::string n = NETWORK;
+        const size_t at = n.find(keyword);
+        n[at] = char(n[at] - 'a' + 'A');
+        both_refuse(A, n, 10, 1 + size_t(std::count(n.begin(), n.begin() + long(at), '\n')));
+    }
+    tables_to(sheet("And1 NOTE xOrs", "note aNd1", "2", {"(or AND1 (and NOTe XORS))"}), 0, "00011111");
+    all_refuse(sheet("a A", "a", "1", {"a"}), 4, 2);
+    all_refuse(sheet("abcDEFgh b ABCdefGH", "b", "1", {"b"}), 4, 2);
+    all_refuse(sheet("a b", "a A", "1", {"a"}), 4, 3);
+    all_refuse(sheet("F a", "a", "1", {"a"}), 4, 5);
+    all_refuse(text({"(design 1)", "(in a)", "(bound A)", "(limit 1)", "(out f a)", "(out F A)", "(end)"}), 4, 6);
+    all_refuse(sheet("a b", "A C", "1", {"a"}), 5, 3);
+    all_refuse(sheet("a b", "a", "1", {"(or A C)"}), 5, 5);
+    for (const char *word : {"Not", "AND", "oR", "Xor"}) {
+        const std::string w = word;
+        all_refuse(sheet("a " + w, "a", "1", {"a"}), 2, 2);
+        all_refuse(sheet("a", w, "1", {"a"}), 2, 3);
+        all_refuse(sheet("a b", "a", "1", {w}), 2, 5);
+        all_refuse(sheet("a b", "a", "1", {"(" + w + (w == "Not" ? " a)" : " a b)")}), 2, 5);
+        all_refuse(text({"(design 1)", "(in a)", "(bound a)", "(limit 1)", "(out " + w + " a)", "(end)"}), 2, 5);
+    }
 }
 
 // ---- PLA texts
@@ -480,6 +524,27 @@ void plas_to_try()
     expect(call_map(wide, AMPLE).cells == 1, "Map of ten inputs and four outputs", wide);
 }
 
+void names_of_pla_in_either_case()
+{
+    const Source mixed = pla({".i 4", ".o 2", ".ilb A B C d", ".ob f G"}, A_CUBES, "(bound a B c)\n(limit 2)\n");
+    Mapped m = call_map(mixed, AMPLE);
+    expect(m.number == 0 && m.network == MIXED_NETWORK, "Map of sheet A as PLA with capitals", mixed, m.network);
+    for (const std::string &n : {NETWORK, MIXED_NETWORK}) {
+        Checked c = call_check(mixed, n);
+        expect(c.number == 0 && c.differs == 0, "Check of sheet A as PLA with capitals", mixed, n);
+    }
+    for (const char *names : {".ilb a b c Xor", ".ilb a NOT c d", ".ILB a b c d"})
+        pla_refuses(pla_with(3, names), 12, 3);
+    for (const char *names : {".ob f And", ".ob oR g", ".Ob f g"})
+        pla_refuses(pla_with(4, names), 12, 4);
+    pla_refuses(Source(A_PLA.text, "(bound a b And)\n(limit 2)\n"), 2, 1);
+    pla_refuses(pla_with(3, ".ilb a b c A"), 4, 3);
+    pla_refuses(pla_with(4, ".ob f D"), 4, 4);
+    pla_refuses(pla_with(4, ".ob f F"), 4, 4);
+    pla_refuses(Source(A_PLA.text, "(bound a b A)\n(limit 2)\n"), 4, 1);
+    pla_refuses(Source(A_PLA.text, "(bound A E)\n(limit 2)\n"), 5, 1);
+}
+
 void causes_of_pla()
 {
     const Lines head = {".i 3", ".o 3", ".ilb a b c", ".ob f g h"};
@@ -514,7 +579,7 @@ void refusals_of_pla()
     for (const char *second : {".o 0", ".o 02", ".o 100000"})
         pla_refuses(pla_with(2, second), 12, 2);
     pla_refuses(pla_with(1, ".i 99999"), 12, 3);
-    for (const char *names : {".ilb", ".ilb a b c", ".ilb a b c d e", ".ilb a b c xor", ".ilb a b c abcdefghi", ".ilb a  b c d", ".ilb a b c d ", ".ilb a b c D"})
+    for (const char *names : {".ilb", ".ilb a b c", ".ilb a b c d e", ".ilb a b c xor", ".ilb a b c abcdefghi", ".ilb a  b c d", ".ilb a b c d "})
         pla_refuses(pla_with(3, names), 12, 3);
     for (const char *names : {".ob", ".ob f", ".ob f g h", ".ob f not", ".ilb f g"})
         pla_refuses(pla_with(4, names), 12, 4);
@@ -593,7 +658,9 @@ void worked_sheets()
         refusals_by_the_network();
         texts_in_blif();
         longest_text_in_blif();
+        names_in_either_case();
         plas_to_try();
+        names_of_pla_in_either_case();
         causes_of_pla();
         refusals_of_pla();
     }

@@ -3,8 +3,8 @@
 
 - Cases worked by hand (tests/reference/pla_cases.py) at every boundary of questions 12, 13 and 14, and of what is asked after
   them: plamap must print what stands beside each.
-- The example sheets that map, parities of ten inputs, and PANELS random sheets that map (300 unless given): the network is
-  exported in BLIF, ABC collapses it and writes it in PLA, and its comment line is dropped. Nothing else of what ABC writes is
+- The example sheets that map, parities of ten inputs, and PANELS random sheets in any case that map (300 unless given): the network
+  is exported in BLIF, ABC collapses it and writes it in PLA, and its comment line is dropped. Nothing else of what ABC writes is
   changed; it must be the form that is accepted. With the sheet's own `bound` and `limit` lines Table must give the sheet's digits
   and plamap the sheet's network, byte for byte.
 - The same panels with other cubes, which the reference in Python draws: the same answers.
@@ -31,7 +31,7 @@ import random_sheets  # noqa: E402
 import tools  # noqa: E402
 
 COMMENT = re.compile(rb"# [^\n]*\n")
-HEAD = [rb"\.i [0-9]+", rb"\.o [0-9]+", rb"\.ilb( [a-z0-9]+)+", rb"\.ob( [a-z0-9]+)+", rb"\.p [0-9]+"]
+HEAD = [rb"\.i [0-9]+", rb"\.o [0-9]+", rb"\.ilb( [A-Za-z0-9]+)+", rb"\.ob( [A-Za-z0-9]+)+", rb"\.p [0-9]+"]
 
 
 def fail(what, *texts):
@@ -137,7 +137,8 @@ def mapped_panels(dice, count):
     if examples < 3:
         fail("no example sheet maps")
     while len(panels) < examples + count:
-        sheet = random_sheets.text_of((random_sheets.wide if dice.random() < 0.1 else random_sheets.valid)(dice))
+        lines = (random_sheets.wide if dice.random() < 0.1 else random_sheets.valid)(dice)
+        sheet = random_sheets.in_any_case(dice, random_sheets.text_of(lines))
         network = program("cellmap", sheet)
         if not network.startswith(b"refused"):
             panels.append(Panel(f"panel-{len(panels) - examples}", sheet, network))

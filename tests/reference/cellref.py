@@ -45,7 +45,7 @@ class Refusal(Exception):
 
 
 class Output:
-    """An output of a sheet: its name, and its formula in postfix order."""
+    """An output of a sheet: its name, and its formula in postfix order with the names of the inputs."""
 
     def __init__(self, name, formula):
         self.name = name
@@ -57,21 +57,51 @@ class Output:
 
 
 class Design:
-    """What a valid design sheet says, or a valid pair (pla.py). Of an output its name and its values are asked alone."""
+    """What a valid design sheet says, or a valid pair (pla.py), each name as it is given first. Of an output its name and its values
+    are asked alone."""
 
     def __init__(self, inputs, bound, limit, outputs):
         self.inputs = inputs
-        self.bound = bound
+        self.bound = [spelled_by(inputs, name) for name in bound]
         self.limit = limit
         self.outputs = outputs
-        self.free = [name for name in inputs if name not in bound]
+        self.free = [name for name in inputs if name not in self.bound]
 
 
-# ---- the design sheet
+# ---- names, which are the same in capitals and in small letters
+
+
+def same_name(a, b):
+    return a.lower() == b.lower()
+
+
+def same_names(some, names):
+    """Whether two lists name the same, item by item."""
+    return len(some) == len(names) and all(map(same_name, some, names))
+
+
+def among(name, names):
+    return any(same_name(name, other) for other in names)
+
+
+def all_among(some, names):
+    return all(among(name, names) for name in some)
+
+
+def repeats(names):
+    return any(among(name, names[:place]) for place, name in enumerate(names))
+
+
+def spelled_by(names, name):
+    """A name as it stands among some."""
+    return next(other for other in names if same_name(name, other))
 
 
 def is_name(word):
-    return re.fullmatch(r"[a-z][a-z0-9]{0,7}", word) is not None and word not in OPERATORS
+    return re.fullmatch(r"[A-Za-z][A-Za-z0-9]{0,7}", word) is not None and not among(word, OPERATORS)
+
+
+# ---- the design sheet
 
 
 def names_line(line, head):
@@ -98,6 +128,10 @@ class Formula:
     def names(self):
         return [part[1] for part in self.parts if part[0] == "name"]
 
+    def over(self, inputs):
+        """Its parts, each name as it stands among the inputs."""
+        return [(kind, spelled_by(inputs, what) if kind == "name" else what) for kind, what in self.parts]
+
 
 def read_formula(text):
     """The formula that is the whole of a text, or None where it is misspelled.
@@ -112,7 +146,7 @@ def read_formula(text):
     while True:
         # An operand begins here.
         opening = re.compile(r"\((not|and|or|xor) ").match(text, at)
-        atom = re.compile(r"[01]|[a-z][a-z0-9]*").match(text, at)
+        atom = re.compile(r"[01]|[A-Za-z][A-Za-z0-9]*").match(text, at)
         if opening:
             brackets.append([opening.group(1), 0])
             depth = max(depth, len(brackets))
@@ -177,10 +211,6 @@ def sized(text):
     return 1 <= len(text) <= MAX_SHEET and all(b == 0x0A or 0x20 <= b <= 0x7E for b in text) and text[-1] == 0x0A
 
 
-def repeats(names):
-    return len(set(names)) < len(names)
-
-
 def examine(text):
     """Questions 1 to 5: the design, or the refusal raised."""
     if not sized(text):
@@ -205,7 +235,7 @@ def examine(text):
         lines.refuse(3)
     if repeats(bound):
         lines.refuse(4)
-    if not set(bound) <= set(inputs):
+    if not all_among(bound, inputs):
         lines.refuse(5)
 
     limit = limit_line(lines.take())
@@ -237,11 +267,11 @@ def examine_outputs(lines, inputs):
         name, formula = read
         if len(outputs) == MAX_OUTPUTS or formula.depth > MAX_DEPTH:
             lines.refuse(3)
-        if name in inputs or any(name == output.name for output in outputs):
+        if among(name, inputs + [output.name for output in outputs]):
             lines.refuse(4)
-        if not set(formula.names()) <= set(inputs):
+        if not all_among(formula.names(), inputs):
             lines.refuse(5)
-        outputs.append(Output(name, formula.parts))
+        outputs.append(Output(name, formula.over(inputs)))
 
 
 # ---- values
@@ -356,7 +386,7 @@ def lut_line(line, design, number):
     match = re.fullmatch(r"\(lut _(\d) \(([^()]*)\) ([01]*)\)", line, re.ASCII)
     if match is None or int(match.group(1)) != number:
         return None
-    if match.group(2) != " ".join(design.bound) or len(match.group(3)) != 2 ** len(design.bound):
+    if not same_names(match.group(2).split(" "), design.bound) or len(match.group(3)) != 2 ** len(design.bound):
         return None
     return match.group(3)
 
@@ -364,11 +394,11 @@ def lut_line(line, design, number):
 def node_line(line, design, output, luts):
     """The node of an output, or None where the line is not spelled for this design and this number of lut lines."""
     match = re.fullmatch(r"\(node ([^ ()]+) \(([^()]*)\) ([01]*)\)", line)
-    if match is None or match.group(1) != design.outputs[output].name:
+    if match is None or not same_name(match.group(1), design.outputs[output].name):
         return None
     items = match.group(2).split(" ") if match.group(2) else []
     reads = len(items) - len(design.free)
-    if reads < 0 or items[reads:] != design.free:
+    if reads < 0 or not same_names(items[reads:], design.free):
         return None
     own = [f"_{k}" for k in range(luts)]
     if any(item not in own for item in items[:reads]):
@@ -474,9 +504,9 @@ def blif_text(design, network):
     lines = [".model panel", " ".join([".inputs", *design.inputs])]
     lines.append(" ".join([".outputs", *(output.name for output in design.outputs)]))
     for k, digits in enumerate(network.luts):
-        lines += blif_block(design.bound, f"C{k}", digits)
+        lines += blif_block(design.bound, f"CC_{k}", digits)
     for output, node in zip(design.outputs, network.nodes):
-        lines += blif_block([f"C{k}" for k in node.reads] + design.free, output.name, node.digits)
+        lines += blif_block([f"CC_{k}" for k in node.reads] + design.free, output.name, node.digits)
     return "".join(line + "\n" for line in lines + [".end"])
 
 

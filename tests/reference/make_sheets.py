@@ -3,7 +3,7 @@
 
 Each sheet stands here beside the answer that a person expects of it. This script compares every such answer with
 cellref.py, and the program compares it with the library, so that three sources agree. Then come random sheets, valid
-and damaged, whose answers are cellref.py's.
+and damaged, in small letters and in any case, whose answers are cellref.py's.
 
     make_sheets.py            writes the two files
     make_sheets.py --check    says whether they are what this script writes
@@ -196,14 +196,14 @@ def in_line():
         [
             "", "(in", "in a", "(in )", "( in a)", "(in a )", "(in  a)", "(in a  b)", "(in ( a)", " (in a)",
             "(in a) ", "(in a", "(in a))", "((in a)", "(in (a))", "(ina)", "(inn a)", "(i a)", "(IN a)",
-            "(in A)", "(in aB)", "(in 1)", "(in 1a)", "(in 0)", "(in a,b)", "(in a-b)", "(in a_b)", "(in _0)",
+            "(in 1)", "(in 1a)", "(in 0)", "(in a,b)", "(in a-b)", "(in a_b)", "(in _0)",
             "(in a.)", "(in a 2)", "(in a)(bound a)", "(bound a)", "(end)",
         ],
         no(2, 2),
     )
     # The bytes on both sides of the letters and of the digits.
     cases("in-bytes", with_in, [f"(in a{b})" for b in "`{:@["], no(2, 2))
-    cases("in-first", with_in, [f"(in {b}a)" for b in "`{09"], no(2, 2))
+    cases("in-first", with_in, [f"(in {b}a)" for b in "`{09@["], no(2, 2))
     case("in-a-z-0-9", with_in("(in az09)", "az09"), yes("01"))
     case("in-z", with_in("(in z)", "z"), yes("01"))
     case("in-digits", with_in("(in a0123456)", "a0123456"), yes("01"))
@@ -235,7 +235,7 @@ def in_line():
     case("in-10", with_in("(in a b c d e f1 g h i j)"), rows(10, lambda r: r >= 512), buffer=1024)
     case("in-11", with_in("(in a b c d e f1 g h i j k)"), no(3, 2))
     case("in-11-last-repeats", with_in("(in a b c d e f1 g h i j a)"), no(3, 2))
-    case("in-11-last-misspelled", with_in("(in a b c d e f1 g h i j K)"), no(2, 2))
+    case("in-11-last-misspelled", with_in("(in a b c d e f1 g h i j k_)"), no(2, 2))
     case("in-11-last-and", with_in("(in a b c d e f1 g h i j and)"), no(2, 2))
     case("in-12-unended", with_in("(in a b c d e f1 g h i j k l"), no(2, 2))
     case("in-26", with_in("(in a b c d e f g h i j k l m n o p q r s t u v w x y z)"), no(3, 2))
@@ -258,7 +258,7 @@ def bound_line():
         [
             "", "(bound", "bound a", "(bound )", "( bound a)", "(bound a )", "(bound  a)", "(bound a  b)",
             " (bound a)", "(bound a) ", "(bound a", "(bound a))", "(bound (a))", "(bounda)", "(boun a)",
-            "(bounds a)", "(BOUND a)", "(bound A)", "(bound 1)", "(bound 0)", "(bound a,b)",
+            "(bounds a)", "(BOUND a)", "(bound 1)", "(bound 0)", "(bound a,b)",
             "(bound abcdefghi)", "(bound not)", "(bound and)", "(bound or)", "(bound xor)", "(in a)",
             "(limit 1)", "(end)",
         ],
@@ -273,7 +273,7 @@ def bound_line():
     case("bound-6-repeat", with_bound("(bound a b c d e a)"), no(3, 3))
     case("bound-6-unknown", with_bound("(bound a b c d e z)"), no(3, 3))
     case("bound-6-repeat-unknown", with_bound("(bound a a b c d z)"), no(3, 3))
-    case("bound-6-misspelled", with_bound("(bound a b c d e G)"), no(2, 3))
+    case("bound-6-misspelled", with_bound("(bound a b c d e g_)"), no(2, 3))
     case("bound-11", with_bound("(bound a b c d e g a b c d e)"), no(3, 3))
     case("bound-repeat", with_bound("(bound a a)"), no(4, 3))
     case("bound-repeat-far", with_bound("(bound e a b c e)"), no(4, 3))
@@ -325,7 +325,7 @@ def out_line():
             "", " ", "(out)", "(out )", "(out f)", "(out f )", "(out  f a)", "( out f a)", "(out f  a)",
             "(out f a )", "(out f a", "(out f a))", "((out f a))", " (out f a)", "(out f a) ", "out f a",
             "(out f a b)", "(out f a 1)", "(out f (not a) b)", "(out (f) a)", "(out fa)", "(outf a)",
-            "(output f a)", "(ou f a)", "(OUT f a)", "(out F a)", "(out 1 a)", "(out 0f a)", "(out f_ a)",
+            "(output f a)", "(ou f a)", "(OUT f a)", "(out 1 a)", "(out 0f a)", "(out f_ a)",
             "(out not a)", "(out and a)", "(out or a)", "(out xor a)", "(out abcdefghi a)",
             "(out f a)(out g b)", "(in a b c)", "(limit 1)", "(node f (a) 01)", "(design 1)",
         ],
@@ -341,7 +341,7 @@ def formula_spelling():
         with_formula,
         [
             # atoms
-            "2", "9", "01", "00", "10", "11", "0a", "1a", "0(not a)", "-", "A", "a-", "a_", "a0_", "~a", "and",
+            "2", "9", "01", "00", "10", "11", "0a", "1a", "0(not a)", "-", "a-", "a_", "a0_", "~a", "and",
             "or", "not", "xor", "abcdefghi", "a1234567890",
             # brackets
             "()", "(", ")", "(a)", "(0)", "(1)", "(a b)", "(0 a)", "((not a))", "((a))", "(() a)",
@@ -350,7 +350,7 @@ def formula_spelling():
             "(and (not a))", "(or 0)", "(xor (xor a b))", "(not a b)", "(not a b c)", "(not (not a) b)",
             # operators
             "(nand a b)", "(nor a b)", "(no a)", "(an a b)", "(o a b)", "(xo a b)", "(nota b)", "(and1 a b)",
-            "(orx a b)", "(xors a b)", "(nott a)", "(AND a b)", "(And a b)", "(xnor a b)", "(f a b)",
+            "(orx a b)", "(xors a b)", "(nott a)", "(AND a b)", "(And a b)", "(Not a)", "(OR a b)", "(xoR a b)", "(xnor a b)", "(f a b)",
             "(not not)", "(not and)", "(and a and)", "(and or a)", "(or a xor b)",
             # spaces
             "( and a b)", "(and  a b)", "(and a  b)", "(and a b )", "(and a b  c)", "( not a)", "(not  a)",
@@ -362,7 +362,7 @@ def formula_spelling():
             "(and (or a b) c))", "(and a b)c", "(and a b)(or a b)", "(not a)0", "a)", "(and a b) (or a b)",
             "a b",
             # a bad one far inside
-            "(and (or a b) (xor a (not 2)))", "(and (or a b) (xor a (not B)))",
+            "(and (or a b) (xor a (not 2)))", "(and (or a b) (xor a (not b_)))", "(and (or a b) (xor a (nOt b)))",
             "(and (or a b) (xor a (and c)))", "(and (or a b) (xor a (not c c)))",
             "(and (or a b) (xor a (not abcdefghi)))", "(and (or a b) (xor z (not 2)))",
         ],
@@ -474,6 +474,42 @@ def outputs():
     case("out-unknown-second", head + "(out f a)/(out g c)/(end)/", no(5, 6))
     case("out-same-formula", head + "(out f (and a b))/(out g (and a b))/(end)/", yes("0001"), output=1)
     case("out-prefix-names", head + "(out f a)/(out ff b)/(out fff 1)/(end)/", yes("0101"), output=1)
+
+
+# ---- capitals
+
+
+def capitals():
+    """Capitals and small letters are the same letters in names; operators and the first words of lines have small ones."""
+    for letter in "ABCDEFGHIJKLMNOPQRSTUVWXYZ":
+        case(f"case-in-{letter}", with_in(f"(in {letter})", letter.lower()).replace("(out f", "(out f0"), yes("01"))
+    case("case-in-8", with_in("(in ABCdefGH)", "abcDEFgh"), yes("01"))
+    case("case-in-9", with_in("(in ABCDEFGHI)", "a"), no(2, 2))
+    case("case-in-digits", with_in("(in Z09)", "z09"), yes("01"))
+    case("case-bound", with_bound("(bound A g B)"), rows(6, lambda r: r >= 32))
+    case("case-out", with_out("(out F A)"), yes("00001111"))
+    case("case-formula", sheet_of("Ab aC B", "b AB", "(xor aB (and AC b) (and ac B))"), yes("00001111"))
+    # Letters and digits stay apart.
+    for digit, letter in zip("0123456789", "PQRSTUVWXY"):
+        case(f"case-{digit}-and-{letter}", sheet_of(f"a{digit} a{letter}", f"a{letter}", f"A{letter.lower()}"), yes("0101"))
+    # Operator words in any case are no names, and words that merely begin with one are.
+    for k, word in enumerate("Not NOT nOt And AND anD Or OR oR Xor XOR xoR".split(), 1):
+        case(f"case-in-operator-{k}", with_in(f"(in {word})", word), no(2, 2))
+        case(f"case-in-longer-{k}", with_in(f"(in {word}1)", f"{word}1"), yes("01"))
+        case(f"case-bound-operator-{k}", with_bound(f"(bound {word})"), no(2, 3))
+        case(f"case-out-operator-{k}", with_out(f"(out {word} a)"), no(2, 5))
+        case(f"case-atom-operator-{k}", with_formula(word), no(2, 5))
+        case(f"case-opening-{k}", with_formula(f"({word} a b)" if word.lower() != "not" else f"({word} a)"), no(2, 5))
+    # Names given twice, and names that are not there.
+    cases("case-in-repeat", with_in, ["(in a A)", "(in A b a)", "(in abcdefgh b ABCDEFGH)", "(in a1 A1)"], no(4, 2))
+    cases("case-bound-repeat", with_bound, ["(bound a A)", "(bound B a b)", "(bound Z z)"], no(4, 3))
+    cases("case-out-old", with_out, ["(out A a)", "(out A 1)", "(out B (not z))"], no(4, 5))
+    case("case-out-twice", with_out("(out f a)/(out F b)"), no(4, 6))
+    cases("case-bound-unknown", with_bound, ["(bound Z)", "(bound a B AA)"], no(5, 3))
+    cases("case-formula-unknown", with_formula, ["Z", "(and A AA)", "F"], no(5, 5))
+    a = "(design 1)/(in A B C d)/(bound a b c)/(limit 2)/(out f (xor a B c D))/(out G (and (xor A b C) d))/(end)/"
+    case("case-sheet-a-f", a, yes("0110100110010110"))
+    case("case-sheet-a-g", a, yes("0001010001000001"), output=1)
 
 
 # ---- `(end)`, missing and surplus lines, and which line comes first
@@ -687,6 +723,9 @@ def random_cases(count):
         CASES.append((f"random-{k}", random_sheets.text_of(lines), None, output, buffer))
     for k in range(1, count + 1):
         CASES.append((f"damaged-{k}", random_sheets.damaged(dice), None, 0, 1024))
+    for k in range(1, count // 12 + 1):
+        CASES.append((f"mixed-{k}", random_sheets.mixed(dice), None, 0, 1024))
+        CASES.append((f"mixed-damaged-{k}", random_sheets.mixed_damaged(dice), None, 0, 1024))
 
 
 # ---- the files
@@ -729,6 +768,7 @@ def main():
         formula_spelling,
         depth,
         outputs,
+        capitals,
         end_line,
         missing_lines,
         output_and_buffer,

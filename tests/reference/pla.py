@@ -148,7 +148,7 @@ def ask_names(pla):
     """Question 4 on the PLA text; that names are not too many is question 13's, that there is one question 12's."""
     if cellref.repeats(pla.inputs):
         raise Refusal(4, 3)
-    if cellref.repeats(pla.outputs) or set(pla.outputs) & set(pla.inputs):
+    if cellref.repeats(pla.inputs + pla.outputs):
         raise Refusal(4, 4)
 
 
@@ -158,7 +158,7 @@ def ask_board(inputs, bound, limit):
         raise Refusal(3, 1)
     if cellref.repeats(bound):
         raise Refusal(4, 1)
-    if not set(bound) <= set(inputs):
+    if not cellref.all_among(bound, inputs):
         raise Refusal(5, 1)
     if limit > cellref.MAX_LIMIT:
         raise Refusal(3, 2)

@@ -70,6 +70,9 @@ CASES = [
     ("no literals", text(HEAD, [b"---- 10"]), BOARD, nodes("(node f (d) 11)", "(node g (d) 00)")),
     ("a dash is both", text(HEAD, [b"---1 10", b"---0 01"]), BOARD, nodes("(node f (d) 01)", "(node g (d) 10)")),
     ("one input, one output", panel(1, 1, [b"0 1", b"1 1"]), b"(bound i0)\n(limit 0)\n", nodes("(node o0 () 1)")),
+    ("capitals", line(3, b".ilb A b C D"), BOARD, NETWORK.replace("(a b c)", "(A b C)").replace(" d)", " D)")),
+    ("an output in capitals", line(4, b".ob f G"), BOARD, NETWORK.replace("node g", "node G")),
+    ("bound inputs in another case", A, b"(bound A b C)\n(limit 2)\n", NETWORK),
     # ---- 12: the size
     ("no bytes", b"", BOARD, refused(12, 0)),
     ("32,767 bytes", *sized_case(32767)),
@@ -109,11 +112,13 @@ CASES = [
     ("eight characters", text(HEAD.replace(b"d\n", b"abcdefgh\n"), CUBES), BOARD, NETWORK.replace(" d)", " abcdefgh)")),
     ("nine characters", line(3, b".ilb a b c abcdefghi"), BOARD, refused(12, 3)),
     ("an operator word", line(3, b".ilb a b c xor"), BOARD, refused(12, 3)),
-    ("a capital", line(3, b".ilb a b c D"), BOARD, refused(12, 3)),
+    ("an operator word in another case", line(3, b".ilb a b c Xor"), BOARD, refused(12, 3)),
+    ("`.ILB`", line(3, b".ILB a b c d"), BOARD, refused(12, 3)),
     ("a digit first", line(3, b".ilb a b c 0d"), BOARD, refused(12, 3)),
     ("an output too many", line(4, b".ob f g h"), BOARD, refused(12, 4)),
     ("an output too few", line(4, b".ob f"), BOARD, refused(12, 4)),
     ("an operator word as an output", line(4, b".ob f not"), BOARD, refused(12, 4)),
+    ("an operator word in another case as an output", line(4, b".ob f NOT"), BOARD, refused(12, 4)),
     ("nine characters of an output", line(4, b".ob f abcdefghi"), BOARD, refused(12, 4)),
     ("outputs before inputs", HEAD.replace(b".ilb a b c d\n.ob f g\n", b".ob f g\n.ilb a b c d\n") + b".p 0\n.e\n", BOARD, refused(12, 3)),
     # ---- 12: the cubes
@@ -198,6 +203,8 @@ CASES = [
     ("second text: limit misspelled, and six names", A, b"(bound a b c d e f)\n(limit 02)\n", refused(2, 2)),
     ("second text: limit of four digits", A, b"(bound a)\n(limit 1000)\n", refused(2, 2)),
     ("second text: an operator word", A, b"(bound a and)\n(limit 2)\n", refused(2, 1)),
+    ("second text: an operator word in another case", A, b"(bound a And)\n(limit 2)\n", refused(2, 1)),
+    ("second text: `(Bound ..)`", A, b"(Bound a b c)\n(limit 2)\n", refused(2, 1)),
     ("second text: one line of six names", A, b"(bound a b c d e f)\n", refused(2, 2)),
     ("second text: a third line, and six names", A, b"(bound a b c d e f)\n(limit 7)\n(end)\n", refused(2, 3)),
     # ---- the second text: 3 to 5
@@ -206,6 +213,7 @@ CASES = [
     ("five bound inputs", panel(6, 1, []), b"(bound i0 i1 i2 i3 i4)\n(limit 2)\n", nodes("(node o0 (i5) 00)")),
     ("six names, one twice and one unknown", A, b"(bound a a zz b c d)\n(limit 2)\n", refused(3, 1)),
     ("a bound input twice", A, b"(bound a b a)\n(limit 2)\n", refused(4, 1)),
+    ("a bound input twice, in two cases", A, b"(bound a b A)\n(limit 2)\n", refused(4, 1)),
     ("a bound input twice and an unknown one", A, b"(bound zz a a)\n(limit 2)\n", refused(4, 1)),
     ("an unknown bound input", A, b"(bound zz)\n(limit 2)\n", refused(5, 1)),
     ("an output as a bound input", A, b"(bound f)\n(limit 2)\n", refused(5, 1)),
@@ -214,8 +222,11 @@ CASES = [
     ("an unknown bound input, and `(limit 7)`", A, b"(bound zz)\n(limit 7)\n", refused(5, 1)),
     # ---- the PLA's names: 4
     ("an input twice", line(3, b".ilb a b c a"), BOARD, refused(4, 3)),
+    ("an input twice, in two cases", line(3, b".ilb a b c A"), BOARD, refused(4, 3)),
     ("an output that is an input", line(4, b".ob f a"), BOARD, refused(4, 4)),
+    ("an output that is an input in another case", line(4, b".ob f A"), BOARD, refused(4, 4)),
     ("an output twice", line(4, b".ob f f"), BOARD, refused(4, 4)),
+    ("an output twice, in two cases", line(4, b".ob f F"), BOARD, refused(4, 4)),
     ("an input twice and an output twice", line(3, b".ilb a b c a").replace(b".ob f g", b".ob f f"), BOARD, refused(4, 3)),
     # ---- the two texts in turn
     ("12, and the second text empty", A[:-1], b"", refused(12, END)),

@@ -1,5 +1,5 @@
-"""Random pairs of a PLA text and a second text for the tests: with the tables of a given design, of cubes drawn freely, and
-damaged. The dice decide, so that a seed gives them again."""
+"""Random pairs of a PLA text and a second text for the tests: with the tables and the names of a given design, of cubes drawn freely,
+and damaged. The dice decide, so that a seed gives them again."""
 
 import cellref
 import random_sheets
@@ -56,11 +56,12 @@ def cubes_of(dice, tables, inputs):
 
 
 def of_design(dice, design):
-    """A pair with the tables of a valid design"""
+    """A pair with the tables of a valid design, and its names, the bound ones in any case"""
     tables = [cellref.digits_of(design, output) for output in range(len(design.outputs))]
     cubes = cubes_of(dice, tables, len(design.inputs))
     names = [output.name for output in design.outputs]
-    return text_of(pla_lines(design.inputs, names, cubes)), text_of(board_lines(design.bound, design.limit))
+    board = random_sheets.in_any_case(dice, text_of(board_lines(design.bound, design.limit)))
+    return text_of(pla_lines(design.inputs, names, cubes)), board
 
 
 # ---- cubes drawn freely, and damage
@@ -98,7 +99,7 @@ def break_a_rule(dice, lines, board):
         k = dice.randrange(len(cubes))
         cubes[k] = cubes[k][:-1] + dice.choice("~2-/: \x00\xff4")
     elif kind == 4:
-        inputs[dice.randrange(len(inputs))] = dice.choice(inputs + ["and", "abcdefghi", "A", ""])
+        inputs[dice.randrange(len(inputs))] = dice.choice(inputs + ["and", "abcdefghi", "a_", ""])
     elif kind == 5:
         outputs[dice.randrange(len(outputs))] = dice.choice(inputs + outputs + ["not", "abcdefghi", ""])
     elif kind == 6:
@@ -142,7 +143,7 @@ def byte_damaged(dice, text):
 
 
 def damaged(dice):
-    """The texts of a pair, mostly with a rule or two broken, or bytes damaged"""
+    """The texts of a pair, mostly with a rule or two broken, or bytes damaged, half of them in any case"""
     lines, board = drawn(dice)
     for _ in range(dice.choice((0, 1, 1, 1, 2))):
         # a second rule is broken where the lines still stand in their places
@@ -152,4 +153,6 @@ def damaged(dice):
     if dice.random() < 0.4:
         which = dice.choice((0, 0, 0, 1))
         texts[which] = byte_damaged(dice, texts[which])
+    if dice.random() < 0.5:
+        texts = [random_sheets.in_any_case(dice, text) for text in texts]
     return tuple(texts)

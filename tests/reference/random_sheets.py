@@ -1,4 +1,7 @@
-"""Random design sheets for the tests, valid ones and damaged ones. The dice decide, so that a seed gives them again."""
+"""Random design sheets for the tests, valid ones and damaged ones, in small letters and in any case. The dice decide, so that a seed
+gives them again."""
+
+import re
 
 import cellref
 
@@ -203,3 +206,39 @@ DAMAGE = [
 def damaged(dice):
     """The text of a sheet with one thing changed, mostly so that it is not valid any more."""
     return dice.choice(DAMAGE)(dice, valid(dice))
+
+
+# ---- capitals
+
+
+WORD = rb"[A-Za-z][A-Za-z0-9]*"
+WORDS = re.compile(WORD)
+NAMES = re.compile(rb"(?<= )" + WORD)  # of every text but a network sheet, whose lists of names open with a bracket
+NETWORK_NAMES = re.compile(rb"(?<= )" + WORD + rb"|(?<= \()" + WORD)
+
+
+def any_case(dice, word):
+    each = bytes(dice.choice(letters) for letters in zip(word.lower(), word.upper()))
+    return dice.choice((word, word.upper(), word.capitalize(), each))
+
+
+def in_any_case(dice, text, names=NAMES):
+    """A text with its names in any case, each place for itself."""
+    return names.sub(lambda name: any_case(dice, name.group()), text)
+
+
+def word_turned(dice, lines):
+    """One word in the other case: a name, an operator or the first of a line."""
+    text = text_of(lines)
+    word = dice.choice(list(WORDS.finditer(text)))
+    return text[: word.start()] + word.group().swapcase() + text[word.end() :]
+
+
+def mixed(dice):
+    """The text of a valid sheet in any case."""
+    return in_any_case(dice, text_of(valid(dice)))
+
+
+def mixed_damaged(dice):
+    """The text of a sheet in any case with one thing changed."""
+    return in_any_case(dice, dice.choice([*DAMAGE, word_turned, word_turned])(dice, valid(dice)))

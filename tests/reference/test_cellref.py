@@ -1,6 +1,7 @@
 #!/usr/bin/env python3
-"""The reference on the papers' own sheets A to K, its two searches for the fewest cells compared with each other, its first
-network with all permitted ones and with those of bench/first/, the lines that refusals name, and the causes of refusal 8."""
+"""The reference on the papers' own sheets A to K, on names in either case, its two searches for the fewest cells compared with each
+other, its first network with all permitted ones and with those of bench/first/, the lines that refusals name, and the causes of
+refusal 8."""
 
 import itertools
 import pathlib
@@ -173,15 +174,15 @@ class Networks(unittest.TestCase):
 A_BLIF = """.model panel
 .inputs a b c d
 .outputs f g
-.names a b c C0
+.names a b c CC_0
 001 1
 010 1
 100 1
 111 1
-.names C0 d f
+.names CC_0 d f
 01 1
 10 1
-.names C0 d g
+.names CC_0 d g
 11 1
 .end
 """
@@ -225,15 +226,15 @@ class Exports(unittest.TestCase):
             "(node h (_1 x y) 10000001)",
             "(count 2)",
         )
-        blocks = [".names b C0", ".names b C1", "0 1", "1 1", ".names x y f", ".names x y g", "00 1", "01 1", "10 1", "11 1"]
-        blocks += [".names C1 x y h", "000 1", "111 1", ".end"]
+        blocks = [".names b CC_0", ".names b CC_1", "0 1", "1 1", ".names x y f", ".names x y g", "00 1", "01 1", "10 1", "11 1"]
+        blocks += [".names CC_1 x y h", "000 1", "111 1", ".end"]
         self.assertEqual(said, [".model panel", ".inputs x b y", ".outputs f g h"] + blocks)
 
     def test_cells_that_no_node_reads(self):
         text = sheet("a b c", "c a", 3, "(xor a c)")
         luts = ["(lut _0 (c a) 0001)", "(lut _1 (c a) 0110)", "(lut _2 (c a) 1000)"]
         said = self.exported(text, *luts, "(node f (_1 b) 0011)", "(count 3)")
-        blocks = [".names c a C0", "11 1", ".names c a C1", "01 1", "10 1", ".names c a C2", "00 1", ".names C1 b f"]
+        blocks = [".names c a CC_0", "11 1", ".names c a CC_1", "01 1", "10 1", ".names c a CC_2", "00 1", ".names CC_1 b f"]
         self.assertEqual(said, [".model panel", ".inputs a b c", ".outputs f"] + blocks + ["10 1", "11 1", ".end"])
 
     def test_examined_as_check_examines(self):
@@ -247,6 +248,86 @@ class Exports(unittest.TestCase):
             self.assertEqual(refusal(cellref.export, over_limit, network[:-1], buffer), (10, 5))
             self.assertEqual(refusal(cellref.export, over_limit, network, buffer), (11, 2))
             self.assertEqual(refusal(cellref.export, over_width, network, buffer), (11, 3))
+
+
+class Capitals(unittest.TestCase):
+    """Names in either case."""
+
+    MIXED = sheet("A B C d", "a B c", 2, "(xor a b C D)", "(and (xor A b c) d)").replace(b"(out g", b"(out G")
+    NETWORK = A_NETWORK.replace("a b c", "A B C").replace("node g", "node G")
+
+    def test_spelled_as_first_given(self):
+        self.assertEqual(cellref.map_sheet(self.MIXED), (1, self.NETWORK))
+        self.assertEqual(cellref.map_sheet(self.MIXED.replace(b"a B c", b"c A b"))[1], self.NETWORK.replace("A B C", "C A B"))
+        blif = A_BLIF.replace("a b c", "A B C").replace("f g", "f G").replace("d g", "d G")
+        for network in (self.NETWORK, A_NETWORK):
+            self.assertEqual(cellref.export(self.MIXED, network.encode("ascii")), blif)
+
+    def test_a_network_in_any_spelling(self):
+        for network in (self.NETWORK, A_NETWORK, A_NETWORK.replace("a b c", "A b C").replace("f (_0 d)", "F (_0 D)")):
+            for text in (A, self.MIXED):
+                self.assertIsNone(cellref.check(text, network.encode("ascii")))
+                self.assertEqual(cellref.check(text, network.replace("0001", "0011").encode("ascii")), (1, 2))
+
+    def test_each_letter_of_a_network(self):
+        """The first word of a line has small letters."""
+        for line, text in enumerate(A_NETWORK.splitlines(), 1):
+            for place, byte in enumerate(text):
+                if byte.isalpha():
+                    turned = A_NETWORK.splitlines()
+                    turned[line - 1] = text[:place] + byte.swapcase() + text[place + 1 :]
+                    said = refusal(cellref.check, A, "".join(part + "\n" for part in turned).encode("ascii"))
+                    self.assertEqual(said, (10, line) if place < len(text.split(" ")[0]) else None)
+
+    def test_refusals(self):
+        refused = {
+            b"(in a b c D A)": (4, 2),
+            b"(in a b c d aB Ab)": (4, 2),
+            b"(in a b c Xor)": (2, 2),
+            b"(in a b c d AND)": (2, 2),
+            b"(bound a b A)": (4, 3),
+            b"(bound a B e)": (5, 3),
+            b"(bound a nOt)": (2, 3),
+            b"(out f (XOR a b c d))": (2, 5),
+            b"(out f Not)": (2, 5),
+            b"(out oR (xor a b c d))": (2, 5),
+            b"(out D 1)": (4, 5),
+            b"(out G 1)": (4, 6),
+            b"(out f (xor A E))": (5, 5),
+        }
+        lines = A.splitlines(keepends=True)
+        for line, wanted in refused.items():
+            number = {b"(in": 2, b"(bound": 3, b"(out": 5}[line.split(b" ")[0]]
+            text = b"".join(lines[: number - 1] + [line + b"\n"] + lines[number:])
+            self.assertEqual(refusal(cellref.map_sheet, text), wanted, line)
+
+    def test_words_that_are_longer_than_operators(self):
+        text = sheet("And1 NOTE xOrs", "note aNd1", 2, "(or AND1 (and NOTe XORS))")
+        self.assertEqual(cellref.table(text, 0), "00011111")
+
+    def test_small_letters_say_the_same(self):
+        """A sheet in any case, valid or damaged, is answered as the one with the same names in small letters."""
+        dice = random.Random(17)
+
+        def lowered(text):
+            return random_sheets.NAMES.sub(lambda name: name.group().lower(), text)
+
+        def answer(text):
+            try:
+                return cellref.map_sheet(text)
+            except cellref.Refusal as refused:
+                return str(refused)
+
+        mapped = 0
+        for _ in range(60):
+            text = random_sheets.in_any_case(dice, random_sheets.text_of(random_sheets.sheet(dice, dice.randrange(1, 6), 3, (0, 1, 2, 3))))
+            said, small = answer(text), answer(lowered(text))
+            mapped += not isinstance(said, str)
+            self.assertEqual(said if isinstance(said, str) else (said[0], said[1].lower()), small)
+        self.assertGreater(mapped, 20)
+        for _ in range(1000):
+            text = random_sheets.mixed_damaged(dice)
+            self.assertEqual(refusal(cellref.examine, text), refusal(cellref.examine, lowered(text)))
 
 
 class Lines(unittest.TestCase):

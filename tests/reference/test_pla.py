@@ -95,7 +95,7 @@ class Panels(unittest.TestCase):
         mapped = causes = 0
         for _ in range(60):
             lines = random_sheets.sheet(dice, dice.randrange(1, 7), 4, (0, 1, 2, 3, 4))
-            sheet = random_sheets.text_of(lines)
+            sheet = random_sheets.in_any_case(dice, random_sheets.text_of(lines))
             pair = random_pairs.of_design(dice, cellref.examine(sheet))
             for output in range(5):
                 self.assertEqual(answer(pla.table, *pair, output), answer(cellref.table, sheet, output))
@@ -107,6 +107,8 @@ class Panels(unittest.TestCase):
             if not isinstance(said, str):
                 mapped += 1
                 network = bytearray(said[1].encode())
+                self.assertIsNone(pla.check(*pair, bytes(network)))
+                network = bytearray(random_sheets.in_any_case(dice, bytes(network), random_sheets.NETWORK_NAMES))
                 self.assertIsNone(pla.check(*pair, bytes(network)))
                 place = dice.choice([i for i, b in enumerate(network) if b in b"01"])
                 network[place] ^= 1

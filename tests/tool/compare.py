@@ -110,7 +110,7 @@ def run_examples():
         name, text = f"examples/{path.name}", path.read_bytes()
         design = cellref.examine(text)
         for o, output in enumerate(design.outputs):
-            for word in (str(o), output.name):
+            for word in (str(o), output.name, output.name.swapcase()):
                 expect(["table", name, word], cellref.digits_of(design, o) + "\n", folder=ROOT)
         if path.with_suffix(".network").exists():
             run_mapped(path, text, design)
@@ -129,6 +129,8 @@ def run_mapped(path, text, design):
     expect(["why", name], f"{name}: maps with {cells} cell{'s' * (cells != 1)}; the limit is {design.limit}\n", folder=ROOT)
     expect(["check", name, network], "same\n", folder=ROOT)
     expect(["why", name, network], "same\n", folder=ROOT)
+    other_case = random_sheets.NETWORK_NAMES.sub(lambda word: word.group().swapcase(), wanted.encode())
+    expect(["check", name, "-"], "same\n", stdin=other_case, folder=ROOT)
     export = cellref.export(text, wanted.encode())
     expect(["export", name, network], export, folder=ROOT)
     expect(["export", name, network, "--abc"], tools.without_inputs_where_without_rows(export), folder=ROOT)
@@ -150,7 +152,7 @@ def run_pla_example():
     found = row_words(design, *cellref.check((EXAMPLES / "departure.sheet").read_bytes(), turned))
     expect(["check", *texts, "-"], found, status=1, stdin=turned, folder=ROOT)
     for o, output in enumerate(design.outputs):
-        for word in (str(o), output.name):
+        for word in (str(o), output.name, output.name.swapcase()):
             expect(["table", *texts, word], cellref.digits_of(design, o) + "\n", folder=ROOT)
 
 
@@ -205,8 +207,8 @@ def answer(question, *texts):
 
 
 def run_random_sheets(dice, count):
-    for _ in range(count):
-        sheet = random_sheets.damaged(dice)
+    for turn in range(count):
+        sheet = random_sheets.mixed_damaged(dice) if turn % 2 else random_sheets.damaged(dice)
         put("a.sheet", sheet)
         digits, refusal = answer(cellref.table, sheet, 0)
         if refusal is None:
@@ -235,7 +237,8 @@ def run_random_networks(dice, count):
     examples = [path for path in sorted(EXAMPLES.glob("*.sheet")) if path.with_suffix(".network").exists()]
     for _ in range(count):
         path = dice.choice(examples)
-        sheet, network = path.read_bytes(), random_pairs.byte_damaged(dice, path.with_suffix(".network").read_bytes())
+        sheet, network = path.read_bytes(), path.with_suffix(".network").read_bytes()
+        network = random_pairs.byte_damaged(dice, random_sheets.in_any_case(dice, network, random_sheets.NETWORK_NAMES))
         words = [path, put("a.network", network)]
         found, refusal = answer(cellref.check, sheet, network)
         if refusal is not None:
@@ -252,7 +255,7 @@ def run_random_causes(dice, count):
     while count > 0:
         lines = random_sheets.sheet(dice, dice.randrange(2, 6), 4, (1, 2, 2, 3))
         lines[3] = f"(limit {dice.randrange(4)})"
-        sheet = random_sheets.text_of(lines)
+        sheet = random_sheets.in_any_case(dice, random_sheets.text_of(lines))
         design = cellref.examine(sheet)
         if is_refused(design):
             put("a.sheet", sheet)
@@ -355,8 +358,8 @@ def abc_reads(questions):
 
 
 def run_abc():
-    """A cell of zeros, an output of zeros, one with no inputs of its own, and one of ones"""
-    sheet = b"(design 1)\n(in a b c)\n(bound a b)\n(limit 2)\n(out f (and c 0))\n(out g (xor a b c))\n(out h (or c 1))\n(end)\n"
+    """A cell of zeros, an output of zeros, one with no inputs of its own, and one of ones; names in either case"""
+    sheet = b"(design 1)\n(in a B c)\n(bound A b)\n(limit 2)\n(out f (and c 0))\n(out G (xor a b C))\n(out h (or c 1))\n(end)\n"
     network = (
         b"(network 1)\n(lut _0 (a b) 0000)\n(lut _1 (a b) 0110)\n(node f (c) 00)\n(node g (_1 c) 0110)\n(node h (c) 11)\n(count 2)\n(end)\n"
     )
@@ -373,7 +376,7 @@ def run_abc():
         digits = [cellref.digits_of(design, o) for o in range(len(design.outputs))]
         path = FOLDER / put(f"exported{number}.blif", wanted.encode())
         questions.append(tools.Question(path, design.inputs, [output.name for output in design.outputs], digits))
-    if ".names C0\n" not in questions[0].path.read_text() or ".names f\n" not in questions[0].path.read_text():
+    if ".names CC_0\n" not in questions[0].path.read_text() or ".names f\n" not in questions[0].path.read_text():
         sys.exit("FAILED: the inputs are not left off")
     if shutil.which("berkeley-abc") is None:
         return progress("texts for ABC; berkeley-abc is not installed, so it did not read them")
