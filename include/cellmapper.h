@@ -16,7 +16,7 @@
  * - Out-parameters are not null, are aligned, and are objects of their own: none overlaps another, a text or a buffer. The
  *   buffer overlaps no text.
  *
- * A call needs stack, which the proof takes for granted: at most 178,000 bytes, measured on the most deeply nested texts and
+ * A call needs stack, which the proof takes for granted: at most 180,000 bytes, measured on the most deeply nested texts and
  * on valid sheets (tests/stack/run, which fails above 256 KiB).
  */
 #ifndef CELLMAPPER_H
@@ -44,12 +44,13 @@ extern "C" {
 uint32_t cellmapper_table(const uint8_t *sheet, size_t sheet_len, size_t output, uint8_t *buffer, size_t buffer_len,
                           size_t *line, size_t *written);
 
-/* Map: the first network sheet in byte order of those with the fewest shared tables for a design sheet.
+/* Map: the first network sheet in byte order of those with the fewest shared tables for a design sheet, names spelled as the
+ * design sheet first gives them: inputs, bound ones too, as in the `in` line, outputs as in their `out` lines.
  *
  * Result 0: the buffer's first *length bytes are a network sheet with *cells lut lines, which is within the limit and the
  * widths and computes every output on every row; no network that does so has fewer lut lines. Each of its shared tables is
- * 0 at vertex 0, and each composition entry whose code no vertex produces is 0. Of all network sheets of which this is true
- * it is the first in byte order, so that a design sheet has one network.
+ * 0 at vertex 0, and each composition entry whose code no vertex produces is 0. Of all network sheets in this spelling of
+ * which this is true it is the first in byte order, so that a design sheet has one network.
  * Refusals: 1 to 5 for the sheet, 7 for more than 16 global classes, 8 where no network within limit and widths computes
  * every output, 9 where buffer_len is less than the network's length. */
 uint32_t cellmapper_map(const uint8_t *sheet, size_t sheet_len, uint8_t *buffer, size_t buffer_len, size_t *line,
@@ -63,7 +64,7 @@ uint32_t cellmapper_map(const uint8_t *sheet, size_t sheet_len, uint8_t *buffer,
  * not refuse the sheet, whether another number does or it maps, *outputs is 0. The result is always 0. */
 uint32_t cellmapper_cause(const uint8_t *sheet, size_t sheet_len, size_t *outputs);
 
-/* Check: a network sheet against a design sheet.
+/* Check: a network sheet against a design sheet. The network sheet may have each name in either case, place by place.
  *
  * Result 0 and *differs 0: the network has the design's value in every output on every row. Result 0 and *differs 1: *output
  * is the lowest output that differs, and *row the lowest row on which it does.
@@ -76,9 +77,9 @@ uint32_t cellmapper_check(const uint8_t *sheet, size_t sheet_len, const uint8_t 
  * design's values is not asked.
  *
  * Result 0: the buffer's first *length bytes are the model `panel` with the sheet's inputs and outputs in its order and a
- * `.names` block for each lut line and each node; the lut line of _0 is the block of C0, and so on. Read by BLIF's rules it has
- * the network's value in every output on every row, and so the design's wherever Check says "same". A table of zeros is a
- * block without rows.
+ * `.names` block for each lut line and each node, with names as Map spells them; the lut line of _0 is the block of CC_0, and so
+ * on. Read by BLIF's rules it has the network's value in every output on every row, and so the design's wherever Check says
+ * "same". A table of zeros is a block without rows.
  * Refusals: those of Check, 1 to 5, 10 and 11, with the same lines; then 9 where buffer_len is less than the text's length. */
 uint32_t cellmapper_export(const uint8_t *sheet, size_t sheet_len, const uint8_t *network, size_t network_len, uint8_t *buffer,
                            size_t buffer_len, size_t *line, size_t *length);

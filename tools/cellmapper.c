@@ -14,6 +14,7 @@
 #include <stdio.h>
 #include <stdlib.h>
 #include <string.h>
+#include <strings.h>
 #include <time.h>
 #include <unistd.h>
 
@@ -267,6 +268,12 @@ static int is_word(struct part part, const char *word)
     return part.length == strlen(word) && memcmp(part.bytes, word, part.length) == 0;
 }
 
+/* Names are the same in capitals and in small letters. */
+static int is_name(struct part part, const char *word)
+{
+    return part.length == strlen(word) && strncasecmp((const char *)part.bytes, word, part.length) == 0;
+}
+
 static struct part input_name(const struct job *job, size_t input)
 {
     return word_of(&job->sheet, is_pla(job) ? 3 : 2, input + 1);
@@ -295,7 +302,7 @@ static size_t output_number(const struct job *job, const char *word)
     if (word[0] != '\0' && word[strspn(word, "0123456789")] == '\0')
         return strtoul(word, NULL, 10); /* the greatest number where it is too large */
     for (output = 0; output < MAX_OUTPUTS; output++)
-        if (is_word(output_name(job, output), word))
+        if (is_name(output_name(job, output), word))
             return output;
     return SIZE_MAX;
 }
@@ -589,7 +596,7 @@ static const struct command commands[] = {
 static const char help[] =
     "cellmapper map SHEET             prints the first network of the fewest cells for a design sheet\n"
     "cellmapper check SHEET NETWORK   says whether a network computes a design: same, or differs with an output and a row\n"
-    "cellmapper table SHEET OUTPUT    prints the digits of an output, which has a name, or a number from 0\n"
+    "cellmapper table SHEET OUTPUT    prints the digits of an output, which has a name, in either case, or a number from 0\n"
     "cellmapper export SHEET NETWORK  prints a network in BLIF, whatever it computes\n"
     "cellmapper why SHEET [NETWORK]   says why a sheet or a network is refused, or with how many cells a sheet maps\n"
     "\n"
