@@ -1,3 +1,0 @@
--- Table has the definitions, TheoremA the theorem.
-pub mod Table
-pub mod TheoremA
