@@ -1,5 +1,5 @@
 #!/usr/bin/env python3
-"""Makes what the program `sheets` is run on: crates/sheets/stdin, and crates/sheets/stdout with what it must write.
+"""Makes what the program `tablecases` is run on: crates/tablecases/stdin, and crates/tablecases/stdout with what it must write.
 
 Each sheet stands here beside the answer that a person expects of it. This script compares every such answer with
 cellref.py, and the program compares it with the library, so that three sources agree. Then come random sheets, valid

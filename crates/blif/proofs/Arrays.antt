@@ -13,10 +13,10 @@ use Rattle.names.specs.Pack.{nameOf}
 use Rattle.sheet.specs.declared.Sheet.{Sheet}
 use Rattle.sheet.proofs.Sheet as sheet
 use Rattle.sheet.proofs.Arrays.{names-sized, outs-sized}
-use Rattle.listing.specs.Listed.{maxNames, shown}
-use Rattle.listing.specs.declared.Names.{Names}
-use Rattle.listing.proofs.Names as names
-use Rattle.writing.proofs.Arrays.{items-counted}
+use Rattle.netnames.specs.Listed.{maxNames, shown}
+use Rattle.netnames.specs.declared.Names.{Names}
+use Rattle.netnames.proofs.Names as names
+use Rattle.netlines.proofs.Arrays.{items-counted}
 
 pub shown-counted : (n : Names) {vs : List Val} → Is names.the-row n vs → n .count ≤ maxNames → length (shown n) ≡ n .count
 shown-counted n g few = length-map (take (n .count) (n .list)) nameOf ∙ items-counted n g few

@@ -15,7 +15,7 @@ use Rattle.network.specs.CheckLaws.{pair-drawn}
 use Rattle.network.specs.OffendingLaws.{offending-none}
 use Rattle.checker.specs.Beside.{BesideIs}
 use Rattle.checker.specs.declared.Beside.{Beside}
-use Rattle.putting.specs.Written.{Written}
+use Rattle.emit.specs.Written.{Written}
 use Rattle.blif.specs.Printer.{printBlif}
 use Rattle.blif.specs.Export.{Exported, written, untouched, exportPair, exportOf, export}
 use Rattle.blif.specs.Room.{textRoom}

@@ -20,7 +20,7 @@ use Rattle.sheet.specs.WellFormed.{WellFormed}
 use Rattle.cells.specs.Lists.{false-where}
 use Rattle.classes.specs.Cases.{not-both}
 use Rattle.network.specs.NamedLaws.{design-named}
-use Rattle.listing.specs.Listed.{underscore}
+use Rattle.netnames.specs.Listed.{underscore}
 use Rattle.blif.specs.Printer.{cellName}
 
 -- ---- other cells

@@ -19,13 +19,13 @@ use Rattle.names.specs.Pack.{pack, nameOf}
 use Rattle.names.specs.PackLaws.{NoZero}
 use Rattle.network.specs.Numbers.{numbersOf}
 use Rattle.network.specs.Printer.{printDigits}
-use Rattle.putting.specs.Written.{itemRoom, Written}
-use Rattle.putting.specs.PutLaws.{put-none, put-next, put-same}
-use Rattle.listing.specs.Listed.{underscore, zeroByte, oneDigit}
-use Rattle.listing.specs.ShownLaws.{front-more}
-use Rattle.listing.specs.NumbersLaws.{digit-held}
+use Rattle.emit.specs.Written.{itemRoom, Written}
+use Rattle.emit.specs.PutLaws.{put-none, put-next, put-same}
+use Rattle.netnames.specs.Listed.{underscore, zeroByte, oneDigit}
+use Rattle.netnames.specs.ShownLaws.{front-more}
+use Rattle.netnames.specs.NumbersLaws.{digit-held}
 use Rattle.blif.specs.Printer.{cellName}
-use Rattle.putting.specs.Upto.{textsUpto}
+use Rattle.emit.specs.Upto.{textsUpto}
 use Rattle.blif.specs.Texts.{itemText, cellText}
 
 -- ---- the number that holds a cell's name

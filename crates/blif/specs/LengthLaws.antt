@@ -30,7 +30,7 @@ use Rattle.network.specs.Wellformed.{Wellformed, nodeAt}
 use Rattle.classes.specs.ProperLaws.{proper-of}
 use Rattle.network.specs.TableBoundLaws.{node-narrow, node-digits-few, lut-digits-few}
 use Rattle.network.specs.Answers.{WithinLimits}
-use Rattle.putting.specs.Written.{itemRoom}
+use Rattle.emit.specs.Written.{itemRoom}
 use Rattle.blif.specs.Printer.{cellName, rowLine, rowLines, block, lutBlocks, nodeBlocks, blifLines, printBlif}
 use Rattle.blif.specs.Longest.{longestRow, longestBlock, longestText}
 

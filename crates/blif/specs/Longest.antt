@@ -2,7 +2,7 @@
 -- design may have. Assumes nothing.
 use Prim.Native.Nat.{ℕ, _+_, _*_, _^_}
 use Rattle.limits.specs.Limits.{maxInputs, maxBound, maxOutputs, maxCells}
-use Rattle.putting.specs.Written.{itemRoom}
+use Rattle.emit.specs.Written.{itemRoom}
 use Rattle.blif.specs.Room.{size, headRoom, endRoom}
 
 -- a block over n inputs: its first line, with what it drives; the line of a row; the block

@@ -16,7 +16,7 @@ use Rattle.network.specs.Check as checks
 use Rattle.network.specs.Check.{Pair, refused-pair, pair, examinePair, comparePair, checkOf}
 use Rattle.network.specs.Answers.{Drawn}
 use Rattle.network.specs.CheckLaws.{compared-not-refused, pair-drawn, drawn-pair}
-use Rattle.putting.specs.StoredLaws.{stored-text, stored-after}
+use Rattle.emit.specs.StoredLaws.{stored-text, stored-after}
 use Rattle.blif.specs.Printer.{printBlif}
 use Rattle.blif.specs.Export.{Exported, refused-by, written, untouched, wrote, putText, exportPair, exportOf}
 use Rattle.blif.specs.Simulated.{ExportRefuses, as-check, by-buffer}

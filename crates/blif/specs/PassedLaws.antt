@@ -27,15 +27,15 @@ use Rattle.network.specs.LineAnswer.{Stands}
 use Rattle.network.specs.Wellformed.{nodeAt}
 use Rattle.network.specs.TableBoundLaws.{node-narrow}
 use Rattle.comparing.specs.DrawingLaws.{digit-stands}
-use Rattle.listing.specs.Listed.{item}
-use Rattle.writing.specs.KnownLaws.{held-name}
-use Rattle.writing.specs.WrittenLaws.{bound-named}
+use Rattle.netnames.specs.Listed.{item}
+use Rattle.netlines.specs.KnownLaws.{held-name}
+use Rattle.netlines.specs.WrittenLaws.{bound-named}
 use Rattle.blif.specs.Printer.{cellName, rowLine, rowLines, block, lutBlocks, nodeBlocks, blifLines, printBlif}
-use Rattle.putting.specs.Upto.{textsUpto}
+use Rattle.emit.specs.Upto.{textsUpto}
 use Rattle.blif.specs.Texts.{rowText, rowsText, blockText, digitsAt, lutText, nodeText, headText}
 use Rattle.blif.specs.Ready.{LutsReady, NodesReady, Passed}
 use Rattle.blif.specs.BlockLaws.{two-counted}
-use Rattle.putting.specs.UptoLaws.{textsFrom, upto-all}
+use Rattle.emit.specs.UptoLaws.{textsFrom, upto-all}
 
 -- ---- rows
 ended-pick : (v : Bool) (l : List ℕ) (ls : List (List ℕ))

@@ -5,7 +5,7 @@ use Prim.Native.String.{String}
 use lib.ListN.{length}
 use Rattle.limits.specs.Limits.{maxInputs, maxOutputs, maxCells, maxRows}
 use Rattle.text.specs.Bytes.{bytes}
-use Rattle.putting.specs.Written.{itemRoom}
+use Rattle.emit.specs.Written.{itemRoom}
 
 -- the bytes of a quoted text
 abbrev pub size : String → ℕ

@@ -12,11 +12,11 @@ use Rattle.rows.specs.Row.{valuesOf}
 use Rattle.text.specs.Bytes.{bytes, newline}
 use Rattle.network.specs.Printer.{printDigits}
 use Rattle.comparing.specs.Code.{isOne}
-use Rattle.putting.specs.Written.{Written}
-use Rattle.putting.specs.PutLaws.{put-none, put-next, put-same}
+use Rattle.emit.specs.Written.{Written}
+use Rattle.emit.specs.PutLaws.{put-none, put-next, put-same}
 use Rattle.blif.specs.Printer.{rowLine}
 use Rattle.blif.specs.Room.{rowRoom}
-use Rattle.putting.specs.Upto.{textsUpto}
+use Rattle.emit.specs.Upto.{textsUpto}
 use Rattle.blif.specs.Texts.{rowText, rowsText}
 
 -- the digit 1

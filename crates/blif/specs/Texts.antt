@@ -13,7 +13,7 @@ use Rattle.names.specs.Names.{printNames}
 use Rattle.names.specs.Pack.{nameOf}
 use Rattle.network.specs.Numbers.{numbersOf}
 use Rattle.comparing.specs.Code.{oneAt}
-use Rattle.putting.specs.Upto.{textsUpto}
+use Rattle.emit.specs.Upto.{textsUpto}
 use Rattle.blif.specs.Printer.{cellName, rowLine}
 
 -- name i of some, and cell i of a mask, after a space

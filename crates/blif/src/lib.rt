@@ -1,6 +1,6 @@
 // Export: a design sheet and a network sheet in, the network as a text in BLIF out, or a refusal. The digits of tables are
-// read where they stand in the network sheet. Rests on checker for the examination of the two sheets, on listing for lists of
-// names and on putting for texts.
+// read where they stand in the network sheet. Rests on checker for the examination of the two sheets, on netnames for lists of
+// names and on emit for texts.
 ghost use mathlib.Core.Path.{_≡_};
 ghost use mathlib.Core.List.{[], _∷_, _++_, map};
 ghost use Prim.Native.Nat.{ℕ, _+_, _*_, _^_, _≤_, _<_};
@@ -18,9 +18,9 @@ ghost use Rattle.network.specs.Network.{Network};
 ghost use Rattle.network.specs.Numbers.{numbersOf};
 ghost use Rattle.network.specs.Printer.{printDigits};
 ghost use Rattle.comparing.specs.Code.{isOne};
-ghost use Rattle.putting.specs.Upto.{textsUpto};
-ghost use Rattle.putting.specs.Written.{reach, itemRoom, Written};
-ghost use Rattle.listing.specs.Listed.{oneDigit, shown};
+ghost use Rattle.emit.specs.Upto.{textsUpto};
+ghost use Rattle.emit.specs.Written.{reach, itemRoom, Written};
+ghost use Rattle.netnames.specs.Listed.{oneDigit, shown};
 ghost use Rattle.blif.specs.Printer.{cellName, rowLine, printBlif};
 ghost use Rattle.blif.specs.Export as spec;
 ghost use Rattle.blif.specs.Answer.{exportAnswer};
@@ -28,7 +28,7 @@ ghost use Rattle.blif.specs.Room.{headRoom, cellsRoom, rowRoom, rowsRoom
 ghost use Rattle.blif.specs.Texts.{cellText, digitsAt, rowsText, blockText, lutText, nodeText, headText};
 ghost use Rattle.blif.specs.Ready.{LutsReady, NodeReady, NodesReady, SomePassed, Passed};
 use design::Examined;
-use listing::Names;
+use netnames::Names;
 use netsheet::NetworkSheet;
 use sheet::Sheet;
 
@@ -59,8 +59,8 @@ fn put_item(buf: &mut [u8], at: usize, v: u64) -> usize
     requires { ⌜ at + itemRoom ≤ reach ⌝ }
     ensures { λ r. ⌜ Written itemRoom (now (buf .entry)) (now (buf .exit)) at r (space ∷ nameOf v) ⌝ }
 {
-    let p = putting::put_byte(buf, at, b' ');
-    putting::put_name(buf, p, v)
+    let p = emit::put_byte(buf, at, b' ');
+    emit::put_name(buf, p, v)
 }
 
 // The names ns, each after a space.
@@ -93,7 +93,7 @@ fn put_cell(buf: &mut [u8], at: usize, mask: u8, i: usize) -> usize
     requires { ⌜ (at + itemRoom ≤ reach) × (i < oneDigit) ⌝ }
     ensures { λ r. ⌜ Written itemRoom (now (buf .entry)) (now (buf .exit)) at r (cellText mask i) ⌝ }
 {
-    if !bits::has(listing::wide(mask), i as u32) {
+    if !bits::has(netnames::wide(mask), i as u32) {
         return at;
     }
     put_item(buf, at, cell_name(i))
@@ -122,7 +122,7 @@ fn put_inputs(buf: &mut [u8], at: usize, n: usize, r: usize) -> usize
     let mut i = n;
     while 0 < i {
         i -= 1;
-        p = putting::put_digit(buf, p, bits::has(r as u64, i as u32));
+        p = emit::put_digit(buf, p, bits::has(r as u64, i as u32));
     }
     p
 }
@@ -138,9 +138,9 @@ fn put_row(buf: &mut [u8], at: usize, n: usize, r: usize, digit: u8) -> usize
     }
     let p = put_inputs(buf, at, n, r);
     if n == 0 {
-        return putting::put_text(buf, p, b"1\n");
+        return emit::put_text(buf, p, b"1\n");
     }
-    putting::put_text(buf, p, b" 1\n")
+    emit::put_text(buf, p, b" 1\n")
 }
 
 // The lines of the rows of value 1 of a table of n inputs, whose digits stand in t from a place on.
@@ -164,10 +164,10 @@ fn put_lut(buf: &mut [u8], at: usize, t: &[u8], bs: Names, i: usize, place: usiz
     ensures { λ r. ⌜ Written blockRoom (now (buf .entry)) (now (buf .exit)) at r
         (blockText (shown bs) (cellName i) (digitsAt (now (t .entry)) place)) ⌝ }
 {
-    let p = putting::put_text(buf, at, b".names");
+    let p = emit::put_text(buf, at, b".names");
     let q = put_listed(buf, p, bs);
     let r = put_item(buf, q, cell_name(i));
-    let s = putting::put_byte(buf, r, b'\n');
+    let s = emit::put_byte(buf, r, b'\n');
     put_rows(buf, s, t, place, bs.count)
 }
 
@@ -205,11 +205,11 @@ fn put_node(
         (blockText (map cellName (numbersOf luts mask) ++ shown fs) (nameOf name) (digitsAt (now (t .entry)) place)) ⌝ }
 {
     let n = checker::count(mask, luts) + fs.count;
-    let p = putting::put_text(buf, at, b".names");
+    let p = emit::put_text(buf, at, b".names");
     let q = put_cells(buf, p, luts, mask);
     let r = put_listed(buf, q, fs);
     let s = put_item(buf, r, name);
-    let v = putting::put_byte(buf, s, b'\n');
+    let v = emit::put_byte(buf, s, b'\n');
     put_rows(buf, v, t, place, n)
 }
 
@@ -244,11 +244,11 @@ fn put_head(buf: &mut [u8], at: usize, k: Sheet) -> usize
     let outs = k.outs;
     let inputs = k.inputs;
     let outputs = k.outputs;
-    let p = putting::put_text(buf, at, b".model panel\n.inputs");
+    let p = emit::put_text(buf, at, b".model panel\n.inputs");
     let q = put_items(buf, p, &names[..inputs]);
-    let r = putting::put_text(buf, q, b"\n.outputs");
+    let r = emit::put_text(buf, q, b"\n.outputs");
     let s = put_items(buf, r, &outs[..outputs]);
-    putting::put_byte(buf, s, b'\n')
+    emit::put_byte(buf, s, b'\n')
 }
 
 // The whole text, from the buffer's start; the tables stand in the network sheet t.
@@ -259,12 +259,12 @@ fn put_blif(buf: &mut [u8], t: &[u8], k: Sheet, n: NetworkSheet) -> usize
 {
     let names = k.names;
     let places = k.bound;
-    let bs = listing::bound_names(names, places, k.bounds);
-    let fs = listing::free_names(names, k.inputs, bs);
+    let bs = netnames::bound_names(names, places, k.bounds);
+    let fs = netnames::free_names(names, k.inputs, bs);
     let p = put_head(buf, 0, k);
     let q = put_luts(buf, p, t, bs, n);
     let r = put_nodes(buf, q, t, fs, k, n);
-    putting::put_text(buf, r, b".end\n")
+    emit::put_text(buf, r, b".end\n")
 }
 
 // Export, after what the examination of a design answered. A first pass into no buffer gives the length.

@@ -7,7 +7,7 @@ use Prim.Native.Nat.{ℕ}
 use Rattle.bits.specs.Digit.{on}
 use Rattle.bits.specs.DigitLaws.{on-zero}
 use Rattle.cells.specs.Lists.{never-both}
-use Rattle.memory.specs.Memory.{Honest}
+use Rattle.cache.specs.Cache.{Honest}
 use Rattle.border.specs.Line.{ZeroFirst}
 
 -- vertex 0 is not known to be 1

@@ -5,7 +5,7 @@
 // vertices in 2 digits, the numbers of outputs and the limit in a digit each, a digit for each budget or - where none fits, the
 // label of each output at each vertex, the number of given tables in 2 digits, what they are at each vertex, and the known digits
 // of the first open cell or . at each vertex. Where something is known vertex 0 counts as known to be 0. A problem that differs
-// from the one before in its known digits and limit alone is asked with what was remembered of questions that do not read the
+// from the one before in its known digits and limit alone is asked with what was remembered of subproblems that do not read the
 // first open cell.
 ghost use mathlib.Core.Path.{_≡_};
 ghost use mathlib.Core.Bool.{true};
@@ -15,10 +15,10 @@ ghost use lib.ListN.{length};
 ghost use Rattle.limits.specs.Limits.{searchOutputs, maxVertices, labelCount};
 ghost use Rattle.numbering.specs.Given.{item};
 ghost use Rattle.relation.specs.Relation.{Classes};
-ghost use Rattle.memory.specs.Memory.{Honest};
-ghost use Rattle.choosing.specs.Choice.{maxGiven};
+ghost use Rattle.cache.specs.Cache.{Honest};
+ghost use Rattle.readingsets.specs.Choice.{maxGiven};
 ghost use Rattle.border.specs.Line.{lineLength, ZeroFirst};
-use choosing::MAX_GIVEN;
+use readingsets::MAX_GIVEN;
 use libc::STDERR_FILENO;
 use libc::STDIN_FILENO;
 use libc::STDOUT_FILENO;
@@ -287,7 +287,7 @@ fn same_tables(a: &[u16], b: &[u16]) -> bool
     true
 }
 
-// The problem that the memory is about, but for its budgets: the labels of the outputs that are asked about, the given tables,
+// The problem that the cache is about, but for its budgets: the labels of the outputs that are asked about, the given tables,
 // the number of vertices, and the known digits.
 struct Past {
     labels: [u8; LABELS],
@@ -307,12 +307,12 @@ fn recall(past: Past, labels: &[u8], tables: &[u16], vertices: usize, mem: &mut 
     if past.vertices == vertices {
         if same_labels(&past.labels, labels) {
             if same_tables(&past.tables, tables) {
-                memory::keep_unread(mem);
+                cache::keep_unread(mem);
                 return;
             }
         }
     }
-    memory::clear(mem);
+    cache::clear(mem);
 }
 
 // Every output has a budget, or none has.
@@ -397,7 +397,7 @@ fn put_answer(line: &[u8], a: Answer)
     io::write_all(STDERR_FILENO, b" us\n");
 }
 
-// Answers the problem of a line after that of past, which the memory is about. The problem that it is about then.
+// Answers the problem of a line after that of past, which the cache is about. The problem that it is about then.
 fn report(line: &[u8], past: Past, mem: &mut [u16]) -> Past
     requires { ⌜ (length (now line) ≡ lineLength) × ZeroFirst (past .kn) (past .val) × Honest (past .labels) (past .tables) (past .kn) (past .val) (past .vertices) (now mem) ⌝ }
     ensures { λ r. ⌜ ZeroFirst (r .kn) (r .val) × Honest (r .labels) (r .tables) (r .kn) (r .val) (r .vertices) (now (mem .exit)) ⌝ }
@@ -436,7 +436,7 @@ fn report(line: &[u8], past: Past, mem: &mut [u16]) -> Past
 
 fn main() {
     let mut line = [0u8; LINE];
-    let mut mem = [0u16; memory::SIZE];
+    let mut mem = [0u16; cache::SIZE];
     let mut past = Past {
         labels: [0u8; LABELS],
         tables: [0u16; MAX_VERTICES],

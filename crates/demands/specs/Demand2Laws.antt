@@ -19,7 +19,7 @@ use Rattle.design.specs.Tabulate.{Tabulated, tableOf, tableDigits, rowCount, un
 use Rattle.network.specs.Printer.{printNetwork}
 use Rattle.network.specs.CheckLaws.{check-compares, same-check}
 use Rattle.network.specs.CompareLaws.{compared-same}
-use Rattle.putting.specs.StoredLaws.{stored-text, stored-at, stored-after}
+use Rattle.emit.specs.StoredLaws.{stored-text, stored-at, stored-after}
 use Rattle.mapper.specs.Map.{MapAnswer, mapped, OutcomeFor, too-many-classes, no-network, buffer-short, written, OutcomeOf, Outcome}
 use Rattle.demands.specs.OutcomeLaws.{outcome-for}
 use Rattle.demands.specs.Demand2.{TableRight, RightNetwork, Demand2}

@@ -23,7 +23,7 @@ use Rattle.network.specs.SpellingLaws.{print-spells, spells-lines}
 use Rattle.network.specs.CompareLaws.{same-or-differs, compared-same}
 use Rattle.network.specs.CheckLaws.{check-compares}
 use Rattle.network.specs.PrintedLaws.{printed-drawn, printed-same, drawn-wellformed, drawn-within}
-use Rattle.putting.specs.StoredLaws.{stored-text}
+use Rattle.emit.specs.StoredLaws.{stored-text}
 use Rattle.mapper.specs.Map.{Permitted, MapAnswer, refused-by, mapped, OutcomeFor, too-many-classes, no-network, buffer-short, written, OutcomeOf, Outcome}
 use Rattle.demands.specs.OutcomeLaws.{outcome-for}
 use Rattle.demands.specs.SizeLaws.{print-fits}

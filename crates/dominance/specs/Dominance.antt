@@ -7,7 +7,7 @@ use lib.ListN.{length, getD}
 use Rattle.limits.specs.Limits.{searchOutputs, maxVertices, labelCount}
 use Rattle.numbering.specs.Given.{labelAt, item}
 use Rattle.relation.specs.Relation.{Inside}
-use Rattle.orders.specs.Order.{Indices}
+use Rattle.sorting.specs.Order.{Indices}
 
 -- output q tells apart all that output o has to, and has its budget
 pub record Dominates (cl budgets : List ℕ) (v o q : ℕ) : Type 0 where

@@ -13,7 +13,7 @@ use Rattle.cells.specs.Lists.{less-or-equal, filled-more}
 use Rattle.numbering.specs.Given.{labelAt, item}
 use Rattle.relation.specs.Relation.{Classes, Conflict}
 use Rattle.relation.specs.RelationLaws.{same-labels-conflict}
-use Rattle.orders.specs.Order.{Order, Indices, indices-set}
+use Rattle.sorting.specs.Order.{Order, Indices, indices-set}
 use Rattle.dominance.specs.Kept.{StandFor, Placed}
 use Rattle.dominance.specs.Dominance.{Dominates, Choosing, Chosen, Picked, Taken}
 

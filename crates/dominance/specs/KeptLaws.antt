@@ -10,8 +10,8 @@ use Rattle.cells.specs.Core.{Cell, Serves, cellsFrom}
 use Rattle.cells.specs.Renumbered.{renumbered, ReadsAs, reads-as-append, serves-as, renumbered-length, renumbered-code, cells-read-as, read-by-reads-as}
 use Rattle.numbering.specs.Given.{item}
 use Rattle.relation.specs.Relation.{Conflict}
-use Rattle.questions.specs.Question.{openOf}
-use Rattle.choosing.specs.Choice.{RowFits}
+use Rattle.subproblems.specs.Subproblem.{openOf}
+use Rattle.readingsets.specs.Choice.{RowFits}
 use Rattle.seeking.specs.Seeking.{Tables, Known, Lacks, openCells, givenCells, Has, Sought}
 use Rattle.dominance.specs.Kept.{StandFor, Placed}
 use Rattle.dominance.specs.KeptCells.{origin, renumbered-append, all-serves-kept}

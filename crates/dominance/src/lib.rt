@@ -1,14 +1,14 @@
 // Which outputs a search is asked about, and in which order. An output that has to tell apart no more than another one with the
 // same budget is dominated by it and left out: it reads what the other reads. Of those kept, the outputs whose classes fill most
 // of the codes that their budgets allow come first: they leave the least choice. What is found for those kept, or that there is
-// nothing, holds for all (specs/KeptLaws). It rests on relation and orders, and on the definitions of seeking.
+// nothing, holds for all (specs/KeptLaws). It rests on relation and sorting, and on the definitions of seeking.
 ghost use mathlib.Core.Path.{_≡_};
 ghost use Prim.Native.Nat.{ℕ, _<_, _≤_};
 ghost use lib.ListN.{length};
 ghost use Rattle.limits.specs.Limits.{searchOutputs, maxVertices, labelCount};
 ghost use Rattle.numbering.specs.Given.{item};
 ghost use Rattle.relation.specs.Relation.{Classes};
-ghost use Rattle.orders.specs.Order.{Indices};
+ghost use Rattle.sorting.specs.Order.{Indices};
 ghost use Rattle.dominance.specs.Kept.{StandFor, Placed};
 ghost use Rattle.dominance.specs.Dominance.{Dominator, Chosen, Picked, Taken};
 use limits::LABELS;
@@ -94,7 +94,7 @@ fn chosen(cl: &[u8], budgets: [u8; SEARCH_OUTPUTS], v: usize, m: usize) -> Choic
     requires { ⌜ Classes (now cl) × (v ≤ maxVertices) × (m ≤ searchOutputs) ⌝ }
     ensures { λ r. ⌜ Chosen (now (cl .entry)) budgets v m (r .count) (r .from) (r .by) ⌝ }
 {
-    let order = orders::falling(ranks(cl, budgets, v, m), m);
+    let order = sorting::falling(ranks(cl, budgets, v, m), m);
     let mut from = [0u8; SEARCH_OUTPUTS];
     let mut by = [0u8; SEARCH_OUTPUTS];
     let mut n: usize = 0;

@@ -20,7 +20,7 @@ use Rattle.cells.specs.Codes.{cells-length, cells-zero}
 use Rattle.cells.specs.FullSize.{readBy, xor-same}
 use Rattle.numbering.specs.Given.{labelAt, item}
 use Rattle.relation.specs.Relation.{Conflict}
-use Rattle.questions.specs.Question.{openOf}
+use Rattle.subproblems.specs.Subproblem.{openOf}
 use Rattle.seeking.specs.Seeking.{Tables, Known, Lacks, openCells, givenCells, Sought}
 use Rattle.seeking.specs.SeekingLaws.{fit-open}
 use Rattle.dominance.specs.Kept.{StandFor}

@@ -6,7 +6,7 @@ ghost use Prim.Native.Nat.{_*_, _≤_};
 ghost use lib.ListN.{length};
 ghost use Rattle.limits.specs.Limits.{searchOutputs, maxVertices, maxCells};
 ghost use Rattle.relation.specs.Relation.{Classes};
-ghost use Rattle.memory.specs.Memory.{entryCount, entrySize};
+ghost use Rattle.cache.specs.Cache.{entryCount, entrySize};
 ghost use Rattle.fewest.specs.Count.{Zeroed, Opened, Answered};
 use limits::MAX_VERTICES;
 use limits::SEARCH_OUTPUTS;
@@ -42,14 +42,14 @@ fn opened(rows: [u16; SEARCH_OUTPUTS]) -> [u8; SEARCH_OUTPUTS]
     let mut r = [0u8; SEARCH_OUTPUTS];
     let mut o: usize = 0;
     while o < SEARCH_OUTPUTS {
-        r[o] = questions::open_of(rows[o]);
+        r[o] = subproblems::open_of(rows[o]);
         o += 1;
     }
     r
 }
 
 // The fewest cells, up to the limit, that serve m outputs with these classes of v vertices and these budgets. The search is
-// asked about the outputs that none of the others dominates. The memory that it uses is lent, and holds nothing of what it held.
+// asked about the outputs that none of the others dominates. The cache that it uses is lent, and holds nothing of what it held.
 pub fn fewest(
     cl: &[u8],
     budgets: [u8; SEARCH_OUTPUTS],
@@ -65,7 +65,7 @@ pub fn fewest(
     let asked = kept.budgets;
     let by = kept.by;
     let given = [0u16; MAX_VERTICES];
-    memory::clear(mem);
+    cache::clear(mem);
     let mut nodes: u64 = 0;
     let mut u: u8 = 0;
     while u <= limit {

@@ -21,9 +21,9 @@ use Rattle.order.specs.Tables.{shaped-at}
 use Rattle.order.specs.LeastTables.{table}
 use Rattle.numbering.specs.Given.{item}
 use Rattle.relation.specs.Relation.{Conflict}
-use Rattle.questions.specs.Question.{openOf}
+use Rattle.subproblems.specs.Subproblem.{openOf}
 use Rattle.seeking.specs.Seeking.{Tables, Known, Lacks, Has, Sought, openCells, givenCells}
-use Rattle.memory.specs.Memory.{Honest}
+use Rattle.cache.specs.Cache.{Honest}
 use Rattle.witness.specs.Witness.{Witness, Digits, Joined}
 use Rattle.first.specs.Drawn.{shown, Upto, Stands, Remembers, Replied}
 use Rattle.first.specs.DrawnLaws.{agrees-before, agrees-here, agrees-zero, shown-shaped, shown-digit, shown-agrees}

@@ -13,7 +13,7 @@ use Rattle.order.specs.Tables.{Shaped}
 use Rattle.order.specs.LeastTables.{UptoTables, Agrees}
 use Rattle.numbering.specs.Given.{item}
 use Rattle.relation.specs.Relation.{Conflict}
-use Rattle.memory.specs.Memory.{Honest}
+use Rattle.cache.specs.Cache.{Honest}
 use Rattle.witness.specs.Witness.{Witness}
 
 -- the tables of the u cells in codes; who reads them does not matter
@@ -44,7 +44,7 @@ pub record Stands (codes : List ℕ) (i v : ℕ) (given : List ℕ) : Type 0 whe
   pub long : length given ≡ maxVertices
   pub digits : (k x : ℕ) → k < i → x < v → on (item given x) k ≡ on (item codes x) k
 
--- a memory that is honest for some known digits of the first open cell, which is not known to be 1 at vertex 0
+-- a cache that is honest for some known digits of the first open cell, which is not known to be 1 at vertex 0
 pub record Remembers (cl given : List ℕ) (v : ℕ) (mem : List ℕ) : Type 0 where
   pub kn : ℕ
   pub val : ℕ

@@ -10,7 +10,7 @@ use Rattle.bits.specs.Digit.{on}
 use Rattle.bits.specs.DigitLaws.{on-zero}
 use Rattle.order.specs.LeastTables.{UptoTables, tables-none, own-zero, tables-same, tables-zero, tables-one, tables-next}
 use Rattle.numbering.specs.Given.{item}
-use Rattle.memory.specs.Memory.{Honest}
+use Rattle.cache.specs.Cache.{Honest}
 use Rattle.witness.specs.Witness.{Witness, Keeps, Front}
 use Rattle.first.specs.Drawn.{shown, Drawn, Lowest, Stands, Remembers, Replied}
 use Rattle.first.specs.DrawnLaws.{agrees-before, shown-shaped, shown-digit, shown-take, shown-take-digits, witness-drawn}
@@ -84,6 +84,6 @@ stands-kept i n v codes given r k t = record { long = t .long; digits = λ j y p
 pub stands-front : (i v : ℕ) (codes given : List ℕ) → v ≤ 32 → Front codes i given → Stands codes i v given
 stands-front i v codes given few f = record { long = f .long; digits = λ k x p q. f .kept x k (omega arith) p }
 
--- ======== a memory that says nothing
+-- ======== a cache that says nothing
 pub remembers-none : (cl given : List ℕ) (v : ℕ) (mem : List ℕ) → Honest cl given 0 0 v mem → Remembers cl given v mem
 remembers-none cl given v mem h = record { kn = 0; val = 0; free = λ _. on-zero 0; honest = h }

@@ -7,7 +7,7 @@ ghost use Prim.Native.Nat.{_+_, _*_, _<_, _≤_};
 ghost use lib.ListN.{length};
 ghost use Rattle.limits.specs.Limits.{searchOutputs, maxVertices, maxCells};
 ghost use Rattle.relation.specs.Relation.{Classes};
-ghost use Rattle.memory.specs.Memory.{entryCount, entrySize};
+ghost use Rattle.cache.specs.Cache.{entryCount, entrySize};
 ghost use Rattle.witness.specs.Witness.{Witness};
 ghost use Rattle.first.specs.First.{Answered};
 ghost use Rattle.first.specs.Drawn.{Lowest, Upto, Stands, Remembers, Replied};
@@ -61,7 +61,7 @@ fn ask(
     ensures { λ r. ⌜ Replied (now (cl .entry)) (p .budgets) (p .vertices) (p .outputs) (p .cells) codes i x (r .ok) (r .codes)
         × Remembers (now (cl .entry)) (now (given .entry)) (p .vertices) (now (mem .exit)) ⌝ }
 {
-    memory::keep_unread(mem);
+    cache::keep_unread(mem);
     let budgets = p.budgets;
     let q = seeking::Problem {
         budgets,
@@ -141,7 +141,7 @@ fn least_table(
 {
     let mut least = witness::sorted(codes, i, p.cells, 0, p.vertices);
     let given = witness::front(least, i);
-    memory::clear(mem);
+    cache::clear(mem);
     let mut total = nodes;
     let mut x: usize = 0;
     while x < p.vertices {
@@ -194,7 +194,7 @@ pub fn first(
     requires { ⌜ Classes (now cl) × (v ≤ maxVertices) × (m ≤ searchOutputs) × (limit ≤ maxCells) ⌝ }
     ensures { λ r. ⌜ Answered (now (cl .entry)) budgets v m limit (r .found) (r .count) (r .rows) (r .codes) ⌝ }
 {
-    let mut mem = [0u16; memory::SIZE];
+    let mut mem = [0u16; cache::SIZE];
     let core = fewest::fewest(cl, budgets, v, m, limit, &mut mem);
     if !core.found {
         return core;

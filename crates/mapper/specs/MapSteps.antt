@@ -21,8 +21,8 @@ use Rattle.network.specs.Network.{Network}
 use Rattle.network.specs.Printer.{printNetwork}
 use Rattle.numbering.specs.Given.{item}
 use Rattle.first.specs.First.{Answered}
-use Rattle.writing.specs.Lines.{Fitting}
-use Rattle.writing.specs.NodeLaws.{shape-fitting}
+use Rattle.netlines.specs.Lines.{Fitting}
+use Rattle.netlines.specs.NodeLaws.{shape-fitting}
 use Rattle.serving.specs.Build.{built}
 use Rattle.serving.specs.TheoremA.{built-luts}
 use Rattle.mapper.specs.Map.{First, MapAnswer, refused-by, mapped, OutcomeFor, too-many-classes, no-network, buffer-short, written, OutcomeOf}

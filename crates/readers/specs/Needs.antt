@@ -1,4 +1,4 @@
--- The reasons of the crate bounds hold for every core that tells apart: vertices of class l of o in different classes of one part of q
+-- The reasons of the crate lowerbounds hold for every core that tells apart: vertices of class l of o in different classes of one part of q
 -- have different codes in what q reads; those with one block of o differ in the cells that q reads and o does not, and are
 -- at most 2 to the number of these. So the blocks are at least the classes of q divided by that. Assumes nothing.
 use mathlib.Core.Path.{_≡_, refl, sym, ap, ap₂, _∙_, subst}
@@ -22,7 +22,7 @@ use Rattle.cells.specs.Pigeon.{Agree, agree-and, and-agree, pigeon, buckets}
 use Rattle.cells.specs.Codes.{Coded}
 use Rattle.cells.specs.Shared.{sharedCode}
 use Rattle.numbering.specs.Given.{labelAt, partAt, partOf, item}
-use Rattle.bounds.specs.Reasons.{Kinds, apart, Reason, Based}
+use Rattle.lowerbounds.specs.Reasons.{Kinds, apart, Reason, Based}
 use Rattle.readers.specs.Masks.{Short, Common, Planned, Bounds}
 
 -- n - 1 buckets of p hold less than g, and z buckets of p hold g: n is at most z

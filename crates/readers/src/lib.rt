@@ -134,9 +134,9 @@ fn plan(
         let p = r & !sh;
         ms[o] = m;
         ps[o] = p;
-        let a = bounds::power(bounds::digits(p));
+        let a = lowerbounds::power(lowerbounds::digits(p));
         caps[o] = a;
-        let b = bounds::power(bounds::digits(r));
+        let b = lowerbounds::power(lowerbounds::digits(r));
         spots[o] = b;
         o += 1;
     }
@@ -216,7 +216,7 @@ fn useful(rows: [u8; SEARCH_OUTPUTS], j: usize, g: u8, done: u8) -> bool
     if g & done != 0 {
         return false;
     }
-    if bounds::digits(g) < 2 {
+    if lowerbounds::digits(g) < 2 {
         return false;
     }
     uniform(rows, j, g)
@@ -285,7 +285,7 @@ pub fn possible(cl: &[u8], v: usize, j: usize, rows: [u8; SEARCH_OUTPUTS]) -> bo
     let sh = shared(rows, j);
     let p = plan(v, j, rows, 0, 0, sh);
     let spots = p.spots;
-    let base = bounds::bases(cl, v, j, rows);
+    let base = lowerbounds::bases(cl, v, j, rows);
     let mut o = 0;
     while o < j {
         let t = holding::total(cl, &base, o, &[0u8; MAX_VERTICES]);
@@ -314,7 +314,7 @@ fn search(
     let p = plan(v, j, rows, kn, val, sh);
     let ms = p.ms;
     let bs = holding::blocks(ms, p.outputs);
-    let base = bounds::bases(cl, p.vertices, p.outputs, rows);
+    let base = lowerbounds::bases(cl, p.vertices, p.outputs, rows);
     let b = begin(p.kn, p.val);
     let codes = b.codes;
     let mut d = b.dom;

@@ -13,8 +13,8 @@ use Rattle.cells.specs.Codes.{codeOf}
 use Rattle.cells.specs.FullSize.{readBy}
 use Rattle.numbering.specs.Given.{item}
 use Rattle.relation.specs.Relation.{Conflict}
-use Rattle.questions.specs.Question.{openOf}
-use Rattle.choosing.specs.Choice.{RowFits}
+use Rattle.subproblems.specs.Subproblem.{openOf}
+use Rattle.readingsets.specs.Choice.{RowFits}
 
 -- g cells with the given tables: cell i has at vertex x digit i of item given x
 pub record Tables (given : List ℕ) (v g : ℕ) (l : List Cell) : Type 0 where

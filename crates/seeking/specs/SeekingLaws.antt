@@ -1,6 +1,6 @@
--- What choosing finds and what it rules out, in words of cells. A core that serves is made to read as many tables as it may,
+-- What readingsets finds and what it rules out, in words of cells. A core that serves is made to read as many tables as it may,
 -- and its open cells are made 0 at vertex 0 (FullSize of cells); its rows and the codes of its open cells are then a core of
--- choosing. The way back puts the open cells and the given tables after one another. Assumes nothing.
+-- readingsets. The way back puts the open cells and the given tables after one another. Assumes nothing.
 use mathlib.Core.Path.{_≡_, refl, sym, ap, ap₂, _∙_, subst, fun-ext}
 use mathlib.Core.Bool.{Bool, true, false}
 use mathlib.Core.List.{List, [], _∷_, _++_}
@@ -25,9 +25,9 @@ use Rattle.cells.specs.FullSize.{Full, readBy, between, cleared, code-first, fu
 use Rattle.numbering.specs.Given.{item, Fixed}
 use Rattle.relation.specs.Relation.{Conflict}
 use Rattle.coding.specs.Limit.{noLimit, Sure}
-use Rattle.questions.specs.Question.{openOf, givenOf}
-use Rattle.choosing.specs.Choice.{RowFits, numbered, firstOutputs, Core, Rows, Alike, Found, Lost, Chosen}
-use Rattle.choosing.specs.ChoiceLaws.{count-sum, count-row, numberOf, number-row, number-low, numbered-open, numbered-given, given-low, first-outputs-low}
+use Rattle.subproblems.specs.Subproblem.{openOf, givenOf}
+use Rattle.readingsets.specs.Choice.{RowFits, numbered, firstOutputs, Core, Rows, Alike, Found, Lost, Chosen}
+use Rattle.readingsets.specs.ChoiceLaws.{count-sum, count-row, numberOf, number-row, number-low, numbered-open, numbered-given, given-low, first-outputs-low}
 use Rattle.seeking.specs.Seeking.{Tables, Known, Begins, Lacks, openCells, givenCells, Has, Sought, AllFit, SoughtWhere, roundCount, Places}
 
 -- ======== digits
@@ -83,7 +83,7 @@ fit-open budget u row few f =
     ∙ ap (λ (z : ℕ). count (on (openOf row)) 6 + z) (sym (count-none (on (givenOf row)) 10 (λ i. on-above 0 (givenOf row) i (f .tables-low) (omega arith))))
     ∙ sym (count-row row) ∙ f .full ∙ ap (min budget) (let e : u + 0 ≡ u = omega arith in e)
 
--- ======== from cells to a core of choosing
+-- ======== from cells to a core of readingsets
 known-first : (kn val v : ℕ) (l : List Cell) → 0 < length l → Known kn val v l → (x : ℕ) → x < v → on kn x ≡ true → on (codeOf l x) 0 ≡ on val x
 known-first kn val v [] h k x a e = absurd (omega arith)
 known-first kn val v (c ∷ l) h k x a e = code-first c l x ∙ k x a e
@@ -136,7 +136,7 @@ module _ (cl given budgets : List ℕ) (kn val v m u g : ℕ) (few : u ≤ 6) (r
       zero = z;
     }
 
-  -- where no core of choosing has any rows, no cells serve
+  -- where no core of readingsets has any rows, no cells serve
   pub lost-lacks : Begins kn val u → (rows : List ℕ) → Lost cl given budgets kn val v m u g 0 rows → Lacks cl given budgets kn val v m u g
   lost-lacks begins none lost = record {
     none = λ l ts e t k s.
@@ -238,7 +238,7 @@ module _ (cl given budgets : List ℕ) (kn val v m u g : ℕ) (rows codes : List
   first-known zero = tt
   first-known (suc n) = found .answers .fixed
 
-  -- rows and codes of choosing are cells that serve
+  -- rows and codes of readingsets are cells that serve
   pub found-has : Has cl given budgets kn val v m u g rows codes
   found-has = record {
     fit = fit;

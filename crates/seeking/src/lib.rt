@@ -1,4 +1,4 @@
-// A core of so many open cells beside given tables, or there is none. The crate choosing is asked in rounds with growing
+// A core of so many open cells beside given tables, or there is none. The crate readingsets is asked in rounds with growing
 // limits: what takes long is left until all else is tried, and "none" is said only by a round that gave nothing up.
 ghost use mathlib.Core.Path.{_≡_};
 ghost use mathlib.Core.Bool.{true, false};
@@ -7,8 +7,8 @@ ghost use lib.ListN.{length};
 ghost use Rattle.limits.specs.Limits.{searchOutputs, maxVertices, maxCells};
 ghost use Rattle.relation.specs.Relation.{Classes};
 ghost use Rattle.coding.specs.Limit.{noLimit};
-ghost use Rattle.memory.specs.Memory.{Honest};
-ghost use Rattle.choosing.specs.Choice.{maxGiven};
+ghost use Rattle.cache.specs.Cache.{Honest};
+ghost use Rattle.readingsets.specs.Choice.{maxGiven};
 ghost use Rattle.seeking.specs.Seeking.{Begins, Sought, AllFit, SoughtWhere, roundCount, Places};
 use limits::MAX_VERTICES;
 use limits::SEARCH_OUTPUTS;
@@ -33,7 +33,7 @@ fn places(u: u8, kn: u32) -> u8
     if u == 0 {
         return 0;
     }
-    let all = bounds::power(u - 1) - 1;
+    let all = lowerbounds::power(u - 1) - 1;
     if kn != 0 { all & !1 } else { all }
 }
 
@@ -76,7 +76,7 @@ fn all_nodes(i: u64, known: bool) -> u64
 
 // Cells as p says, or there are none. Where a round is unsure since it gave something up, the next one has higher limits. What
 // a round learnt to have no codes stays known.
-pub fn seek(cl: &[u8], given: &[u16], mem: &mut [u16], p: Problem, nodes: u64) -> choosing::Choice
+pub fn seek(cl: &[u8], given: &[u16], mem: &mut [u16], p: Problem, nodes: u64) -> readingsets::Choice
     requires { ⌜ Classes (now cl) × (length (now given) ≡ maxVertices) × (p .vertices ≤ maxVertices) × (p .outputs ≤ searchOutputs) × (p .cells ≤ maxCells) × (p .tables ≤ maxGiven)
         × Begins (p .kn) (p .val) (p .cells) × Honest (now cl) (now given) (p .kn) (p .val) (p .vertices) (now mem) ⌝ }
     ensures { λ r. ⌜ Sought (now (cl .entry)) (now (given .entry)) (p .budgets) (p .kn) (p .val) (p .vertices) (p .outputs) (p .cells) (p .tables) (r .ok) (r .rows) (r .codes)
@@ -85,11 +85,11 @@ pub fn seek(cl: &[u8], given: &[u16], mem: &mut [u16], p: Problem, nodes: u64) -
     let none = [0u16; SEARCH_OUTPUTS];
     let same = places(p.cells, p.kn);
     let budgets = p.budgets;
-    let alone = choosing::alone(cl, given, budgets, p.vertices, p.outputs, p.cells, p.tables);
+    let alone = readingsets::alone(cl, given, budgets, p.vertices, p.outputs, p.cells, p.tables);
     let mut total = nodes;
     let mut i: u64 = 0;
     loop {
-        let round = choosing::Problem {
+        let round = readingsets::Problem {
             budgets,
             vertices: p.vertices,
             outputs: p.outputs,
@@ -101,11 +101,11 @@ pub fn seek(cl: &[u8], given: &[u16], mem: &mut [u16], p: Problem, nodes: u64) -
             last: all_nodes(i, p.kn != 0),
             alone,
         };
-        let k = choosing::choose(cl, given, mem, round, none, 0, same, total);
+        let k = readingsets::choose(cl, given, mem, round, none, 0, same, total);
         if !k.unsure {
             return k;
         }
-        memory::forget(mem);
+        cache::forget(mem);
         total = k.nodes;
         i += 1;
     }
@@ -134,14 +134,14 @@ pub fn seek_where(
     p: Problem,
     fits: u8,
     nodes: u64,
-) -> choosing::Choice
+) -> readingsets::Choice
     requires { ⌜ Classes (now cl) × (length (now given) ≡ maxVertices) × (p .vertices ≤ maxVertices) × (p .outputs ≤ searchOutputs) × (p .cells ≤ maxCells) × (p .tables ≤ maxGiven)
         × Begins (p .kn) (p .val) (p .cells) × Honest (now cl) (now given) (p .kn) (p .val) (p .vertices) (now mem) ⌝ }
     ensures { λ r. ⌜ SoughtWhere fits (now (cl .entry)) (now (given .entry)) (p .budgets) (p .kn) (p .val) (p .vertices) (p .outputs) (p .cells) (p .tables) (r .ok) (r .rows) (r .codes)
         × Honest (now (cl .entry)) (now (given .entry)) (p .kn) (p .val) (p .vertices) (now (mem .exit)) ⌝ }
 {
     if !all_fit(fits, p.outputs) {
-        return choosing::Choice {
+        return readingsets::Choice {
             ok: false,
             unsure: false,
             rows: [0u16; SEARCH_OUTPUTS],

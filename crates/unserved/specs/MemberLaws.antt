@@ -6,7 +6,7 @@ use native.Mathlib.Omega.{arith}
 use Rattle.cells.specs.Core.{Cell, Serves}
 use Rattle.numbering.specs.Given.{labelAt, item}
 use Rattle.relation.specs.Relation.{Conflict}
-use Rattle.orders.specs.Order.{Indices}
+use Rattle.sorting.specs.Order.{Indices}
 use Rattle.dominance.specs.Dominance.{Picked, Taken}
 use Rattle.dominance.specs.DominanceLaws.{taken-at}
 use Rattle.subsets.specs.SubsetLaws.{size-most}

@@ -14,7 +14,7 @@ use Rattle.cells.specs.Free.{padded, padded-length, padded-serves}
 use Rattle.cells.specs.Renumbered.{renumbered, renumbered-length}
 use Rattle.numbering.specs.Given.{item}
 use Rattle.relation.specs.Relation.{Conflict}
-use Rattle.questions.specs.Question.{openOf}
+use Rattle.subproblems.specs.Subproblem.{openOf}
 use Rattle.seeking.specs.Seeking.{Lacks, openCells, Sought}
 use Rattle.dominance.specs.Kept.{StandFor}
 use Rattle.dominance.specs.KeptCells.{origin, all-serves-kept, kept-serves-all}

@@ -6,7 +6,7 @@ ghost use Prim.Native.Nat.{_*_, _≤_};
 ghost use lib.ListN.{length};
 ghost use Rattle.limits.specs.Limits.{searchOutputs, maxVertices, maxCells};
 ghost use Rattle.relation.specs.Relation.{Classes};
-ghost use Rattle.memory.specs.Memory.{entryCount, entrySize};
+ghost use Rattle.cache.specs.Cache.{entryCount, entrySize};
 ghost use Rattle.unserved.specs.Unserved.{Answered};
 ghost use Rattle.unserved.specs.Asking.{FitBelow, Stand, Decided, Sifted};
 use limits::MAX_VERTICES;
@@ -38,7 +38,7 @@ fn served(kept: dominance::Asked, v: usize, limit: u8, mem: &mut [u16]) -> bool
 {
     let asked = kept.budgets;
     let given = [0u16; MAX_VERTICES];
-    memory::clear(mem);
+    cache::clear(mem);
     let p = seeking::Problem {
         budgets: asked,
         vertices: v,
@@ -66,7 +66,7 @@ fn first_of(
     requires { ⌜ Classes (now cl) × (v ≤ maxVertices) × (m ≤ searchOutputs) × (limit ≤ maxCells) × (length (now mem) ≡ entryCount * entrySize) × FitBelow (now cl) budgets v m limit k ⌝ }
     ensures { λ r. ⌜ Sifted (now (cl .entry)) budgets v m limit k r × (length (now (mem .exit)) ≡ entryCount * entrySize) ⌝ }
 {
-    let mut r = choosing::first_outputs(m);
+    let mut r = readingsets::first_outputs(m);
     while r > 0 {
         let s = subsets::of_rank(r, m);
         let l = subsets::members(s, m);
@@ -89,8 +89,8 @@ pub fn unserved(cl: &[u8], budgets: [u8; SEARCH_OUTPUTS], v: usize, m: usize, li
     requires { ⌜ Classes (now cl) × (v ≤ maxVertices) × (m ≤ searchOutputs) × (limit ≤ maxCells) ⌝ }
     ensures { λ r. ⌜ Answered (now (cl .entry)) budgets v m limit r ⌝ }
 {
-    let mut mem = [0u16; memory::SIZE];
-    let all = choosing::first_outputs(m);
+    let mut mem = [0u16; cache::SIZE];
+    let all = readingsets::first_outputs(m);
     if served(kept_of(cl, budgets, v, m, all), v, limit, &mut mem) {
         return 0;
     }

@@ -10,7 +10,7 @@ use denote.Struct.Laws as LL
 use Rattle.limits.specs.Limits.{maxVertices, maxFreeRows}
 use Rattle.classes.specs.declared.Shape.{Shape}
 use Rattle.classes.proofs.Shape as shape
-use Rattle.writing.specs.Lines.{Fitting}
+use Rattle.netlines.specs.Lines.{Fitting}
 use Rattle.writer.specs.declared.Plan.{Plan}
 use Rattle.writer.proofs.Plan as P
 use Rattle.writer.proofs.Plan.Laws as P′

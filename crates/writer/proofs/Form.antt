@@ -16,7 +16,7 @@ use denote.Signature.{plain, mutSlice}
 use denote.Triple.Spec.{tripleOf}
 use denote.Triple.Statement.{Contract}
 use denote.Triple.Clauses.{Ended, Clauses, closing}
-use Rattle.putting.specs.Written.{Written}
+use Rattle.emit.specs.Written.{Written}
 use Rattle.writer.specs.Appended.{Appended}
 use Rattle.writer.proofs.Writer.Laws as T′
 use Rattle.writer.proofs.Kind.{Kind}

@@ -4,10 +4,10 @@ use mathlib.Core.List.{List}
 use Prim.Native.Nat.{ℕ, _+_, _≤_, _<_}
 use denote.RattleType.{RattleType}
 use denote.Builtin.{usize}
-use Rattle.putting.specs.Written.{reach}
-use Rattle.listing.specs.Listed.{oneDigit}
-use Rattle.writing.specs.Lines.{headLine, lastLines}
-use Rattle.writing.specs.Room.{headRoom, lutsRoom, nodesRoom, endRoom}
+use Rattle.emit.specs.Written.{reach}
+use Rattle.netnames.specs.Listed.{oneDigit}
+use Rattle.netlines.specs.Lines.{headLine, lastLines}
+use Rattle.netlines.specs.Room.{headRoom, lutsRoom, nodesRoom, endRoom}
 use Rattle.writer.specs.Plans.{Fit, lutLines, nodeLines}
 use Rattle.writer.proofs.Plan as P
 use Rattle.writer.proofs.Plain.{Plain, number, plan}

@@ -27,7 +27,7 @@ use denote.Triple.Statement.{Triple}
 use denote.Triple.Call.{calls-at}
 use denote.Triple.Clauses.{ensured, lasts}
 use denote.Triple.Walked.{says}
-use Rattle.putting.specs.Written.{Written}
+use Rattle.emit.specs.Written.{Written}
 use Rattle.writer.proofs.Kind.{Kind}
 use Rattle.writer.proofs.Form.{covered, covered-clauses, Covered}
 use Rattle.writer.proofs.Lent.{bytes-at, machine, Loan, lend, regain}

@@ -4,7 +4,7 @@ use mathlib.Core.List.{List}
 use Prim.Native.Nat.{ℕ, _≤_}
 use lib.ListN.{length}
 use denote.Ref.{now}
-use Rattle.putting.specs.Written.{Written}
+use Rattle.emit.specs.Written.{Written}
 use Rattle.writer.specs.declared.Writer.{Writer}
 use Rattle.writer.specs.Appended.{after}
 

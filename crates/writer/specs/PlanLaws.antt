@@ -11,9 +11,9 @@ use Rattle.classes.specs.Proper.{Proper}
 use Rattle.classes.specs.Answer.{ShapeIs}
 use Rattle.network.specs.Printer.{printNetwork}
 use Rattle.serving.specs.Build.{built}
-use Rattle.listing.specs.Listed.{shown, item}
-use Rattle.writing.specs.Lines.{headLine}
-use Rattle.writing.specs.WrittenLaws.{sheet-written}
+use Rattle.netnames.specs.Listed.{shown, item}
+use Rattle.netlines.specs.Lines.{headLine}
+use Rattle.netlines.specs.WrittenLaws.{sheet-written}
 use Rattle.writer.specs.declared.Plan.{Plan}
 use Rattle.writer.specs.Plans.{lutLines, nodeLines, allLines}
 

@@ -9,8 +9,8 @@ use Rattle.sheet.specs.Known.{tableAt}
 use Rattle.bits.specs.Values.{valuesUpto}
 use Rattle.network.specs.Printer.{printLut, printNode}
 use Rattle.serving.specs.Build.{numbers}
-use Rattle.listing.specs.Listed.{maxNames, shown, item}
-use Rattle.writing.specs.Lines.{headLine, linesUpto, lastLines, nodeBy, Fitting}
+use Rattle.netnames.specs.Listed.{maxNames, shown, item}
+use Rattle.netlines.specs.Lines.{headLine, linesUpto, lastLines, nodeBy, Fitting}
 use Rattle.writer.specs.declared.Plan.{Plan}
 
 -- as many names, outputs and tables as there may be

@@ -1,6 +1,6 @@
 // The network sheet put down line after line through a writer, which holds the lent buffer and the place of the next byte.
 // Each of its methods takes it by value, has one kind of line put down by a function on the slice and the place, and gives
-// back a writer whose place is after the text. Rests on writing for the lines and on listing for the names.
+// back a writer whose place is after the text. Rests on netlines for the lines and on netnames for the names.
 ghost use mathlib.Core.Path.{_≡_};
 ghost use Prim.Native.Nat.{_+_, _≤_, _<_};
 ghost use lib.ListN.{length};
@@ -12,14 +12,14 @@ ghost use Rattle.classes.specs.Proper.{Proper};
 ghost use Rattle.classes.specs.Answer.{ShapeIs};
 ghost use Rattle.network.specs.Printer.{printNetwork};
 ghost use Rattle.serving.specs.Build.{built};
-ghost use Rattle.putting.specs.Written.{reach, Written};
-ghost use Rattle.listing.specs.Listed.{oneDigit, item};
-ghost use Rattle.writing.specs.Room.{headRoom, lutsRoom, nodesRoom, endRoom, sheetRoom};
-ghost use Rattle.writing.specs.Lines.{headLine, lastLines, Fitting};
+ghost use Rattle.emit.specs.Written.{reach, Written};
+ghost use Rattle.netnames.specs.Listed.{oneDigit, item};
+ghost use Rattle.netlines.specs.Room.{headRoom, lutsRoom, nodesRoom, endRoom, sheetRoom};
+ghost use Rattle.netlines.specs.Lines.{headLine, lastLines, Fitting};
 ghost use Rattle.writer.specs.Plans.{Fit, lutLines, nodeLines, allLines};
 ghost use Rattle.writer.specs.Appended.{Appended};
 use classes::Shape;
-use listing::Names;
+use netnames::Names;
 use sheet::Sheet;
 
 // The edition of network sheets.
@@ -50,7 +50,7 @@ fn put_lut_lines(buf: &mut [u8], at: usize, p: Plan) -> usize
 {
     let sh = p.shape;
     let codes = p.codes;
-    writing::put_luts(buf, at, p.bound, p.tables, codes, sh.vertices)
+    netlines::put_luts(buf, at, p.bound, p.tables, codes, sh.vertices)
 }
 
 // The lines of a plan's outputs.
@@ -65,7 +65,7 @@ fn put_node_lines(buf: &mut [u8], at: usize, p: Plan) -> usize
     let f = sh.frees;
     let rows = p.rows;
     let codes = p.codes;
-    writing::put_nodes(
+    netlines::put_nodes(
         buf,
         at,
         p.sheet,
@@ -85,7 +85,7 @@ impl<'a> Writer<'a> {
         ensures { λ r. ⌜ Appended headRoom (self .entry) r (headLine edition) ⌝ }
     {
         let at = self.at;
-        let next = writing::put_head(&mut *self.out, at, edition);
+        let next = netlines::put_head(&mut *self.out, at, edition);
         Writer {
             out: self.out,
             at: next,
@@ -124,7 +124,7 @@ impl<'a> Writer<'a> {
         ensures { λ r. ⌜ Appended endRoom (self .entry) r (lastLines u) ⌝ }
     {
         let at = self.at;
-        let next = writing::put_end(&mut *self.out, at, u);
+        let next = netlines::put_end(&mut *self.out, at, u);
         Writer {
             out: self.out,
             at: next,
@@ -157,8 +157,8 @@ pub fn put_network(
 {
     let names = k.names;
     let places = k.bound;
-    let bound = listing::bound_names(names, places, k.bounds);
-    let free = listing::free_names(names, k.inputs, bound);
+    let bound = netnames::bound_names(names, places, k.bounds);
+    let free = netnames::free_names(names, k.inputs, bound);
     put_sheet(
         buf,
         Plan {

@@ -3,7 +3,7 @@ use mathlib.Core.Path.{ap}
 use native.Mathlib.Omega.{arith}
 use lib.ListN.{length}
 use borrow.Author.Needs.{needs}
-use Rattle.putting.specs.PutLaws.{put-next, put-then}
+use Rattle.emit.specs.PutLaws.{put-next, put-then}
 use Rattle.blif.specs.PassedLaws.{bound-shown, free-shown, luts-ready, nodes-ready, text-is}
 use Rattle.blif.proofs.put_blif.Statement.{statement}
 use Rattle.blif.proofs.put_blif.Tie as tie

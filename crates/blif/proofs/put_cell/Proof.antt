@@ -1,7 +1,7 @@
 -- `put_cell`: nothing, or the cell's name after a space. Assumes nothing.
 use borrow.Author.Tests.{not-true, not-false}
 use borrow.Author.Needs.{needs}
-use Rattle.listing.specs.NumbersLaws.{digit-read}
+use Rattle.netnames.specs.NumbersLaws.{digit-read}
 use Rattle.blif.specs.ItemLaws.{cell-absent, cell-present}
 use Rattle.blif.proofs.put_cell.Statement.{statement}
 use Rattle.blif.proofs.put_cell.Tie as tie

@@ -2,9 +2,9 @@
 use Prim.Native.Nat.{_-_}
 use native.Mathlib.Omega.{arith}
 use borrow.Author.Needs.{needs}
-use Rattle.putting.specs.Written.{itemRoom}
-use Rattle.putting.specs.PutLaws.{put-length}
-use Rattle.putting.specs.UptoLaws.{Texts, texts-none, texts-put, texts-all}
+use Rattle.emit.specs.Written.{itemRoom}
+use Rattle.emit.specs.PutLaws.{put-length}
+use Rattle.emit.specs.UptoLaws.{Texts, texts-none, texts-put, texts-all}
 use Rattle.blif.specs.Texts.{cellText}
 use Rattle.blif.specs.ItemLaws.{cells-text}
 use Rattle.blif.proofs.put_cells.Statement.{statement}

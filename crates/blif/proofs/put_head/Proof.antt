@@ -3,7 +3,7 @@ use mathlib.Core.Path.{sym}
 use native.Mathlib.Omega.{arith}
 use borrow.Author.Needs.{needs}
 use Rattle.sheet.proofs.Arrays.{names-sized, outs-sized}
-use Rattle.putting.specs.PutLaws.{put-next, put-then}
+use Rattle.emit.specs.PutLaws.{put-next, put-then}
 use Rattle.blif.specs.BlockLaws.{head-text}
 use Rattle.blif.proofs.Arrays.{inputs-counted, outputs-counted}
 use Rattle.blif.proofs.put_head.Statement.{statement}

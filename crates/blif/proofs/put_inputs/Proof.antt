@@ -1,7 +1,7 @@
 -- `put_inputs`: each turn puts the value of one input more, the first input first. Assumes nothing.
 use native.Mathlib.Omega.{arith}
 use borrow.Author.Needs.{needs}
-use Rattle.putting.specs.PutLaws.{put-length}
+use Rattle.emit.specs.PutLaws.{put-length}
 use Rattle.blif.specs.ItemLaws.{Inputs, inputs-none, inputs-more, inputs-all}
 use Rattle.blif.proofs.put_inputs.Statement.{statement}
 use Rattle.blif.proofs.put_inputs.Tie as tie

@@ -2,7 +2,7 @@
 use mathlib.Core.Path.{refl}
 use native.Mathlib.Omega.{arith}
 use borrow.Author.Needs.{needs}
-use Rattle.putting.specs.PutLaws.{put-next}
+use Rattle.emit.specs.PutLaws.{put-next}
 use Rattle.blif.proofs.put_item.Statement.{statement}
 use Rattle.blif.proofs.put_item.Tie as tie
 

@@ -4,8 +4,8 @@ use native.Mathlib.Omega.{arith}
 use borrow.Author.Needs.{needs}
 use Rattle.names.specs.Pack.{nameOf}
 use Rattle.names.specs.Name.{Name}
-use Rattle.putting.specs.PutLaws.{put-next, put-then}
-use Rattle.listing.specs.Listed.{shown}
+use Rattle.emit.specs.PutLaws.{put-next, put-then}
+use Rattle.netnames.specs.Listed.{shown}
 use Rattle.blif.specs.Texts.{digitsAt, blockText}
 use Rattle.blif.specs.BlockLaws.{block-text}
 use Rattle.blif.proofs.Arrays.{shown-counted}

@@ -3,9 +3,9 @@ use mathlib.Core.Path.{refl}
 use Prim.Native.Nat.{_-_}
 use native.Mathlib.Omega.{arith}
 use borrow.Author.Needs.{needs}
-use Rattle.putting.specs.UptoLaws.{Texts, texts-none, texts-put, texts-all}
-use Rattle.putting.specs.PutLaws.{put-length}
-use Rattle.listing.specs.Listed.{shown}
+use Rattle.emit.specs.UptoLaws.{Texts, texts-none, texts-put, texts-all}
+use Rattle.emit.specs.PutLaws.{put-length}
+use Rattle.netnames.specs.Listed.{shown}
 use Rattle.blif.specs.Texts.{lutText}
 use Rattle.blif.specs.Room.{blockRoom}
 use Rattle.blif.proofs.put_luts.Statement.{statement}

@@ -2,8 +2,8 @@
 use Prim.Native.Nat.{_-_}
 use native.Mathlib.Omega.{arith}
 use borrow.Author.Needs.{needs}
-use Rattle.putting.specs.UptoLaws.{Texts, texts-none, texts-put, texts-all}
-use Rattle.putting.specs.PutLaws.{put-length}
+use Rattle.emit.specs.UptoLaws.{Texts, texts-none, texts-put, texts-all}
+use Rattle.emit.specs.PutLaws.{put-length}
 use Rattle.blif.specs.RowLaws.{rows-few, rows-text}
 use Rattle.blif.specs.Texts.{rowText, digitsAt}
 use Rattle.blif.specs.Room.{rowRoom}

@@ -4,8 +4,8 @@ use Prim.Native.Nat.{_-_, _≤_}
 use native.Mathlib.Omega.{arith}
 use lib.ListN.{length}
 use Rattle.cells.specs.Lists.{zeros-are}
-use Rattle.memory.specs.Memory.{Honest}
-use Rattle.memory.specs.MemoryLaws.{honest-start}
+use Rattle.cache.specs.Cache.{Honest}
+use Rattle.cache.specs.CacheLaws.{honest-start}
 use Rattle.border.specs.Line.{lineLength, ZeroFirst}
 use borrow.Author.Needs.{needs}
 use Rattle.border.proofs.main.Statement.{statement}

@@ -6,8 +6,8 @@ use Rattle.border.proofs.recall.Reads as reads
 use Rattle.border.proofs.recall.Lts as lts
 use Rattle.border.proofs.same_labels.Reads as same-labels-reads
 use Rattle.border.proofs.same_tables.Reads as same-tables-reads
-use Rattle.memory.proofs.clear.Reads as clear-reads
-use Rattle.memory.proofs.keep_unread.Reads as keep-unread-reads
+use Rattle.cache.proofs.clear.Reads as clear-reads
+use Rattle.cache.proofs.keep_unread.Reads as keep-unread-reads
 
 same-labels-requires : tie.Need-same-labels-requires
 same-labels-requires c κs = search needs

@@ -2,7 +2,7 @@ use mathlib.Core.Path.{sym, _∙_}
 use Prim.Native.Nat.{_+_, _-_, _≤_}
 use native.Mathlib.Omega.{arith}
 use Rattle.limits.specs.Limits.{maxCells}
-use Rattle.memory.specs.Memory.{Honest}
+use Rattle.cache.specs.Cache.{Honest}
 use Rattle.seeking.specs.Seeking.{Begins}
 use Rattle.border.specs.Line.{begins, begins-more}
 use borrow.Author.Needs.{needs}

@@ -15,7 +15,7 @@ use Rattle.dominance.proofs.chosen.Reads as reads
 use Rattle.dominance.proofs.chosen.Lts as lts
 use Rattle.dominance.proofs.dominator.Reads as dominator-reads
 use Rattle.dominance.proofs.ranks.Reads as ranks-reads
-use Rattle.orders.proofs.falling.Reads as falling-reads
+use Rattle.sorting.proofs.falling.Reads as falling-reads
 
 abbrev Inv-loop : tie.InvT-loop
 Inv-loop cl budgets v m order from₀ by₀ n₀ i₀ from by n i = (i ≤ m) × Choosing cl budgets v m order i n from by

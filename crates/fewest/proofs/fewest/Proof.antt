@@ -1,6 +1,6 @@
 use Rattle.fewest.specs.Count.{NoFewer, no-fewer-start, no-fewer-more, no-fewer-kept, answer-found, answer-none}
 use Rattle.dominance.specs.KeptLaws.{kept-sought}
-use Rattle.memory.specs.Memory.{Honest}
+use Rattle.cache.specs.Cache.{Honest}
 use lib.ListN.{length}
 use native.Mathlib.Omega.{arith}
 use Prim.Native.Nat.{_≤_, _+_, _-_}
@@ -15,7 +15,7 @@ use Rattle.dominance.proofs.kept.Reads as kept-reads
 use Rattle.dominance.proofs.placed.Reads as placed-reads
 use Rattle.fewest.proofs.opened.Reads as opened-reads
 use Rattle.fewest.proofs.zero_first.Reads as zero-first-reads
-use Rattle.memory.proofs.clear.Reads as clear-reads
+use Rattle.cache.proofs.clear.Reads as clear-reads
 use Rattle.seeking.proofs.seek.Reads as seek-reads
 
 abbrev Inv-loop : tie.InvT-loop

@@ -7,7 +7,7 @@ use Rattle.fewest.proofs.opened.Statement.{statement}
 use Rattle.fewest.proofs.opened.Tie as tie
 use Rattle.fewest.proofs.opened.Reads as reads
 use Rattle.fewest.proofs.opened.Lts as lts
-use Rattle.questions.proofs.open_of.Reads as open-of-reads
+use Rattle.subproblems.proofs.open_of.Reads as open-of-reads
 
 abbrev Inv-loop : tie.InvT-loop
 Inv-loop rows r₀ o₀ r o = (o ≤ 8) × Opened rows o r

@@ -8,7 +8,7 @@ use Rattle.first.proofs.least_table.Tie as tie
 use Rattle.first.proofs.least_table.Reads as reads
 use Rattle.first.proofs.least_table.Lts as lts
 use Rattle.first.proofs.least_digit.Reads as least-digit-reads
-use Rattle.memory.proofs.clear.Reads as clear-reads
+use Rattle.cache.proofs.clear.Reads as clear-reads
 use Rattle.witness.proofs.front.Reads as front-reads
 use Rattle.witness.proofs.sorted.Reads as sorted-reads
 

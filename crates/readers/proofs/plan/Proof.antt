@@ -7,8 +7,8 @@ use Rattle.readers.proofs.plan.Statement.{statement}
 use Rattle.readers.proofs.plan.Tie as tie
 use Rattle.readers.proofs.plan.Reads as reads
 use Rattle.readers.proofs.plan.Lts as lts
-use Rattle.bounds.proofs.digits.Reads as digits-reads
-use Rattle.bounds.proofs.power.Reads as power-reads
+use Rattle.lowerbounds.proofs.digits.Reads as digits-reads
+use Rattle.lowerbounds.proofs.power.Reads as power-reads
 
 abbrev Inv-loop : tie.InvT-loop
 Inv-loop v j kn val sh rows ms₀ ps₀ caps₀ spots₀ o₀ ms ps caps spots o = (o ≤ j) × Planned rows sh o ms ps caps spots

@@ -9,7 +9,7 @@ use Rattle.readers.proofs.possible.Statement.{statement}
 use Rattle.readers.proofs.possible.Tie as tie
 use Rattle.readers.proofs.possible.Reads as reads
 use Rattle.readers.proofs.possible.Lts as lts
-use Rattle.bounds.proofs.bases.Reads as bases-reads
+use Rattle.lowerbounds.proofs.bases.Reads as bases-reads
 use Rattle.holding.proofs.total.Reads as total-reads
 use Rattle.readers.proofs.plan.Reads as plan-reads
 use Rattle.readers.proofs.shared.Reads as shared-reads

@@ -17,7 +17,7 @@ use Rattle.readers.proofs.search.Statement.{statement}
 use Rattle.readers.proofs.search.Tie as tie
 use Rattle.readers.proofs.search.Reads as reads
 use Rattle.readers.proofs.search.Lts as lts
-use Rattle.bounds.proofs.bases.Reads as bases-reads
+use Rattle.lowerbounds.proofs.bases.Reads as bases-reads
 use Rattle.coding.proofs.find.Reads as find-reads
 use Rattle.coding.proofs.mark.Reads as mark-reads
 use Rattle.coding.proofs.meet.Reads as meet-reads

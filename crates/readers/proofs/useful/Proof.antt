@@ -5,7 +5,7 @@ use Rattle.readers.proofs.useful.Statement.{statement}
 use Rattle.readers.proofs.useful.Tie as tie
 use Rattle.readers.proofs.useful.Reads as reads
 use Rattle.readers.proofs.useful.Lts as lts
-use Rattle.bounds.proofs.digits.Reads as digits-reads
+use Rattle.lowerbounds.proofs.digits.Reads as digits-reads
 use Rattle.readers.proofs.uniform.Reads as uniform-reads
 
 returns : tie.Need-returns

@@ -1,6 +1,6 @@
 use Rattle.seeking.specs.SeekingLaws.{rows-start, alike-start, chosen-sought, unsure-early}
 use Rattle.seeking.specs.Seeking.{Places}
-use Rattle.memory.specs.Memory.{Honest}
+use Rattle.cache.specs.Cache.{Honest}
 use borrow.Author.Tests.{not-true, not-false}
 use lib.ListN.{length}
 use native.Mathlib.Omega.{arith}
@@ -11,9 +11,9 @@ use Rattle.seeking.proofs.seek.Statement.{statement}
 use Rattle.seeking.proofs.seek.Tie as tie
 use Rattle.seeking.proofs.seek.Reads as reads
 use Rattle.seeking.proofs.seek.Lts as lts
-use Rattle.choosing.proofs.alone.Reads as alone-reads
-use Rattle.choosing.proofs.choose.Reads as choose-reads
-use Rattle.memory.proofs.forget.Reads as forget-reads
+use Rattle.readingsets.proofs.alone.Reads as alone-reads
+use Rattle.readingsets.proofs.choose.Reads as choose-reads
+use Rattle.cache.proofs.forget.Reads as forget-reads
 use Rattle.seeking.proofs.all_nodes.Reads as all-nodes-reads
 use Rattle.seeking.proofs.places.Reads as places-reads
 use Rattle.seeking.proofs.some_nodes.Reads as some-nodes-reads

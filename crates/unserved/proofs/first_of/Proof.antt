@@ -1,4 +1,4 @@
-use Rattle.memory.specs.Memory.{entryCount, entrySize}
+use Rattle.cache.specs.Cache.{entryCount, entrySize}
 use Rattle.unserved.specs.SiftedLaws.{sift-start, sift-other, sift-served, sift-fewer, sift-found, sift-end}
 use Rattle.unserved.specs.QuestionLaws.{stand-fits, stand-lacking}
 use Rattle.unserved.specs.Asking.{FitFrom}

@@ -1,4 +1,4 @@
-use Rattle.memory.specs.Memory.{entryCount, entrySize}
+use Rattle.cache.specs.Cache.{entryCount, entrySize}
 use Rattle.unserved.specs.AnsweredLaws.{below-start, below-more, answer-served, answer-found, answer-all}
 use Rattle.unserved.specs.QuestionLaws.{stand-fits, stand-lacking}
 use Rattle.unserved.specs.Asking.{FitBelow}

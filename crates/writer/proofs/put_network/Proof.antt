@@ -1,8 +1,8 @@
 -- `put_network`: the lines of the plan are the network sheet of a design that the sheet holds. Assumes nothing.
 use native.Mathlib.Omega.{arith}
 use borrow.Author.Needs.{needs}
-use Rattle.putting.specs.PutLaws.{put-same}
-use Rattle.writing.specs.Room.{sheetRoom}
+use Rattle.emit.specs.PutLaws.{put-same}
+use Rattle.netlines.specs.Room.{sheetRoom}
 use Rattle.writer.specs.PlanLaws.{lines-are-sheet}
 use Rattle.writer.proofs.Arrays.{vertices-held, frees-held}
 use Rattle.writer.proofs.put_network.Statement.{statement}

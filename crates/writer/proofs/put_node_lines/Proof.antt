@@ -2,7 +2,7 @@
 use mathlib.Core.Path.{sym}
 use lib.Seq.{length-take-le}
 use borrow.Author.Needs.{needs}
-use Rattle.writing.specs.NodeLaws.{fitting-bounded}
+use Rattle.netlines.specs.NodeLaws.{fitting-bounded}
 use Rattle.writer.specs.Plans.{nodeLines}
 use Rattle.writer.proofs.Arrays.{plan-vertices-held, plan-frees-held}
 use Rattle.writer.proofs.put_node_lines.Statement.{statement}

@@ -40,10 +40,10 @@ use denote.Triple.Walked.{says, needs, Stays, stay-none, stay-slice, walkOf, goe
 use denote.Exit.{yes}
 use denote.Signature.{plain}
 use denote.Signature.Struct.{makes}
-use Rattle.putting.specs.Written.{Written}
-use Rattle.putting.specs.PutLaws.{put-then}
-use Rattle.writing.specs.Lines.{headLine, lastLines}
-use Rattle.writing.specs.Room.{headRoom, lutsRoom, nodesRoom, endRoom, sheetRoom}
+use Rattle.emit.specs.Written.{Written}
+use Rattle.emit.specs.PutLaws.{put-then}
+use Rattle.netlines.specs.Lines.{headLine, lastLines}
+use Rattle.netlines.specs.Room.{headRoom, lutsRoom, nodesRoom, endRoom, sheetRoom}
 use Rattle.writer.specs.declared.Plan.{Plan}
 use Rattle.writer.specs.declared.Writer.{Writer}
 use Rattle.writer.specs.Appended.{after}
