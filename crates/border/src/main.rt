@@ -18,13 +18,13 @@ ghost use Rattle.relation.specs.Relation.{Classes};
 ghost use Rattle.cache.specs.Cache.{Honest};
 ghost use Rattle.readingsets.specs.Choice.{maxGiven};
 ghost use Rattle.border.specs.Line.{lineLength, ZeroFirst};
-use readingsets::MAX_GIVEN;
 use libc::STDERR_FILENO;
 use libc::STDIN_FILENO;
 use libc::STDOUT_FILENO;
 use limits::LABELS;
 use limits::MAX_VERTICES;
 use limits::SEARCH_OUTPUTS;
+use readingsets::MAX_GIVEN;
 
 // Where the parts of a line start, after a space each, and its length, with the line feed.
 const VERTICES: usize = 4;

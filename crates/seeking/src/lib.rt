@@ -76,7 +76,13 @@ fn all_nodes(i: u64, known: bool) -> u64
 
 // Cells as p says, or there are none. Where a round is unsure since it gave something up, the next one has higher limits. What
 // a round learnt to have no codes stays known.
-pub fn seek(cl: &[u8], given: &[u16], mem: &mut [u16], p: Problem, nodes: u64) -> readingsets::Choice
+pub fn seek(
+    cl: &[u8],
+    given: &[u16],
+    mem: &mut [u16],
+    p: Problem,
+    nodes: u64,
+) -> readingsets::Choice
     requires { ⌜ Classes (now cl) × (length (now given) ≡ maxVertices) × (p .vertices ≤ maxVertices) × (p .outputs ≤ searchOutputs) × (p .cells ≤ maxCells) × (p .tables ≤ maxGiven)
         × Begins (p .kn) (p .val) (p .cells) × Honest (now cl) (now given) (p .kn) (p .val) (p .vertices) (now mem) ⌝ }
     ensures { λ r. ⌜ Sought (now (cl .entry)) (now (given .entry)) (p .budgets) (p .kn) (p .val) (p .vertices) (p .outputs) (p .cells) (p .tables) (r .ok) (r .rows) (r .codes)
