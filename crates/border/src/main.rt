@@ -13,7 +13,7 @@ ghost use mathlib.Core.Logic.{_⊎_};
 ghost use Prim.Native.Nat.{ℕ, _+_, _<_, _≤_};
 ghost use lib.ListN.{length};
 ghost use Rattle.limits.specs.Limits.{searchOutputs, maxVertices, labelCount};
-ghost use Rattle.numbering.specs.Given.{item};
+ghost use Rattle.problem.specs.Problem.{item};
 ghost use Rattle.relation.specs.Relation.{Classes};
 ghost use Rattle.cache.specs.Cache.{Honest};
 ghost use Rattle.readingsets.specs.Choice.{maxGiven};

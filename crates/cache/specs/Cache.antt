@@ -5,7 +5,7 @@ use mathlib.Core.List.{List}
 use Prim.Native.Nat.{ℕ, suc, _+_, _*_, _/_, _%_, _<_}
 use lib.ListN.{length}
 use Rattle.limits.specs.Limits.{searchOutputs}
-use Rattle.numbering.specs.Given.{item}
+use Rattle.problem.specs.Problem.{item}
 use Rattle.subproblems.specs.Subproblem.{Barred}
 
 -- the entries of a cache and the numbers that each has

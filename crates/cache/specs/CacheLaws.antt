@@ -16,7 +16,7 @@ use Rattle.bits.specs.LogicLaws.{and-both}
 use Rattle.bits.specs.Digit.{digit, on}
 use Rattle.bits.specs.DigitLaws.{on-and, on-or-one, on-or-none, on-zero, on-above, on-complement}
 use Rattle.cells.specs.Lists.{less-or-equal, never-both}
-use Rattle.numbering.specs.Given.{item}
+use Rattle.problem.specs.Problem.{item}
 use Rattle.subproblems.specs.Subproblem.{Barred}
 use Rattle.subproblems.specs.SubproblemLaws.{barred-more}
 use Rattle.subproblems.specs.Unread.{barred-unread}

@@ -19,7 +19,7 @@ use Rattle.bits.specs.DigitLaws.{on-and, on-or, on-zero, on-above, on-complemen
 use Rattle.cells.specs.Lists.{All, Pairs, all-map, pairs-map, never-both, and-off, and-on, or-off}
 use Rattle.cells.specs.Pigeon.{agree-and, and-agree}
 use Rattle.cells.specs.Shared.{block}
-use Rattle.numbering.specs.Given.{labelAt, partOf, item, Solves}
+use Rattle.problem.specs.Problem.{labelAt, partOf, item, Solves}
 
 -- ======== definitions
 -- an output that reads the cells of m reads all cells of g or none

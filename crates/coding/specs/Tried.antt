@@ -13,7 +13,7 @@ use Rattle.bits.specs.Digit.{on}
 use Rattle.bits.specs.DigitLaws.{on-and, on-zero}
 use Rattle.cells.specs.Lists.{never-both}
 use Rattle.cells.specs.Sets.{Without}
-use Rattle.numbering.specs.Given.{item, Blocks, Solves, Extends, Kept, Fixed, Hopeless}
+use Rattle.problem.specs.Problem.{item, Blocks, Solves, Extends, Kept, Fixed, Hopeless}
 use Rattle.holding.specs.Blocks.{on-both}
 use Rattle.coding.specs.Known.{Fitting}
 use Rattle.coding.specs.Values.{Groups, Marks, Over, Agrees, Canon, Valued, agrees-less, agrees-more}

@@ -20,7 +20,7 @@ use Rattle.bits.specs.Digit.{on}
 use Rattle.bits.specs.DigitLaws.{on-and, on-or, on-zero, on-above, on-complement, equal-digits}
 use Rattle.cells.specs.Lists.{less-or-equal, never-both, false-where, and-off, and-on}
 use Rattle.cells.specs.Pigeon.{agree-and}
-use Rattle.numbering.specs.Given.{noCode, item, Block, Blocks, Solves, Knows}
+use Rattle.problem.specs.Problem.{noCode, item, Block, Blocks, Solves, Knows}
 use Rattle.holding.specs.Blocks.{on-both}
 use Rattle.coding.specs.Exchange.{Uniform, swap, swap-blocks, swap-small, swap-stays, swap-first, swap-outside, solves-alike}
 

@@ -8,7 +8,7 @@ ghost use mathlib.Core.List.{List};
 ghost use Prim.Native.Nat.{ℕ, _+_, _*_, _<_, _≤_};
 ghost use lib.ListN.{length};
 ghost use Rattle.limits.specs.Limits.{searchOutputs, maxVertices, labelCount, blockCount, maxCodes};
-ghost use Rattle.numbering.specs.Given.{noVertex, Labels, Blocks, Plan, Kept, Hopeless, Knows, Told, item};
+ghost use Rattle.problem.specs.Problem.{noVertex, Labels, Blocks, Plan, Kept, Hopeless, Knows, Told, item};
 ghost use Rattle.holding.specs.Search.{Seeking, Empty};
 ghost use Rattle.coding.specs.Values.{groupCount, Groups, Marks, Over, Fresh, Canon, Marked, Valued};
 ghost use Rattle.coding.specs.Known.{Fitting};
@@ -49,7 +49,7 @@ fn empty(dom: &[u64], v: usize) -> bool
 fn bar_all(
     cl: &[u8],
     bs: &[u64],
-    p: numbering::Problem,
+    p: problem::Problem,
     codes: &[u8],
     dom: &mut [u64],
     c: u8,
@@ -81,7 +81,7 @@ pub fn settle_all(
     cl: &[u8],
     base: &[u8],
     bs: &[u64],
-    p: numbering::Problem,
+    p: problem::Problem,
     codes: &[u8],
     dom: &mut [u64],
     c: u8,
@@ -116,7 +116,7 @@ pub fn meet(cl: &[u8], j: usize, met: [u64; SEARCH_OUTPUTS], x: usize) -> [u64; 
     let mut r = met;
     let mut o = 0;
     while o < j {
-        let l = numbering::label(cl, o, x);
+        let l = problem::label(cl, o, x);
         r[o] = cells::with(r[o], l);
         o += 1;
     }
@@ -131,7 +131,7 @@ fn unmet(cl: &[u8], j: usize, met: &[u64], x: usize) -> u32
     let mut n: u32 = 0;
     let mut o = 0;
     while o < j {
-        let l = numbering::label(cl, o, x);
+        let l = problem::label(cl, o, x);
         if !cells::in_set(met[o], l) {
             n += 1;
         }
@@ -158,7 +158,7 @@ fn rank(left: u32, classes: u32, known: bool) -> u64
 fn better(best: usize, least: u64, n: u64) -> bool
     ensures { λ r. ⌜ (r ≡ false → best ≡ noVertex → ⊥) ⌝ }
 {
-    if best == numbering::NO_VERTEX {
+    if best == problem::NO_VERTEX {
         true
     } else {
         n < least
@@ -181,11 +181,11 @@ fn pick(
         × (length (now met) ≡ searchOutputs) ⌝ }
     ensures { λ r. ⌜ Seeking (now (codes .entry)) v r ⌝ }
 {
-    let mut best: usize = numbering::NO_VERTEX;
+    let mut best: usize = problem::NO_VERTEX;
     let mut least: u64 = 0;
     let mut y = 0;
     while y < v {
-        if codes[y] >= numbering::NO_CODE {
+        if codes[y] >= problem::NO_CODE {
             let n = rank(u64::count_ones(dom[y] & can), unmet(cl, j, met, y), known);
             if better(best, least, n) {
                 best = y;
@@ -284,7 +284,7 @@ pub fn find(
     bs: &[u64],
     gb: &[u64],
     all: u64,
-    p: numbering::Problem,
+    p: problem::Problem,
     codes: [u8; MAX_VERTICES],
     dom: [u64; MAX_VERTICES],
     used: [u64; GROUPS],
@@ -301,7 +301,7 @@ pub fn find(
     let can = allowed(gb, all, used);
     let known = p.kn != 0;
     let x = pick(cl, p.outputs, &met, &dom, &codes, p.vertices, can, known);
-    if x == numbering::NO_VERTEX {
+    if x == problem::NO_VERTEX {
         let f = numbering::finish(cl, p, codes);
         let all_codes = f.codes;
         return Search {

@@ -10,7 +10,7 @@ use lib.ListN.{length, set, length-set}
 use lib.Seq.{getD-set-same, getD-set-other}
 use Rattle.limits.specs.Limits.{maxVertices}
 use Rattle.cells.specs.Lists.{less-or-equal, filled-more}
-use Rattle.numbering.specs.Given.{labelAt, item}
+use Rattle.problem.specs.Problem.{labelAt, item}
 use Rattle.relation.specs.Relation.{Classes, Conflict}
 use Rattle.relation.specs.RelationLaws.{same-labels-conflict}
 use Rattle.sorting.specs.Order.{Order, Indices, indices-set}

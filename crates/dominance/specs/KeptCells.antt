@@ -10,7 +10,7 @@ use Rattle.bits.specs.Values.{valuesUpto}
 use Rattle.cells.specs.Core.{Cell, Serves, ZeroFirst, cellsFrom}
 use Rattle.cells.specs.Written.{tablesOf}
 use Rattle.cells.specs.Renumbered.{renumbered, serves-as, renumbered-reads-as}
-use Rattle.numbering.specs.Given.{item}
+use Rattle.problem.specs.Problem.{item}
 use Rattle.relation.specs.Relation.{Conflict}
 use Rattle.dominance.specs.Kept.{StandFor}
 

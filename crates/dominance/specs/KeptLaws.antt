@@ -8,7 +8,7 @@ use Prim.Native.Nat.{ℕ, zero, suc, _<_}
 use Rattle.bits.specs.Digit.{on}
 use Rattle.cells.specs.Core.{Cell, Serves, cellsFrom}
 use Rattle.cells.specs.Renumbered.{renumbered, ReadsAs, reads-as-append, serves-as, renumbered-length, renumbered-code, cells-read-as, read-by-reads-as}
-use Rattle.numbering.specs.Given.{item}
+use Rattle.problem.specs.Problem.{item}
 use Rattle.relation.specs.Relation.{Conflict}
 use Rattle.subproblems.specs.Subproblem.{openOf}
 use Rattle.readingsets.specs.Choice.{RowFits}

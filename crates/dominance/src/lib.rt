@@ -6,7 +6,7 @@ ghost use mathlib.Core.Path.{_≡_};
 ghost use Prim.Native.Nat.{ℕ, _<_, _≤_};
 ghost use lib.ListN.{length};
 ghost use Rattle.limits.specs.Limits.{searchOutputs, maxVertices, labelCount};
-ghost use Rattle.numbering.specs.Given.{item};
+ghost use Rattle.problem.specs.Problem.{item};
 ghost use Rattle.relation.specs.Relation.{Classes};
 ghost use Rattle.sorting.specs.Order.{Indices};
 ghost use Rattle.dominance.specs.Kept.{StandFor, Placed};
@@ -24,7 +24,7 @@ fn classes(cl: &[u8], v: usize, o: usize) -> u64
     let mut n: u64 = 0;
     let mut x: usize = 0;
     while x < v {
-        let l = numbering::label(cl, o, x);
+        let l = problem::label(cl, o, x);
         if !cells::in_set(seen, l) {
             seen = cells::with(seen, l);
             n += 1;
@@ -120,7 +120,7 @@ pub fn labels(cl: &[u8], from: [u8; SEARCH_OUTPUTS]) -> [u8; LABELS]
     let mut r = [0u8; LABELS];
     let mut i = 0;
     while i < LABELS {
-        r[i] = numbering::label(cl, from[i / MAX_VERTICES] as usize, i % MAX_VERTICES);
+        r[i] = problem::label(cl, from[i / MAX_VERTICES] as usize, i % MAX_VERTICES);
         i += 1;
     }
     r

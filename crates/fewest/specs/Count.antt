@@ -18,7 +18,7 @@ use Rattle.cells.specs.Core.{Cell, Apart, bit, reading, Differ, Serves, Answer,
 use Rattle.cells.specs.Lists.{count, less-or-equal, filled-more, never-both}
 use Rattle.cells.specs.Codes.{cells-length, cells-zero}
 use Rattle.cells.specs.FullSize.{readBy, xor-same}
-use Rattle.numbering.specs.Given.{labelAt, item}
+use Rattle.problem.specs.Problem.{labelAt, item}
 use Rattle.relation.specs.Relation.{Conflict}
 use Rattle.subproblems.specs.Subproblem.{openOf}
 use Rattle.seeking.specs.Seeking.{Tables, Known, Lacks, openCells, givenCells, Sought}

@@ -19,7 +19,7 @@ use Rattle.cells.specs.FullSize.{Full, full-of, read-by-length, read-by-code, x
 use Rattle.cells.specs.WrittenLaws.{core-code, table-digit}
 use Rattle.order.specs.Tables.{shaped-at}
 use Rattle.order.specs.LeastTables.{table}
-use Rattle.numbering.specs.Given.{item}
+use Rattle.problem.specs.Problem.{item}
 use Rattle.relation.specs.Relation.{Conflict}
 use Rattle.subproblems.specs.Subproblem.{openOf}
 use Rattle.seeking.specs.Seeking.{Tables, Known, Lacks, Has, Sought, openCells, givenCells}

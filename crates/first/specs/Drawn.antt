@@ -11,7 +11,7 @@ use Rattle.cells.specs.Core.{Cell, Serves, ZeroFirst, coreOf}
 use Rattle.cells.specs.Written.{tablesOf}
 use Rattle.order.specs.Tables.{Shaped}
 use Rattle.order.specs.LeastTables.{UptoTables, Agrees}
-use Rattle.numbering.specs.Given.{item}
+use Rattle.problem.specs.Problem.{item}
 use Rattle.relation.specs.Relation.{Conflict}
 use Rattle.cache.specs.Cache.{Honest}
 use Rattle.witness.specs.Witness.{Witness}

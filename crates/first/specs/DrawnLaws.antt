@@ -16,7 +16,7 @@ use Rattle.order.specs.Least.{asked}
 use Rattle.order.specs.LeastLaws.{take-more}
 use Rattle.order.specs.Tables.{Shaped, shaped-none, shaped-more, shaped-of, shaped-at}
 use Rattle.order.specs.LeastTables.{table, Agrees}
-use Rattle.numbering.specs.Given.{item}
+use Rattle.problem.specs.Problem.{item}
 use Rattle.witness.specs.Witness.{Witness}
 use Rattle.first.specs.Drawn.{shown, Drawn}
 

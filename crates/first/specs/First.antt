@@ -6,7 +6,7 @@ use Prim.Native.Nat.{ℕ, _≤_, _<_}
 use lib.ListN.{length}
 use Rattle.cells.specs.Core.{Cell, Serves, Differ, ZeroFirst, Answer, coreOf}
 use Rattle.cells.specs.Written.{tablesOf, readsOf}
-use Rattle.numbering.specs.Given.{labelAt, item}
+use Rattle.problem.specs.Problem.{labelAt, item}
 use Rattle.order.specs.Order.{tableOrder, tablesOrder}
 use Rattle.order.specs.OrderLaws.{NotLess}
 

@@ -17,7 +17,7 @@ use Rattle.cells.specs.WrittenLaws.{tables-length, tables-of-rows}
 use Rattle.order.specs.Order.{tablesOrder}
 use Rattle.order.specs.OrderLaws.{NotLess}
 use Rattle.order.specs.LeastTables.{tables-all}
-use Rattle.numbering.specs.Given.{labelAt, item}
+use Rattle.problem.specs.Problem.{labelAt, item}
 use Rattle.relation.specs.Relation.{Conflict}
 use Rattle.dominance.specs.Kept.{StandFor}
 use Rattle.dominance.specs.KeptCells.{origin, all-serves-kept, kept-serves-all, renumbered-cells, renumbered-tables, renumbered-zero}

@@ -9,7 +9,7 @@ use Rattle.bits.specs.LogicLaws.{true-false}
 use Rattle.bits.specs.Digit.{on}
 use Rattle.bits.specs.DigitLaws.{on-zero}
 use Rattle.order.specs.LeastTables.{UptoTables, tables-none, own-zero, tables-same, tables-zero, tables-one, tables-next}
-use Rattle.numbering.specs.Given.{item}
+use Rattle.problem.specs.Problem.{item}
 use Rattle.cache.specs.Cache.{Honest}
 use Rattle.witness.specs.Witness.{Witness, Keeps, Front}
 use Rattle.first.specs.Drawn.{shown, Drawn, Lowest, Stands, Remembers, Replied}

@@ -17,7 +17,7 @@ use Rattle.bits.specs.Logic.{andb, orb}
 use Rattle.bits.specs.Digit.{on}
 use Rattle.bits.specs.DigitLaws.{on-and, on-or, on-single, on-complement, equal-digits}
 use Rattle.cells.specs.Lists.{less-or-equal, never-both, false-where, or-on}
-use Rattle.numbering.specs.Given.{item, Block}
+use Rattle.problem.specs.Problem.{item, Block}
 use Rattle.cells.specs.Sets.{on-power-other}
 
 -- ======== the table of blocks

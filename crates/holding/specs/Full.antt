@@ -15,7 +15,7 @@ use Rattle.bits.specs.Logic.{orb}
 use Rattle.bits.specs.Digit.{on}
 use Rattle.cells.specs.Lists.{All, Pairs, all-map, less-or-equal, never-both, false-where, or-on}
 use Rattle.cells.specs.Sets.{With}
-use Rattle.numbering.specs.Given.{labelAt, partAt, partOf, item, Block, Solves, Extends, Kept}
+use Rattle.problem.specs.Problem.{labelAt, partAt, partOf, item, Block, Solves, Extends, Kept}
 use Rattle.holding.specs.Blocks.{Minus, minus-keeps}
 use Rattle.holding.specs.Narrow.{Narrowed, narrowed-more}
 

@@ -15,7 +15,7 @@ use Rattle.bits.specs.Logic.{orb}
 use Rattle.bits.specs.Digit.{on}
 use Rattle.bits.specs.DigitLaws.{on-or, on-zero}
 use Rattle.cells.specs.Lists.{All, Pairs, all-map, less-or-equal, never-both, or-on}
-use Rattle.numbering.specs.Given.{noCode, labelAt, item, Block}
+use Rattle.problem.specs.Problem.{noCode, labelAt, item, Block}
 
 -- ======== definitions
 -- own has for each class the codes of the blocks that it holds among the first y vertices, owns how many blocks; the vertices of

@@ -12,7 +12,7 @@ use lib.Seq.{getD-set-same, getD-set-other}
 use Rattle.limits.specs.Limits.{maxVertices, maxCodes}
 use Rattle.bits.specs.Digit.{on}
 use Rattle.cells.specs.Lists.{sum, less-or-equal}
-use Rattle.numbering.specs.Given.{labelAt, partAt, partOf, item, Labels, Kept, Hopeless}
+use Rattle.problem.specs.Problem.{labelAt, partAt, partOf, item, Labels, Kept, Hopeless}
 use Rattle.holding.specs.Blocks.{on-both}
 use Rattle.holding.specs.Held.{Held}
 use Rattle.holding.specs.Wants.{Wanted, Tight, need, needed}

@@ -19,7 +19,7 @@ use Rattle.bits.specs.DigitLaws.{on-zero}
 use Rattle.cells.specs.Lists.{All, Pairs, part, sum, all-map, all-both, all-append, all-part, pairs-append, pairs-part, part-has, part-length, less-or-equal, never-both}
 use Rattle.cells.specs.Sets.{Without}
 use Rattle.cells.specs.Shared.{block}
-use Rattle.numbering.specs.Given.{noCode, labelAt, partAt, partOf, item, Block, Labels, Solves, Extends, Hopeless}
+use Rattle.problem.specs.Problem.{noCode, labelAt, partAt, partOf, item, Block, Labels, Solves, Extends, Hopeless}
 use Rattle.holding.specs.Blocks.{Minus, minus-keeps, on-either}
 use Rattle.holding.specs.Held.{Held}
 use Rattle.holding.specs.Wants.{Wanted, Tight, need, share, needed}

@@ -17,7 +17,7 @@ use Rattle.bits.specs.Digit.{on}
 use Rattle.bits.specs.DigitLaws.{on-and, on-zero}
 use Rattle.cells.specs.Lists.{sum, all-map, pairs-map, less-or-equal, never-both, false-where, true-where, sum-more}
 use Rattle.cells.specs.Shared.{block, Group, gather}
-use Rattle.numbering.specs.Given.{labelAt, partAt, partOf, item, Solves, Extends}
+use Rattle.problem.specs.Problem.{labelAt, partAt, partOf, item, Solves, Extends}
 use Rattle.holding.specs.Held.{Held}
 use Rattle.holding.specs.Wants.{New, Wanted, need, share, needed}
 

@@ -14,7 +14,7 @@ use Rattle.bits.specs.LogicLaws.{true-false}
 use Rattle.bits.specs.Digit.{on}
 use Rattle.bits.specs.DigitLaws.{on-zero}
 use Rattle.cells.specs.Lists.{count, less-or-equal, never-both, false-where, count-drop}
-use Rattle.numbering.specs.Given.{noCode, noVertex, item, Hopeless, Told}
+use Rattle.problem.specs.Problem.{noCode, noVertex, item, Hopeless, Told}
 
 -- ======== the next vertex
 -- the first y vertices have codes and best is no vertex, or one of them without a code is best

@@ -19,7 +19,7 @@ use Rattle.bits.specs.Digit.{on}
 use Rattle.bits.specs.DigitLaws.{on-and, on-ones, on-zero}
 use Rattle.cells.specs.Lists.{count, sum, never-both}
 use Rattle.cells.specs.Sets.{With}
-use Rattle.numbering.specs.Given.{labelAt, partAt, item}
+use Rattle.problem.specs.Problem.{labelAt, partAt, item}
 
 -- ======== definitions
 -- one of the first y vertices, of class l, can take none of the blocks that its class holds

@@ -8,7 +8,7 @@ ghost use Rattle.bits.specs.Logic.{pick};
 ghost use lib.ListN.{length, getD};
 ghost use Rattle.limits.specs.Limits.{searchOutputs, maxVertices, labelCount, blockCount, maxCells, maxCodes};
 ghost use Rattle.bits.specs.Digit.{on};
-ghost use Rattle.numbering.specs.Given.{noCode, labelAt, partAt, partOf, item, Block, Labels, Blocks, Kept, Hopeless};
+ghost use Rattle.problem.specs.Problem.{noCode, labelAt, partAt, partOf, item, Block, Labels, Blocks, Kept, Hopeless};
 ghost use Rattle.holding.specs.Held.{Held};
 ghost use Rattle.holding.specs.Wants.{Wanted, Totals, Filled, Tight, needed};
 ghost use Rattle.holding.specs.Blocks.{Table, Minus, Spans};
@@ -116,8 +116,8 @@ fn held(
     let mut y = 0;
     while y < v {
         let c = codes[y];
-        if c < numbering::NO_CODE {
-            let l = numbering::label(cl, o, y) as usize;
+        if c < problem::NO_CODE {
+            let l = problem::label(cl, o, y) as usize;
             if !cells::in_set(own[l], c) {
                 own[l] = own[l] | bs[o * MAX_CODES + c as usize];
                 owns[l] = owns[l] + 1;
@@ -162,7 +162,7 @@ fn wanted(
 {
     let mut y = 0;
     while y < v {
-        let l = numbering::label(cl, o, y) as usize;
+        let l = problem::label(cl, o, y) as usize;
         if dom[y] & own[l] == 0 {
             let t = spread(mask, dom[y]);
             let m = meet[l] & t;
@@ -188,8 +188,8 @@ fn totals(cl: &[u8], base: &[u8], o: usize, owns: &[u8]) -> [usize; MAX_VERTICES
     let mut t = [0usize; MAX_VERTICES];
     let mut l = 0;
     while l < MAX_VERTICES {
-        let p = numbering::class_part(cl, o, l) as usize;
-        let n = larger(owns[l], numbering::label(base, o, l)) as usize;
+        let p = problem::class_part(cl, o, l) as usize;
+        let n = larger(owns[l], problem::label(base, o, l)) as usize;
         t[p] = t[p] + n;
         l += 1;
     }
@@ -216,7 +216,7 @@ fn largest(t: &[usize]) -> usize
 fn inside(b: u64, c: u8) -> bool
     ensures { λ r. ⌜ (r ≡ true → (c < noCode) × (on b c ≡ true)) ⌝ }
 {
-    if c < numbering::NO_CODE {
+    if c < problem::NO_CODE {
         cells::in_set(b, c)
     } else {
         false
@@ -244,7 +244,7 @@ fn others(cl: &[u8], o: usize, p: u8) -> u64
     let mut r: u64 = 0;
     let mut l: u8 = 0;
     while l < CLASSES {
-        let q = numbering::class_part(cl, o, l as usize);
+        let q = problem::class_part(cl, o, l as usize);
         if q != p {
             r = cells::with(r, l);
         }
@@ -261,7 +261,7 @@ fn one_part(cl: &[u8], o: usize, p: u8) -> bool
     let mut all = true;
     let mut l = 0;
     while l < MAX_VERTICES {
-        let q = numbering::class_part(cl, o, l);
+        let q = problem::class_part(cl, o, l);
         if q != p {
             all = false;
         }
@@ -297,7 +297,7 @@ fn classes_in(cl: &[u8], v: usize, o: usize, p: u8, codes: &[u8], b: u64) -> Cla
     let mut y = 0;
     while y < v {
         if inside(b, codes[y]) {
-            let l = numbering::label(cl, o, y);
+            let l = problem::label(cl, o, y);
             if !cells::in_set(seen, l) {
                 seen = cells::with(seen, l);
                 count += 1;
@@ -314,12 +314,12 @@ pub fn crowd(cl: &[u8], v: usize, o: usize, x: usize, cap: u8, codes: &[u8], b: 
     requires { ⌜ Labels (now cl) × (v ≤ maxVertices) × (o < searchOutputs) × (x < maxVertices) × (length (now codes) ≡ maxVertices) ⌝ }
     ensures { λ r. ⌜ Crowd (now (cl .entry)) (now (codes .entry)) o (partOf (now (cl .entry)) o x) b v (r .seen) (r .count) ⌝ }
 {
-    let p = numbering::part(cl, o, x);
+    let p = problem::part(cl, o, x);
     if cap <= 1 {
         if x < v {
             if inside(b, codes[x]) {
                 let others = strangers(cl, o, p);
-                let l = numbering::label(cl, o, x);
+                let l = problem::label(cl, o, x);
                 let seen = cells::with(others, l);
                 return Classes { seen, count: 1 };
             }
@@ -350,8 +350,8 @@ fn lacks(cl: &[u8], base: &[u8], o: usize, p: u8, owns: &[u8], wants: &[u8]) -> 
     let mut news: u16 = 0;
     let mut l = 0;
     while l < MAX_VERTICES {
-        let q = numbering::class_part(cl, o, l);
-        let n = larger(wants[l], numbering::label(base, o, l));
+        let q = problem::class_part(cl, o, l);
+        let n = larger(wants[l], problem::label(base, o, l));
         let t = counted(q, p, n);
         let s = counted(q, p, n - owns[l]);
         total = total + t as u16;
@@ -418,7 +418,7 @@ fn busiest(cl: &[u8], base: &[u8], o: usize, owns: &[u8], wants: &[u8], spot: us
     ensures { λ r. ⌜ Lacks (now (cl .entry)) (now (owns .entry)) (now (wants .entry)) (now (base .entry)) o (r .part) maxVertices (r .total) (r .news)
         × Tight (now (cl .entry)) (now (wants .entry)) (now (base .entry)) o spot (r .tight) ⌝ }
 {
-    let p = numbering::class_part(cl, o, 0);
+    let p = problem::class_part(cl, o, 0);
     if one_part(cl, o, p) {
         let a = lacks(cl, base, o, p, owns, wants);
         let one = tight_part(p, a.total as usize, spot);
@@ -448,11 +448,11 @@ fn lacking(cl: &[u8], base: &[u8], o: usize, p: u8, l: usize, has: u8, wants: u8
     requires { ⌜ Labels (now cl) × (length (now base) ≡ labelCount) × (o < searchOutputs) × (l < maxVertices) ⌝ }
     ensures { λ r. ⌜ (r ≡ false → partAt (now (cl .entry)) o l ≡ p → max wants (labelAt (now (base .entry)) o l) ≤ has) ⌝ }
 {
-    let q = numbering::class_part(cl, o, l);
+    let q = problem::class_part(cl, o, l);
     if q != p {
         return false;
     }
-    let n = larger(wants, numbering::label(base, o, l));
+    let n = larger(wants, problem::label(base, o, l));
     has < n
 }
 
@@ -476,8 +476,8 @@ fn reach(
     let mut r: u64 = 0;
     let mut y = 0;
     while y < v {
-        if codes[y] >= numbering::NO_CODE {
-            let l = numbering::label(cl, o, y) as usize;
+        if codes[y] >= problem::NO_CODE {
+            let l = problem::label(cl, o, y) as usize;
             if lacking(cl, base, o, p, l, owns[l], wants[l]) {
                 r = r | minus(dom[y], own[l]);
             }
@@ -629,11 +629,11 @@ fn narrow(
 {
     let mut y = 0;
     while y < v {
-        if codes[y] >= numbering::NO_CODE {
-            let l = numbering::label(cl, o, y) as usize;
-            let p = numbering::class_part(cl, o, l);
+        if codes[y] >= problem::NO_CODE {
+            let l = problem::label(cl, o, y) as usize;
+            let p = problem::class_part(cl, o, l);
             if cells::in_set(tight, p) {
-                let need = numbering::label(base, o, l);
+                let need = problem::label(base, o, l);
                 dom[y] = dom[y] & keep(own[l], meet[l], owns[l], wants[l], need);
             }
         }
@@ -648,8 +648,8 @@ pub fn shut(cl: &[u8], v: usize, o: usize, seen: u64, codes: &[u8], dom: &mut [u
 {
     let mut y = 0;
     while y < v {
-        if codes[y] >= numbering::NO_CODE {
-            let l = numbering::label(cl, o, y);
+        if codes[y] >= problem::NO_CODE {
+            let l = problem::label(cl, o, y);
             if !cells::in_set(seen, l) {
                 dom[y] = minus(dom[y], b);
             }
@@ -725,7 +725,7 @@ fn narrow_by(
     cl: &[u8],
     base: &[u8],
     bs: &[u64],
-    p: numbering::Problem,
+    p: problem::Problem,
     o: usize,
     own: &[u64],
     meet: &[u64],
@@ -777,7 +777,7 @@ pub fn settle(
     cl: &[u8],
     base: &[u8],
     bs: &[u64],
-    p: numbering::Problem,
+    p: problem::Problem,
     o: usize,
     codes: &[u8],
     dom: &mut [u64],

@@ -8,7 +8,7 @@ ghost use mathlib.Core.List.{List};
 ghost use Prim.Native.Nat.{ℕ, _+_, _*_, _<_, _≤_};
 ghost use lib.ListN.{length, getD};
 ghost use Rattle.limits.specs.Limits.{searchOutputs, maxVertices, labelCount};
-ghost use Rattle.numbering.specs.Given.{Labels, item};
+ghost use Rattle.problem.specs.Problem.{Labels, item};
 ghost use Rattle.coding.specs.Limit.{Sure};
 ghost use Rattle.readers.specs.Masks.{Short, Decided};
 ghost use Rattle.joint.specs.Digits.{vertexAt, knownAt, Drawn};
@@ -16,7 +16,7 @@ ghost use Rattle.joint.specs.Merge.{Mergeable, Merged, Copied, Picked, S
 use limits::MAX_VERTICES;
 use limits::SEARCH_OUTPUTS;
 use limits::Vertex;
-use numbering::LABELS_AND_PARTS;
+use problem::LABELS_AND_PARTS;
 
 // The number of a joint class of the outputs in question: vertices that have the same class for each of them, and of which the
 // same is known of cell 0.
@@ -47,8 +47,8 @@ fn alike(cl: &[u8], j: usize, kn: u32, val: u32, x: Vertex, y: Vertex) -> bool
 {
     let mut o = 0;
     while o < j {
-        let a = numbering::label(cl, o, x.0);
-        let b = numbering::label(cl, o, y.0);
+        let a = problem::label(cl, o, x.0);
+        let b = problem::label(cl, o, y.0);
         if a != b {
             return false;
         }
@@ -136,7 +136,7 @@ fn relabel(cl: &[u8], first: [Vertex; MAX_VERTICES], j: usize) -> [u8; LABELS_AN
     let mut i = 0;
     while i < end {
         let x = first[i % MAX_VERTICES];
-        r[i] = numbering::label(cl, i / MAX_VERTICES, x.0);
+        r[i] = problem::label(cl, i / MAX_VERTICES, x.0);
         i += 1;
     }
     r

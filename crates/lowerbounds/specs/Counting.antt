@@ -8,7 +8,7 @@ use lib.ListN.{length}
 use Rattle.limits.specs.Limits.{maxVertices}
 use Rattle.bits.specs.Digit.{on}
 use Rattle.cells.specs.Lists.{All, Pairs}
-use Rattle.numbering.specs.Given.{labelAt, partOf, item}
+use Rattle.problem.specs.Problem.{labelAt, partOf, item}
 use Rattle.lowerbounds.specs.Reasons.{FewKinds}
 
 -- y, before x, is of class l of o and of part p of q, and its class of q is in the set s

@@ -15,7 +15,7 @@ use Rattle.bits.specs.Logic.{orb}
 use Rattle.bits.specs.Digit.{on}
 use Rattle.cells.specs.Lists.{All, all-map, never-both, or-on}
 use Rattle.cells.specs.Sets.{With}
-use Rattle.numbering.specs.Given.{labelAt, partOf, item}
+use Rattle.problem.specs.Problem.{labelAt, partOf, item}
 use Rattle.lowerbounds.specs.Reasons.{FewKinds}
 use Rattle.lowerbounds.specs.Counting.{Met, Differ, Found, Counting, KindsSoFar}
 

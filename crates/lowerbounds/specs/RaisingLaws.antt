@@ -12,7 +12,7 @@ use lib.ListN.{length, set, length-set}
 use lib.Seq.{getD-set-same, getD-set-other}
 use Rattle.limits.specs.Limits.{maxVertices, labelCount}
 use Rattle.cells.specs.Lists.{less-or-equal}
-use Rattle.numbering.specs.Given.{item}
+use Rattle.problem.specs.Problem.{item}
 use Rattle.lowerbounds.specs.Reasons.{apart, Reason, Based, FewKinds, blocksFor, Raised}
 
 -- 2 ^ k as the code shifts it

@@ -10,7 +10,7 @@ use lib.ListN.{length}
 use Rattle.limits.specs.Limits.{maxVertices, labelCount, maxCells}
 use Rattle.bits.specs.Digit.{on}
 use Rattle.cells.specs.Lists.{All, Pairs, count}
-use Rattle.numbering.specs.Given.{labelAt, partOf, item}
+use Rattle.problem.specs.Problem.{labelAt, partOf, item}
 
 -- g classes of one part of q occur in class l of o
 abbrev pub Kinds : List ℕ → ℕ → ℕ → ℕ → ℕ → ℕ → Type 0

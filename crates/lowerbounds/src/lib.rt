@@ -5,7 +5,7 @@ ghost use lib.ListN.{length};
 ghost use Rattle.limits.specs.Limits.{searchOutputs, maxVertices, labelCount, maxCodes, maxCells};
 ghost use Rattle.bits.specs.Digit.{on};
 ghost use Rattle.cells.specs.Lists.{count};
-ghost use Rattle.numbering.specs.Given.{Labels, item};
+ghost use Rattle.problem.specs.Problem.{Labels, item};
 ghost use Rattle.lowerbounds.specs.Reasons.{FewKinds, Raised, Based};
 use limits::LABELS;
 use limits::MAX_VERTICES;
@@ -47,11 +47,11 @@ fn kinds(cl: &[u8], v: usize, o: usize, q: usize) -> [u8; MAX_VERTICES]
     let mut r = [0u8; MAX_VERTICES];
     let mut x = 0;
     while x < v {
-        let l = numbering::label(cl, o, x) as usize;
-        let k = numbering::label(cl, q, x);
+        let l = problem::label(cl, o, x) as usize;
+        let k = problem::label(cl, q, x);
         if !cells::in_set(seen[l], k) {
             seen[l] = cells::with(seen[l], k);
-            let p = numbering::part(cl, q, x) as usize;
+            let p = problem::part(cl, q, x) as usize;
             let i = l * MAX_VERTICES + p;
             let n = g[i] + 1;
             g[i] = n;

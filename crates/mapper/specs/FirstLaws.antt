@@ -19,7 +19,7 @@ use Rattle.network.specs.NamedLaws.{design-named}
 use Rattle.cells.specs.Core.{Cell, Serves, Differ, coreOf}
 use Rattle.cells.specs.Codes.{cells-length}
 use Rattle.cells.specs.Written.{tablesOf, readsOf}
-use Rattle.numbering.specs.Given.{labelAt, item}
+use Rattle.problem.specs.Problem.{labelAt, item}
 use Rattle.first.specs.First.{FirstCore, Answered}
 use Rattle.serving.specs.NetworkCore.{networkCore}
 use Rattle.serving.specs.Tells.{core-length}

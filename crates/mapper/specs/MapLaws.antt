@@ -18,7 +18,7 @@ use Rattle.network.specs.Wellformed.{Wellformed}
 use Rattle.network.specs.Answers.{WithinLimits, Computes}
 use Rattle.cells.specs.Core.{Cell, Serves, Differ, coreOf, reading}
 use Rattle.cells.specs.Codes.{cells-length}
-use Rattle.numbering.specs.Given.{labelAt, item}
+use Rattle.problem.specs.Problem.{labelAt, item}
 use Rattle.first.specs.First.{Answered}
 use Rattle.serving.specs.NetworkCore.{networkCore, ServesDesign}
 use Rattle.serving.specs.Tells.{core-length}

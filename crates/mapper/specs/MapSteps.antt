@@ -19,7 +19,7 @@ use Rattle.classes.specs.ProperLaws.{proper-of}
 use Rattle.classes.specs.Proper.{Proper}
 use Rattle.network.specs.Network.{Network}
 use Rattle.network.specs.Printer.{printNetwork}
-use Rattle.numbering.specs.Given.{item}
+use Rattle.problem.specs.Problem.{item}
 use Rattle.first.specs.First.{Answered}
 use Rattle.netlines.specs.Lines.{Fitting}
 use Rattle.netlines.specs.NodeLaws.{shape-fitting}

@@ -14,7 +14,7 @@ use Rattle.classes.specs.Classes.{localClass, globalCount}
 use Rattle.classes.specs.Width.{budget}
 use Rattle.classes.specs.Proper.{Proper}
 use Rattle.classes.specs.Answer.{ShapeIs}
-use Rattle.numbering.specs.Given.{labelAt, item}
+use Rattle.problem.specs.Problem.{labelAt, item}
 use Rattle.relation.specs.Relation as relation
 use Rattle.mapper.specs.declared.Posed.{Posed}
 

@@ -1,3 +1,2 @@
--- Given has the definitions that contracts cite; Number has the laws.
-pub mod Given
+-- Number has the laws.
 pub mod Number

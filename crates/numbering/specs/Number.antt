@@ -21,7 +21,7 @@ use Rattle.bits.specs.DigitLaws.{on-and, on-or, on-zero, on-ones, on-above, on-
 use Rattle.cells.specs.Core.{bit}
 use Rattle.cells.specs.Lists.{All, Pairs, count, all-map, less-or-equal, never-both, count-more, count-same, and-off, and-on, or-off, or-on}
 use Rattle.cells.specs.Pigeon.{agree-and, and-agree}
-use Rattle.numbering.specs.Given.{labelAt, partOf, item, Plan, Parted, Fixed, Knows, Hopeless}
+use Rattle.problem.specs.Problem.{labelAt, partOf, item, Plan, Parted, Fixed, Knows, Hopeless}
 
 -- ======== numbering
 -- a part and a block are the same exactly when both are

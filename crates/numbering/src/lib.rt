@@ -8,44 +8,11 @@ ghost use mathlib.Core.List.{List};
 ghost use lib.ListN.{length};
 ghost use Rattle.limits.specs.Limits.{searchOutputs, maxVertices, labelCount, maxCodes, maxCells};
 ghost use Rattle.bits.specs.Digit.{on};
-ghost use Rattle.numbering.specs.Given.{labelAt, partAt, partOf, item, Labels, Plan, Knows, Told};
+ghost use Rattle.problem.specs.Problem.{partOf, item, Labels, Plan, Knows, Told};
 ghost use Rattle.numbering.specs.Number.{Numbered, Number, Spread, Written};
-use limits::LABELS;
 use limits::MAX_VERTICES;
-use limits::SEARCH_OUTPUTS;
-
-// What stands for the code of a vertex that has none yet, and for a vertex where there is none.
-pub const NO_CODE: u8 = cells::MAX_CODES;
-
-pub const NO_VERTEX: usize = MAX_VERTICES;
-
-// The labels of the outputs at the vertices, and after them the parts of the classes.
-pub const LABELS_AND_PARTS: usize = 2 * LABELS;
-
-// The class of vertex x for output o.
-pub fn label(cl: &[u8], o: usize, x: usize) -> u8
-    requires { ⌜ (labelCount ≤ length (now cl)) × (o < searchOutputs) × (x < maxVertices) ⌝ }
-    ensures { λ r. ⌜ r ≡ labelAt (now (cl .entry)) o x ⌝ }
-{
-    cl[o * MAX_VERTICES + x]
-}
-
-// The part of class l of output o.
-pub fn class_part(cl: &[u8], o: usize, l: usize) -> u8
-    requires { ⌜ Labels (now cl) × (o < searchOutputs) × (l < maxVertices) ⌝ }
-    ensures { λ r. ⌜ (r ≡ partAt (now (cl .entry)) o l) × (r < maxVertices) ⌝ }
-{
-    cl[LABELS + (o * MAX_VERTICES + l)]
-}
-
-// The part of vertex x for output o: that of its class.
-pub fn part(cl: &[u8], o: usize, x: usize) -> u8
-    requires { ⌜ Labels (now cl) × (o < searchOutputs) × (x < maxVertices) ⌝ }
-    ensures { λ r. ⌜ (r ≡ partOf (now (cl .entry)) o x) × (r < maxVertices) ⌝ }
-{
-    let l = label(cl, o, x) as usize;
-    class_part(cl, o, l)
-}
+use problem::Codes;
+use problem::Problem;
 
 // Whether a vertex y with a code in some block is in the same block b and in part p.
 fn together(cl: &[u8], o: usize, y: usize, p: u8, own: u8, b: u8) -> bool
@@ -53,7 +20,7 @@ fn together(cl: &[u8], o: usize, y: usize, p: u8, own: u8, b: u8) -> bool
     ensures { λ r. ⌜ (r ≡ true → (partOf (now (cl .entry)) o y ≡ p) × (own ≡ b)) × (r ≡ false → partOf (now (cl .entry)) o y ≡ p → own ≡ b → ⊥) ⌝ }
 {
     if own == b {
-        let q = part(cl, o, y);
+        let q = problem::part(cl, o, y);
         return q == p;
     }
     false
@@ -72,14 +39,14 @@ fn number(
     ensures { λ r. ⌜ Number (now (cl .entry)) codes o mask x nums r ⌝ }
 {
     let block = codes[x] & mask;
-    let class = label(cl, o, x);
-    let own = part(cl, o, x);
+    let class = problem::label(cl, o, x);
+    let own = problem::part(cl, o, x);
     let mut next: u8 = 0;
     let mut y = 0;
     while y < x {
         if together(cl, o, y, own, codes[y] & mask, block) {
             let n = nums[y];
-            let l = label(cl, o, y);
+            let l = problem::label(cl, o, y);
             if l == class {
                 return n;
             }
@@ -125,12 +92,6 @@ fn spread(n: u8, p: u8) -> u8
     r as u8
 }
 
-// Codes of the vertices, and whether they are right.
-pub struct Codes {
-    pub ok: bool,
-    pub codes: [u8; MAX_VERTICES],
-}
-
 // The codes with the numbers in the digits of p, unless a number is too large for them.
 fn write(nums: [u8; MAX_VERTICES], cap: u8, p: u8, v: usize, codes: [u8; MAX_VERTICES]) -> Codes
     requires { ⌜ v ≤ maxVertices ⌝ }
@@ -147,20 +108,6 @@ fn write(nums: [u8; MAX_VERTICES], cap: u8, p: u8, v: usize, codes: [u8; MAX_VER
         x += 1;
     }
     Codes { ok: true, codes: r }
-}
-
-// What a search for codes is asked for: for each output its shared and its private cells, and 2 to the number of the private
-// ones and of all that it reads; the numbers of vertices and outputs; and the vertices where cell 0 has known digits, and
-// these digits.
-pub struct Problem {
-    pub ms: [u8; SEARCH_OUTPUTS],
-    pub ps: [u8; SEARCH_OUTPUTS],
-    pub caps: [u8; SEARCH_OUTPUTS],
-    pub spots: [u8; SEARCH_OUTPUTS],
-    pub vertices: usize,
-    pub outputs: usize,
-    pub kn: u32,
-    pub val: u32,
 }
 
 // Codes over all cells from codes over the shared ones, unless some block has too many classes.

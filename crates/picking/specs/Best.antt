@@ -11,7 +11,7 @@ use Rattle.bits.specs.Digit.{on}
 use Rattle.bits.specs.Values.{valuesUpto}
 use Rattle.order.specs.Order.{tableOrder}
 use Rattle.order.specs.OrderLaws.{NotLess}
-use Rattle.numbering.specs.Given.{item}
+use Rattle.problem.specs.Problem.{item}
 use Rattle.relation.specs.Relation.{NoneLeft}
 
 -- the set f has at most budget cells, and they tell apart all that output o has to tell apart

@@ -14,7 +14,7 @@ use Rattle.bits.specs.Values.{valuesUpto}
 use Rattle.order.specs.Order.{isLess, tableOrder}
 use Rattle.order.specs.OrderLaws.{NotLess, above-not-less, table-total}
 use Rattle.cells.specs.Lists.{less-or-equal, filled-more}
-use Rattle.numbering.specs.Given.{item}
+use Rattle.problem.specs.Problem.{item}
 use Rattle.picking.specs.Best.{Suits, setOrder, Best, Filled, Copied}
 use Rattle.picking.specs.SoonerLaws.{set-self, empty-last}
 

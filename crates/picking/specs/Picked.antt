@@ -8,7 +8,7 @@ use Rattle.order.specs.Order.{tableOrder}
 use Rattle.order.specs.OrderLaws.{NotLess}
 use Rattle.cells.specs.Core.{Cell, Serves, coreOf}
 use Rattle.cells.specs.Written.{tablesOf, readsOf}
-use Rattle.numbering.specs.Given.{item}
+use Rattle.problem.specs.Problem.{item}
 use Rattle.relation.specs.Relation.{Conflict}
 
 -- where cells with the tables that codes give serve, the cells that r and codes give serve, and no output's set of cells comes

@@ -19,7 +19,7 @@ use Rattle.cells.specs.Pigeon.{and-agree}
 use Rattle.cells.specs.Codes.{rowOf, codeOf, number-lt, number-reading, number-apart, core-serves}
 use Rattle.cells.specs.WrittenLaws.{reads-are-digits, same-tables-codes, core-code, core-reads}
 use Rattle.cells.specs.Sets.{ones-count}
-use Rattle.numbering.specs.Given.{item}
+use Rattle.problem.specs.Problem.{item}
 use Rattle.relation.specs.Relation.{Conflict}
 use Rattle.picking.specs.Picked.{Picked}
 use Rattle.picking.specs.Best.{Suits, setOrder, Filled}

@@ -11,7 +11,7 @@ use borrow.Author.Tests.{eq-eqb, ne-eqb}
 use Rattle.bits.specs.Logic.{pick}
 use Rattle.cells.specs.Lists.{zeros, zeros-are, all-map}
 use Rattle.cells.specs.Shared.{block, sharedCode, Group, gather}
-use Rattle.numbering.specs.Given.{labelAt, partAt, partOf, item, Told, Hopeless}
+use Rattle.problem.specs.Problem.{labelAt, partAt, partOf, item, Told, Hopeless}
 use Rattle.holding.specs.Wants.{need, share, needed}
 use Rattle.coding.specs.Tried.{Covers}
 use Rattle.readers.specs.Known.{Public, shared-fixed}

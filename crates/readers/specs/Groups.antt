@@ -18,7 +18,7 @@ use Rattle.bits.specs.LogicLaws.{and-right}
 use Rattle.bits.specs.Digit.{on}
 use Rattle.bits.specs.DigitLaws.{on-and, on-or, on-zero}
 use Rattle.cells.specs.Lists.{zeros, zeros-are, less-or-equal, never-both, false-where}
-use Rattle.numbering.specs.Given.{item, Blocks}
+use Rattle.problem.specs.Problem.{item, Blocks}
 use Rattle.coding.specs.Exchange.{Uniform}
 use Rattle.coding.specs.Values.{Groups, Over, Alone, Marked, Valued}
 use Rattle.readers.specs.Masks.{Start}

@@ -20,7 +20,7 @@ use Rattle.cells.specs.Lists.{less-or-equal, never-both, false-where, and-off, 
 use Rattle.cells.specs.Pigeon.{agree-and, and-agree}
 use Rattle.cells.specs.Sets.{on-power-other}
 use Rattle.cells.specs.Shared.{sharedCode}
-use Rattle.numbering.specs.Given.{item, Fixed, Knows}
+use Rattle.problem.specs.Problem.{item, Fixed, Knows}
 use Rattle.coding.specs.Known.{Fitting, fitting-any}
 use Rattle.coding.specs.Values.{Alone}
 use Rattle.readers.specs.Masks.{Short, Common, Planned, Start, Decided, private-read}

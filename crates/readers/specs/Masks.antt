@@ -20,7 +20,7 @@ use Rattle.cells.specs.Cut.{Within}
 use Rattle.cells.specs.Pigeon.{agree-and, and-agree}
 use Rattle.cells.specs.Codes.{Coded}
 use Rattle.cells.specs.Shared.{Split, sharedCode, crowd-bound, places-bound}
-use Rattle.numbering.specs.Given.{noCode, labelAt, partAt, item, Block, Blocks, Plan, Solves, Kept, Parted, Fixed}
+use Rattle.problem.specs.Problem.{noCode, labelAt, partAt, item, Block, Blocks, Plan, Solves, Kept, Parted, Fixed}
 use Rattle.coding.specs.Known.{Fitting}
 use Rattle.coding.specs.Values.{Agrees}
 use Rattle.coding.specs.Tried.{Covers}

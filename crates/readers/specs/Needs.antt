@@ -21,7 +21,7 @@ use Rattle.cells.specs.Lists.{All, Pairs, count, all-map, pairs-map, and-on}
 use Rattle.cells.specs.Pigeon.{Agree, agree-and, and-agree, pigeon, buckets}
 use Rattle.cells.specs.Codes.{Coded}
 use Rattle.cells.specs.Shared.{sharedCode}
-use Rattle.numbering.specs.Given.{labelAt, partAt, partOf, item}
+use Rattle.problem.specs.Problem.{labelAt, partAt, partOf, item}
 use Rattle.lowerbounds.specs.Reasons.{Kinds, apart, Reason, Based}
 use Rattle.readers.specs.Masks.{Short, Common, Planned, Bounds}
 

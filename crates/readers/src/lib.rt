@@ -6,7 +6,7 @@ ghost use mathlib.Core.Bool.{true, false};
 ghost use Prim.Native.Nat.{ℕ, _<_, _≤_};
 ghost use Rattle.limits.specs.Limits.{searchOutputs, maxVertices, maxCodes, maxCells};
 ghost use Rattle.bits.specs.Digit.{on};
-ghost use Rattle.numbering.specs.Given.{Labels, item};
+ghost use Rattle.problem.specs.Problem.{Labels, item};
 ghost use Rattle.coding.specs.Exchange.{Uniform};
 ghost use Rattle.coding.specs.Limit.{Sure};
 ghost use lib.Bits.{bitAnd};
@@ -119,7 +119,7 @@ fn plan(
     kn: u32,
     val: u32,
     sh: u8,
-) -> numbering::Problem
+) -> problem::Problem
     requires { ⌜ j ≤ searchOutputs ⌝ }
     ensures { λ r. ⌜ Planned rows sh j (r .ms) (r .ps) (r .caps) (r .spots) × (r .vertices ≡ v) × (r .outputs ≡ j) × (r .kn ≡ kn) × (r .val ≡ val) ⌝ }
 {
@@ -140,7 +140,7 @@ fn plan(
         spots[o] = b;
         o += 1;
     }
-    numbering::Problem {
+    problem::Problem {
         ms,
         ps,
         caps,
@@ -270,7 +270,7 @@ struct State {
 fn begin(kn: u32, val: u32) -> State
     ensures { λ r. ⌜ Start kn val (r .codes) (r .dom) ⌝ }
 {
-    let mut codes = [numbering::NO_CODE; MAX_VERTICES];
+    let mut codes = [problem::NO_CODE; MAX_VERTICES];
     codes[0] = 0;
     let dom = fitting_sets(kn, val);
     State { codes, dom }

@@ -23,7 +23,7 @@ use Rattle.cells.specs.Lists.{count, count-alike, count-drop, count-le, less-or
 use Rattle.cells.specs.Codes.{Coded, on-half}
 use Rattle.cells.specs.Sets.{on-power-other}
 use Rattle.cells.specs.Reorder.{Exchangeable, InOrder, Exchanged, in-order-none, reordered}
-use Rattle.numbering.specs.Given.{item, Fixed}
+use Rattle.problem.specs.Problem.{item, Fixed}
 use Rattle.relation.specs.Relation.{Left}
 use Rattle.subproblems.specs.Subproblem.{openOf, givenOf, Barred, Settled}
 use Rattle.subproblems.specs.SubproblemLaws.{on-open}

@@ -10,7 +10,7 @@ use lib.Bits.{bitAnd, bitOr}
 use lib.ListN.{length, set}
 use Rattle.bits.specs.Digit.{on}
 use Rattle.cells.specs.Lists.{count, never-both}
-use Rattle.numbering.specs.Given.{item}
+use Rattle.problem.specs.Problem.{item}
 use Rattle.relation.specs.Relation.{Left, NoneLeft}
 use Rattle.subproblems.specs.Subproblem.{openOf, givenOf}
 use Rattle.readingsets.specs.Choice.{RowFits, Core, Agree, Lost, Chosen, numbered, Served}

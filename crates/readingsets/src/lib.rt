@@ -9,7 +9,7 @@ ghost use lib.Bits.{bitOr};
 ghost use lib.ListN.{length};
 ghost use Rattle.limits.specs.Limits.{searchOutputs, maxVertices, maxCells, maxCodes};
 ghost use Rattle.bits.specs.Digit.{on};
-ghost use Rattle.numbering.specs.Given.{item};
+ghost use Rattle.problem.specs.Problem.{item};
 ghost use Rattle.relation.specs.Relation.{Classes};
 ghost use Rattle.coding.specs.Limit.{Sure};
 ghost use Rattle.subproblems.specs.Subproblem.{Barred, Settled};

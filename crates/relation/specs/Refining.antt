@@ -11,7 +11,7 @@ use lib.ListN.{length, getD, set, length-set}
 use lib.Seq.{getD-set-same, getD-set-other}
 use Rattle.limits.specs.Limits.{searchOutputs, maxVertices, labelCount}
 use Rattle.cells.specs.Lists.{less-or-equal, filled-more}
-use Rattle.numbering.specs.Given.{labelAt, partAt, partOf, item, Labels}
+use Rattle.problem.specs.Problem.{labelAt, partAt, partOf, item, Labels}
 use Rattle.relation.specs.Relation.{Classes, Conflict, Leaves}
 
 -- ======== definitions

@@ -8,7 +8,7 @@ use lib.ListN.{length, getD}
 use Rattle.limits.specs.Limits.{maxVertices, labelCount}
 use Rattle.cells.specs.Core.{Differ}
 use Rattle.cells.specs.Cut.{Within}
-use Rattle.numbering.specs.Given.{labelAt, partAt, item, Labels}
+use Rattle.problem.specs.Problem.{labelAt, partAt, item, Labels}
 
 -- the classes of the outputs at the vertices; an output has no more classes than there are vertices
 pub record Classes (cl : List ℕ) : Type 0 where

@@ -11,7 +11,7 @@ use lib.Bits.{and-zero-r}
 use Rattle.cells.specs.Lists.{less-or-equal}
 use Rattle.cells.specs.Cut.{Within}
 use Rattle.cells.specs.Codes.{Coded}
-use Rattle.numbering.specs.Given.{labelAt, partAt, item}
+use Rattle.problem.specs.Problem.{labelAt, partAt, item}
 use Rattle.relation.specs.Relation.{Conflict, Left, Leaves, NoneLeft, Inside}
 
 pub conflict-or-not : (cl : List ℕ) (o x y : ℕ) → Conflict cl o x y ⊎ (Conflict cl o x y → ⊥)

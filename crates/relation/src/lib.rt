@@ -6,13 +6,13 @@ ghost use mathlib.Core.Bool.{true, false};
 ghost use Prim.Native.Nat.{ℕ, _*_, _<_, _≤_};
 ghost use lib.ListN.{length};
 ghost use Rattle.limits.specs.Limits.{searchOutputs, maxVertices};
-ghost use Rattle.numbering.specs.Given.{item, Labels};
+ghost use Rattle.problem.specs.Problem.{item, Labels};
 ghost use Rattle.relation.specs.Relation.{Classes, Conflict, Left, Leaves, NoneLeft, Inside};
 ghost use Rattle.relation.specs.Refining.{Valued, Paired, First, Numbers, Fine, Placed, RefinedAt, Copied};
 use limits::LABELS;
 use limits::MAX_VERTICES;
 use limits::SEARCH_OUTPUTS;
-use numbering::LABELS_AND_PARTS;
+use problem::LABELS_AND_PARTS;
 
 // The values of the given tables of g at the first v vertices.
 fn values(given: &[u16], g: u16, v: usize) -> [u16; MAX_VERTICES]
@@ -37,7 +37,7 @@ fn pairs(cl: &[u8], o: usize, parts: [u8; MAX_VERTICES], v: usize) -> [u16; MAX_
     let mut x = 0;
     while x < v {
         let p = parts[x] as usize;
-        let l = numbering::label(cl, o, x) as usize;
+        let l = problem::label(cl, o, x) as usize;
         r[x] = (p * MAX_VERTICES + l) as u16;
         x += 1;
     }
@@ -135,7 +135,7 @@ fn copied(cl: &[u8], from: [u8; SEARCH_OUTPUTS], n: usize) -> [u8; LABELS_AND_PA
     let mut k = 0;
     while k < end {
         let o = from[k / MAX_VERTICES] as usize;
-        r[k] = numbering::label(cl, o, k % MAX_VERTICES);
+        r[k] = problem::label(cl, o, k % MAX_VERTICES);
         k += 1;
     }
     r
@@ -175,11 +175,11 @@ fn told(cl: &[u8], given: &[u16], o: usize, g: u16, x: usize) -> bool
         × (r ≡ false → ((y : ℕ) → y < x → Left (now (cl .entry)) (now (given .entry)) g o x y → ⊥) → ⊥) ⌝ }
 {
     let value = given[x] & g;
-    let label = numbering::label(cl, o, x);
+    let label = problem::label(cl, o, x);
     let mut y = 0;
     while y < x {
         if given[y] & g == value {
-            if numbering::label(cl, o, y) != label {
+            if problem::label(cl, o, y) != label {
                 return false;
             }
         }
@@ -209,12 +209,12 @@ fn inside_at(cl: &[u8], o: usize, q: usize, x: usize) -> bool
     requires { ⌜ Classes (now cl) × (o < searchOutputs) × (q < searchOutputs) × (x < maxVertices) ⌝ }
     ensures { λ r. ⌜ (r ≡ true → (y : ℕ) → y < x → Conflict (now (cl .entry)) o x y → Conflict (now (cl .entry)) q x y) ⌝ }
 {
-    let a = numbering::label(cl, o, x);
-    let b = numbering::label(cl, q, x);
+    let a = problem::label(cl, o, x);
+    let b = problem::label(cl, q, x);
     let mut y = 0;
     while y < x {
-        if numbering::label(cl, q, y) == b {
-            if numbering::label(cl, o, y) != a {
+        if problem::label(cl, q, y) == b {
+            if problem::label(cl, o, y) != a {
                 return false;
             }
         }

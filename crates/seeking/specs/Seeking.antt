@@ -11,7 +11,7 @@ use Rattle.bits.specs.Digit.{on}
 use Rattle.cells.specs.Core.{Cell, Serves, coreOf}
 use Rattle.cells.specs.Codes.{codeOf}
 use Rattle.cells.specs.FullSize.{readBy}
-use Rattle.numbering.specs.Given.{item}
+use Rattle.problem.specs.Problem.{item}
 use Rattle.relation.specs.Relation.{Conflict}
 use Rattle.subproblems.specs.Subproblem.{openOf}
 use Rattle.readingsets.specs.Choice.{RowFits}

@@ -22,7 +22,7 @@ use Rattle.cells.specs.Lists.{count, count-alike, and-on, never-both}
 use Rattle.cells.specs.Pigeon.{agree-and, and-agree}
 use Rattle.cells.specs.Codes.{Coded, codeOf, on-digits, on-low}
 use Rattle.cells.specs.FullSize.{Full, readBy, between, cleared, code-first, full-of, full-serves, cleared-full, cleared-off}
-use Rattle.numbering.specs.Given.{item, Fixed}
+use Rattle.problem.specs.Problem.{item, Fixed}
 use Rattle.relation.specs.Relation.{Conflict}
 use Rattle.coding.specs.Limit.{noLimit, Sure}
 use Rattle.subproblems.specs.Subproblem.{openOf, givenOf}

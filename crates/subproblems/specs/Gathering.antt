@@ -19,7 +19,7 @@ use Rattle.cells.specs.Cut.{Within}
 use Rattle.cells.specs.Pigeon.{agree-and, and-agree}
 use Rattle.cells.specs.Sets.{With, with-power}
 use Rattle.cells.specs.Codes.{Coded, digitsOf, on-digits, digits-none}
-use Rattle.numbering.specs.Given.{labelAt, partAt, item, Fixed}
+use Rattle.problem.specs.Problem.{labelAt, partAt, item, Fixed}
 use Rattle.readers.specs.Masks.{Decided}
 use Rattle.sorting.specs.Order.{Order}
 use Rattle.relation.specs.Relation.{Left, Leaves}

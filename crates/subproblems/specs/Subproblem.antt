@@ -9,7 +9,7 @@ use Prim.Native.Nat.{ℕ, _/_, _%_, _<_}
 use lib.Bits.{bitAnd}
 use Rattle.limits.specs.Limits.{searchOutputs, maxCodes}
 use Rattle.bits.specs.Digit.{on}
-use Rattle.numbering.specs.Given.{item, Fixed}
+use Rattle.problem.specs.Problem.{item, Fixed}
 use Rattle.relation.specs.Relation.{Left}
 
 -- the open cells and the given tables of a row

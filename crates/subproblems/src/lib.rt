@@ -6,7 +6,7 @@ ghost use mathlib.Core.Bool.{Bool, true, false};
 ghost use Prim.Native.Nat.{ℕ, _<_, _≤_, _/_, _^_};
 ghost use lib.ListN.{length};
 ghost use Rattle.limits.specs.Limits.{searchOutputs, maxVertices, maxCodes, maxCells};
-ghost use Rattle.numbering.specs.Given.{item};
+ghost use Rattle.problem.specs.Problem.{item};
 ghost use Rattle.relation.specs.Relation.{Classes};
 ghost use Rattle.coding.specs.Limit.{Sure};
 ghost use Rattle.sorting.specs.Order.{Order};

@@ -6,7 +6,7 @@ use Prim.Native.Nat.{ℕ, _^_, _≤_, _<_}
 use lib.ListN.{length}
 use Rattle.limits.specs.Limits.{searchOutputs}
 use Rattle.cells.specs.Core.{Cell, Serves}
-use Rattle.numbering.specs.Given.{labelAt, item}
+use Rattle.problem.specs.Problem.{labelAt, item}
 use Rattle.relation.specs.Relation.{Classes, Conflict}
 use Rattle.subsets.specs.Subset.{size, memberAt, SomeOf, Earlier}
 use Rattle.subsets.specs.Rank.{rank}

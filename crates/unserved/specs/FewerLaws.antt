@@ -11,7 +11,7 @@ use Rattle.bits.specs.DigitLaws.{on-zero}
 use Rattle.cells.specs.Core.{Differ}
 use Rattle.cells.specs.Lists.{never-both}
 use Rattle.cells.specs.Renumbered.{renumbered, serves-as, renumbered-length, renumbered-reads-as}
-use Rattle.numbering.specs.Given.{labelAt, item}
+use Rattle.problem.specs.Problem.{labelAt, item}
 use Rattle.relation.specs.Relation.{Conflict}
 use Rattle.dominance.specs.Kept.{StandFor}
 use Rattle.dominance.specs.KeptCells.{origin, origin-like}

@@ -4,7 +4,7 @@ use mathlib.Core.List.{List}
 use Prim.Native.Nat.{ℕ, _≤_}
 use native.Mathlib.Omega.{arith}
 use Rattle.cells.specs.Core.{Cell, Serves}
-use Rattle.numbering.specs.Given.{labelAt, item}
+use Rattle.problem.specs.Problem.{labelAt, item}
 use Rattle.relation.specs.Relation.{Conflict}
 use Rattle.sorting.specs.Order.{Indices}
 use Rattle.dominance.specs.Dominance.{Picked, Taken}

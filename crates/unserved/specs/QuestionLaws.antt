@@ -12,7 +12,7 @@ use Rattle.cells.specs.Core.{Cell, Serves}
 use Rattle.cells.specs.Codes.{cells-length}
 use Rattle.cells.specs.Free.{padded, padded-length, padded-serves}
 use Rattle.cells.specs.Renumbered.{renumbered, renumbered-length}
-use Rattle.numbering.specs.Given.{item}
+use Rattle.problem.specs.Problem.{item}
 use Rattle.relation.specs.Relation.{Conflict}
 use Rattle.subproblems.specs.Subproblem.{openOf}
 use Rattle.seeking.specs.Seeking.{Lacks, openCells, Sought}

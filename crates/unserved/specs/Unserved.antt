@@ -5,7 +5,7 @@ use mathlib.Core.List.{List}
 use Prim.Native.Nat.{ℕ, _^_, _-_, _≤_, _<_}
 use lib.ListN.{length}
 use Rattle.cells.specs.Core.{Cell, Serves, Differ}
-use Rattle.numbering.specs.Given.{labelAt, item}
+use Rattle.problem.specs.Problem.{labelAt, item}
 use Rattle.subsets.specs.Subset.{size, memberAt, SomeOf, Earlier}
 
 -- a core serves the outputs of the set s alone, of m outputs with these class labels and budgets; they are numbered anew, in order

@@ -5,7 +5,7 @@ use Prim.Native.Nat.{ℕ, _-_, _*_, _%_, _^_, _<_}
 use lib.Bits.{bitAnd, bitOr}
 use lib.ListN.{length}
 use Rattle.limits.specs.Limits.{maxVertices}
-use Rattle.numbering.specs.Given.{item}
+use Rattle.problem.specs.Problem.{item}
 
 -- the first n numbers of r are those that f gives
 pub record Filled (f : ℕ → ℕ) (n : ℕ) (r : List ℕ) : Type 0 where

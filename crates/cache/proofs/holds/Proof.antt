@@ -1,5 +1,5 @@
 use Rattle.cache.specs.Cache.{rowAt}
-use Rattle.numbering.specs.Given.{item}
+use Rattle.problem.specs.Problem.{item}
 use Rattle.cells.specs.Lists.{less-or-equal}
 use Rattle.bits.specs.LogicLaws.{true-false}
 use native.Mathlib.Omega.{arith}

@@ -1,5 +1,5 @@
 use Rattle.cache.specs.CacheLaws.{barred-among}
-use Rattle.numbering.specs.Given.{item}
+use Rattle.problem.specs.Problem.{item}
 use Rattle.bits.specs.LogicLaws.{true-false}
 use native.Mathlib.Omega.{arith}
 use Prim.Native.Nat.{_≤_, _-_}

@@ -1,5 +1,5 @@
 use Rattle.cache.specs.CacheLaws.{Joined, joined-start, joined-more, joined-all}
-use Rattle.numbering.specs.Given.{item}
+use Rattle.problem.specs.Problem.{item}
 use native.Mathlib.Omega.{arith}
 use Prim.Native.Nat.{ℕ, suc, _+_, _*_, _≤_, _-_}
 use mathlib.Core.Path.{_≡_, ap, subst}

@@ -1,6 +1,6 @@
 use Rattle.cache.specs.CacheLaws.{barred-among}
 use Rattle.cache.specs.Cache.{Honest}
-use Rattle.numbering.specs.Given.{item}
+use Rattle.problem.specs.Problem.{item}
 use Rattle.bits.specs.LogicLaws.{true-false}
 use borrow.Author.Tests.{not-true}
 use native.Mathlib.Omega.{arith}

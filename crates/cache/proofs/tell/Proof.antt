@@ -1,4 +1,4 @@
-use Rattle.numbering.specs.Given.{item}
+use Rattle.problem.specs.Problem.{item}
 use Rattle.subproblems.specs.SubproblemLaws.{settled-barred}
 use Rattle.subproblems.specs.Subproblem.{Barred}
 use Rattle.bits.specs.LogicLaws.{true-false}

@@ -2,7 +2,7 @@ use Rattle.coding.specs.Tried.{Trying, covers-more, trying-start, trying
 use Rattle.coding.specs.Values.{valued-more, knows-more}
 use Rattle.holding.specs.Search.{uncoded, uncoded-less, told-found, told-lost}
 use Rattle.holding.specs.Narrow.{kept-start}
-use Rattle.numbering.specs.Given.{item}
+use Rattle.problem.specs.Problem.{item}
 use Rattle.bits.specs.LogicLaws.{true-false}
 use lib.ListN.{length, set, length-set}
 use native.Mathlib.Omega.{arith}

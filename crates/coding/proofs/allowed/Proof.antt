@@ -2,7 +2,7 @@ use mathlib.Core.Path.{_≡_, subst}
 use mathlib.Core.List.{List}
 use Prim.Native.Nat.{ℕ, _≤_, _-_}
 use native.Mathlib.Omega.{arith}
-use Rattle.numbering.specs.Given.{Blocks}
+use Rattle.problem.specs.Problem.{Blocks}
 use Rattle.coding.specs.Values.{Groups, Marks, Over, Canon, canon-start, canon-more}
 use borrow.Author.Needs.{needs}
 use Rattle.coding.proofs.allowed.Statement.{statement}

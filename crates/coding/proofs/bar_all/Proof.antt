@@ -4,7 +4,7 @@ use native.Mathlib.Omega.{arith}
 use mathlib.Core.Logic.{⊎-elim}
 use mathlib.Core.List.{List}
 use lib.ListN.{length}
-use Rattle.numbering.specs.Given.{partOf, Kept, Blocks}
+use Rattle.problem.specs.Problem.{partOf, Kept, Blocks}
 use Rattle.holding.specs.Full.{settled-full}
 use Rattle.holding.specs.Narrow.{kept-start, kept-more}
 use borrow.Author.Needs.{needs}

@@ -1,5 +1,5 @@
 use mathlib.Core.Path.{refl}
-use Rattle.numbering.specs.Given.{item}
+use Rattle.problem.specs.Problem.{item}
 use Rattle.coding.specs.Values.{fresh-some, fresh-none}
 use borrow.Author.Needs.{needs}
 use Rattle.coding.proofs.fresh.Statement.{statement}

@@ -1,6 +1,6 @@
 use Prim.Native.Nat.{_≤_, _-_}
 use native.Mathlib.Omega.{arith}
-use Rattle.numbering.specs.Given.{Kept}
+use Rattle.problem.specs.Problem.{Kept}
 use Rattle.holding.specs.Narrow.{kept-start, kept-more, hopeless-before}
 use Rattle.holding.specs.Search.{empty-hopeless}
 use borrow.Author.Tests.{not-true, not-false}

@@ -5,7 +5,7 @@ use Prim.Native.Nat.{ℕ, _+_, _≤_, _-_}
 use native.Mathlib.Omega.{arith}
 use lib.ListN.{set}
 use Rattle.cells.specs.Lists.{zeros-are}
-use Rattle.numbering.specs.Given.{item}
+use Rattle.problem.specs.Problem.{item}
 use Rattle.dominance.specs.Dominance.{Choosing}
 use Rattle.dominance.specs.DominanceLaws.{choosing-start, choosing-dominated, choosing-kept, choosing-all}
 use borrow.Author.Needs.{needs}

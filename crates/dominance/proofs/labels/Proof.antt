@@ -8,7 +8,7 @@ use Rattle.dominance.proofs.labels.Statement.{statement}
 use Rattle.dominance.proofs.labels.Tie as tie
 use Rattle.dominance.proofs.labels.Reads as reads
 use Rattle.dominance.proofs.labels.Lts as lts
-use Rattle.numbering.proofs.label.Reads as label-reads
+use Rattle.problem.proofs.label.Reads as label-reads
 
 abbrev Inv-loop : tie.InvT-loop
 Inv-loop cl from r₀ i₀ r i = (i ≤ 256) × Taken cl from i r

@@ -4,7 +4,7 @@ use mathlib.Core.List.{List}
 use Prim.Native.Nat.{ℕ, _≤_, _+_, _-_, _*_, _/_, _%_}
 use native.Mathlib.Omega.{arith}
 use lib.Bits.{and-le-l}
-use Rattle.numbering.specs.Given.{item}
+use Rattle.problem.specs.Problem.{item}
 use Rattle.holding.specs.Blocks.{Table, table-more, entry-again}
 use borrow.Author.Needs.{needs}
 use Rattle.holding.proofs.blocks.Statement.{statement}

@@ -13,7 +13,7 @@ use Rattle.cells.proofs.in_set.Reads as in-set-reads
 use Rattle.cells.proofs.with.Reads as with-reads
 use Rattle.holding.proofs.inside.Reads as inside-reads
 use Rattle.holding.proofs.strangers.Reads as strangers-reads
-use Rattle.numbering.proofs.label.Reads as label-reads
+use Rattle.problem.proofs.label.Reads as label-reads
 
 abbrev Inv-loop : tie.InvT-loop
 Inv-loop cl v o p codes b seen₀ count₀ y₀ seen count y = (y ≤ v) × Crowd cl codes o p b y seen count

@@ -11,8 +11,8 @@ use Rattle.cells.proofs.with.Reads as with-reads
 use Rattle.holding.proofs.classes_in.Reads as classes-in-reads
 use Rattle.holding.proofs.inside.Reads as inside-reads
 use Rattle.holding.proofs.strangers.Reads as strangers-reads
-use Rattle.numbering.proofs.label.Reads as label-reads
-use Rattle.numbering.proofs.part.Reads as part-reads
+use Rattle.problem.proofs.label.Reads as label-reads
+use Rattle.problem.proofs.part.Reads as part-reads
 
 part-requires : tie.Need-part-requires
 part-requires c κs = search needs

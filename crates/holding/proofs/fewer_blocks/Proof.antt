@@ -1,6 +1,6 @@
 use Rattle.holding.specs.Reach.{Left, left-start, left-more, left-end}
 use Rattle.bits.specs.LogicLaws.{true-false}
-use Rattle.numbering.specs.Given.{Block}
+use Rattle.problem.specs.Problem.{Block}
 use borrow.Author.Tests.{ltb-true}
 use lib.ListN.{getD}
 use native.Mathlib.Omega.{arith}

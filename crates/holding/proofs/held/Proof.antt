@@ -1,5 +1,5 @@
 use Rattle.holding.specs.Held.{at-skip, at-old, at-new, Held, held-start}
-use Rattle.numbering.specs.Given.{item, Block}
+use Rattle.problem.specs.Problem.{item, Block}
 use borrow.Author.Tests.{not-true, not-false}
 use lib.ListN.{getD}
 use native.Mathlib.Omega.{arith}
@@ -12,7 +12,7 @@ use Rattle.holding.proofs.held.Tie as tie
 use Rattle.holding.proofs.held.Reads as reads
 use Rattle.holding.proofs.held.Lts as lts
 use Rattle.cells.proofs.in_set.Reads as in-set-reads
-use Rattle.numbering.proofs.label.Reads as label-reads
+use Rattle.problem.proofs.label.Reads as label-reads
 
 abbrev Inv-loop : tie.InvT-loop
 Inv-loop cl bs v j o codes own₀ owns₀ y₀ own owns y = (y ≤ v) × ((mask : ℕ) → ((k : ℕ) → k < 64 → Block mask k (getD bs (o * 64 + k) 0)) → Held cl codes o mask y own owns)

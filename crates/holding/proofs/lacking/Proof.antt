@@ -8,8 +8,8 @@ use Rattle.holding.proofs.lacking.Tie as tie
 use Rattle.holding.proofs.lacking.Reads as reads
 use Rattle.holding.proofs.lacking.Lts as lts
 use Rattle.holding.proofs.larger.Reads as larger-reads
-use Rattle.numbering.proofs.class_part.Reads as class-part-reads
-use Rattle.numbering.proofs.label.Reads as label-reads
+use Rattle.problem.proofs.class_part.Reads as class-part-reads
+use Rattle.problem.proofs.label.Reads as label-reads
 
 class-part-requires : tie.Need-class-part-requires
 class-part-requires c κs = let p = c .before .before .pre in (p .0, p .2, p .3)

@@ -10,8 +10,8 @@ use Rattle.holding.proofs.narrow.Reads as reads
 use Rattle.holding.proofs.narrow.Lts as lts
 use Rattle.cells.proofs.in_set.Reads as in-set-reads
 use Rattle.holding.proofs.keep.Reads as keep-reads
-use Rattle.numbering.proofs.class_part.Reads as class-part-reads
-use Rattle.numbering.proofs.label.Reads as label-reads
+use Rattle.problem.proofs.class_part.Reads as class-part-reads
+use Rattle.problem.proofs.label.Reads as label-reads
 
 abbrev Inv-loop : tie.InvT-loop
 Inv-loop cl base v o own meet owns wants tight codes dom₀ y₀ dom y = (y ≤ v) × Narrowed (Stays cl base o tight own meet owns wants) dom₀ y dom

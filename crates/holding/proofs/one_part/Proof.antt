@@ -1,4 +1,4 @@
-use Rattle.numbering.specs.Given.{partAt}
+use Rattle.problem.specs.Problem.{partAt}
 use Rattle.cells.specs.Lists.{less-or-equal, never-both}
 use native.Mathlib.Omega.{arith}
 use Prim.Native.Nat.{ℕ, _<_, _≤_, _-_}
@@ -10,7 +10,7 @@ use Rattle.holding.proofs.one_part.Statement.{statement}
 use Rattle.holding.proofs.one_part.Tie as tie
 use Rattle.holding.proofs.one_part.Reads as reads
 use Rattle.holding.proofs.one_part.Lts as lts
-use Rattle.numbering.proofs.class_part.Reads as class-part-reads
+use Rattle.problem.proofs.class_part.Reads as class-part-reads
 
 abbrev Inv-loop : tie.InvT-loop
 Inv-loop cl o p all₀ l₀ all l = (l ≤ 32) × (all ≡ true → (k : ℕ) → k < l → partAt cl o k ≡ p)

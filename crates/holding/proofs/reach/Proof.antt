@@ -1,5 +1,5 @@
 use Rattle.holding.specs.Wants.{need}
-use Rattle.numbering.specs.Given.{partAt}
+use Rattle.problem.specs.Problem.{partAt}
 use lib.ListN.{getD}
 use Rattle.holding.specs.Reach.{Reached, reached-start, reached-same, reached-more}
 use mathlib.Core.Logic.{⊎-elim}
@@ -13,7 +13,7 @@ use Rattle.holding.proofs.reach.Reads as reads
 use Rattle.holding.proofs.reach.Lts as lts
 use Rattle.holding.proofs.lacking.Reads as lacking-reads
 use Rattle.holding.proofs.minus.Reads as minus-reads
-use Rattle.numbering.proofs.label.Reads as label-reads
+use Rattle.problem.proofs.label.Reads as label-reads
 
 abbrev Inv-loop : tie.InvT-loop
 Inv-loop cl base v o p owns wants codes dom own r₀ y₀ r y = (y ≤ v) × Reached cl base owns wants codes dom own o p y r

@@ -10,7 +10,7 @@ use Rattle.joint.proofs.alike.Tie as tie
 use Rattle.joint.proofs.alike.Reads as reads
 use Rattle.joint.proofs.alike.Lts as lts
 use Rattle.joint.proofs.known_at.Reads as known-at-reads
-use Rattle.numbering.proofs.label.Reads as label-reads
+use Rattle.problem.proofs.label.Reads as label-reads
 
 abbrev Inv-loop : tie.InvT-loop
 Inv-loop cl j kn val x y o₀ o = (o ≤ j) × Alike cl o (x .0) (y .0)

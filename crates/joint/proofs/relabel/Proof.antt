@@ -10,7 +10,7 @@ use Rattle.joint.proofs.relabel.Reads as reads
 use Rattle.joint.proofs.relabel.Lts as lts
 use Rattle.joint.proofs.copied.Reads as copied-reads
 use Rattle.joint.proofs.copied.Reads as copied-reads
-use Rattle.numbering.proofs.label.Reads as label-reads
+use Rattle.problem.proofs.label.Reads as label-reads
 
 abbrev Inv-loop : tie.InvT-loop
 Inv-loop cl j first r₀ end i₀ r i = (i ≤ end) × (end ≡ j * maxVertices) × Picked cl first i r

@@ -7,7 +7,7 @@ use native.Mathlib.Omega.{arith}
 use borrow.Author.Tests.{not-true}
 use borrow.Author.Needs.{needs}
 use Rattle.cells.specs.Lists.{zeros-are}
-use Rattle.numbering.specs.Given.{Labels, labelAt}
+use Rattle.problem.specs.Problem.{Labels, labelAt}
 use Rattle.lowerbounds.specs.Counting.{Counting, KindsSoFar}
 use Rattle.lowerbounds.specs.CountingLaws.{counting-start, counting-skip, counting-new, kinds-start, kinds-skip, kinds-raised}
 use Rattle.lowerbounds.proofs.kinds.Statement.{statement}

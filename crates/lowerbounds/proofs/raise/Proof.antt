@@ -5,7 +5,7 @@ use mathlib.Core.Logic.{⊎-elim}
 use Prim.Native.Nat.{ℕ, _+_, _-_, _/_, _^_, _≤_}
 use native.Mathlib.Omega.{arith}
 use borrow.Author.Needs.{needs}
-use Rattle.numbering.specs.Given.{item}
+use Rattle.problem.specs.Problem.{item}
 use Rattle.lowerbounds.specs.Reasons.{Raised}
 use Rattle.lowerbounds.specs.RaisingLaws.{raised-start, raised-kept, raised-more}
 use Rattle.lowerbounds.proofs.raise.Statement.{statement}

@@ -1,5 +1,5 @@
 use Rattle.numbering.specs.Number.{key, both-same, Passed, passed-start, at-miss, at-low, at-high, number-old, number-new}
-use Rattle.numbering.specs.Given.{labelAt, partOf}
+use Rattle.problem.specs.Problem.{labelAt, partOf}
 use native.Mathlib.Omega.{arith}
 use Prim.Native.Nat.{ℕ, _≤_, _-_}
 use mathlib.Core.Logic.{⊎-elim}
@@ -9,8 +9,8 @@ use Rattle.numbering.proofs.number.Statement.{statement}
 use Rattle.numbering.proofs.number.Tie as tie
 use Rattle.numbering.proofs.number.Reads as reads
 use Rattle.numbering.proofs.number.Lts as lts
-use Rattle.numbering.proofs.label.Reads as label-reads
-use Rattle.numbering.proofs.part.Reads as part-reads
+use Rattle.problem.proofs.label.Reads as label-reads
+use Rattle.problem.proofs.part.Reads as part-reads
 use Rattle.numbering.proofs.together.Reads as together-reads
 
 abbrev Inv-loop : tie.InvT-loop

@@ -4,7 +4,7 @@ use mathlib.Core.Logic.{inl, inr}
 use Prim.Native.Nat.{ℕ, _<_, _≤_, _-_}
 use native.Mathlib.Omega.{arith}
 use Rattle.bits.specs.Digit.{on}
-use Rattle.numbering.specs.Given.{item}
+use Rattle.problem.specs.Problem.{item}
 use Rattle.readers.specs.Known.{unread-more}
 use borrow.Author.Needs.{needs}
 use Rattle.readers.proofs.asked.Statement.{statement}

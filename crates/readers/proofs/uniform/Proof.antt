@@ -1,6 +1,6 @@
 use Rattle.readers.specs.Groups.{uniform-more}
 use Rattle.coding.specs.Exchange.{Uniform}
-use Rattle.numbering.specs.Given.{item}
+use Rattle.problem.specs.Problem.{item}
 use Rattle.bits.specs.LogicLaws.{true-false}
 use native.Mathlib.Omega.{arith}
 use Prim.Native.Nat.{ℕ, _<_, _≤_, _-_}

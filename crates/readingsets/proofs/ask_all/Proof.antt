@@ -1,7 +1,7 @@
 use Rattle.readingsets.specs.ChoiceLaws.{settled-none, settled-lost}
 use Rattle.coding.specs.LimitLaws.{sure-now}
 use Rattle.cache.specs.Cache.{Honest}
-use Rattle.numbering.specs.Given.{item}
+use Rattle.problem.specs.Problem.{item}
 use mathlib.Core.Path.{refl, sym, _∙_, subst}
 use mathlib.Core.List.{List}
 use mathlib.Core.Logic.{⊎-elim}

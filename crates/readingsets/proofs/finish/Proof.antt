@@ -2,7 +2,7 @@ use Rattle.readingsets.specs.ChoiceLaws.{settled-none}
 use Rattle.coding.specs.Limit.{Sure}
 use Rattle.coding.specs.LimitLaws.{sure-now}
 use Rattle.subproblems.specs.Subproblem.{Barred, Settled}
-use Rattle.numbering.specs.Given.{item}
+use Rattle.problem.specs.Problem.{item}
 use Prim.Native.Nat.{ℕ}
 use mathlib.Core.Path.{subst}
 use borrow.Author.Tests.{not-true}

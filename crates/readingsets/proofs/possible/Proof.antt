@@ -1,5 +1,5 @@
 use Rattle.readingsets.specs.ChoiceLaws.{barred-alone}
-use Rattle.numbering.specs.Given.{item}
+use Rattle.problem.specs.Problem.{item}
 use Rattle.bits.specs.LogicLaws.{true-false}
 use borrow.Author.Tests.{not-true}
 use borrow.Author.Needs.{needs}

@@ -4,7 +4,7 @@ use mathlib.Core.Path.{_≡_, sym, _∙_, subst}
 use mathlib.Core.Logic.{⊎-elim}
 use Rattle.bits.specs.LogicLaws.{true-false}
 use Rattle.cells.specs.Lists.{less-or-equal}
-use Rattle.numbering.specs.Given.{labelAt}
+use Rattle.problem.specs.Problem.{labelAt}
 use Rattle.relation.specs.Relation.{Conflict}
 use Rattle.relation.specs.RelationLaws.{different-conflict, equal-no-conflict}
 use borrow.Author.Needs.{needs}
@@ -12,7 +12,7 @@ use Rattle.relation.proofs.inside_at.Statement.{statement}
 use Rattle.relation.proofs.inside_at.Tie as tie
 use Rattle.relation.proofs.inside_at.Reads as reads
 use Rattle.relation.proofs.inside_at.Lts as lts
-use Rattle.numbering.proofs.label.Reads as label-reads
+use Rattle.problem.proofs.label.Reads as label-reads
 
 abbrev Inv-loop : tie.InvT-loop
 Inv-loop cl o q x a b y₀ y =

@@ -2,14 +2,14 @@ use native.Mathlib.Omega.{arith}
 use Prim.Native.Nat.{ℕ, _≤_, _+_, _*_, _-_}
 use mathlib.Core.Path.{refl, ap, subst}
 use Rattle.limits.specs.Limits.{maxVertices}
-use Rattle.numbering.specs.Given.{item}
+use Rattle.problem.specs.Problem.{item}
 use Rattle.relation.specs.Refining.{Paired, paired-more}
 use borrow.Author.Needs.{needs}
 use Rattle.relation.proofs.pairs.Statement.{statement}
 use Rattle.relation.proofs.pairs.Tie as tie
 use Rattle.relation.proofs.pairs.Reads as reads
 use Rattle.relation.proofs.pairs.Lts as lts
-use Rattle.numbering.proofs.label.Reads as label-reads
+use Rattle.problem.proofs.label.Reads as label-reads
 
 abbrev Inv-loop : tie.InvT-loop
 Inv-loop cl o v parts r₀ x₀ r x = (x ≤ v) × Paired cl o parts x r

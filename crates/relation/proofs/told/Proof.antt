@@ -5,7 +5,7 @@ use mathlib.Core.Logic.{⊎-elim}
 use lib.Bits.{bitAnd}
 use Rattle.bits.specs.LogicLaws.{true-false}
 use Rattle.cells.specs.Lists.{less-or-equal}
-use Rattle.numbering.specs.Given.{item, labelAt}
+use Rattle.problem.specs.Problem.{item, labelAt}
 use Rattle.relation.specs.Relation.{Left}
 use Rattle.relation.specs.RelationLaws.{different-conflict, equal-not-left}
 use borrow.Author.Needs.{needs}
@@ -13,7 +13,7 @@ use Rattle.relation.proofs.told.Statement.{statement}
 use Rattle.relation.proofs.told.Tie as tie
 use Rattle.relation.proofs.told.Reads as reads
 use Rattle.relation.proofs.told.Lts as lts
-use Rattle.numbering.proofs.label.Reads as label-reads
+use Rattle.problem.proofs.label.Reads as label-reads
 
 abbrev Inv-loop : tie.InvT-loop
 Inv-loop cl given o g x value label y₀ y =

@@ -1,4 +1,4 @@
--- What the search for codes is given, and what it is to find. Labels: output o's class at vertex x stands at
+-- What the search for codes is given, and what it is to find (the crate has a glossary). Labels: output o's class at vertex x stands at
 -- o * maxVertices + x, and the part of its class l at labelCount + o * maxVertices + l. An output has to tell two classes apart
 -- where they are of one part. A set of codes is a number of maxCodes digits. Assumes nothing.
 use mathlib.Core.Path.{_≡_}

@@ -2,10 +2,10 @@ use native.Mathlib.Omega.{arith}
 use Prim.Native.Nat.{_+_, _*_}
 use mathlib.Core.Path.{refl}
 use borrow.Author.Needs.{needs}
-use Rattle.numbering.proofs.class_part.Statement.{statement}
-use Rattle.numbering.proofs.class_part.Tie as tie
-use Rattle.numbering.proofs.class_part.Reads as reads
-use Rattle.numbering.proofs.class_part.Lts as lts
+use Rattle.problem.proofs.class_part.Statement.{statement}
+use Rattle.problem.proofs.class_part.Tie as tie
+use Rattle.problem.proofs.class_part.Reads as reads
+use Rattle.problem.proofs.class_part.Lts as lts
 
 mul-result : tie.Need-mul-result
 mul-result c = search needs

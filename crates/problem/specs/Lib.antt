@@ -1,0 +1,2 @@
+-- Problem has the definitions that contracts cite.
+pub mod Problem
