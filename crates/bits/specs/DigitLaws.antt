@@ -11,7 +11,7 @@ use lib.Pow.{shr-shr, pow-pos, pow-mono, ones-split, high, ones-lt}
 use lib.Dec.{eqb}
 use lib.Bits.{bitAnd, bitOr, bitXor, differ, and-step, or-step, xor-step, and-shr, or-shr, xor-shr, xor-add-and, and-le-l, and-le-r, and-comm, and-mask}
 use Rattle.bits.specs.Logic.{andb, orb, xorb}
-use Rattle.bits.specs.LogicLaws.{true-false}
+use Rattle.bits.specs.LogicLaws.{true-false, or-true, or-false, xor-self}
 use Rattle.bits.specs.Digit.{digit, on}
 
 -- ---- a digit is 0 or 1
@@ -88,15 +88,6 @@ pub on-or : (a b k : ℕ) → on (bitOr a b) k ≡ orb (on a k) (on b k)
 unfolding on
 on-or a b k = ap (λ (x : ℕ). eqb x 1) (digit-or a b k) ∙ max-or (digit-binary a k) (digit-binary b k)
 
--- where the second has a digit, and where it has none
-or-true : (x : Bool) → orb x true ≡ true
-or-true true = refl
-or-true false = refl
-
-or-false : (x : Bool) → orb x false ≡ x
-or-false true = refl
-or-false false = refl
-
 pub on-or-one : (a b k : ℕ) → on b k ≡ true → on (bitOr a b) k ≡ true
 on-or-one a b k e = on-or a b k ∙ ap (orb (on a k)) e ∙ or-true (on a k)
 
@@ -167,10 +158,6 @@ pub on-none : (n : ℕ) → ((k : ℕ) → on n k ≡ false) → n ≡ 0
 unfolding on
 on-none n h = digits-none n (λ k. digit-off (digit-binary n k) (h k))
 
-xorb-self : (b : Bool) → xorb b b ≡ false
-xorb-self true = refl
-xorb-self false = refl
-
 xor-zero-equal : (a b : ℕ) → bitXor a b ≡ 0 → a ≡ b
 xor-zero-equal a b e =
     let s : bitXor a b + bitAnd a b * 2 ≡ a + b = xor-add-and a b in
@@ -181,4 +168,4 @@ xor-zero-equal a b e =
 pub equal-digits : (a b : ℕ) → ((k : ℕ) → on a k ≡ on b k) → a ≡ b
 equal-digits a b h =
     xor-zero-equal a b
-    (on-none (bitXor a b) (λ k. on-xor a b k ∙ ap (λ (x : Bool). xorb x (on b k)) (h k) ∙ xorb-self (on b k)))
+    (on-none (bitXor a b) (λ k. on-xor a b k ∙ ap (λ (x : Bool). xorb x (on b k)) (h k) ∙ xor-self (on b k)))

@@ -7,3 +7,7 @@ pub mod Carry
 pub mod CarryLaws
 pub mod Values
 pub mod ValuesLaws
+pub mod Count
+pub mod CountLaws
+pub mod Filled
+pub mod FilledLaws

@@ -1,13 +1,13 @@
--- Truth values: the connectives, and a choice between two values of any type. Assumes nothing.
-use mathlib.Core.Bool.{Bool, true, false, not}
+-- Truth values: the connectives before their arguments, a choice between two values of any type, and a truth value as a
+-- number. Assumes nothing.
+use mathlib.Core.Bool.{Bool, true, false, not, _&&_, _||_}
+use Prim.Native.Nat.{ℕ}
 
 abbrev pub andb : Bool → Bool → Bool
-andb true b = b
-andb false b = false
+andb a b = a && b
 
 abbrev pub orb : Bool → Bool → Bool
-orb true b = true
-orb false b = b
+orb a b = a || b
 
 abbrev pub xorb : Bool → Bool → Bool
 xorb true b = not b
@@ -17,3 +17,8 @@ xorb false b = b
 abbrev pub pick : {A : Type 0} → Bool → A → A → A
 pick true a b = a
 pick false a b = b
+
+-- a truth value as a digit
+abbrev pub bit : Bool → ℕ
+bit true = 1
+bit false = 0

@@ -5,7 +5,7 @@ use mathlib.Core.Bool.{true, false}
 use mathlib.Core.List.{List, [], _∷_, _++_, append-nil}
 use Prim.Native.Nat.{ℕ, _<_}
 use lib.ListN.{drop}
-use Rattle.bits.specs.LogicLaws.{and-left, and-right, and-both}
+use Rattle.bits.specs.LogicLaws.{and-left, and-right, and-both, false-unless}
 use Rattle.text.specs.Number.{printNumber, readNumber}
 use Rattle.text.specs.Numerals.{stops}
 use Rattle.text.specs.NumberLaws.{read-printed}
@@ -17,7 +17,6 @@ use Rattle.names.specs.IsNameLaws.{underscore-no-name-byte, name-byte-inside}
 use Rattle.names.specs.SameNamesLaws.{same-is-name}
 use Rattle.sheet.specs.Examine.{Design, outputNames}
 use Rattle.sheet.specs.WellFormed.{WellFormed}
-use Rattle.cells.specs.Lists.{false-where}
 use Rattle.classes.specs.Cases.{not-both}
 use Rattle.network.specs.NamedLaws.{design-named}
 use Rattle.netnames.specs.Listed.{underscore}
@@ -39,12 +38,12 @@ cells-apart i j h k e =
 pub cell-no-name : (i : ℕ) → isName (cellName i) ≡ false
 unfolding cellName
 cell-no-name i =
-    false-where (isName (cellName i))
+    false-unless (isName (cellName i))
     (λ h. not-both (nameByte underscore) (name-byte-inside (bytes "CC") underscore (printNumber i) h) underscore-no-name-byte)
 
 pub name-no-cell : (n : Name) (i : ℕ) → isName n ≡ true → sameName n (cellName i) ≡ false
 name-no-cell n i h =
-    false-where (sameName n (cellName i)) (λ e. not-both (isName (cellName i)) (same-is-name n (cellName i) e h) (cell-no-name i))
+    false-unless (sameName n (cellName i)) (λ e. not-both (isName (cellName i)) (same-is-name n (cellName i) e h) (cell-no-name i))
 
 pub cell-not-among : (i : ℕ) (ns : List Name) → allNames ns ≡ true → among (cellName i) ns ≡ false
 unfolding allNames among

@@ -6,10 +6,9 @@ use mathlib.Core.List.{List, [], _∷_, map}
 use Prim.Native.Nat.{ℕ, zero, suc, _+_, _^_, _<_}
 use native.Mathlib.Omega.{arith}
 use lib.ListN.{length, getD}
-use Rattle.bits.specs.LogicLaws.{and-left, and-right, and-both, beq-self, beq-equal}
+use Rattle.bits.specs.LogicLaws.{and-left, and-right, and-both, beq-self, beq-equal, false-unless}
 use Rattle.rows.specs.Row.{rowOf, valuesOf}
 use Rattle.rows.specs.RowLaws.{values-row, length-values, row-values}
-use Rattle.cells.specs.Lists.{false-where}
 use Rattle.blif.specs.Model.{must-be}
 use Rattle.blif.specs.Value.{matches, covers}
 use Rattle.blif.specs.Modelled.{coverOf}
@@ -48,7 +47,7 @@ module _ (us : List Bool) where
 
   other-row : (r : ℕ) → r < 2 ^ length us → (rowOf us ≡ r → ⊥) → matched r ≡ false
   other-row r l h =
-      false-where (matched r)
+      false-unless (matched r)
       (λ e.
       let same : valuesOf (length us) r ≡ us = matches-equal (valuesOf (length us) r) us (length-values (length us) r) e in
       h (ap rowOf (sym same) ∙ row-values (length us) r l))

@@ -6,7 +6,7 @@ use mathlib.Core.List.{List, [], _∷_, _++_, map-append}
 use Prim.Native.Nat.{ℕ, zero, suc, _+_, _≤_, _<_}
 use native.Mathlib.Omega.{arith}
 use lib.ListN.{length}
-use Rattle.bits.specs.LogicLaws.{true-false, and-both}
+use Rattle.bits.specs.LogicLaws.{true-false, and-both, false-unless}
 use Rattle.names.specs.Name.{Name, isName, among}
 use Rattle.names.specs.Spelled.{standsIn}
 use Rattle.names.specs.AllNamesLaws.{named-among}
@@ -15,7 +15,6 @@ use Rattle.names.specs.Names.{allNames}
 use Rattle.sheet.specs.Lines.{Output}
 use Rattle.sheet.specs.Examine.{Design, outputNames}
 use Rattle.sheet.specs.WellFormed.{WellFormed, outputAt}
-use Rattle.cells.specs.Lists.{false-where}
 use Rattle.classes.specs.Cases.{not-both}
 use Rattle.network.specs.Network.{Network, Node}
 use Rattle.network.specs.Parts.{freeOf, namesOf}
@@ -68,7 +67,7 @@ cells-once i zero h = refl
 cells-once i (suc k) h =
     let later = cellNames (suc i) k in
     and-both (not (standsIn (cellName i) later)) (once later)
-    (ap not (false-where (standsIn (cellName i) later) (cell-stands-later i (suc i) k (omega arith) (omega arith))))
+    (ap not (false-unless (standsIn (cellName i) later) (cell-stands-later i (suc i) k (omega arith) (omega arith))))
     (cells-once (suc i) k (omega arith))
 
 name-in-no-cells : (n : Name) (i k : ℕ) → isName n ≡ true → standsIn n (cellNames i k) ≡ true → ⊥
@@ -101,17 +100,17 @@ module _ (d : Design) (w : Network) (f : WellFormed d) (g : Wellformed d w) wher
   named-no-cell n ns a e c = name-in-no-cells n 0 (length (w .luts)) (named-among n ns a (stands-among n ns e)) c
 
   cell-no-output : (s : Signal) → standsIn s cells ≡ true → standsIn s (namesOf d) ≡ false
-  cell-no-output s e = false-where (standsIn s (namesOf d)) (λ o. named-no-cell s (namesOf d) (design-named d f .outputs-named) o e)
+  cell-no-output s e = false-unless (standsIn s (namesOf d)) (λ o. named-no-cell s (namesOf d) (design-named d f .outputs-named) o e)
 
   input-no-output : (s : Signal) → standsIn s (d .inputs) ≡ true → standsIn s (namesOf d) ≡ false
   input-no-output s e =
-      false-where (standsIn s (namesOf d))
+      false-unless (standsIn s (namesOf d))
       (λ o. no-output-stands s (d .inputs) (d .outputs) (λ i l. f .outputs-right .each i l .new) e o)
 
   input-new : (s : Signal) → standsIn s (d .inputs) ≡ true → standsIn s (cells ++ namesOf d) ≡ false
   input-new s e =
       stands-neither s cells (namesOf d)
-      (false-where (standsIn s cells) (named-no-cell s (d .inputs) (f .inputs-right .named) e))
+      (false-unless (standsIn s cells) (named-no-cell s (d .inputs) (f .inputs-right .named) e))
       (input-no-output s e)
 
   drives-once : once (cells ++ namesOf d) ≡ true

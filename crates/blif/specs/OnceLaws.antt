@@ -4,21 +4,20 @@ use mathlib.Core.Path.{_≡_, refl, ap, subst}
 use mathlib.Core.Bool.{true, false, not}
 use mathlib.Core.List.{List, [], _∷_, _++_}
 use borrow.Author.Tests.{not-true}
-use Rattle.bits.specs.LogicLaws.{and-left, and-right, and-both}
+use Rattle.bits.specs.LogicLaws.{and-left, and-right, and-both, false-unless}
 use Rattle.text.specs.Bytes.{same}
 use Rattle.text.specs.BytesLaws.{differ-same}
 use Rattle.names.specs.Name.{Name, among, distinct}
 use Rattle.names.specs.Spelled.{standsIn}
 use Rattle.names.specs.LookupLaws.{neither-left, neither-right}
 use Rattle.names.specs.StandLaws.{stands-among, stands-first, stands-later}
-use Rattle.cells.specs.Lists.{false-where}
 use Rattle.classes.specs.Cases.{not-both}
 use Rattle.classes.specs.FreeLaws.{distinct-first, distinct-later}
 use Rattle.blif.specs.Model.{Signal}
 use Rattle.blif.specs.Reader.{once}
 
 pub absent : (n : Name) (ns : List Name) → among n ns ≡ false → standsIn n ns ≡ false
-absent n ns e = false-where (standsIn n ns) (λ s. not-both (among n ns) (stands-among n ns s) e)
+absent n ns e = false-unless (standsIn n ns) (λ s. not-both (among n ns) (stands-among n ns s) e)
 
 pub distinct-once : (ns : List Name) → distinct ns ≡ true → once ns ≡ true
 unfolding once

@@ -12,7 +12,7 @@ use Rattle.limits.specs.Limits.{searchOutputs, maxVertices, labelCount}
 use Rattle.bits.specs.Logic.{andb}
 use Rattle.bits.specs.Digit.{on}
 use Rattle.bits.specs.DigitLaws.{on-and, on-single, on-complement}
-use Rattle.cells.specs.Lists.{less-or-equal}
+use Rattle.bits.specs.CountLaws.{less-or-equal}
 use Rattle.seeking.specs.Seeking.{Begins}
 
 -- 11 bytes for the name, three numbers and what parts them; the budgets; the labels; the number of given tables; these; the

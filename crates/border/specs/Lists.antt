@@ -5,7 +5,7 @@ use mathlib.Core.Logic.{⊎-elim}
 use Prim.Native.Nat.{ℕ, suc, _+_, _<_}
 use native.Mathlib.Omega.{arith}
 use lib.ListN.{length, getD}
-use Rattle.cells.specs.Lists.{less-or-equal}
+use Rattle.bits.specs.CountLaws.{less-or-equal}
 
 -- the first n numbers are the same
 abbrev pub SameUpTo : ℕ → List ℕ → List ℕ → Type 0

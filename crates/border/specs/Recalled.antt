@@ -6,7 +6,7 @@ use mathlib.Core.Logic.{inl, inr}
 use Prim.Native.Nat.{ℕ}
 use Rattle.bits.specs.Digit.{on}
 use Rattle.bits.specs.DigitLaws.{on-zero}
-use Rattle.cells.specs.Lists.{never-both}
+use Rattle.bits.specs.LogicLaws.{never-both}
 use Rattle.cache.specs.Cache.{Honest}
 use Rattle.border.specs.Line.{ZeroFirst}
 

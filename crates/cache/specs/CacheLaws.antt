@@ -12,10 +12,10 @@ use lib.Dec.{eqb}
 use lib.ListN.{length, set, length-set}
 use lib.Seq.{getD-set-same, getD-set-other}
 use Rattle.limits.specs.Limits.{searchOutputs}
-use Rattle.bits.specs.LogicLaws.{and-both}
+use Rattle.bits.specs.LogicLaws.{and-both, never-both}
 use Rattle.bits.specs.Digit.{digit, on}
 use Rattle.bits.specs.DigitLaws.{on-and, on-or-one, on-or-none, on-zero, on-above, on-complement}
-use Rattle.cells.specs.Lists.{less-or-equal, never-both}
+use Rattle.bits.specs.CountLaws.{less-or-equal}
 use Rattle.problem.specs.Problem.{item}
 use Rattle.subproblems.specs.Subproblem.{Barred}
 use Rattle.subproblems.specs.SubproblemLaws.{barred-more}

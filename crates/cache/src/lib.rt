@@ -1,7 +1,7 @@
 // A cache of subproblems answered, and the sets of outputs for which it is asked. What it says was found to have no codes has
 // none; that something has codes, or may have, is used to leave a search out, and nothing rests on it. It rests on subproblems.
 ghost use mathlib.Core.Path.{_≡_};
-ghost use mathlib.Core.Bool.{Bool, true, false};
+ghost use mathlib.Core.Bool.{true, false};
 ghost use mathlib.Core.List.{List};
 ghost use Prim.Native.Nat.{ℕ, _+_, _*_, _<_, _≤_};
 ghost use lib.ListN.{length};

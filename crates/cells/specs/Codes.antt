@@ -14,11 +14,13 @@ use lib.Bits.{bitAnd}
 use lib.Dec.{eqb}
 use lib.ListN.{length}
 use lib.Pow.{shr-shr}
-use Rattle.bits.specs.LogicLaws.{true-false}
+use Rattle.bits.specs.LogicLaws.{true-false, never-both, bit-le}
 use Rattle.bits.specs.Digit.{digit, on}
 use Rattle.bits.specs.DigitLaws.{on-zero}
-use Rattle.cells.specs.Core.{Cell, Apart, bit, reading, Serves, ZeroFirst, cellsFrom, coreOf}
-use Rattle.cells.specs.Lists.{count, bit-le, less-or-equal, never-both, count-alike}
+use Rattle.bits.specs.Count.{count}
+use Rattle.bits.specs.CountLaws.{less-or-equal, count-alike}
+use Rattle.bits.specs.Logic.{bit}
+use Rattle.cells.specs.Core.{Cell, Apart, reading, Serves, ZeroFirst, cellsFrom, coreOf}
 use Rattle.cells.specs.Pigeon.{agree-and, and-agree}
 use Rattle.cells.specs.Free.{retabled, retabled-length, retabled-reading, retabled-apart, zeroed, zeroed-first, zeroed-same, filled, filled-length, filled-apart}
 use Rattle.cells.specs.Free.{filled-reading, padded, padded-length, padded-serves}

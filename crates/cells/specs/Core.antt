@@ -6,6 +6,7 @@ use mathlib.Core.List.{List, [], _∷_}
 use mathlib.Core.Logic.{_⊎_}
 use Prim.Native.Nat.{ℕ, zero, suc, _+_, _≤_, _<_}
 use lib.ListN.{length}
+use Rattle.bits.specs.Logic.{bit}
 use Rattle.bits.specs.Digit.{on}
 
 -- A cell: its value at each vertex, and which outputs read it.
@@ -17,11 +18,6 @@ pub record Cell : Type 0 where
 abbrev pub Apart : ℕ → ℕ → ℕ → List Cell → Type 0
 Apart o x y [] = ⊥
 Apart o x y (c ∷ l) = ((c .readers o ≡ true) × (c .table x ≡ c .table y → ⊥)) ⊎ Apart o x y l
-
--- 1 for true, 0 for false.
-abbrev pub bit : Bool → ℕ
-bit true = 1
-bit false = 0
 
 -- How many cells output o reads.
 unfoldable pub reading : ℕ → List Cell → ℕ

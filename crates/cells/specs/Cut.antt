@@ -7,10 +7,9 @@ use mathlib.Core.List.{List, [], _∷_, _++_}
 use mathlib.Core.Logic.{_⊎_, inl, inr, ⊎-elim}
 use Prim.Native.Nat.{ℕ, _+_, _-_, _*_, _≤_, _<_}
 use native.Mathlib.Omega.{arith}
-use Rattle.bits.specs.Logic.{andb}
-use Rattle.bits.specs.LogicLaws.{true-false}
-use Rattle.cells.specs.Core.{Cell, Apart, bit, reading, Serves, Differ}
-use Rattle.cells.specs.Lists.{bit-le}
+use Rattle.bits.specs.Logic.{andb, bit}
+use Rattle.bits.specs.LogicLaws.{true-false, bit-le}
+use Rattle.cells.specs.Core.{Cell, Apart, reading, Serves, Differ}
 use Rattle.cells.specs.Codes.{numberOf}
 
 -- ======== definitions

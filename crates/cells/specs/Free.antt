@@ -10,10 +10,9 @@ use native.Mathlib.Omega.{arith}
 use lib.Dec.{ltb}
 use lib.ListN.{length}
 use borrow.Author.Tests.{ltb-true, ltb-false}
-use Rattle.bits.specs.Logic.{orb, xorb}
-use Rattle.bits.specs.LogicLaws.{true-false}
-use Rattle.cells.specs.Core.{Cell, Apart, bit, reading, Serves, ZeroFirst}
-use Rattle.cells.specs.Lists.{bit-le}
+use Rattle.bits.specs.Logic.{orb, xorb, bit}
+use Rattle.bits.specs.LogicLaws.{true-false, bit-le}
+use Rattle.cells.specs.Core.{Cell, Apart, reading, Serves, ZeroFirst}
 
 -- ---- a change of each cell's table
 unfoldable pub retabled : (Cell → ℕ → Bool) → List Cell → List Cell

@@ -14,11 +14,12 @@ use lib.Dec.{leb}
 use lib.ListN.{length, length-append}
 use lib.Pow.{pow-pos}
 use borrow.Author.Tests.{le-leb, lt-leb}
-use Rattle.bits.specs.Logic.{andb, xorb}
+use Rattle.bits.specs.Logic.{andb, xorb, bit}
 use Rattle.bits.specs.Digit.{on}
 use Rattle.bits.specs.DigitLaws.{on-zero, on-and, on-xor, on-ones, on-above, equal-digits}
-use Rattle.cells.specs.Core.{Cell, Apart, bit, reading, Serves, cellsFrom, coreOf}
-use Rattle.cells.specs.Lists.{count, and-on, and-off}
+use Rattle.bits.specs.LogicLaws.{and-true, and-false}
+use Rattle.bits.specs.Count.{count}
+use Rattle.cells.specs.Core.{Cell, Apart, reading, Serves, cellsFrom, coreOf}
 use Rattle.cells.specs.Pigeon.{and-agree}
 use Rattle.cells.specs.Free.{filled, filled-length, filled-apart, filled-reading}
 use Rattle.cells.specs.Codes.{Coded, numberOf, rowOf, codeOf, digitsOf, on-digits, on-low, on-high, number-lt, number-reading, number-apart, core-serves}
@@ -243,7 +244,7 @@ zeroed-coded v j Conflict rows codes c s = record { tells = λ o x y h p q k e. 
         go : (i : ℕ) (t : Bool) → on r i ≡ t → andb (on a i) t ≡ andb (on b i) t
         go i true q = ap (λ (z : Bool). andb z true) (xor-same (on a i) (on b i) (on c i)
             (sym (on-xor a c i) ∙ and-agree (suc i) r (bitXor a c) (bitXor b c) e i (omega arith) q ∙ on-xor b c i))
-        go i false q = and-off (on a i) ∙ sym (and-off (on b i))
+        go i false q = and-false (on a i) ∙ sym (and-false (on b i))
 
 digits-above : (p : ℕ → Bool) (n i : ℕ) → n ≤ i → on (digitsOf p n) i ≡ false
 unfolding digitsOf
@@ -260,7 +261,7 @@ low-digits w n h =
     omega arith
   where
     go : (i : ℕ) → Dec (i < w) → andb (on n i) (on (2 ^ w - 1) i) ≡ on n i
-    go i (yes l) = ap (λ (b : Bool). andb (on n i) b) (on-ones w i l) ∙ and-on (on n i)
+    go i (yes l) = ap (λ (b : Bool). andb (on n i) b) (on-ones w i l) ∙ and-true (on n i)
     go i (no l) = ap (λ (b : Bool). andb b (on (2 ^ w - 1) i)) (h i (omega arith)) ∙ sym (h i (omega arith))
 
 xor-off : (a b : Bool) → b ≡ false → xorb a b ≡ a

@@ -2,6 +2,7 @@
 pub mod Core
 pub mod Written
 pub mod Lists
+pub mod ListLaws
 pub mod Pigeon
 pub mod Free
 pub mod Sorted

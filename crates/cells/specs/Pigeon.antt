@@ -13,11 +13,14 @@ use lib.Bits.{bitAnd}
 use lib.Dec.{eqb}
 use lib.ListN.{length}
 use borrow.Author.Tests.{eq-eqb, eqb-true, eqb-false, not-true}
-use Rattle.bits.specs.Logic.{andb}
+use Rattle.bits.specs.Logic.{andb, bit}
 use Rattle.bits.specs.Digit.{on}
 use Rattle.bits.specs.DigitLaws.{on-and, on-above, equal-digits}
-use Rattle.cells.specs.Core.{bit}
-use Rattle.cells.specs.Lists.{All, Pairs, part, count, less-or-equal, never-both, all-map, all-both, pairs-map, all-part, part-has, pairs-part, part-length, and-off, and-on}
+use Rattle.bits.specs.LogicLaws.{never-both, and-true, and-false}
+use Rattle.bits.specs.Count.{count}
+use Rattle.bits.specs.CountLaws.{less-or-equal}
+use Rattle.cells.specs.ListLaws.{all-both, all-map, all-part, pairs-map, pairs-part, part-has, part-length}
+use Rattle.cells.specs.Lists.{All, Pairs, part}
 
 -- a and b agree in the digits of mask below u
 abbrev pub Agree : ℕ → ℕ → ℕ → ℕ → Type 0
@@ -32,11 +35,11 @@ agree-and u mask a b h g = equal-digits (bitAnd a mask) (bitAnd b mask) (λ k. o
       where
         low : (k : ℕ) → on mask k ≡ true → k < u
         low k e = elim (decLt k u) as (λ _. k < u) [ yes l ↦ l | no l ↦ absurd (never-both e (on-above u mask k h (omega arith))) ]
-    go k false e = and-off (on a k) ∙ sym (and-off (on b k))
+    go k false e = and-false (on a k) ∙ sym (and-false (on b k))
 
 pub and-agree : (u mask a b : ℕ) → bitAnd a mask ≡ bitAnd b mask → Agree u mask a b
-and-agree u mask a b e i l m = sym (and-on (on a i)) ∙ sym (ap (λ (x : Bool). andb (on a i) x) m) ∙ sym (on-and a mask i) ∙ ap (λ (x : ℕ). on x i) e ∙ on-and b mask i ∙ ap
-    (λ (x : Bool). andb (on b i) x) m ∙ and-on (on b i)
+and-agree u mask a b e i l m = sym (and-true (on a i)) ∙ sym (ap (λ (x : Bool). andb (on a i) x) m) ∙ sym (on-and a mask i) ∙ ap (λ (x : ℕ). on x i) e ∙ on-and b mask i ∙ ap
+    (λ (x : Bool). andb (on b i) x) m ∙ and-true (on b i)
 
 no-two : (R : ℕ → ℕ → Type 0) (xs : List ℕ) → ((x y : ℕ) → R x y → ⊥) → Pairs R xs → length xs ≤ 1
 no-two R [] h p = omega arith

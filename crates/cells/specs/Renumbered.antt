@@ -7,7 +7,8 @@ use mathlib.Core.Logic.{inl, inr, ⊎-elim}
 use Prim.Native.Nat.{ℕ, zero, suc, _+_, _*_, _≤_, _<_}
 use lib.ListN.{length}
 use Rattle.bits.specs.Digit.{on}
-use Rattle.cells.specs.Core.{Cell, Apart, bit, reading, Serves, cellsFrom}
+use Rattle.bits.specs.Logic.{bit}
+use Rattle.cells.specs.Core.{Cell, Apart, reading, Serves, cellsFrom}
 use Rattle.cells.specs.Codes.{numberOf, codeOf}
 use Rattle.cells.specs.FullSize.{readBy}
 

@@ -12,7 +12,9 @@ use lib.Bits.{bitAnd}
 use Rattle.bits.specs.Logic.{andb}
 use Rattle.bits.specs.Digit.{on}
 use Rattle.bits.specs.DigitLaws.{on-and, on-above, on-complement, on-none}
-use Rattle.cells.specs.Lists.{count, less-or-equal, never-both, and-off}
+use Rattle.bits.specs.LogicLaws.{never-both, and-false}
+use Rattle.bits.specs.Count.{count}
+use Rattle.bits.specs.CountLaws.{less-or-equal}
 use Rattle.cells.specs.Codes.{Coded, on-half}
 use Rattle.cells.specs.Swap.{swapped, swapped-low, swapped-high, swapped-other, swapped-same, swapped-less, swapped-short, swapped-count, swapped-coded}
 
@@ -67,7 +69,7 @@ in-order-none w r same h s = on-none (bitAnd (bitAnd (r / 2) (2 ^ w - 1 - r)) sa
   where
     go : (i : ℕ) (a : Bool) → on (r / 2) i ≡ a → (b : Bool) → on same i ≡ b → andb (andb a (on (2 ^ w - 1 - r) i)) b ≡ false
     go i false p b q = refl
-    go i true p false q = and-off (on (2 ^ w - 1 - r) i)
+    go i true p false q = and-false (on (2 ^ w - 1 - r) i)
     go i true p true q =
         let t : on r (suc i) ≡ true = on-half r i ∙ p in
         let l : i < w = elim (decLt i w) as (λ _. i < w) [ yes k ↦ k | no k ↦ absurd (never-both t (on-above w r (suc i) h (omega arith))) ] in

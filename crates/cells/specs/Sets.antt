@@ -11,11 +11,12 @@ use lib.Count.{trailingZeros, under, ones, ones-step}
 use lib.Dec.{eqb}
 use lib.Pow.{pow-lt}
 use borrow.Author.Tests.{eq-eqb, ne-eqb}
-use Rattle.bits.specs.Logic.{andb, orb}
+use Rattle.bits.specs.Logic.{andb, orb, bit}
 use Rattle.bits.specs.Digit.{digit, on}
 use Rattle.bits.specs.DigitLaws.{Binary, is0, is1, binary, on-and, on-or, on-zero, on-single, on-complement}
-use Rattle.cells.specs.Core.{bit}
-use Rattle.cells.specs.Lists.{count, count-alike, never-both, and-off, and-on}
+use Rattle.bits.specs.LogicLaws.{never-both, and-true, and-false}
+use Rattle.bits.specs.Count.{count}
+use Rattle.bits.specs.CountLaws.{count-alike}
 use Rattle.cells.specs.Codes.{on-half, count-shift}
 
 -- ======== definitions
@@ -52,10 +53,10 @@ with-power s k i = on-or s (2 ^ k) i ∙ ap (λ (b : Bool). orb (on s i) b) (go 
 
 pub without-power : (s k : ℕ) → k < 64 → Without s k (bitAnd s (2 ^ 64 - 1 - 2 ^ k))
 without-power s k h = record {
-  others = λ i l ne. digit-of i l ∙ ap (λ (b : Bool). andb (on s i) (not b)) (on-power-other k i ne) ∙ and-on (on s i);
+  others = λ i l ne. digit-of i l ∙ ap (λ (b : Bool). andb (on s i) (not b)) (on-power-other k i ne) ∙ and-true (on s i);
   less = λ t.
       let le : bitAnd s (2 ^ 64 - 1 - 2 ^ k) ≤ s = and-le-l s (2 ^ 64 - 1 - 2 ^ k) in
-      let ne : bitAnd s (2 ^ 64 - 1 - 2 ^ k) ≡ s → ⊥ = λ e. never-both (ap (λ (z : ℕ). on z k) e ∙ t) (digit-of k h ∙ ap (λ (b : Bool). andb (on s k) (not b)) (on-single k) ∙ and-off (on s k)) in
+      let ne : bitAnd s (2 ^ 64 - 1 - 2 ^ k) ≡ s → ⊥ = λ e. never-both (ap (λ (z : ℕ). on z k) e ∙ t) (digit-of k h ∙ ap (λ (b : Bool). andb (on s k) (not b)) (on-single k) ∙ and-false (on s k)) in
       elim (decLt (bitAnd s (2 ^ 64 - 1 - 2 ^ k)) s) as (λ _. bitAnd s (2 ^ 64 - 1 - 2 ^ k) < s) [ yes l ↦ l | no g ↦ absurd (ne (omega arith)) ];
 }
   where

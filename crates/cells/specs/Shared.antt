@@ -14,11 +14,13 @@ use native.Mathlib.Omega.{arith}
 use lib.Bits.{bitAnd}
 use lib.ListN.{length, length-append}
 use Rattle.bits.specs.Logic.{andb, orb}
-use Rattle.bits.specs.LogicLaws.{true-false}
+use Rattle.bits.specs.LogicLaws.{true-false, and-true}
 use Rattle.bits.specs.Digit.{on}
 use Rattle.bits.specs.DigitLaws.{on-and}
+use Rattle.bits.specs.Count.{count, sum}
+use Rattle.cells.specs.ListLaws.{all-append, all-map, pairs-append, pairs-map}
 use Rattle.cells.specs.Cut.{Within}
-use Rattle.cells.specs.Lists.{All, Pairs, count, sum, all-map, all-append, pairs-append, pairs-map, and-on}
+use Rattle.cells.specs.Lists.{All, Pairs}
 use Rattle.cells.specs.Pigeon.{Agree, agree-and, and-agree, pigeon}
 use Rattle.cells.specs.Codes.{Coded}
 
@@ -52,7 +54,7 @@ sharedCode sh f x = bitAnd (f x) sh
 module _ (v j u : ℕ) (part cls : ℕ → ℕ → ℕ) (rows shared private : ℕ → ℕ) (sh : ℕ) (s : Split j u rows shared private sh) (f : ℕ → ℕ) (c : Coded v j (Within part cls) rows f) where
   -- a digit that o reads in a shared cell is the same in the code and in its shared part
   pub shared-digit : (o i x : ℕ) → o < j → on (shared o) i ≡ true → on (sharedCode sh f x) i ≡ on (f x) i
-  shared-digit o i x h e = on-and (f x) sh i ∙ ap (λ (b : Bool). andb (on (f x) i) b) (s .among o i h e) ∙ and-on (on (f x) i)
+  shared-digit o i x h e = on-and (f x) sh i ∙ ap (λ (b : Bool). andb (on (f x) i) b) (s .among o i h e) ∙ and-true (on (f x) i)
 
   same-block : (o x y : ℕ) → o < j → block shared (sharedCode sh f) o x ≡ block shared (sharedCode sh f) o y → Agree u (shared o) (f x) (f y)
   same-block o x y h e i l m = sym (shared-digit o i x h m) ∙ and-agree u (shared o) (sharedCode sh f x) (sharedCode sh f y) e i l m ∙ shared-digit o i y h m

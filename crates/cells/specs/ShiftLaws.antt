@@ -5,13 +5,13 @@ use Prim.Native.Nat.{ℕ, _+_, _-_, _*_, _/_, _%_, _^_, _<_}
 use lib.Bits.{and-mask, and-shifted}
 use lib.Dec.{eqb}
 use lib.Pow.{shl-shr, shr-shr, pow-lt}
+use Rattle.bits.specs.LogicLaws.{and-true}
 use Rattle.bits.specs.Logic.{andb}
 use Rattle.bits.specs.Digit.{digit, on}
 use Rattle.bits.specs.DigitLaws.{on-and, on-ones, on-single, on-zero}
-use Rattle.cells.specs.Lists.{and-on}
 
 pub on-cut : (w n k : ℕ) → k < w → on (n % 2 ^ w) k ≡ on n k
-on-cut w n k h = ap (λ (z : ℕ). on z k) (sym (and-mask n w)) ∙ on-and n (2 ^ w - 1) k ∙ ap (andb (on n k)) (on-ones w k h) ∙ and-on (on n k)
+on-cut w n k h = ap (λ (z : ℕ). on z k) (sym (and-mask n w)) ∙ on-and n (2 ^ w - 1) k ∙ ap (andb (on n k)) (on-ones w k h) ∙ and-true (on n k)
 
 pub on-down : (n s k : ℕ) → on (n / 2 ^ s) k ≡ on n (s + k)
 unfolding on digit
@@ -22,5 +22,5 @@ on-shifted n s k = sym (on-down (n * 2 ^ s) s k) ∙ ap (λ (z : ℕ). on z k) (
 
 pub on-below-shifted : (n s k : ℕ) → k < s → on (n * 2 ^ s) k ≡ false
 on-below-shifted n s k h =
-    sym (and-on (on (n * 2 ^ s) k)) ∙ ap (andb (on (n * 2 ^ s) k)) (sym (on-single k)) ∙ sym (on-and (n * 2 ^ s) (2 ^ k) k)
+    sym (and-true (on (n * 2 ^ s) k)) ∙ ap (andb (on (n * 2 ^ s) k)) (sym (on-single k)) ∙ sym (on-and (n * 2 ^ s) (2 ^ k) k)
     ∙ ap (λ (z : ℕ). on z k) (and-shifted n s (2 ^ k) (pow-lt h)) ∙ on-zero k

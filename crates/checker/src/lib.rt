@@ -1,7 +1,7 @@
 // Check: a design and a network sheet in, "same", "differs" or a refusal out. Rests on design, netsheet and classes for what the
 // sheets say, and on comparing for the comparison.
 ghost use mathlib.Core.Path.{_≡_};
-ghost use Prim.Native.Nat.{ℕ, _≤_};
+ghost use Prim.Native.Nat.{_≤_};
 ghost use lib.ListN.{length};
 ghost use Rattle.limits.specs.Limits.{maxCells};
 ghost use Rattle.sheet.specs.Examine as sheets;

@@ -12,7 +12,8 @@ use lib.ListN.{length, getD, set, take, length-set, length-take}
 use lib.Seq.{take-suc, take-all, getD-set-same, getD-set-other}
 use Rattle.bits.specs.Digit.{on}
 use Rattle.limits.specs.Limits.{maxInputs, maxRows, maxVertices, maxFreeRows}
-use Rattle.rows.specs.Row.{bit, rowOf}
+use Rattle.bits.specs.Logic.{bit}
+use Rattle.rows.specs.Row.{rowOf}
 use Rattle.classes.specs.Seen.{gathered, Gathered}
 use Rattle.classes.specs.DigitLaws.{gathered-lt, gathered-last}
 

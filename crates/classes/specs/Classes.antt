@@ -1,9 +1,8 @@
 -- Classes of numbers under a relation: they are numbered in the order in which their first members come. A vertex
 -- number, a local class number and a global class number are separate counts. Assumes nothing.
-use mathlib.Core.Bool.{Bool, true, false}
+use mathlib.Core.Bool.{Bool}
 use Prim.Native.Nat.{ℕ, zero, suc, _+_}
 use lib.Dec.{eqb}
-use lib.ListN.{length}
 use mathlib.Core.List.{List}
 use Rattle.bits.specs.Logic.{pick}
 use Rattle.names.specs.Name.{Name}

@@ -14,8 +14,9 @@ use lib.Pow.{high, low, pow-pos}
 use Rattle.bits.specs.LogicLaws.{true-false}
 use Rattle.bits.specs.Digit.{on}
 use Rattle.bits.specs.DigitLaws.{on-zero, on-above}
+use Rattle.bits.specs.Logic.{bit}
 use Rattle.names.specs.Name.{Name, sameName, among}
-use Rattle.rows.specs.Row.{bit, rowOf}
+use Rattle.rows.specs.Row.{rowOf}
 use Rattle.rows.specs.RowLaws.{row-lt}
 use Rattle.rows.specs.PartLaws.{on-low, on-high}
 use Rattle.formula.specs.Value.{onRow}

@@ -10,13 +10,13 @@ use native.Mathlib.Nat.{add-zero, add-mul}
 use lib.ListN.{length, length-map}
 use lib.Pow.{high, low, pow-mono}
 use Rattle.limits.specs.Limits.{maxInputs, maxRows}
-use Rattle.bits.specs.Logic.{pick}
+use Rattle.bits.specs.Logic.{pick, bit}
 use Rattle.bits.specs.LogicLaws.{true-false}
 use Rattle.bits.specs.Digit.{on, digit}
 use Rattle.bits.specs.DigitLaws.{on-zero}
 use Rattle.names.specs.Name.{Name, sameName, among, distinct}
 use Rattle.names.specs.SameLaws.{same-name-self}
-use Rattle.rows.specs.Row.{bit, rowOf, valuesOf}
+use Rattle.rows.specs.Row.{rowOf, valuesOf}
 use Rattle.rows.specs.RowLaws.{row-lt, row-values}
 use Rattle.rows.specs.PartLaws.{on-low, on-high}
 use Rattle.formula.specs.Value.{onRow}

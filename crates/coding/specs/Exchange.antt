@@ -13,10 +13,11 @@ use lib.Dec.{eqb}
 use lib.ListN.{length}
 use borrow.Author.Tests.{eq-eqb, ne-eqb}
 use Rattle.bits.specs.Logic.{andb, orb, pick}
-use Rattle.bits.specs.LogicLaws.{and-left}
+use Rattle.bits.specs.LogicLaws.{and-left, never-both, and-true, and-false, or-false}
 use Rattle.bits.specs.Digit.{on}
 use Rattle.bits.specs.DigitLaws.{on-and, on-or, on-zero, on-above, on-complement, on-ones, equal-digits}
-use Rattle.cells.specs.Lists.{All, Pairs, all-map, pairs-map, never-both, and-off, and-on, or-off}
+use Rattle.cells.specs.ListLaws.{all-map, pairs-map}
+use Rattle.cells.specs.Lists.{All, Pairs}
 use Rattle.cells.specs.Pigeon.{agree-and, and-agree}
 use Rattle.cells.specs.Shared.{block}
 use Rattle.problem.specs.Problem.{labelAt, partOf, item, Solves}
@@ -67,17 +68,17 @@ module _ (g : ℕ) (low : g < 64) where
   renamed-on t c i l = on-or (bitAnd c (2 ^ 8 - 1 - g)) (bitAnd t g) i ∙ ap₂ orb (on-and c (2 ^ 8 - 1 - g) i ∙ ap (λ (b : Bool). andb (on c i) b) (on-complement 8 g i (omega arith) l)) (on-and t g i)
 
   renamed-in : (t c i : ℕ) → i < 6 → on g i ≡ true → on (renamed g t c) i ≡ on t i
-  renamed-in t c i l e = renamed-on t c i (omega arith) ∙ ap (λ (b : Bool). orb (andb (on c i) (not b)) (andb (on t i) b)) e ∙ ap₂ orb (and-off (on c i)) (and-on (on t i))
+  renamed-in t c i l e = renamed-on t c i (omega arith) ∙ ap (λ (b : Bool). orb (andb (on c i) (not b)) (andb (on t i) b)) e ∙ ap₂ orb (and-false (on c i)) (and-true (on t i))
 
   renamed-out : (t c i : ℕ) → i < 6 → on g i ≡ false → on (renamed g t c) i ≡ on c i
-  renamed-out t c i l e = renamed-on t c i (omega arith) ∙ ap (λ (b : Bool). orb (andb (on c i) (not b)) (andb (on t i) b)) e ∙ ap₂ orb (and-on (on c i)) (and-off (on t i)) ∙ or-off (on c i)
+  renamed-out t c i l e = renamed-on t c i (omega arith) ∙ ap (λ (b : Bool). orb (andb (on c i) (not b)) (andb (on t i) b)) e ∙ ap₂ orb (and-true (on c i)) (and-false (on t i)) ∙ or-false (on c i)
 
   -- the code c with values a and b of the group exchanged
   abbrev pub swap : ℕ → ℕ → ℕ → ℕ
   swap a b c = renamed g (other (bitAnd a g) (bitAnd b g) (bitAnd c g)) c
 
   value-of : (t : ℕ) → bitAnd (bitAnd t g) g ≡ bitAnd t g
-  value-of t = agree-and 6 g (bitAnd t g) t low (λ i l e. on-and t g i ∙ ap (λ (b : Bool). andb (on t i) b) e ∙ and-on (on t i))
+  value-of t = agree-and 6 g (bitAnd t g) t low (λ i l e. on-and t g i ∙ ap (λ (b : Bool). andb (on t i) b) e ∙ and-true (on t i))
 
   other-value : (a b c : ℕ) → bitAnd (other (bitAnd a g) (bitAnd b g) (bitAnd c g)) g ≡ other (bitAnd a g) (bitAnd b g) (bitAnd c g)
   other-value a b c = go (eqb (bitAnd c g) (bitAnd a g)) (eqb (bitAnd c g) (bitAnd b g))
@@ -96,7 +97,7 @@ module _ (g : ℕ) (low : g < 64) where
     where
       go : (t : Bool) → on g i ≡ t → on (swap a b c) i ≡ on c i
       go true e = renamed-in (other (bitAnd a g) (bitAnd b g) (bitAnd c g)) c i l e ∙ ap (λ (z : ℕ). on z i) (other-c (bitAnd a g) (bitAnd b g) (bitAnd c g) na nb) ∙ on-and c g i ∙ ap
-          (λ (t : Bool). andb (on c i) t) e ∙ and-on (on c i)
+          (λ (t : Bool). andb (on c i) t) e ∙ and-true (on c i)
       go false e = renamed-out (other (bitAnd a g) (bitAnd b g) (bitAnd c g)) c i l e
 
   -- exchanging values keeps blocks: one way
@@ -142,14 +143,14 @@ module _ (g : ℕ) (low : g < 64) where
   pub swap-small : (a b c : ℕ) → c < 64 → swap a b c < 64
   swap-small a b c h = below (swap a b c) (λ i l. on-or (bitAnd c (2 ^ 8 - 1 - g)) (bitAnd (other (bitAnd a g) (bitAnd b g) (bitAnd c g)) g) i
       ∙ ap₂ orb (on-and c (2 ^ 8 - 1 - g) i ∙ ap (λ (t : Bool). andb t (on (2 ^ 8 - 1 - g) i)) (on-above 6 c i h l))
-      (on-and (other (bitAnd a g) (bitAnd b g) (bitAnd c g)) g i ∙ ap (λ (t : Bool). andb (on (other (bitAnd a g) (bitAnd b g) (bitAnd c g)) i) t) (on-above 6 g i low l) ∙ and-off
+      (on-and (other (bitAnd a g) (bitAnd b g) (bitAnd c g)) g i ∙ ap (λ (t : Bool). andb (on (other (bitAnd a g) (bitAnd b g) (bitAnd c g)) i) t) (on-above 6 g i low l) ∙ and-false
       (on (other (bitAnd a g) (bitAnd b g) (bitAnd c g)) i)))
     where
       below : (n : ℕ) → ((i : ℕ) → 6 ≤ i → on n i ≡ false) → n < 64
       below n z = let e : bitAnd n 63 ≡ n = equal-digits (bitAnd n 63) n (λ i. on-and n 63 i ∙ case i (decLt i 6)) in let w = and-le-r n 63 in omega arith
         where
           case : (i : ℕ) → Dec (i < 6) → andb (on n i) (on 63 i) ≡ on n i
-          case i (yes l) = ap (λ (b : Bool). andb (on n i) b) (on-ones 6 i l) ∙ and-on (on n i)
+          case i (yes l) = ap (λ (b : Bool). andb (on n i) b) (on-ones 6 i l) ∙ and-true (on n i)
           case i (no l) = ap (λ (b : Bool). andb b (on 63 i)) (z i (omega arith)) ∙ sym (z i (omega arith))
 
   -- a code below 64 with neither value stays

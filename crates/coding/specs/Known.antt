@@ -4,10 +4,9 @@ use mathlib.Core.Path.{_≡_, refl, sym, ap, _∙_}
 use mathlib.Core.Bool.{Bool, true, false, not}
 use Prim.Native.Nat.{ℕ, _-_, _^_, _<_}
 use Rattle.limits.specs.Limits.{maxCodes}
-use Rattle.bits.specs.LogicLaws.{true-false}
+use Rattle.bits.specs.LogicLaws.{true-false, never-both}
 use Rattle.bits.specs.Digit.{digit, on}
 use Rattle.bits.specs.DigitLaws.{on-ones}
-use Rattle.cells.specs.Lists.{never-both}
 use Rattle.holding.specs.Every.{every, every-at, same, same-equal, withoutCell, without-cell-on}
 
 -- ======== definitions

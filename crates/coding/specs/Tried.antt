@@ -8,10 +8,9 @@ use native.Mathlib.Decide.{ℕ-discrete}
 use lib.Bits.{bitAnd}
 use lib.ListN.{length, set}
 use Rattle.limits.specs.Limits.{maxCodes}
-use Rattle.bits.specs.LogicLaws.{and-right}
+use Rattle.bits.specs.LogicLaws.{and-right, never-both}
 use Rattle.bits.specs.Digit.{on}
 use Rattle.bits.specs.DigitLaws.{on-and, on-zero}
-use Rattle.cells.specs.Lists.{never-both}
 use Rattle.cells.specs.Sets.{Without}
 use Rattle.problem.specs.Problem.{item, Blocks, Solves, Extends, Kept, Fixed, Hopeless}
 use Rattle.holding.specs.Blocks.{on-both}

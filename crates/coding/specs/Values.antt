@@ -15,10 +15,10 @@ use lib.Seq.{getD-set-same, getD-set-other}
 use borrow.Author.Tests.{eq-eqb, ne-eqb, eqb-true}
 use Rattle.limits.specs.Limits.{maxCodes, maxCells}
 use Rattle.bits.specs.Logic.{andb, orb, pick}
-use Rattle.bits.specs.LogicLaws.{true-false, and-left, and-right}
+use Rattle.bits.specs.LogicLaws.{true-false, and-left, and-right, never-both, false-unless, and-true, and-false}
 use Rattle.bits.specs.Digit.{on}
 use Rattle.bits.specs.DigitLaws.{on-and, on-or, on-zero, on-above, on-complement, equal-digits}
-use Rattle.cells.specs.Lists.{less-or-equal, never-both, false-where, and-off, and-on}
+use Rattle.bits.specs.CountLaws.{less-or-equal}
 use Rattle.cells.specs.Pigeon.{agree-and}
 use Rattle.problem.specs.Problem.{noCode, item, Block, Blocks, Solves, Knows}
 use Rattle.holding.specs.Blocks.{on-both}
@@ -155,7 +155,7 @@ module _ (gs used : List ℕ) (sh all : ℕ) (o : Over sh all) where
       none i (yes y) = case (on sh i) refl
         where
           case : (b : Bool) → on sh i ≡ b → andb (on c i) (on rest i) ≡ false
-          case true e = ap (λ (b : Bool). andb (on c i) b) (on-complement 8 sh i (let w = o .low in omega arith) (omega arith) ∙ ap not e) ∙ and-off (on c i)
+          case true e = ap (λ (b : Bool). andb (on c i) b) (on-complement 8 sh i (let w = o .low in omega arith) (omega arith) ∙ ap not e) ∙ and-false (on c i)
           case false e = ap (λ (b : Bool). andb b (on rest i)) (z i y e)
 
   of-over : (c i : ℕ) → c < 64 → i < 6 → on all c ≡ true → on sh i ≡ false → on c i ≡ false
@@ -170,7 +170,7 @@ module _ (gs used : List ℕ) (sh all : ℕ) (o : Over sh all) where
   canon-start groups = record { reach = reach; blind = blind }
     where
       blind : (k c d : ℕ) → 0 ≤ k → k < 3 → c < 64 → d < 64 → ((i : ℕ) → i < 6 → on (item gs k) i ≡ false → on c i ≡ on d i) → on all c ≡ true → on all d ≡ true
-      blind k c d n l p q e t = over-of d q (λ i h z. sym (e i h (false-where (on (item gs k) i) (λ w. never-both (groups .among k i l w) z))) ∙ of-over c i p h t z)
+      blind k c d n l p q e t = over-of d q (λ i h z. sym (e i h (false-unless (on (item gs k) i) (λ w. never-both (groups .among k i l w) z))) ∙ of-over c i p h t z)
 
       reach : (cl base ms caps spots codes : List ℕ) (v j x : ℕ) → 64 ≤ item codes x → Alike ms gs sh j
           → ((k y : ℕ) → k < 3 → y < v → item codes y < 64 → on (item used k) (item codes y) ≡ true) → (g : ℕ → ℕ)
@@ -181,7 +181,7 @@ module _ (gs used : List ℕ) (sh all : ℕ) (o : Over sh all) where
         solves-alike cl base ms caps spots v j g G (record { there = λ q y z l b c r. same q y l ∙ r ∙ sym (same q z l); back = λ q y z l b c r. sym (same q y l) ∙ r ∙ same q z l }) small f,
         (λ y l t. at-other y (λ q. let z = subst (λ (n : ℕ). item codes n < 64) q t in omega arith) ∙ e y l t),
         ap (on all) at-x ∙ over-of (bitAnd (g x) sh) (let w = and-le-l (g x) sh in let z = f .small x h in omega arith)
-            (λ i l z. on-and (g x) sh i ∙ ap (λ (b : Bool). andb (on (g x) i) b) z ∙ and-off (on (g x) i)),
+            (λ i l z. on-and (g x) sh i ∙ ap (λ (b : Bool). andb (on (g x) i) b) z ∙ and-false (on (g x) i)),
         (λ w y l. digit w y (ℕ-discrete y x)),
       )
         where
@@ -196,7 +196,7 @@ module _ (gs used : List ℕ) (sh all : ℕ) (o : Over sh all) where
 
           digit : Alone gs sh → (y : ℕ) → Dec (y ≡ x) → on (G y) 0 ≡ on (g y) 0
           digit w y (no ne) = ap (λ (n : ℕ). on n 0) (at-other y ne)
-          digit w y (yes r) = ap (λ (n : ℕ). on (G n) 0) r ∙ ap (λ (n : ℕ). on n 0) at-x ∙ on-and (g x) sh 0 ∙ ap (λ (b : Bool). andb (on (g x) 0) b) (w .shared) ∙ and-on (on (g x) 0) ∙ ap
+          digit w y (yes r) = ap (λ (n : ℕ). on (G n) 0) r ∙ ap (λ (n : ℕ). on n 0) at-x ∙ on-and (g x) sh 0 ∙ ap (λ (b : Bool). andb (on (g x) 0) b) (w .shared) ∙ and-true (on (g x) 0) ∙ ap
               (λ (n : ℕ). on (g n) 0) (sym r)
 
           same : (q y : ℕ) → q < j → bitAnd (G y) (item ms q) ≡ bitAnd (g y) (item ms q)
@@ -205,7 +205,7 @@ module _ (gs used : List ℕ) (sh all : ℕ) (o : Over sh all) where
               go : Dec (y ≡ x) → bitAnd (G y) (item ms q) ≡ bitAnd (g y) (item ms q)
               go (no ne) = ap (λ (n : ℕ). bitAnd n (item ms q)) (at-other y ne)
               go (yes r) = ap (λ (n : ℕ). bitAnd (G n) (item ms q)) r ∙ ap (λ (n : ℕ). bitAnd n (item ms q)) at-x ∙ agree-and 6 (item ms q) (bitAnd (g x) sh) (g x) (a .short q l)
-                  (λ i b t. on-and (g x) sh i ∙ ap (λ (b : Bool). andb (on (g x) i) b) (a .masked q i l t) ∙ and-on (on (g x) i)) ∙ ap (λ (n : ℕ). bitAnd (g n) (item ms q)) (sym r)
+                  (λ i b t. on-and (g x) sh i ∙ ap (λ (b : Bool). andb (on (g x) i) b) (a .masked q i l t) ∙ and-true (on (g x) i)) ∙ ap (λ (n : ℕ). bitAnd (g n) (item ms q)) (sym r)
 
           small : (y : ℕ) → y < v → G y < 64
           small y l = go (ℕ-discrete y x)

@@ -8,10 +8,10 @@ use native.Mathlib.Omega.{arith}
 use native.Mathlib.Numerals.{add-one}
 use lib.ListN.{length, getD, length-append, length-map}
 use lib.Pow.{pow-mono}
-use Rattle.bits.specs.Logic.{pick}
+use Rattle.bits.specs.Logic.{pick, bit}
 use Rattle.bits.specs.Digit.{on}
 use Rattle.limits.specs.Limits.{maxCells, maxCodes}
-use Rattle.rows.specs.Row.{rowOf, bit}
+use Rattle.rows.specs.Row.{rowOf}
 use Rattle.rows.specs.RowLaws.{row-lt}
 use Rattle.network.specs.Numbers.{numbersOf}
 use Rattle.serving.specs.Compose.{row-append}

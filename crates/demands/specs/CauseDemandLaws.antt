@@ -18,7 +18,7 @@ use Rattle.selection.specs.SheetLaws.{only-outs-valid}
 use Rattle.mapper.specs.Map.{Permitted, MapAnswer, refused-by, mapped, OutcomeFor, too-many-classes, no-network, buffer-short, written}
 use Rattle.mapper.specs.Cause as causes
 use Rattle.mapper.specs.CauseFunctionLaws.{none-named, same-set}
-use Rattle.mapper.specs.Cause.{Served, Cause, CauseAnswer, no-cause, outputs-of, CauseFor, refused-by-8, CauseOf, CauseIs}
+use Rattle.mapper.specs.Cause.{Served, Cause, CauseAnswer, no-cause, CauseFor, refused-by-8, CauseOf, CauseIs}
 use Rattle.demands.specs.OutcomeLaws.{outcome-for, outcome-refused}
 use Rattle.demands.specs.SizeLaws.{print-fits}
 use Rattle.demands.specs.Demand1Laws.{map-same}

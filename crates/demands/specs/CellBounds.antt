@@ -8,7 +8,8 @@ use Prim.Native.Nat.{ℕ, _+_, _≤_}
 use native.Mathlib.Omega.{arith}
 use lib.ListN.{length}
 use Rattle.bits.specs.LogicLaws.{true-false}
-use Rattle.cells.specs.Core.{Cell, Apart, bit, reading}
+use Rattle.bits.specs.Logic.{bit}
+use Rattle.cells.specs.Core.{Cell, Apart, reading}
 
 -- a cell has two values at x and y
 abbrev Tells : Cell → ℕ → ℕ → Type 0

@@ -7,7 +7,7 @@ use mathlib.Core.List.{List, [], _∷_}
 use Prim.Native.Nat.{ℕ, zero, suc, _+_, _/_}
 use lib.Dec.{eqb, leb}
 use lib.ListN.{length, getD}
-use Rattle.bits.specs.Logic.{andb, orb, xorb}
+use Rattle.bits.specs.Logic.{andb, orb, xorb, bit}
 use Rattle.rows.specs.Every.{every}
 use Rattle.order.specs.Order.{listOrder, isLess, tableOrder, tablesOrder}
 use Rattle.sheet.specs.Examine.{Design}
@@ -16,7 +16,6 @@ use Rattle.classes.specs.Width.{budget}
 use Rattle.network.specs.Network.{Network}
 use Rattle.network.specs.Wellformed.{nodeAt}
 use Rattle.network.specs.Value.{lutAt, codeAt}
-use Rattle.cells.specs.Core.{bit}
 use Rattle.cells.specs.Written.{readsOf}
 use Rattle.serving.specs.NetworkCore.{has, cellsOf, networkCore}
 use Rattle.demands.specs.Each.{Each}

@@ -9,7 +9,7 @@ use native.Mathlib.Decide.{decLt}
 use lib.Dec.{eqb, leb}
 use lib.ListN.{length, getD, List·getD-eq-default}
 use borrow.Author.Tests.{le-leb, ne-eqb}
-use Rattle.bits.specs.Logic.{andb, orb, xorb}
+use Rattle.bits.specs.Logic.{andb, orb, xorb, bit}
 use Rattle.bits.specs.LogicLaws.{true-false, and-left, and-right, and-both}
 use Rattle.bits.specs.Values.{valuesUpto}
 use Rattle.bits.specs.ValuesLaws.{values-at}
@@ -26,7 +26,7 @@ use Rattle.network.specs.Network.{Network}
 use Rattle.network.specs.Wellformed.{nodeAt}
 use Rattle.network.specs.NamedLaws.{design-named}
 use Rattle.network.specs.Value.{codeAt}
-use Rattle.cells.specs.Core.{Cell, Apart, bit, reading}
+use Rattle.cells.specs.Core.{Cell, Apart, reading}
 use Rattle.cells.specs.Written.{tablesOf, readsOf}
 use Rattle.serving.specs.NetworkCore.{networkCore, ServesDesign}
 use Rattle.serving.specs.Tells.{core-length}

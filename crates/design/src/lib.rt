@@ -3,7 +3,7 @@
 ghost use mathlib.Core.Path.{_≡_};
 ghost use Rattle.sheet.specs.Examine as spec;
 ghost use Rattle.sheet.specs.Known.{Holds, placeOf};
-ghost use Rattle.design.specs.Tabulate.{Tabulated, tableOf, tabulate};
+ghost use Rattle.design.specs.Tabulate.{tableOf, tabulate};
 ghost use Rattle.design.specs.Answer.{ExaminedIs, Examination, tableAnswer};
 use sheet::Place;
 use sheet::Rows;

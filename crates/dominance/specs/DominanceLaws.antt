@@ -9,7 +9,8 @@ use native.Mathlib.Omega.{arith}
 use lib.ListN.{length, set, length-set}
 use lib.Seq.{getD-set-same, getD-set-other}
 use Rattle.limits.specs.Limits.{maxVertices}
-use Rattle.cells.specs.Lists.{less-or-equal, filled-more}
+use Rattle.bits.specs.CountLaws.{less-or-equal}
+use Rattle.bits.specs.FilledLaws.{each-more}
 use Rattle.problem.specs.Problem.{labelAt, item}
 use Rattle.relation.specs.Relation.{Classes, Conflict}
 use Rattle.relation.specs.RelationLaws.{same-labels-conflict}
@@ -21,19 +22,19 @@ use Rattle.dominance.specs.Dominance.{Dominates, Choosing, Chosen, Picke
 pub picked-more : (l from : List ℕ) (n x : ℕ) (r : List ℕ) → n < 8 → x ≡ item l (item from n) → Picked l from n r → Picked l from (n + 1) (set r n x)
 picked-more l from n x r h e s = record {
   long = length-set r n x ∙ s .long;
-  done = filled-more (λ i z. z ≡ item l (item from i)) n x r (let z = s .long in omega arith) e (s .done);
+  done = each-more (λ i z. z ≡ item l (item from i)) n x r (let z = s .long in omega arith) e (s .done);
 }
 
 pub taken-more : (cl from : List ℕ) (i x : ℕ) (r : List ℕ) → i < 256 → x ≡ labelAt cl (item from (i / 32)) (i % 32) → Taken cl from i r → Taken cl from (i + 1) (set r i x)
 taken-more cl from i x r h e s = record {
   long = length-set r i x ∙ s .long;
-  done = filled-more (λ i z. z ≡ labelAt cl (item from (i / maxVertices)) (i % maxVertices)) i x r (let z = s .long in omega arith) e (s .done);
+  done = each-more (λ i z. z ≡ labelAt cl (item from (i / maxVertices)) (i % maxVertices)) i x r (let z = s .long in omega arith) e (s .done);
 }
 
 pub placed-more : (rows by : List ℕ) (o x : ℕ) (r : List ℕ) → o < 8 → x ≡ item rows (item by o) → Placed rows by o r → Placed rows by (o + 1) (set r o x)
 placed-more rows by o x r h e s = record {
   long = length-set r o x ∙ s .long;
-  done = filled-more (λ o z. z ≡ item rows (item by o)) o x r (let z = s .long in omega arith) e (s .done);
+  done = each-more (λ o z. z ≡ item rows (item by o)) o x r (let z = s .long in omega arith) e (s .done);
 }
 
 -- ======== output after output
@@ -90,7 +91,7 @@ module _ (cl budgets : List ℕ) (v : ℕ) where
 
       pub choosing-kept : k ≡ n → n < 8 → o < m → Choosing cl budgets v m order (i + 1) (n + 1) (set from n o) (set by o k)
       choosing-kept e b h = choosing-more (n + 1) (set from n o) (indices-set from n o b low (s .indices)) (omega arith) (let z = s .few in omega arith)
-          (filled-more (λ l z. z < m) n o from (let z = s .indices .long in omega arith) h (s .among))
+          (each-more (λ l z. z < m) n o from (let z = s .indices .long in omega arith) h (s .among))
           (λ l b. getD-set-other from n l o 0 (λ q. let z : l ≡ n = q in omega arith))
           (omega arith)
           (subst (Dominates cl budgets v o) (sym (ap (item (set from n o)) e ∙ getD-set-same from n o 0 (let z = s .indices .long in omega arith))) (dominates-self o))

@@ -10,12 +10,14 @@ use native.Mathlib.Omega.{arith}
 use lib.Bits.{bitXor}
 use lib.ListN.{length, set, length-set}
 use Rattle.limits.specs.Limits.{maxVertices, searchOutputs}
-use Rattle.bits.specs.Logic.{xorb}
-use Rattle.bits.specs.LogicLaws.{true-false}
+use Rattle.bits.specs.Logic.{xorb, bit}
+use Rattle.bits.specs.LogicLaws.{true-false, never-both}
 use Rattle.bits.specs.Digit.{on}
 use Rattle.bits.specs.DigitLaws.{on-xor, on-none, on-zero}
-use Rattle.cells.specs.Core.{Cell, Apart, bit, reading, Differ, Serves, Answer, cellsFrom, coreOf}
-use Rattle.cells.specs.Lists.{count, less-or-equal, filled-more, never-both}
+use Rattle.bits.specs.Count.{count}
+use Rattle.bits.specs.CountLaws.{less-or-equal}
+use Rattle.bits.specs.FilledLaws.{each-more}
+use Rattle.cells.specs.Core.{Cell, Apart, reading, Differ, Serves, Answer, cellsFrom, coreOf}
 use Rattle.cells.specs.Codes.{cells-length, cells-zero}
 use Rattle.cells.specs.FullSize.{readBy, xor-same}
 use Rattle.problem.specs.Problem.{labelAt, item}
@@ -53,13 +55,13 @@ pub record Answered (cl budgets : List ℕ) (v m limit : ℕ) (found : Bool) (u 
 pub zeroed-more : (codes : List ℕ) (n : ℕ) (r : List ℕ) (x : ℕ) → n < 32 → x ≡ bitXor (item codes n) (item codes 0) → Zeroed codes n r → Zeroed codes (n + 1) (set r n x)
 zeroed-more codes n r x h e s = record {
   long = length-set r n x ∙ s .long;
-  done = filled-more (λ k z. z ≡ bitXor (item codes k) (item codes 0)) n x r (let z = s .long in omega arith) e (s .done);
+  done = each-more (λ k z. z ≡ bitXor (item codes k) (item codes 0)) n x r (let z = s .long in omega arith) e (s .done);
 }
 
 pub opened-more : (rows : List ℕ) (n : ℕ) (r : List ℕ) (f : ℕ) → n < 8 → f ≡ openOf (item rows n) → Opened rows n r → Opened rows (n + 1) (set r n f)
 opened-more rows n r f h e s = record {
   long = length-set r n f ∙ s .long;
-  done = filled-more (λ k z. z ≡ openOf (item rows k)) n f r (let z = s .long in omega arith) e (s .done);
+  done = each-more (λ k z. z ≡ openOf (item rows k)) n f r (let z = s .long in omega arith) e (s .done);
 }
 
 xor-self : (a : ℕ) → bitXor a a ≡ 0

@@ -11,8 +11,9 @@ use lib.ListN.{length, getD, take, drop, length-take, length-drop}
 use Rattle.bits.specs.Logic.{xorb}
 use Rattle.bits.specs.LogicLaws.{true-false}
 use Rattle.bits.specs.Digit.{on}
+use Rattle.bits.specs.Count.{count}
+use Rattle.bits.specs.CountLaws.{less-or-equal}
 use Rattle.cells.specs.Core.{Cell, Serves, cellsFrom, coreOf}
-use Rattle.cells.specs.Lists.{less-or-equal, count}
 use Rattle.cells.specs.Pigeon.{agree-and, and-agree}
 use Rattle.cells.specs.Codes.{codeOf, cells-length, core-serves}
 use Rattle.cells.specs.FullSize.{Full, full-of, read-by-length, read-by-code, xor-same}

@@ -6,10 +6,9 @@ use mathlib.Core.List.{List}
 use Prim.Native.Nat.{ℕ, _+_, _≤_}
 use native.Mathlib.Omega.{arith}
 use lib.ListN.{length}
-use Rattle.bits.specs.LogicLaws.{true-false}
+use Rattle.bits.specs.LogicLaws.{true-false, never-both}
 use Rattle.bits.specs.Digit.{on}
 use Rattle.cells.specs.Core.{Cell, Differ, Serves, ZeroFirst, Least, Answer, coreOf}
-use Rattle.cells.specs.Lists.{never-both}
 use Rattle.cells.specs.Codes.{cells-length}
 use Rattle.cells.specs.Renumbered.{renumbered, renumbered-length}
 use Rattle.cells.specs.Written.{tablesOf}

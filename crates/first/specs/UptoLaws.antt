@@ -7,7 +7,7 @@ use native.Mathlib.Omega.{arith}
 use lib.Pow.{pow-pos, pow-mono}
 use Rattle.bits.specs.Digit.{on}
 use Rattle.bits.specs.DigitLaws.{on-ones, on-above}
-use Rattle.cells.specs.Lists.{never-both}
+use Rattle.bits.specs.LogicLaws.{never-both}
 use Rattle.first.specs.Drawn.{Upto}
 
 pub power-room : (x n : ℕ) → x < 32 → n ≡ 2 ^ (x + 1) → (1 ≤ n) × (n ≤ 2 ^ 32)

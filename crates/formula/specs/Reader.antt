@@ -1,6 +1,6 @@
 -- How a formula is read. "A formula's operands are formulas again." "The position after an item is where the next one
 -- is read." Assumes nothing.
-use mathlib.Core.Bool.{Bool, true, false}
+use mathlib.Core.Bool.{Bool, false}
 use mathlib.Core.List.{List, [], _∷_}
 use Prim.Native.Nat.{ℕ, zero, suc}
 use lib.Dec.{eqb}

@@ -1,6 +1,6 @@
 -- "F is an input name, the digit 0 or 1, `(not F)`, or `and`, `or`, `xor` with two or more operands."
 -- Assumes nothing.
-use mathlib.Core.Bool.{Bool, true, false, _&&_}
+use mathlib.Core.Bool.{Bool, true, _&&_}
 use mathlib.Core.List.{List}
 use Prim.Native.Nat.{ℕ, suc, max}
 use Rattle.names.specs.Name.{Name, among}

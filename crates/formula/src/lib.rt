@@ -3,7 +3,7 @@
 // are told. Rests on cursor for what stands at a place, and on rows for tables.
 ghost use mathlib.Core.Path.{_≡_};
 ghost use mathlib.Core.List.{[], _∷_, map};
-ghost use mathlib.Core.Bool.{Bool, true, false};
+ghost use mathlib.Core.Bool.{true, false};
 ghost use Prim.Native.Nat.{ℕ, suc, _≤_, max};
 ghost use lib.ListN.{length, drop};
 ghost use Rattle.bits.specs.Logic.{andb};

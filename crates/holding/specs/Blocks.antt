@@ -16,7 +16,8 @@ use Rattle.limits.specs.Limits.{blockCount, maxCodes}
 use Rattle.bits.specs.Logic.{andb, orb}
 use Rattle.bits.specs.Digit.{on}
 use Rattle.bits.specs.DigitLaws.{on-and, on-or, on-single, on-complement, equal-digits}
-use Rattle.cells.specs.Lists.{less-or-equal, never-both, false-where, or-on}
+use Rattle.bits.specs.LogicLaws.{never-both, false-unless, or-true}
+use Rattle.bits.specs.CountLaws.{less-or-equal}
 use Rattle.problem.specs.Problem.{item, Block}
 use Rattle.cells.specs.Sets.{on-power-other}
 
@@ -75,7 +76,7 @@ on-both d m k e f = on-and d m k ∙ and-true (on d k) (on m k) e f
 
 pub on-either : (a b k : ℕ) → (on a k ≡ true) ⊎ (on b k ≡ true) → on (bitOr a b) k ≡ true
 on-either a b k (inl e) = on-or a b k ∙ ap (λ (x : Bool). orb x (on b k)) e
-on-either a b k (inr e) = on-or a b k ∙ ap (orb (on a k)) e ∙ or-on (on a k)
+on-either a b k (inr e) = on-or a b k ∙ ap (orb (on a k)) e ∙ or-true (on a k)
 
 -- r is d without b
 pub record Minus (d b r : ℕ) : Type 0 where
@@ -116,4 +117,4 @@ spans-block mask c d r l q s k h = go (ℕ-discrete (bitAnd k mask) (bitAnd c ma
 
     go : Dec (bitAnd k mask ≡ bitAnd c mask) → on r k ≡ eqb (bitAnd k mask) (bitAnd c mask)
     go (yes e) = s .whole c k l h (ap (λ (z : ℕ). on z c) q ∙ on-single c) (sym e) ∙ sym (eq-eqb _ _ e)
-    go (no e) = false-where (on r k) (λ t. let a = s .only k h t in e (sym (a .3) ∙ ap (λ (z : ℕ). bitAnd z mask) (in-d (a .0) (a .2)))) ∙ sym (ne-eqb _ _ e)
+    go (no e) = false-unless (on r k) (λ t. let a = s .only k h t in e (sym (a .3) ∙ ap (λ (z : ℕ). bitAnd z mask) (in-d (a .0) (a .2)))) ∙ sym (ne-eqb _ _ e)

@@ -5,11 +5,11 @@ use mathlib.Core.Bool.{Bool, true, false, not}
 use mathlib.Core.Logic.{⊎-elim}
 use Prim.Native.Nat.{ℕ, zero, suc, _<_}
 use native.Mathlib.Omega.{arith}
+use Rattle.bits.specs.CountLaws.{less-or-equal}
 use Rattle.limits.specs.Limits.{maxCodes}
 use Rattle.bits.specs.Logic.{andb, pick}
 use Rattle.bits.specs.LogicLaws.{true-false, and-left, and-right}
 use Rattle.bits.specs.Digit.{on}
-use Rattle.cells.specs.Lists.{less-or-equal}
 
 -- ======== definitions
 -- whether each number below n has p

@@ -13,7 +13,10 @@ use lib.ListN.{length, set}
 use borrow.Author.Tests.{eq-eqb, eqb-true}
 use Rattle.bits.specs.Logic.{orb}
 use Rattle.bits.specs.Digit.{on}
-use Rattle.cells.specs.Lists.{All, Pairs, all-map, less-or-equal, never-both, false-where, or-on}
+use Rattle.bits.specs.LogicLaws.{never-both, false-unless, or-true}
+use Rattle.bits.specs.CountLaws.{less-or-equal}
+use Rattle.cells.specs.ListLaws.{all-map}
+use Rattle.cells.specs.Lists.{All, Pairs}
 use Rattle.cells.specs.Sets.{With}
 use Rattle.problem.specs.Problem.{labelAt, partAt, partOf, item, Block, Solves, Extends, Kept}
 use Rattle.holding.specs.Blocks.{Minus, minus-keeps}
@@ -50,7 +53,7 @@ others-in cl o p n r r' q a e b f = subst (Others cl o p (n + 1)) (sym b) (recor
 
 pub others-out : (cl : List ℕ) (o p n r r' s : ℕ) → With r n s → r' ≡ s → Others cl o p n r → Others cl o p (n + 1) r'
 others-out cl o p n r r' s w b f = subst (Others cl o p (n + 1)) (sym b) (record {
-  rest = λ l h k. ⊎-elim (λ i. f .rest l i (unseen (on r l) (eqb l n) (sym (w l) ∙ k))) (λ i. absurd (never-both (w l ∙ ap (orb (on r l)) (eq-eqb l n i) ∙ or-on (on r l)) k))
+  rest = λ l h k. ⊎-elim (λ i. f .rest l i (unseen (on r l) (eqb l n) (sym (w l) ∙ k))) (λ i. absurd (never-both (w l ∙ ap (orb (on r l)) (eq-eqb l n i) ∙ or-true (on r l)) k))
       (less-or-equal l n (omega arith));
 })
 
@@ -79,7 +82,7 @@ module _ (cl codes : List ℕ) (o p b : ℕ) where
           (omega arith),
           low,
           in-b,
-          subst (λ (z : ℕ). on t z ≡ true) q (is l ∙ ap (λ (x : Bool). orb (on seen l) x) (eq-eqb l l refl) ∙ or-on (on seen l)),
+          subst (λ (z : ℕ). on t z ≡ true) q (is l ∙ ap (λ (x : Bool). orb (on seen l) x) (eq-eqb l l refl) ∙ or-true (on seen l)),
           ap (partAt cl o) (sym q) ∙ s .strangers
               l small off,
         ),
@@ -96,7 +99,7 @@ module _ (cl codes : List ℕ) (o p b : ℕ) where
   pub crowd-one : (v x r l seen : ℕ) → x < v → l ≡ labelAt cl o x → partOf cl o x ≡ p → item codes x < 64 → on b (item codes x) ≡ true → Others cl o p 32 r → With r l seen
       → Crowd cl codes o p b v seen 1
   crowd-one v x r l seen h q own low in-b f is = record {
-    found = (x ∷ [], ((h, low, in-b, subst (λ (z : ℕ). on seen z ≡ true) q (is l ∙ ap (orb (on r l)) (eq-eqb l l refl) ∙ or-on (on r l)), own), tt), (tt, tt), refl);
+    found = (x ∷ [], ((h, low, in-b, subst (λ (z : ℕ). on seen z ≡ true) q (is l ∙ ap (orb (on r l)) (eq-eqb l l refl) ∙ or-true (on r l)), own), tt), (tt, tt), refl);
     few = omega arith;
     strangers = λ k i a. f .rest k i (unseen (on r k) (eqb k l) (sym (is k) ∙ a));
   }
@@ -123,7 +126,7 @@ module _ (cl base ms caps spots : List ℕ) (v j o p : ℕ) (codes dom : List �
   settled-full r w = record {
     keeps = λ g f e. record {
       coded = e .coded;
-      within = λ x k. w .done x (g x) k (f .small x k) (e .within x k) (λ off. false-where _ (λ t. keeps-out g f e x k off t));
+      within = λ x k. w .done x (g x) k (f .small x k) (e .within x k) (λ off. false-unless _ (λ t. keeps-out g f e x k off t));
     };
   }
 

@@ -14,7 +14,10 @@ use Rattle.limits.specs.Limits.{maxVertices, maxCodes}
 use Rattle.bits.specs.Logic.{orb}
 use Rattle.bits.specs.Digit.{on}
 use Rattle.bits.specs.DigitLaws.{on-or, on-zero}
-use Rattle.cells.specs.Lists.{All, Pairs, all-map, less-or-equal, never-both, or-on}
+use Rattle.bits.specs.LogicLaws.{never-both, or-true}
+use Rattle.bits.specs.CountLaws.{less-or-equal}
+use Rattle.cells.specs.ListLaws.{all-map}
+use Rattle.cells.specs.Lists.{All, Pairs}
 use Rattle.problem.specs.Problem.{noCode, labelAt, item, Block}
 
 -- ======== definitions
@@ -117,7 +120,7 @@ module _ (cl codes : List ℕ) (o mask : ℕ) where
           go (no p) = ap (λ (z : ℕ). on z c) (other l p) ∙ e
 
       hit : (c : ℕ) → c < 64 → bitAnd c mask ≡ bitAnd (item codes y) mask → on (getD (set own q new) q 0) c ≡ true
-      hit c d e = ap (λ (z : ℕ). on z c) same ∙ on-or (getD own q 0) bs c ∙ ap (λ (a : Bool). orb (on (getD own q 0) c) a) (is c d ∙ eq-eqb _ _ e) ∙ or-on (on (getD own q 0) c)
+      hit c d e = ap (λ (z : ℕ). on z c) same ∙ on-or (getD own q 0) bs c ∙ ap (λ (a : Bool). orb (on (getD own q 0) c) a) (is c d ∙ eq-eqb _ _ e) ∙ or-true (on (getD own q 0) c)
 
       Out : ℕ → ℕ → Type 0
       Out l c = (w : ℕ) × (w < y + 1) × (item codes w < 64) × (labelAt cl o w ≡ l) × (bitAnd (item codes w) mask ≡ bitAnd c mask)

@@ -13,7 +13,7 @@ use Rattle.limits.specs.Limits.{maxCodes}
 use Rattle.bits.specs.Logic.{andb, orb, xorb}
 use Rattle.bits.specs.Digit.{on}
 use Rattle.bits.specs.DigitLaws.{on-and, on-or, on-xor, on-zero, on-above, on-single, equal-digits}
-use Rattle.cells.specs.Lists.{never-both, and-on, and-off, or-on, or-off, true-where}
+use Rattle.bits.specs.LogicLaws.{never-both, true-unless, and-true, and-false, or-true, or-false}
 use Rattle.cells.specs.Pigeon.{agree-and, and-agree}
 use Rattle.cells.specs.ShiftLaws.{on-cut, on-down, on-shifted, on-below-shifted}
 use Rattle.cells.specs.Sets.{on-power-other}
@@ -59,7 +59,7 @@ across-below i k e = let s = xor-add-and k (2 ^ i) in let a = one in omega arith
     one : bitAnd k (2 ^ i) ≡ 2 ^ i
     one = equal-digits (bitAnd k (2 ^ i)) (2 ^ i) (λ j. on-and k (2 ^ i) j ∙ elim (ℕ-discrete j i) as (λ _. andb (on k j) (on (2 ^ i) j) ≡ on (2 ^ i) j) [
       | yes q ↦ ap (λ (b : Bool). andb b (on (2 ^ i) j)) (ap (on k) q ∙ e)
-      | no q ↦ ap (λ (b : Bool). andb (on k j) b) (on-power-other i j q) ∙ and-off (on k j) ∙ sym (on-power-other i j q)
+      | no q ↦ ap (λ (b : Bool). andb (on k j) b) (on-power-other i j q) ∙ and-false (on k j) ∙ sym (on-power-other i j q)
     ])
 
 across-above : (i k : ℕ) → on k i ≡ false → across i k ≡ 2 ^ i + k
@@ -68,7 +68,7 @@ across-above i k e = let s = xor-add-and k (2 ^ i) in let a = none in omega arit
     none : bitAnd k (2 ^ i) ≡ 0
     none = equal-digits (bitAnd k (2 ^ i)) 0 (λ j. on-and k (2 ^ i) j ∙ elim (ℕ-discrete j i) as (λ _. andb (on k j) (on (2 ^ i) j) ≡ false) [
       | yes q ↦ ap (λ (b : Bool). andb b (on (2 ^ i) j)) (ap (on k) q ∙ e)
-      | no q ↦ ap (λ (b : Bool). andb (on k j) b) (on-power-other i j q) ∙ and-off (on k j)
+      | no q ↦ ap (λ (b : Bool). andb (on k j) b) (on-power-other i j q) ∙ and-false (on k j)
     ] ∙ sym (on-zero j))
 
 -- ======== joining in one cell
@@ -96,26 +96,26 @@ joined-of d i s low p e = record { digit = λ k h. on-or (bitOr d up) down k ∙
 
     -- a code that is s below one without cell i has cell i
     has-cell : (m : ℕ) → on (s + m) i ≡ false → on m i ≡ true
-    has-cell m q = true-where (on m i) (λ f. never-both (across-here i m ∙ ap not f) (ap (λ (z : ℕ). on z i) (above m f) ∙ q))
+    has-cell m q = true-unless (on m i) (λ f. never-both (across-here i m ∙ ap not f) (ap (λ (z : ℕ). on z i) (above m f) ∙ q))
 
     -- nothing comes up to a code without cell i
     none-up : (k : ℕ) → k < 64 → on k i ≡ false → Dec (k < s) → on up k ≡ false
     none-up k h q (yes l) = on-cut 64 (bitAnd d low * 2 ^ s) k h ∙ on-below-shifted (bitAnd d low) s k l
     none-up k h q (no l) =
         let at : s + (k - s) ≡ k = omega arith in
-        ap (on up) (sym at) ∙ goes-up (k - s) (omega arith) ∙ ap (λ (b : Bool). andb (on d (k - s)) (not b)) (has-cell (k - s) (ap (λ (z : ℕ). on z i) at ∙ q)) ∙ and-off (on d (k - s))
+        ap (on up) (sym at) ∙ goes-up (k - s) (omega arith) ∙ ap (λ (b : Bool). andb (on d (k - s)) (not b)) (has-cell (k - s) (ap (λ (z : ℕ). on z i) at ∙ q)) ∙ and-false (on d (k - s))
 
     go : (k : ℕ) → k < 64 → (b : Bool) → on k i ≡ b → orb (orb (on d k) (on up k)) (on down k) ≡ orb (on d k) (on d (across i k))
     go k h true q =
         let at = below k q in
         ap₂ (λ (x y : Bool). orb (orb (on d k) x) y)
-        (ap (on up) (sym at) ∙ goes-up (across i k) (omega arith) ∙ ap (λ (b : Bool). andb (on d (across i k)) (not b)) (across-here i k ∙ ap not q) ∙ and-on (on d (across i k)))
-        (comes-down k h ∙ ap (λ (b : Bool). andb (on d (s + k)) (not b)) q ∙ and-off (on d (s + k)))
-        ∙ or-off (orb (on d k) (on d (across i k)))
+        (ap (on up) (sym at) ∙ goes-up (across i k) (omega arith) ∙ ap (λ (b : Bool). andb (on d (across i k)) (not b)) (across-here i k ∙ ap not q) ∙ and-true (on d (across i k)))
+        (comes-down k h ∙ ap (λ (b : Bool). andb (on d (s + k)) (not b)) q ∙ and-false (on d (s + k)))
+        ∙ or-false (orb (on d k) (on d (across i k)))
     go k h false q =
         ap₂ (λ (x y : Bool). orb (orb (on d k) x) y) (none-up k h q (decLt k s))
-        (comes-down k h ∙ ap (λ (b : Bool). andb (on d (s + k)) (not b)) q ∙ and-on (on d (s + k)) ∙ ap (on d) (sym (above k q)))
-        ∙ ap (λ (b : Bool). orb b (on d (across i k))) (or-off (on d k))
+        (comes-down k h ∙ ap (λ (b : Bool). andb (on d (s + k)) (not b)) q ∙ and-true (on d (s + k)) ∙ ap (on d) (sym (above k q)))
+        ∙ ap (λ (b : Bool). orb b (on d (across i k))) (or-false (on d k))
 
 -- ======== joining cell by cell
 -- codes that match from cell i on match from the next cell on
@@ -160,7 +160,7 @@ spreading-more mask d i r r' w b m is q s = subst (Spreading mask d (i + 1)) (sy
     there : (c k : ℕ) → c < 64 → k < 64 → on d c ≡ true → Matches mask (i + 1) c k → on c i ≡ not (on k i) → orb (on r k) (on r (across i k)) ≡ true
     there c k h l e f t =
         let crossed : Matches mask (i + 1) c (across i k) = λ j a. f j a ∙ sym (across-same mask i k j m a) in
-        ap (λ (x : Bool). orb (on r k) x) (s .has c (across i k) h (low k l) e (one-more mask i c (across i k) (t ∙ sym (across-here i k)) crossed)) ∙ or-on (on r k)
+        ap (λ (x : Bool). orb (on r k) x) (s .has c (across i k) h (low k l) e (one-more mask i c (across i k) (t ∙ sym (across-here i k)) crossed)) ∙ or-true (on r k)
 
     has : (c k : ℕ) → c < 64 → k < 64 → on d c ≡ true → Matches mask (i + 1) c k → (x y : Bool) → on c i ≡ x → on k i ≡ y → orb (on r k) (on r (across i k)) ≡ true
     has c k h l e f true true u v = here c k h l e f (u ∙ sym v)

@@ -11,7 +11,8 @@ use lib.ListN.{length, set, length-set}
 use lib.Seq.{getD-set-same, getD-set-other}
 use Rattle.limits.specs.Limits.{maxVertices, maxCodes}
 use Rattle.bits.specs.Digit.{on}
-use Rattle.cells.specs.Lists.{sum, less-or-equal}
+use Rattle.bits.specs.Count.{sum}
+use Rattle.bits.specs.CountLaws.{less-or-equal}
 use Rattle.problem.specs.Problem.{labelAt, partAt, partOf, item, Labels, Kept, Hopeless}
 use Rattle.holding.specs.Blocks.{on-both}
 use Rattle.holding.specs.Held.{Held}

@@ -16,7 +16,11 @@ use Rattle.limits.specs.Limits.{maxVertices, maxCodes}
 use Rattle.bits.specs.Logic.{pick}
 use Rattle.bits.specs.Digit.{on}
 use Rattle.bits.specs.DigitLaws.{on-zero}
-use Rattle.cells.specs.Lists.{All, Pairs, part, sum, all-map, all-both, all-append, all-part, pairs-append, pairs-part, part-has, part-length, less-or-equal, never-both}
+use Rattle.bits.specs.LogicLaws.{never-both}
+use Rattle.bits.specs.Count.{sum}
+use Rattle.bits.specs.CountLaws.{less-or-equal}
+use Rattle.cells.specs.ListLaws.{all-append, all-both, all-map, all-part, pairs-append, pairs-part, part-has, part-length}
+use Rattle.cells.specs.Lists.{All, Pairs, part}
 use Rattle.cells.specs.Sets.{Without}
 use Rattle.cells.specs.Shared.{block}
 use Rattle.problem.specs.Problem.{noCode, labelAt, partAt, partOf, item, Block, Labels, Solves, Extends, Hopeless}

@@ -15,7 +15,10 @@ use borrow.Author.Tests.{eq-eqb, ne-eqb}
 use Rattle.bits.specs.Logic.{andb, pick}
 use Rattle.bits.specs.Digit.{on}
 use Rattle.bits.specs.DigitLaws.{on-and, on-zero}
-use Rattle.cells.specs.Lists.{sum, all-map, pairs-map, less-or-equal, never-both, false-where, true-where, sum-more}
+use Rattle.bits.specs.LogicLaws.{never-both, false-unless, true-unless}
+use Rattle.bits.specs.Count.{sum}
+use Rattle.bits.specs.CountLaws.{less-or-equal, sum-more}
+use Rattle.cells.specs.ListLaws.{all-map, pairs-map}
 use Rattle.cells.specs.Shared.{block, Group, gather}
 use Rattle.problem.specs.Problem.{labelAt, partAt, partOf, item, Solves, Extends}
 use Rattle.holding.specs.Held.{Held}
@@ -82,7 +85,7 @@ module _ (cl base ms caps spots : List ℕ) (v j o : ℕ) (codes dom own owns : 
 
   -- a vertex that can take none of the blocks that its class holds has a code in none of them
   pub outside-held : (l y : ℕ) → y < v → bitAnd (item dom y) (item own l) ≡ 0 → on (item own l) (g y) ≡ false
-  outside-held l y i z = false-where _ (λ t. never-both (on-and (item dom y) (item own l) (g y) ∙ ap₂ andb (e .within y i) t) (ap (λ (n : ℕ). on n (g y)) z ∙ on-zero (g y)))
+  outside-held l y i z = false-unless _ (λ t. never-both (on-and (item dom y) (item own l) (g y) ∙ ap₂ andb (e .within y i) t) (ap (λ (n : ℕ). on n (g y)) z ∙ on-zero (g y)))
 
   -- all such vertices of a class below n have x's block, or one has another
   same-or-other : (l x n : ℕ) → n ≤ v
@@ -196,7 +199,7 @@ module _ (cl base ms caps spots : List ℕ) (v j o : ℕ) (codes dom own owns wa
   -- no place is left: a class that holds what it needs, and wants no more, keeps to its blocks
   pub keeps-to : (y : ℕ) → y < v → needed cl wants base o (partOf cl o y) ≡ item spots o → labelAt base o (labelAt cl o y) ≤ getD owns (labelAt cl o y) 0
       → getD wants (labelAt cl o y) 0 ≡ getD owns (labelAt cl o y) 0 → on (getD own (labelAt cl o y) 0) (g y) ≡ true
-  keeps-to y b t k same = true-where _ (λ off. absurd (no-more (labelAt cl o y) (getD owns (labelAt cl o y) 0 + 1) (low y b) t (omega arith) (one (labelAt cl o y) y (low y b) b refl off)))
+  keeps-to y b t k same = true-unless _ (λ off. absurd (no-more (labelAt cl o y) (getD owns (labelAt cl o y) 0 + 1) (low y b) t (omega arith) (one (labelAt cl o y) y (low y b) b refl off)))
 
   -- and one that wants just one more keeps to its blocks and to those in common
   pub keeps-near : (y : ℕ) → y < v → needed cl wants base o (partOf cl o y) ≡ item spots o → labelAt base o (labelAt cl o y) ≤ getD owns (labelAt cl o y) 0 + 1

@@ -10,10 +10,11 @@ use lib.Dec.{leb}
 use lib.ListN.{length, set}
 use lib.Seq.{getD-set-same, getD-set-other}
 use borrow.Author.Tests.{leb-true, le-leb}
-use Rattle.bits.specs.LogicLaws.{true-false}
+use Rattle.bits.specs.LogicLaws.{true-false, never-both, false-unless}
 use Rattle.bits.specs.Digit.{on}
 use Rattle.bits.specs.DigitLaws.{on-zero}
-use Rattle.cells.specs.Lists.{count, less-or-equal, never-both, false-where, count-drop}
+use Rattle.bits.specs.Count.{count}
+use Rattle.bits.specs.CountLaws.{less-or-equal, count-drop}
 use Rattle.problem.specs.Problem.{noCode, noVertex, item, Hopeless, Told}
 
 -- ======== the next vertex
@@ -47,7 +48,7 @@ uncoded codes v = count (λ (y : ℕ). leb noCode (item codes y)) v
 
 pub uncoded-less : (codes : List ℕ) (v x c : ℕ) → length codes ≡ 32 → v ≤ 32 → x < v → 64 ≤ item codes x → c < 64 → uncoded (set codes x c) v < uncoded codes v
 uncoded-less codes v x c e w h k l = count-drop (λ (y : ℕ). leb 64 (item codes y)) (λ (y : ℕ). leb 64 (item (set codes x c) y)) v x h (le-leb 64 (item codes x) k)
-    (false-where _ (λ t. let z = leb-true 64 (item (set codes x c) x) t in let y = getD-set-same codes x c 0 (omega arith) in omega arith))
+    (false-unless _ (λ t. let z = leb-true 64 (item (set codes x c) x) t in let y = getD-set-same codes x c 0 (omega arith) in omega arith))
     (λ i ne. ap (leb 64) (getD-set-other codes x i c 0 ne))
 
 -- some vertex has no code left

@@ -17,7 +17,8 @@ use Rattle.limits.specs.Limits.{maxVertices, maxCodes}
 use Rattle.bits.specs.Logic.{andb, orb, pick}
 use Rattle.bits.specs.Digit.{on}
 use Rattle.bits.specs.DigitLaws.{on-and, on-ones, on-zero}
-use Rattle.cells.specs.Lists.{count, sum, never-both}
+use Rattle.bits.specs.LogicLaws.{never-both}
+use Rattle.bits.specs.Count.{count, sum}
 use Rattle.cells.specs.Sets.{With}
 use Rattle.problem.specs.Problem.{labelAt, partAt, item}
 

@@ -14,7 +14,8 @@ use Rattle.limits.specs.declared.Vertex.{Vertex}
 use Rattle.bits.specs.Logic.{andb, orb, pick}
 use Rattle.bits.specs.Digit.{on}
 use Rattle.bits.specs.DigitLaws.{on-and, on-ones, on-zero, equal-digits}
-use Rattle.cells.specs.Lists.{less-or-equal, and-on, or-on, or-off}
+use Rattle.bits.specs.LogicLaws.{and-true, or-true, or-false}
+use Rattle.bits.specs.CountLaws.{less-or-equal}
 use Rattle.cells.specs.Sets.{With}
 
 -- ======== definitions
@@ -70,10 +71,10 @@ drawn-none s first n e = record { below = λ i h. on-zero i ∙ sym (ap (λ (z :
 
 pub drawn-in : (s : ℕ) (first : List Vertex) (n r r' w : ℕ) → on s (vertexAt first n) ≡ true → With r n w → r' ≡ w → Drawn s first n r → Drawn s first (n + 1) r'
 drawn-in s first n r r' w e more a d = subst (Drawn s first (n + 1)) (sym a) (record {
-  below = λ i h. ⊎-elim (λ l. more i ∙ ap (orb (on r i)) (ne-eqb i n (λ q. let z : i ≡ n = q in omega arith)) ∙ or-off (on r i) ∙ d .below i l)
-      (λ q. subst (λ (z : ℕ). on w z ≡ on s (vertexAt first z)) (sym q) (more n ∙ ap (orb (on r n)) (eq-eqb n n refl) ∙ or-on (on r n) ∙ sym e))
+  below = λ i h. ⊎-elim (λ l. more i ∙ ap (orb (on r i)) (ne-eqb i n (λ q. let z : i ≡ n = q in omega arith)) ∙ or-false (on r i) ∙ d .below i l)
+      (λ q. subst (λ (z : ℕ). on w z ≡ on s (vertexAt first z)) (sym q) (more n ∙ ap (orb (on r n)) (eq-eqb n n refl) ∙ or-true (on r n) ∙ sym e))
       (less-or-equal i n (omega arith));
-  rest = λ i h. more i ∙ ap (orb (on r i)) (ne-eqb i n (λ q. let z : i ≡ n = q in omega arith)) ∙ or-off (on r i) ∙ d .rest i (omega arith);
+  rest = λ i h. more i ∙ ap (orb (on r i)) (ne-eqb i n (λ q. let z : i ≡ n = q in omega arith)) ∙ or-false (on r i) ∙ d .rest i (omega arith);
 })
 
 pub drawn-out : (s : ℕ) (first : List Vertex) (n r r' : ℕ) → on s (vertexAt first n) ≡ false → r' ≡ r → Drawn s first n r → Drawn s first (n + 1) r'
@@ -89,5 +90,5 @@ drawn-low s first n r h d =
     let w = and-le-r r (2 ^ 32 - 1) in omega arith
   where
     case : (i : ℕ) → Dec (i < 32) → andb (on r i) (on (2 ^ 32 - 1) i) ≡ on r i
-    case i (yes l) = ap (andb (on r i)) (on-ones 32 i l) ∙ and-on (on r i)
+    case i (yes l) = ap (andb (on r i)) (on-ones 32 i l) ∙ and-true (on r i)
     case i (no l) = ap (λ (b : Bool). andb b (on (2 ^ 32 - 1) i)) (d .rest i (omega arith)) ∙ sym (d .rest i (omega arith))

@@ -15,9 +15,9 @@ use lib.Seq.{getD-set-same, getD-set-other}
 use Rattle.limits.specs.Limits.{maxVertices, labelCount}
 use Rattle.limits.specs.declared.Vertex.{Vertex}
 use Rattle.joint.specs.declared.JointClass.{JointClass}
-use Rattle.cells.specs.Lists.{less-or-equal}
 use Rattle.problem.specs.Problem.{labelAt, partAt, partOf, item, Labels}
 use Rattle.bits.specs.Digit.{on}
+use Rattle.bits.specs.CountLaws.{less-or-equal}
 use Rattle.readers.specs.Masks.{Decided}
 use Rattle.joint.specs.Digits.{vertexAt, knownAt, Drawn, known-same, digit-same}
 

@@ -3,12 +3,10 @@
 // and joint classes are numbers of two types; the crates below search for codes of plain numbers, whatever these stand for,
 // and `codes_for` is where joint classes become such numbers and their codes come back.
 ghost use mathlib.Core.Path.{_≡_};
-ghost use mathlib.Core.Bool.{Bool, true, false};
-ghost use mathlib.Core.List.{List};
+ghost use mathlib.Core.Bool.{true, false};
 ghost use Prim.Native.Nat.{ℕ, _+_, _*_, _<_, _≤_};
-ghost use lib.ListN.{length, getD};
 ghost use Rattle.limits.specs.Limits.{searchOutputs, maxVertices, labelCount};
-ghost use Rattle.problem.specs.Problem.{Labels, item};
+ghost use Rattle.problem.specs.Problem.{Labels};
 ghost use Rattle.coding.specs.Limit.{Sure};
 ghost use Rattle.readers.specs.Masks.{Short, Decided};
 ghost use Rattle.joint.specs.Digits.{vertexAt, knownAt, Drawn};

@@ -13,7 +13,9 @@ use borrow.Author.Tests.{eq-eqb}
 use Rattle.limits.specs.Limits.{maxVertices}
 use Rattle.bits.specs.Logic.{orb}
 use Rattle.bits.specs.Digit.{on}
-use Rattle.cells.specs.Lists.{All, all-map, never-both, or-on}
+use Rattle.bits.specs.LogicLaws.{never-both, or-true}
+use Rattle.cells.specs.ListLaws.{all-map}
+use Rattle.cells.specs.Lists.{All}
 use Rattle.cells.specs.Sets.{With}
 use Rattle.problem.specs.Problem.{labelAt, partOf, item}
 use Rattle.lowerbounds.specs.Reasons.{FewKinds}
@@ -96,7 +98,7 @@ module _ (cl : List ℕ) (o q : ℕ) where
       grows i e = is i ∙ ap (λ (b : Bool). orb b (eqb i k)) e
 
       has : on w k ≡ true
-      has = is k ∙ ap (λ (b : Bool). orb (on (item seen t) k) b) (eq-eqb k k refl) ∙ or-on (on (item seen t) k)
+      has = is k ∙ ap (λ (b : Bool). orb (on (item seen t) k) b) (eq-eqb k k refl) ∙ or-true (on (item seen t) k)
 
       in-part : (p : ℕ) → p < 32 → Dec (p ≡ d) → Found cl o t q p (x + 1) w (item g' (t * 32 + p))
       in-part p h (no ne) = found-later t p x _ w _ _ grows (other-number (t * 32 + p) (λ e. ne (omega arith))) (s .found t p ht h)

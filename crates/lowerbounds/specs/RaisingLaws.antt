@@ -11,7 +11,7 @@ use lib.Pow.{pow-lt, pow-pos, pow-mono}
 use lib.ListN.{length, set, length-set}
 use lib.Seq.{getD-set-same, getD-set-other}
 use Rattle.limits.specs.Limits.{maxVertices, labelCount}
-use Rattle.cells.specs.Lists.{less-or-equal}
+use Rattle.bits.specs.CountLaws.{less-or-equal}
 use Rattle.problem.specs.Problem.{item}
 use Rattle.lowerbounds.specs.Reasons.{apart, Reason, Based, FewKinds, blocksFor, Raised}
 

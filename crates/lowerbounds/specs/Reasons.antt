@@ -9,7 +9,8 @@ use lib.Bits.{bitAnd}
 use lib.ListN.{length}
 use Rattle.limits.specs.Limits.{maxVertices, labelCount, maxCells}
 use Rattle.bits.specs.Digit.{on}
-use Rattle.cells.specs.Lists.{All, Pairs, count}
+use Rattle.bits.specs.Count.{count}
+use Rattle.cells.specs.Lists.{All, Pairs}
 use Rattle.problem.specs.Problem.{labelAt, partOf, item}
 
 -- g classes of one part of q occur in class l of o

@@ -4,7 +4,7 @@ ghost use Prim.Native.Nat.{ℕ, _*_, _<_, _≤_, _^_};
 ghost use lib.ListN.{length};
 ghost use Rattle.limits.specs.Limits.{searchOutputs, maxVertices, labelCount, maxCodes, maxCells};
 ghost use Rattle.bits.specs.Digit.{on};
-ghost use Rattle.cells.specs.Lists.{count};
+ghost use Rattle.bits.specs.Count.{count};
 ghost use Rattle.problem.specs.Problem.{Labels, item};
 ghost use Rattle.lowerbounds.specs.Reasons.{FewKinds, Raised, Based};
 use limits::LABELS;

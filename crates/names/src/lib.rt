@@ -1,7 +1,7 @@
 // Names on a slice of bytes, and names as numbers: a name has at most 8 bytes, so a u64 holds it. Names are compared in
 // `same_name` only, with case ignored. Rests on text.
 ghost use mathlib.Core.Path.{_≡_};
-ghost use Prim.Native.Nat.{ℕ, _+_, _-_, _≤_};
+ghost use Prim.Native.Nat.{_+_, _-_, _≤_};
 ghost use lib.ListN.{length, take, drop};
 ghost use Rattle.limits.specs.Limits.{maxName};
 ghost use Rattle.names.specs.Case as letters;

@@ -10,9 +10,9 @@ use native.Mathlib.Numerals.{add-one}
 use lib.Pow.{pow-mono}
 use lib.ListN.{length, length-append}
 use Rattle.limits.specs.Limits.{maxName, maxCells, maxCodes}
-use Rattle.bits.specs.Logic.{pick}
+use Rattle.bits.specs.Logic.{pick, bit}
 use Rattle.bits.specs.Digit.{on}
-use Rattle.rows.specs.Row.{bit, rowOf}
+use Rattle.rows.specs.Row.{rowOf}
 use Rattle.text.specs.Number.{printNumber}
 use Rattle.text.specs.FigureLaws.{print-digit}
 use Rattle.names.specs.Name.{Name}

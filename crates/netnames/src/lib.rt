@@ -5,7 +5,7 @@ ghost use mathlib.Core.List.{map, [], _∷_, _++_};
 ghost use Prim.Native.Nat.{ℕ, _+_, _*_, _≤_, _<_};
 ghost use lib.ListN.{length, take, getD};
 ghost use Rattle.limits.specs.Limits.{maxInputs, maxBound, maxCells, maxVertices, maxCodes};
-ghost use Rattle.rows.specs.Row.{bit};
+ghost use Rattle.bits.specs.Logic.{bit};
 ghost use Rattle.names.specs.Pack.{nameOf};
 ghost use Rattle.classes.specs.Columns.{free};
 ghost use Rattle.network.specs.Printer.{lutName};

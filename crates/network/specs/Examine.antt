@@ -1,6 +1,6 @@
 -- "The examination", questions 10 and 11: the lines of a network sheet in their order, beside a design, and then the
 -- limit and the widths. Assumes nothing.
-use mathlib.Core.Bool.{Bool, true, false, not, _||_}
+use mathlib.Core.Bool.{Bool, not, _||_}
 use mathlib.Core.List.{List, [], _∷_, _++_}
 use mathlib.Core.Option.{Option, some, none}
 use Prim.Native.Nat.{ℕ, suc, _+_}

@@ -14,12 +14,14 @@ use Rattle.limits.specs.Limits.{maxVertices, maxCells}
 use Rattle.cells.specs.Sets.{With}
 use lib.ListN.{length, set, length-set}
 use lib.Seq.{getD-set-same, getD-set-other}
-use Rattle.bits.specs.Logic.{andb, orb}
-use Rattle.bits.specs.LogicLaws.{true-false}
+use Rattle.bits.specs.Logic.{andb, orb, bit}
+use Rattle.bits.specs.LogicLaws.{true-false, never-both, and-true, and-false, or-true, or-false}
 use Rattle.bits.specs.Digit.{on}
 use Rattle.bits.specs.DigitLaws.{on-and, on-or, on-zero, on-ones, on-above, on-complement, equal-digits}
-use Rattle.cells.specs.Core.{bit}
-use Rattle.cells.specs.Lists.{All, Pairs, count, all-map, less-or-equal, never-both, count-more, count-same, and-off, and-on, or-off, or-on}
+use Rattle.bits.specs.Count.{count}
+use Rattle.bits.specs.CountLaws.{less-or-equal, count-more, count-same}
+use Rattle.cells.specs.ListLaws.{all-map}
+use Rattle.cells.specs.Lists.{All, Pairs}
 use Rattle.cells.specs.Pigeon.{agree-and, and-agree}
 use Rattle.problem.specs.Problem.{labelAt, partOf, item, Plan, Parted, Fixed, Knows, Hopeless}
 
@@ -217,10 +219,10 @@ spread-zero n p i r e f s = record {
 -- or 1
 pub spread-one : (n p i r r' : ℕ) → on p i ≡ true → on n (count (on p) i) ≡ true → With r i r' → Spread n p i r → Spread n p (i + 1) r'
 spread-one n p i r r' e f w s = record {
-  digits = λ k h. ⊎-elim (λ l. w k ∙ ap (λ (b : Bool). orb (on r k) b) (ne-eqb k i (λ q. omega arith)) ∙ or-off (on r k) ∙ s .digits k l)
-      (λ q. subst (λ (z : ℕ). on r' z ≡ andb (on p z) (on n (count (on p) z))) (sym q) (w i ∙ ap (λ (b : Bool). orb (on r i) b) (eq-eqb i i refl) ∙ or-on (on r i) ∙ sym (ap₂ andb e f)))
+  digits = λ k h. ⊎-elim (λ l. w k ∙ ap (λ (b : Bool). orb (on r k) b) (ne-eqb k i (λ q. omega arith)) ∙ or-false (on r k) ∙ s .digits k l)
+      (λ q. subst (λ (z : ℕ). on r' z ≡ andb (on p z) (on n (count (on p) z))) (sym q) (w i ∙ ap (λ (b : Bool). orb (on r i) b) (eq-eqb i i refl) ∙ or-true (on r i) ∙ sym (ap₂ andb e f)))
       (less-or-equal k i (omega arith));
-  rest = λ k h. w k ∙ ap (λ (b : Bool). orb (on r k) b) (ne-eqb k i (λ q. omega arith)) ∙ or-off (on r k) ∙ s .rest k (omega arith);
+  rest = λ k h. w k ∙ ap (λ (b : Bool). orb (on r k) b) (ne-eqb k i (λ q. omega arith)) ∙ or-false (on r k) ∙ s .rest k (omega arith);
 }
 
 -- what is spread over six digits fits in a byte
@@ -231,7 +233,7 @@ spread-low n p r s = low-of r (equal-digits (bitAnd r 255) r (λ k. on-and r 255
     low-of r e = let h = and-le-r r 255 in omega arith
 
     go : (k : ℕ) → Dec (k < 8) → andb (on r k) (on 255 k) ≡ on r k
-    go k (yes l) = ap (λ (b : Bool). andb (on r k) b) (on-ones 8 k l) ∙ and-on (on r k)
+    go k (yes l) = ap (λ (b : Bool). andb (on r k) b) (on-ones 8 k l) ∙ and-true (on r k)
     go k (no l) = ap (λ (b : Bool). andb b (on 255 k)) (s .rest k (omega arith)) ∙ sym (s .rest k (omega arith))
 
 -- the loop's state: r is spread so far, and k digits of p are passed
@@ -313,7 +315,7 @@ wrote-more nums p cap x codes r s b q h sp w = record {
 
     in-p : (i : ℕ) → i < 6 → on p i ≡ true → on n i ≡ on (item nums x) (count (on p) i)
     in-p i l m = digit i l ∙ ap (λ (t : Bool). orb (andb (on (item r x) i) (not t)) (andb t (on (item nums x) (count (on p) i)))) m ∙ ap
-        (λ (t : Bool). orb t (on (item nums x) (count (on p) i))) (and-off (on (item r x) i))
+        (λ (t : Bool). orb t (on (item nums x) (count (on p) i))) (and-false (on (item r x) i))
 
     out-p : (i : ℕ) → i < 6 → on p i ≡ false → on n i ≡ on (item codes x) i
     out-p i l m = digit i l ∙ ap (λ (t : Bool). orb (andb (on (item r x) i) (not t)) (andb t (on (item nums x) (count (on p) i)))) m ∙ all (on (item r x) i) ∙ ap (λ (z : ℕ). on z i)

@@ -3,11 +3,9 @@
 // vertices are plain numbers, whatever they stand for: the crate joint hands in joint classes.
 ghost use mathlib.Core.Path.{_≡_};
 ghost use mathlib.Core.Bool.{true, false};
-ghost use Prim.Native.Nat.{ℕ, _+_, _*_, _<_, _≤_};
+ghost use Prim.Native.Nat.{ℕ, _+_, _<_, _≤_};
 ghost use mathlib.Core.List.{List};
-ghost use lib.ListN.{length};
-ghost use Rattle.limits.specs.Limits.{searchOutputs, maxVertices, labelCount, maxCodes, maxCells};
-ghost use Rattle.bits.specs.Digit.{on};
+ghost use Rattle.limits.specs.Limits.{searchOutputs, maxVertices, maxCodes, maxCells};
 ghost use Rattle.problem.specs.Problem.{partOf, item, Labels, Plan, Knows, Told};
 ghost use Rattle.numbering.specs.Number.{Numbered, Number, Spread, Written};
 use limits::MAX_VERTICES;

@@ -11,9 +11,10 @@ use lib.Pow.{pow-pos}
 use lib.Seq.{ext-getD}
 use Rattle.bits.specs.Digit.{on}
 use Rattle.bits.specs.Values.{valuesUpto}
+use Rattle.bits.specs.CountLaws.{less-or-equal}
+use Rattle.bits.specs.FilledLaws.{each-more}
 use Rattle.order.specs.Order.{isLess, tableOrder}
 use Rattle.order.specs.OrderLaws.{NotLess, above-not-less, table-total}
-use Rattle.cells.specs.Lists.{less-or-equal, filled-more}
 use Rattle.problem.specs.Problem.{item}
 use Rattle.picking.specs.Best.{Suits, setOrder, Best, Filled, Copied}
 use Rattle.picking.specs.SoonerLaws.{set-self, empty-last}
@@ -62,13 +63,13 @@ pub filled-one : (cl codes budgets : List ℕ) (v u n : ℕ) (r : List ℕ) (f :
     → Filled cl codes budgets v u n r → Filled cl codes budgets v u (n + 1) (set r n f)
 filled-one cl codes budgets v u n r f h b s = record {
   long = length-set r n f ∙ s .long;
-  done = filled-more (λ o f. Best cl codes v o u (item budgets o) (2 ^ u) f) n f r (let z = s .long in omega arith) b (s .done);
+  done = each-more (λ o f. Best cl codes v o u (item budgets o) (2 ^ u) f) n f r (let z = s .long in omega arith) b (s .done);
 }
 
 pub copied-more : (codes : List ℕ) (n : ℕ) (r : List ℕ) (x : ℕ) → n < length codes → x ≡ item codes n → Copied codes n r → Copied codes (n + 1) (set r n x)
 copied-more codes n r x h e s = record {
   long = length-set r n x ∙ s .long;
-  done = filled-more (λ k z. z ≡ item codes k) n x r (let z = s .long in omega arith) e (s .done);
+  done = each-more (λ k z. z ≡ item codes k) n x r (let z = s .long in omega arith) e (s .done);
 }
 
 pub copied-all : (codes : List ℕ) (n : ℕ) (r : List ℕ) → length codes ≤ n → Copied codes n r → r ≡ codes

@@ -10,11 +10,12 @@ use lib.ListN.{length}
 use Rattle.bits.specs.Digit.{on}
 use Rattle.bits.specs.DigitLaws.{on-above}
 use Rattle.bits.specs.Values.{valuesUpto}
+use Rattle.bits.specs.LogicLaws.{never-both}
+use Rattle.bits.specs.Count.{count}
 use Rattle.order.specs.Order.{tableOrder}
 use Rattle.order.specs.OrderLaws.{NotLess}
 use Rattle.cells.specs.Core.{Cell, reading, Serves, coreOf}
 use Rattle.cells.specs.Written.{tablesOf}
-use Rattle.cells.specs.Lists.{count, never-both}
 use Rattle.cells.specs.Pigeon.{and-agree}
 use Rattle.cells.specs.Codes.{rowOf, codeOf, number-lt, number-reading, number-apart, core-serves}
 use Rattle.cells.specs.WrittenLaws.{reads-are-digits, same-tables-codes, core-code, core-reads}

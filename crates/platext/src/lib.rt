@@ -4,7 +4,7 @@
 ghost use mathlib.Core.Path.{_≡_};
 ghost use mathlib.Core.Bool.{true, false};
 ghost use mathlib.Core.List.{[], _∷_};
-ghost use Prim.Native.Nat.{ℕ, _+_, _-_, _≤_, _<_};
+ghost use Prim.Native.Nat.{_+_, _-_, _≤_, _<_};
 ghost use lib.ListN.{length, drop};
 ghost use Rattle.limits.specs.Limits.{maxPla, maxPlaDigits};
 ghost use Rattle.text.specs.Bytes.{eat, after, whole, space};
@@ -16,7 +16,7 @@ ghost use Rattle.sheet.specs.Known.{LineIs};
 ghost use Rattle.platext.specs.Lines.{firstCube, namesOf, readNamed};
 ghost use Rattle.platext.specs.Text as spec;
 ghost use Rattle.platext.specs.Text.{Head, readPla};
-ghost use Rattle.platext.specs.Reading.{NextIs, CountIs, CountLineIs, NamedLineIs, HeadIs, Fits, CubesAre, LineHere, LastIs, BadText, TextIs};
+ghost use Rattle.platext.specs.Reading.{NextIs, CountIs, CountLineIs, NamedLineIs, HeadIs, Fits, CubesAre, LastIs, BadText, TextIs};
 use cursor::Cursor;
 use cursor::Moved;
 use cursor::NameList;

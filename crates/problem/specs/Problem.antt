@@ -10,7 +10,7 @@ use lib.Dec.{eqb}
 use lib.ListN.{length, getD}
 use Rattle.limits.specs.Limits.{maxVertices, labelCount, blockCount, maxCodes, maxCells}
 use Rattle.bits.specs.Digit.{on}
-use Rattle.cells.specs.Lists.{count}
+use Rattle.bits.specs.Count.{count}
 use Rattle.cells.specs.Shared.{Fits}
 
 -- what stands for the code of a vertex that has none yet, and for a vertex where there is none

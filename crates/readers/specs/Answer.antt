@@ -9,7 +9,8 @@ use native.Mathlib.Decide.{ℕ-discrete}
 use native.Mathlib.Omega.{arith}
 use borrow.Author.Tests.{eq-eqb, ne-eqb}
 use Rattle.bits.specs.Logic.{pick}
-use Rattle.cells.specs.Lists.{zeros, zeros-are, all-map}
+use Rattle.cells.specs.ListLaws.{all-map, zeros-are}
+use Rattle.cells.specs.Lists.{zeros}
 use Rattle.cells.specs.Shared.{block, sharedCode, Group, gather}
 use Rattle.problem.specs.Problem.{labelAt, partAt, partOf, item, Told, Hopeless}
 use Rattle.holding.specs.Wants.{need, share, needed}

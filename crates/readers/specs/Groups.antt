@@ -14,10 +14,12 @@ use lib.Seq.{getD-set-same, getD-set-other}
 use borrow.Author.Tests.{eq-eqb}
 use Rattle.limits.specs.Limits.{searchOutputs}
 use Rattle.bits.specs.Logic.{andb, orb}
-use Rattle.bits.specs.LogicLaws.{and-right}
+use Rattle.bits.specs.LogicLaws.{and-right, never-both, false-unless}
 use Rattle.bits.specs.Digit.{on}
 use Rattle.bits.specs.DigitLaws.{on-and, on-or, on-zero}
-use Rattle.cells.specs.Lists.{zeros, zeros-are, less-or-equal, never-both, false-where}
+use Rattle.bits.specs.CountLaws.{less-or-equal}
+use Rattle.cells.specs.ListLaws.{zeros-are}
+use Rattle.cells.specs.Lists.{zeros}
 use Rattle.problem.specs.Problem.{item, Blocks}
 use Rattle.coding.specs.Exchange.{Uniform}
 use Rattle.coding.specs.Values.{Groups, Over, Alone, Marked, Valued}
@@ -84,7 +86,7 @@ module _ (rows gs : List ℕ) (sh j done n g c : ℕ) (h : n < 3) (low : sh < 64
       or-true false = refl
 
   fresh-cell : (i : ℕ) → on g i ≡ true → on done i ≡ false
-  fresh-cell i e = false-where (on done i) (λ t. no-cell i (sym (ap (λ (z : ℕ). on z i) apart) ∙ on-and g done i ∙ ap₂ andb e t))
+  fresh-cell i e = false-unless (on done i) (λ t. no-cell i (sym (ap (λ (z : ℕ). on z i) apart) ∙ on-and g done i ∙ ap₂ andb e t))
 
   pub grouping-more : Grouping rows (set gs n g) sh j (bitOr done g)
   grouping-more = record {
@@ -106,10 +108,10 @@ module _ (rows gs : List ℕ) (sh j done n g c : ℕ) (h : n < 3) (low : sh < 64
       disjoint k l i p q ne (yes a) (yes b) t = absurd (ne (a ∙ sym b))
       disjoint k l i p q ne (yes a) (no b) t =
           let w : on g i ≡ true = sym (ap (λ (z : ℕ). on z i) (ap (item (set gs n g)) a ∙ here)) ∙ t in
-          ap (λ (z : ℕ). on z i) (there l b) ∙ false-where (on (item gs l) i) (λ u. never-both (s .inside l i q u) (fresh-cell i w))
+          ap (λ (z : ℕ). on z i) (there l b) ∙ false-unless (on (item gs l) i) (λ u. never-both (s .inside l i q u) (fresh-cell i w))
       disjoint k l i p q ne (no a) (yes b) t =
           let w : on (item gs k) i ≡ true = sym (ap (λ (z : ℕ). on z i) (there k a)) ∙ t in
-          ap (λ (z : ℕ). on z i) (ap (item (set gs n g)) b ∙ here) ∙ false-where (on g i) (λ u. never-both (s .inside k i p w) (fresh-cell i u))
+          ap (λ (z : ℕ). on z i) (ap (item (set gs n g)) b ∙ here) ∙ false-unless (on g i) (λ u. never-both (s .inside k i p w) (fresh-cell i u))
       disjoint k l i p q ne (no a) (no b) t =
           ap (λ (z : ℕ). on z i) (there l b) ∙ s .groups .disjoint k l i p q ne (sym (ap (λ (z : ℕ). on z i) (there k a)) ∙ t)
 

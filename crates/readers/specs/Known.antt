@@ -13,10 +13,10 @@ use lib.ListN.{length, set, length-set}
 use lib.Seq.{getD-set-same, getD-set-other}
 use Rattle.limits.specs.Limits.{maxVertices, maxCodes, maxCells}
 use Rattle.bits.specs.Logic.{andb, orb}
-use Rattle.bits.specs.LogicLaws.{and-left}
+use Rattle.bits.specs.LogicLaws.{and-left, never-both, false-unless, and-true, and-false}
 use Rattle.bits.specs.Digit.{on}
 use Rattle.bits.specs.DigitLaws.{on-and, on-or, on-or-one, on-or-none, on-zero, on-single, on-complement}
-use Rattle.cells.specs.Lists.{less-or-equal, never-both, false-where, and-off, and-on}
+use Rattle.bits.specs.CountLaws.{less-or-equal}
 use Rattle.cells.specs.Pigeon.{agree-and, and-agree}
 use Rattle.cells.specs.Sets.{on-power-other}
 use Rattle.cells.specs.Shared.{sharedCode}
@@ -81,7 +81,7 @@ pub groupable-less : (sh kn : ℕ) → sh < 64 → Groupable sh kn (bitAnd sh (2
 groupable-less sh kn h = record {
   low = (let w = and-le-l sh (2 ^ 8 - 1 - 1) in omega arith);
   among = λ i t. and-left (on sh i) (on (2 ^ 8 - 1 - 1) i) (sym (on-and sh (2 ^ 8 - 1 - 1) i) ∙ t);
-  without = λ x t. on-and sh (2 ^ 8 - 1 - 1) 0 ∙ ap (andb (on sh 0)) (on-complement 8 1 0 (omega arith) (omega arith) ∙ ap not (on-single 0)) ∙ and-off (on sh 0);
+  without = λ x t. on-and sh (2 ^ 8 - 1 - 1) 0 ∙ ap (andb (on sh 0)) (on-complement 8 1 0 (omega arith) (omega arith) ∙ ap not (on-single 0)) ∙ and-false (on sh 0);
 }
 
 pub grouping-over : (rows gs : List ℕ) (sh r kn j done : ℕ) → Groupable sh kn r → Grouping rows gs r j done → Grouping rows gs sh j done
@@ -95,7 +95,7 @@ grouping-over rows gs sh r kn j done a g = record {
 pub grouping-alone : (rows gs : List ℕ) (sh r kn j done : ℕ) → Public kn sh → Groupable sh kn r → Grouping rows gs r j done → (x : ℕ) → on kn x ≡ true → Alone gs sh
 grouping-alone rows gs sh r kn j done p a g x t = record {
   shared = p x t;
-  outside = λ k h. false-where (on (item gs k) 0) (λ y. never-both (g .groups .among k 0 h y) (a .without x t));
+  outside = λ k h. false-unless (on (item gs k) 0) (λ y. never-both (g .groups .among k 0 h y) (a .without x t));
 }
 
 -- ======== the outputs that read cell 0
@@ -119,12 +119,12 @@ fitted-more kn val x dom s h a f = record {
 }
 
 pub shared-fixed : (kn val sh v : ℕ) (f : ℕ → ℕ) → Public kn sh → Fixed kn val v f → Fixed kn val v (sharedCode sh f)
-shared-fixed kn val sh v f p e x h t = on-and (f x) sh 0 ∙ ap (andb (on (f x) 0)) (p x t) ∙ and-on (on (f x) 0) ∙ e x h t
+shared-fixed kn val sh v f p e x h t = on-and (f x) sh 0 ∙ ap (andb (on (f x) 0)) (p x t) ∙ and-true (on (f x) 0) ∙ e x h t
 
 module _ (rows : List ℕ) (sh j : ℕ) (ms ps caps spots : List ℕ) (short : Short rows j) (c : Common rows j sh) (p : Planned rows sh j ms ps caps spots) where
   -- no output has cell 0 for itself
   not-private : (kn x o : ℕ) → Public kn sh → on kn x ≡ true → o < j → on (item ps o) 0 ≡ false
-  not-private kn x o k t h = false-where (on (item ps o) 0) (λ y. never-both (k x t) (private-read rows sh j ms ps caps spots short c p o 0 h y .1))
+  not-private kn x o k t h = false-unless (on (item ps o) 0) (λ y. never-both (k x t) (private-read rows sh j ms ps caps spots short c p o 0 h y .1))
 
   pub start-knows : (kn val v : ℕ) (codes dom : List ℕ) → v ≤ 32 → Public kn sh → Zero kn val v → Start kn val codes dom → Knows kn val ps codes v j
   start-knows kn val v codes dom few k z s = record {
@@ -164,8 +164,8 @@ digit-one c known d e = record { there = λ t. on-or-one c 1 0 (on-single 0) ∙
 
 pub digit-zero : (c : ℕ) (known d : Bool) → d ≡ false → Digit c known d (bitAnd c (2 ^ 8 - 1 - 1))
 digit-zero c known d e = record {
-  there = λ t. on-and c (2 ^ 8 - 1 - 1) 0 ∙ ap (andb (on c 0)) (on-complement 8 1 0 (omega arith) (omega arith) ∙ ap not (on-single 0)) ∙ and-off (on c 0) ∙ sym e;
-  others = λ i h ne. on-and c (2 ^ 8 - 1 - 1) i ∙ ap (andb (on c i)) (on-complement 8 1 i (omega arith) (omega arith) ∙ ap not (one-off i ne)) ∙ and-on (on c i);
+  there = λ t. on-and c (2 ^ 8 - 1 - 1) 0 ∙ ap (andb (on c 0)) (on-complement 8 1 0 (omega arith) (omega arith) ∙ ap not (on-single 0)) ∙ and-false (on c 0) ∙ sym e;
+  others = λ i h ne. on-and c (2 ^ 8 - 1 - 1) i ∙ ap (andb (on c i)) (on-complement 8 1 i (omega arith) (omega arith) ∙ ap not (one-off i ne)) ∙ and-true (on c i);
 }
 
 pub wrote-start : (kn val : ℕ) (codes : List ℕ) → length codes ≡ 32 → Wrote kn val codes 0 codes

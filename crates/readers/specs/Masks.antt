@@ -1,7 +1,7 @@
 -- The cells that two outputs read, and each output's cells split by them: the facts that the search for codes and the
 -- writing of private cells ask for. Assumes nothing.
 use Rattle.limits.specs.Limits.{searchOutputs, maxVertices, maxCodes, maxCells}
-use Rattle.cells.specs.Lists.{zeros, and-off, All, Pairs, count, less-or-equal, never-both, false-where}
+use Rattle.cells.specs.Lists.{zeros, All, Pairs}
 use mathlib.Core.Path.{_≡_, refl, sym, ap, ap₂, _∙_, subst}
 use mathlib.Core.Bool.{Bool, true, false, not}
 use mathlib.Core.List.{List, _∷_}
@@ -13,9 +13,11 @@ use lib.Bits.{bitAnd, bitOr, and-le-l, and-le-r}
 use lib.ListN.{length, getD, set, length-set}
 use lib.Seq.{getD-set-same, getD-set-other}
 use Rattle.bits.specs.Logic.{andb, orb}
-use Rattle.bits.specs.LogicLaws.{true-false, and-left, and-right}
+use Rattle.bits.specs.LogicLaws.{true-false, and-left, and-right, never-both, false-unless, and-false}
 use Rattle.bits.specs.Digit.{on}
 use Rattle.bits.specs.DigitLaws.{on-and, on-or, on-ones, on-above, on-complement}
+use Rattle.bits.specs.Count.{count}
+use Rattle.bits.specs.CountLaws.{less-or-equal}
 use Rattle.cells.specs.Cut.{Within}
 use Rattle.cells.specs.Pigeon.{agree-and, and-agree}
 use Rattle.cells.specs.Codes.{Coded}
@@ -149,8 +151,8 @@ module _ (rows : List ℕ) (sh j : ℕ) (ms ps caps spots : List ℕ) (short : S
 
   pub plan-of : Plan ms ps caps j
   plan-of = record {
-    private = λ o q i h k e. shared-on q i k ∙ ap (λ (b : Bool). andb (on (item rows q) i) b) (private-read o i h e .1) ∙ and-off (on (item rows q) i);
-    single = λ o q i h k ne e. false-where _ (λ f. never-both (c .two o q i h k ne (private-read o i h e .0) (private-read q i k f .0)) (private-read o i h e .1));
+    private = λ o q i h k e. shared-on q i k ∙ ap (λ (b : Bool). andb (on (item rows q) i) b) (private-read o i h e .1) ∙ and-false (on (item rows q) i);
+    single = λ o q i h k ne e. false-unless _ (λ f. never-both (c .two o q i h k ne (private-read o i h e .0) (private-read q i k f .0)) (private-read o i h e .1));
     room = p .caps-are;
     short = private-low;
     short-shared = shared-low;
@@ -164,7 +166,7 @@ module _ (rows : List ℕ) (sh j : ℕ) (ms ps caps spots : List ℕ) (short : S
     whole = λ o i h. whole o i h (decLt i 6);
     among = shared-among;
     outside = λ o i h e. private-read o i h e .1;
-    own = λ o q i h k ne e. false-where _ (λ f. never-both (c .two o q i h k ne (private-read o i h e .0) f) (private-read o i h e .1));
+    own = λ o q i h k ne e. false-unless _ (λ f. never-both (c .two o q i h k ne (private-read o i h e .0) f) (private-read o i h e .1));
     short = short;
     short-shared = shared-low;
   }

@@ -13,11 +13,13 @@ use lib.Bits.{bitAnd, and-le-l}
 use lib.ListN.{length}
 use lib.Pow.{pow-pos}
 use Rattle.bits.specs.Logic.{andb}
-use Rattle.bits.specs.LogicLaws.{and-left, and-right}
+use Rattle.bits.specs.LogicLaws.{and-left, and-right, and-true}
 use Rattle.bits.specs.Digit.{on}
 use Rattle.bits.specs.DigitLaws.{on-and, on-complement}
+use Rattle.bits.specs.Count.{count}
+use Rattle.cells.specs.ListLaws.{all-map, pairs-map}
 use Rattle.cells.specs.Cut.{Within}
-use Rattle.cells.specs.Lists.{All, Pairs, count, all-map, pairs-map, and-on}
+use Rattle.cells.specs.Lists.{All, Pairs}
 use Rattle.cells.specs.Pigeon.{Agree, agree-and, and-agree, pigeon, buckets}
 use Rattle.cells.specs.Codes.{Coded}
 use Rattle.cells.specs.Shared.{sharedCode}
@@ -71,7 +73,7 @@ module _ (cl rows : List ℕ) (sh v j : ℕ) (ms ps caps spots : List ℕ) (shor
       let b : on (item rows o) d ≡ true = and-right (on (item rows q) d) _ (sym (on-and (item rows q) (item rows o) d) ∙ m) in
       let s : on sh d ≡ true = c .two o q d h i ne b a in
       let t : on (item ms o) d ≡ true = ap (λ (z : ℕ). on z d) (p .shared o h) ∙ on-and (item rows o) sh d ∙ ap₂ andb b s in
-      let read : (z : ℕ) → on (sharedCode sh f z) d ≡ on (f z) d = λ z. on-and (f z) sh d ∙ ap (λ (x : Bool). andb (on (f z) d) x) s ∙ and-on (on (f z) d) in
+      let read : (z : ℕ) → on (sharedCode sh f z) d ≡ on (f z) d = λ z. on-and (f z) sh d ∙ ap (λ (x : Bool). andb (on (f z) d) x) s ∙ and-true (on (f z) d) in
       sym (read x) ∙ and-agree 6 (item ms o) (sharedCode sh f x) (sharedCode sh f y) e d l t ∙ read y)
 
   pub needs-of : (o l n : ℕ) → o < j → Reason cl rows v j o l n → (xs : List ℕ) × All (In o l) xs × Pairs (Blocks o) xs × (n ≤ length xs)

@@ -8,7 +8,7 @@ use lib.Bits.{bitAnd, bitXor}
 use lib.ListN.{length}
 use Rattle.limits.specs.Limits.{searchOutputs, maxCells, maxCodes}
 use Rattle.bits.specs.Digit.{on}
-use Rattle.cells.specs.Lists.{count}
+use Rattle.bits.specs.Count.{count}
 use Rattle.problem.specs.Problem.{item}
 use Rattle.relation.specs.Relation.{NoneLeft}
 use Rattle.subproblems.specs.Subproblem.{openOf, givenOf, Answers}

@@ -16,10 +16,11 @@ use lib.Pow.{pow-add, pow-mono, pow-pos, pow-lt, shr-shr}
 use lib.Seq.{getD-set-same, getD-set-other}
 use borrow.Author.Tests.{eqb-true, eqb-false, not-false}
 use Rattle.bits.specs.Logic.{andb, orb, xorb}
-use Rattle.bits.specs.LogicLaws.{true-false, and-left, and-right}
+use Rattle.bits.specs.LogicLaws.{true-false, and-left, and-right, never-both, and-true}
 use Rattle.bits.specs.Digit.{digit, on}
 use Rattle.bits.specs.DigitLaws.{on-and, on-or, on-or-one, on-or-none, on-xor, on-ones, on-above, on-complement, on-single, on-none, on-zero, equal-digits}
-use Rattle.cells.specs.Lists.{count, count-alike, count-drop, count-le, less-or-equal, never-both, and-on}
+use Rattle.bits.specs.Count.{count}
+use Rattle.bits.specs.CountLaws.{less-or-equal, count-le, count-alike, count-drop}
 use Rattle.cells.specs.Codes.{Coded, on-half}
 use Rattle.cells.specs.Sets.{on-power-other}
 use Rattle.cells.specs.Reorder.{Exchangeable, InOrder, Exchanged, in-order-none, reordered}
@@ -225,7 +226,7 @@ reads-alike f low i e = go (decLt i 8)
     low-digits x z = let e : bitAnd x 255 ≡ x = equal-digits (bitAnd x 255) x (λ i. on-and x 255 i ∙ case i (decLt i 8)) in let w = and-le-r x 255 in omega arith
       where
         case : (i : ℕ) → Dec (i < 8) → andb (on x i) (on 255 i) ≡ on x i
-        case i (yes l) = ap (λ (b : Bool). andb (on x i) b) (on-ones 8 i l) ∙ and-on (on x i)
+        case i (yes l) = ap (λ (b : Bool). andb (on x i) b) (on-ones 8 i l) ∙ and-true (on x i)
         case i (no l) = ap (λ (b : Bool). andb b (on 255 i)) (z i (omega arith)) ∙ sym (z i (omega arith))
 
     xor-low : bitXor f (f / 2) < 2 ^ 8

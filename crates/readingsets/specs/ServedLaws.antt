@@ -9,7 +9,8 @@ use native.Mathlib.Omega.{arith}
 use lib.Bits.{bitAnd, bitOr}
 use lib.ListN.{length, set}
 use Rattle.bits.specs.Digit.{on}
-use Rattle.cells.specs.Lists.{count, never-both}
+use Rattle.bits.specs.LogicLaws.{never-both}
+use Rattle.bits.specs.Count.{count}
 use Rattle.problem.specs.Problem.{item}
 use Rattle.relation.specs.Relation.{Left, NoneLeft}
 use Rattle.subproblems.specs.Subproblem.{openOf, givenOf}

@@ -3,11 +3,11 @@
 // at last about all. Each output reads as many tables as it may, and of neighbouring open cells that the outputs so far read
 // alike the next one reads the first (specs/ChoiceLaws). The order of the outputs is free. It rests on cache.
 ghost use mathlib.Core.Path.{_≡_};
-ghost use mathlib.Core.Bool.{Bool, true, false};
-ghost use Prim.Native.Nat.{ℕ, _+_, _*_, _/_, _%_, _<_, _≤_, _^_, min};
+ghost use mathlib.Core.Bool.{true, false};
+ghost use Prim.Native.Nat.{_+_, _*_, _/_, _%_, _<_, _≤_, _^_, min};
 ghost use lib.Bits.{bitOr};
 ghost use lib.ListN.{length};
-ghost use Rattle.limits.specs.Limits.{searchOutputs, maxVertices, maxCells, maxCodes};
+ghost use Rattle.limits.specs.Limits.{searchOutputs, maxVertices, maxCells};
 ghost use Rattle.bits.specs.Digit.{on};
 ghost use Rattle.problem.specs.Problem.{item};
 ghost use Rattle.relation.specs.Relation.{Classes};

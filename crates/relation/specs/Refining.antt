@@ -10,7 +10,8 @@ use lib.Bits.{bitAnd, and-zero-r}
 use lib.ListN.{length, getD, set, length-set}
 use lib.Seq.{getD-set-same, getD-set-other}
 use Rattle.limits.specs.Limits.{searchOutputs, maxVertices, labelCount}
-use Rattle.cells.specs.Lists.{less-or-equal, filled-more}
+use Rattle.bits.specs.CountLaws.{less-or-equal}
+use Rattle.bits.specs.FilledLaws.{each-more}
 use Rattle.problem.specs.Problem.{labelAt, partAt, partOf, item, Labels}
 use Rattle.relation.specs.Relation.{Classes, Conflict, Leaves}
 
@@ -90,14 +91,14 @@ pub record Cutting (cl given from gs : List ℕ) (n v i : ℕ) (r : List ℕ) : 
 pub valued-more : (given : List ℕ) (g x k : ℕ) (r : List ℕ) → x < 32 → k ≡ bitAnd (item given x) g → Valued given g x r → Valued given g (x + 1) (set r x k)
 valued-more given g x k r b e s = record {
   long = length-set r x k ∙ s .long;
-  each = filled-more (λ y n. n ≡ bitAnd (item given y) g) x k r (let z = s .long in omega arith) e (s .each);
+  each = each-more (λ y n. n ≡ bitAnd (item given y) g) x k r (let z = s .long in omega arith) e (s .each);
 }
 
 pub paired-more : (cl : List ℕ) (o : ℕ) (parts : List ℕ) (x k : ℕ) (r : List ℕ) → x < 32 → k ≡ item parts x * 32 + labelAt cl o x → Paired cl o parts x r
     → Paired cl o parts (x + 1) (set r x k)
 paired-more cl o parts x k r b e s = record {
   long = length-set r x k ∙ s .long;
-  each = filled-more (λ y n. n ≡ item parts y * maxVertices + labelAt cl o y) x k r (let z = s .long in omega arith) e (s .each);
+  each = each-more (λ y n. n ≡ item parts y * maxVertices + labelAt cl o y) x k r (let z = s .long in omega arith) e (s .each);
 }
 
 -- ======== numbers
@@ -125,7 +126,7 @@ module _ (keys : List ℕ) (x next : ℕ) (r : List ℕ) (b : x < 32) (s : Numbe
   }
     where
       below : (y : ℕ) → y < x + 1 → item (set r x k) y < next'
-      below = filled-more (λ y n. n < next') x k r (let z = s .numbers .long in omega arith) l (λ y h. let z = s .below y h in omega arith)
+      below = each-more (λ y n. n < next') x k r (let z = s .numbers .long in omega arith) l (λ y h. let z = s .below y h in omega arith)
 
       new : item (set r x k) x ≡ k
       new = getD-set-same r x k 0 (let z = s .numbers .long in omega arith)
@@ -271,7 +272,7 @@ module _ (cl given : List ℕ) (o g v : ℕ) (values parts pairs labels : List �
 pub copied-more : (cl from : List ℕ) (k n : ℕ) (r : List ℕ) → k < 512 → n ≡ labelAt cl (item from (k / 32)) (k % 32) → Copied cl from k r → Copied cl from (k + 1) (set r k n)
 copied-more cl from k n r b e s = record {
   long = length-set r k n ∙ s .long;
-  done = filled-more (λ l m. m ≡ labelAt cl (item from (l / maxVertices)) (l % maxVertices)) k n r (let z = s .long in omega arith) e (s .done);
+  done = each-more (λ l m. m ≡ labelAt cl (item from (l / maxVertices)) (l % maxVertices)) k n r (let z = s .long in omega arith) e (s .done);
   rest = λ l h. getD-set-other r k l n 0 (λ q. let z : l ≡ k = q in omega arith) ∙ s .rest l (omega arith);
 }
 

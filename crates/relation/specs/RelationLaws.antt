@@ -8,7 +8,7 @@ use Prim.Native.Nat.{ℕ, _+_, _≤_, _<_}
 use native.Mathlib.Decide.{ℕ-discrete}
 use native.Mathlib.Omega.{arith}
 use lib.Bits.{and-zero-r}
-use Rattle.cells.specs.Lists.{less-or-equal}
+use Rattle.bits.specs.CountLaws.{less-or-equal}
 use Rattle.cells.specs.Cut.{Within}
 use Rattle.cells.specs.Codes.{Coded}
 use Rattle.problem.specs.Problem.{labelAt, partAt, item}

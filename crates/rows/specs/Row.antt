@@ -1,15 +1,11 @@
 -- Rows of a table over n inputs, as definitions: a row is a number from 0 to 2 ^ n - 1, and the first input is its highest
 -- digit. Assumes nothing.
-use mathlib.Core.Bool.{Bool, true, false}
+use mathlib.Core.Bool.{Bool}
 use mathlib.Core.List.{List, [], _∷_}
 use Prim.Native.Nat.{ℕ, zero, suc, _+_, _-_, _*_, _^_}
 use lib.ListN.{length}
+use Rattle.bits.specs.Logic.{bit}
 use Rattle.bits.specs.Digit.{on}
-
--- a truth value as a digit
-abbrev pub bit : Bool → ℕ
-bit true = 1
-bit false = 0
 
 -- the row of a list of input values, first input first
 unfoldable pub rowOf : List Bool → ℕ

@@ -13,8 +13,9 @@ use lib.Pow.{mod-pow-add, high, low}
 use lib.ListN.{length, getD}
 use Rattle.bits.specs.Digit.{on, digit}
 use Rattle.bits.specs.DigitLaws.{Binary, is0, is1, digit-binary}
+use Rattle.bits.specs.Logic.{bit}
 use Rattle.rows.specs.PartLaws.{on-low}
-use Rattle.rows.specs.Row.{bit, rowOf, inputOn, valuesOf}
+use Rattle.rows.specs.Row.{rowOf, inputOn, valuesOf}
 
 -- ---- from a list to its row
 bit-lt : (b : Bool) → bit b < 2

@@ -13,12 +13,13 @@ use lib.Bits.{bitAnd, and-mask}
 use lib.Dec.{eqb, leb}
 use lib.ListN.{length}
 use lib.Pow.{pow-pos, shr-shr}
-use Rattle.bits.specs.Logic.{andb, xorb}
-use Rattle.bits.specs.LogicLaws.{and-left, and-right}
+use Rattle.bits.specs.Logic.{andb, xorb, bit}
+use Rattle.bits.specs.LogicLaws.{and-left, and-right, never-both, and-true}
 use Rattle.bits.specs.Digit.{digit, on}
 use Rattle.bits.specs.DigitLaws.{on-zero, on-and, on-xor, on-ones, on-above, on-none}
-use Rattle.cells.specs.Core.{Cell, bit, Serves, cellsFrom, coreOf}
-use Rattle.cells.specs.Lists.{count, count-alike, and-on, never-both}
+use Rattle.bits.specs.Count.{count}
+use Rattle.bits.specs.CountLaws.{count-alike}
+use Rattle.cells.specs.Core.{Cell, Serves, cellsFrom, coreOf}
 use Rattle.cells.specs.Pigeon.{agree-and, and-agree}
 use Rattle.cells.specs.Codes.{Coded, codeOf, on-digits, on-low}
 use Rattle.cells.specs.FullSize.{Full, readBy, between, cleared, code-first, full-of, full-serves, cleared-full, cleared-off}
@@ -32,7 +33,7 @@ use Rattle.seeking.specs.Seeking.{Tables, Known, Begins, Lacks, openCell
 
 -- ======== digits
 on-rest : (u n i : ℕ) → i < u → on (n % 2 ^ u) i ≡ on n i
-on-rest u n i h = ap (λ (z : ℕ). on z i) (sym (and-mask n u)) ∙ on-and n (2 ^ u - 1) i ∙ ap (andb (on n i)) (on-ones u i h) ∙ and-on (on n i)
+on-rest u n i h = ap (λ (z : ℕ). on z i) (sym (and-mask n u)) ∙ on-and n (2 ^ u - 1) i ∙ ap (andb (on n i)) (on-ones u i h) ∙ and-true (on n i)
 
 on-next : (u n i : ℕ) → on n (u + i) ≡ on (n / 2 ^ u) i
 unfolding on digit

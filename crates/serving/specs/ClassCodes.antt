@@ -10,7 +10,8 @@ use lib.Dec.{eqb}
 use lib.ListN.{length}
 use borrow.Author.Tests.{eqb-true, not-true}
 use Rattle.bits.specs.Logic.{pick}
-use Rattle.cells.specs.Lists.{All, Pairs, keep, part, all-map, pairs-map, part-has, pairs-part, part-length}
+use Rattle.cells.specs.ListLaws.{all-map, pairs-map, pairs-part, part-has, part-length}
+use Rattle.cells.specs.Lists.{All, Pairs, keep, part}
 use Rattle.classes.specs.Classes.{firstLike, classCount}
 use Rattle.classes.specs.ClassLaws.{first-like}
 

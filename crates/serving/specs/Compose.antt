@@ -12,22 +12,22 @@ use lib.Dec.{eqb}
 use lib.ListN.{length, getD, length-map, length-append}
 use lib.Pow.{high, low, pow-add}
 use borrow.Author.Tests.{eq-eqb, eqb-true}
-use Rattle.bits.specs.Logic.{pick}
+use Rattle.bits.specs.Logic.{pick, bit}
 use Rattle.bits.specs.LogicLaws.{true-false}
 use Rattle.bits.specs.Digit.{on}
-use Rattle.rows.specs.Row.{rowOf, valuesOf, bit}
+use Rattle.rows.specs.Row.{rowOf, valuesOf}
 use Rattle.rows.specs.RowLaws.{row-lt, row-values, length-values, values-row}
 use Rattle.formula.specs.Value.{onRow}
 use Rattle.sheet.specs.Examine.{Design}
 use Rattle.sheet.specs.Value.{outputOn}
-use Rattle.classes.specs.Columns.{free, joinRow, vertexOf, freeRowOf, vertexCount, freeCount, valueAt, conflict}
+use Rattle.classes.specs.Columns.{free, joinRow, vertexOf, freeRowOf, vertexCount, freeCount, valueAt}
 use Rattle.bits.specs.Values.{valuesUpto}
 use Rattle.bits.specs.ValuesLaws.{values-at}
 use Rattle.network.specs.Network.{Node}
 use Rattle.network.specs.Check.{firstOf}
 use Rattle.network.specs.Value.{networkOn}
 use Rattle.cells.specs.Core.{Apart, coreOf, cellsFrom}
-use Rattle.serving.specs.NetworkCore.{nodeOf, has, ServesDesign}
+use Rattle.serving.specs.NetworkCore.{nodeOf, ServesDesign}
 use Rattle.network.specs.Value.{lutAt}
 use Rattle.serving.specs.Parts.{Parts, Columns}
 use Rattle.serving.specs.Tells.{node-at}

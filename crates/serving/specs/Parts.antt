@@ -1,7 +1,7 @@
 -- What is used of rows and their parts: a row is a vertex and a free row, and the other way round; and a conflict shows at
 -- some free row. Assumes nothing.
 use mathlib.Core.Path.{_≡_}
-use mathlib.Core.Bool.{Bool, true}
+use mathlib.Core.Bool.{true}
 use mathlib.Core.List.{List}
 use Prim.Native.Nat.{ℕ, _^_, _<_}
 use lib.ListN.{length}

@@ -1,7 +1,7 @@
 -- A network that has a design's value on every row tells conflicting vertices apart: two vertices with equal values in all
 -- the tables that an output reads give that output one column. So its core serves. Assumes nothing.
 use mathlib.Core.Path.{_≡_, refl, sym, ap, ap₂, _∙_, subst}
-use mathlib.Core.Bool.{Bool, true, false, not, _||_}
+use mathlib.Core.Bool.{Bool, true, false, _||_}
 use mathlib.Core.List.{List, [], _∷_, _++_, map}
 use mathlib.Core.Logic.{_⊎_, inl, inr, ⊎-elim}
 use Prim.Native.Nat.{ℕ, zero, suc, _+_, _^_, _≤_, _<_}
@@ -11,12 +11,13 @@ use lib.Dec.{eqb}
 use lib.ListN.{length, getD, length-map}
 use borrow.Author.Tests.{eq-eqb, ne-eqb}
 use Rattle.bits.specs.LogicLaws.{true-false}
+use Rattle.bits.specs.Logic.{bit}
 use Rattle.rows.specs.Row.{rowOf, valuesOf}
 use Rattle.rows.specs.RowLaws.{values-row}
 use Rattle.formula.specs.Value.{onRow}
 use Rattle.sheet.specs.Examine.{Design}
 use Rattle.sheet.specs.Value.{outputOn}
-use Rattle.cells.specs.Core.{Apart, reading, bit}
+use Rattle.cells.specs.Core.{Apart, reading}
 use Rattle.classes.specs.Columns.{free, joinRow, vertexOf, freeRowOf, vertexCount, freeCount, valueAt}
 use Rattle.classes.specs.Width.{budget}
 use Rattle.network.specs.Network.{Network}

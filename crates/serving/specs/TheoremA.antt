@@ -10,13 +10,13 @@ use native.Mathlib.Nat.{zero-add}
 use lib.Dec.{eqb}
 use lib.ListN.{length, getD}
 use borrow.Author.Tests.{eqb-true}
-use Rattle.bits.specs.Logic.{pick}
+use Rattle.bits.specs.Logic.{pick, bit}
 use Rattle.bits.specs.LogicLaws.{true-false}
 use Rattle.bits.specs.Digit.{on}
 use Rattle.limits.specs.Limits.{maxCells}
 use Rattle.names.specs.Name.{Name}
 use Rattle.sheet.specs.Examine.{Design}
-use Rattle.cells.specs.Core.{reading, bit, coreOf, cellsFrom}
+use Rattle.cells.specs.Core.{reading, coreOf, cellsFrom}
 use Rattle.classes.specs.Columns.{free, vertexCount, conflict}
 use Rattle.classes.specs.Width.{budget}
 use Rattle.classes.specs.Proper.{Proper, Parted}

@@ -1,7 +1,7 @@
 // The lines of a design sheet: each line asked questions 2 to 5 with what is known so far. Rests on cursor for the items
 // of a line, and on formula for the formulas and their tables.
 ghost use mathlib.Core.Path.{_≡_};
-ghost use mathlib.Core.Bool.{Bool, true, false};
+ghost use mathlib.Core.Bool.{true, false};
 ghost use mathlib.Core.List.{List, map};
 ghost use mathlib.Core.Option.{Option};
 ghost use Prim.Native.Nat.{ℕ, _≤_, _<_};

@@ -14,7 +14,8 @@ use Rattle.limits.specs.Limits.{searchOutputs, maxCells}
 use Rattle.bits.specs.Logic.{andb, orb}
 use Rattle.bits.specs.Digit.{on}
 use Rattle.bits.specs.DigitLaws.{on-and, on-zero, on-ones, equal-digits}
-use Rattle.cells.specs.Lists.{less-or-equal, and-on, or-on, or-off, never-both}
+use Rattle.bits.specs.LogicLaws.{never-both, and-true, or-true, or-false}
+use Rattle.bits.specs.CountLaws.{less-or-equal}
 use Rattle.cells.specs.Cut.{Within}
 use Rattle.cells.specs.Pigeon.{agree-and, and-agree}
 use Rattle.cells.specs.Sets.{With, with-power}
@@ -63,10 +64,10 @@ moved-off f perm i r r' e q s = subst (Moved f perm (i + 1)) (sym q) record {
 pub moved-on : (f : ℕ) (perm : List ℕ) (i r p r' : ℕ) → true ≡ on f (item perm i) → p ≡ 2 ^ i → r' ≡ bitOr r p → Moved f perm i r → Moved f perm (i + 1) r'
 moved-on f perm i r p r' e pq q s = record {
   digits = λ j h. ⊎-elim
-      (λ l. w j ∙ ap (λ (b : Bool). orb (on r j) b) (ne-eqb j i (λ q. omega arith)) ∙ or-off (on r j) ∙ s .digits j l)
-      (λ p. subst (λ (z : ℕ). on r' z ≡ on f (item perm z)) (sym p) (w i ∙ ap (λ (b : Bool). orb (on r i) b) (eq-eqb i i refl) ∙ or-on (on r i) ∙ e))
+      (λ l. w j ∙ ap (λ (b : Bool). orb (on r j) b) (ne-eqb j i (λ q. omega arith)) ∙ or-false (on r j) ∙ s .digits j l)
+      (λ p. subst (λ (z : ℕ). on r' z ≡ on f (item perm z)) (sym p) (w i ∙ ap (λ (b : Bool). orb (on r i) b) (eq-eqb i i refl) ∙ or-true (on r i) ∙ e))
       (less-or-equal j i (omega arith));
-  rest = λ j h. w j ∙ ap (λ (b : Bool). orb (on r j) b) (ne-eqb j i (λ q. omega arith)) ∙ or-off (on r j) ∙ s .rest j (omega arith);
+  rest = λ j h. w j ∙ ap (λ (b : Bool). orb (on r j) b) (ne-eqb j i (λ q. omega arith)) ∙ or-false (on r j) ∙ s .rest j (omega arith);
 }
   where
     w : With r i r'
@@ -79,7 +80,7 @@ moved-low f perm r s = low-of (equal-digits (bitAnd r 63) r (λ k. on-and r 63 k
     low-of e = let h = and-le-r r 63 in omega arith
 
     go : (k : ℕ) → Dec (k < 6) → andb (on r k) (on 63 k) ≡ on r k
-    go k (yes l) = ap (λ (b : Bool). andb (on r k) b) (on-ones 6 k l) ∙ and-on (on r k)
+    go k (yes l) = ap (λ (b : Bool). andb (on r k) b) (on-ones 6 k l) ∙ and-true (on r k)
     go k (no l) = ap (λ (b : Bool). andb b (on 63 k)) (s .rest k (omega arith)) ∙ sym (s .rest k (omega arith))
 
 -- ======== the subproblem, output by output

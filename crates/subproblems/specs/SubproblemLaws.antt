@@ -9,13 +9,13 @@ use Rattle.limits.specs.Limits.{searchOutputs}
 use Rattle.bits.specs.Logic.{andb}
 use Rattle.bits.specs.Digit.{on}
 use Rattle.bits.specs.DigitLaws.{on-and, on-ones}
-use Rattle.cells.specs.Lists.{and-on}
+use Rattle.bits.specs.LogicLaws.{and-true}
 use Rattle.relation.specs.Relation.{Left}
 use Rattle.subproblems.specs.Subproblem.{openOf, givenOf, Answers, Barred, Settled}
 
 -- the open cells of a row are its first digits
 pub on-open : (row i : ℕ) → i < 6 → on (row % 64) i ≡ on row i
-on-open row i h = ap (λ (z : ℕ). on z i) (sym (and-mask row 6)) ∙ on-and row 63 i ∙ ap (andb (on row i)) (on-ones 6 i h) ∙ and-on (on row i)
+on-open row i h = ap (λ (z : ℕ). on z i) (sym (and-mask row 6)) ∙ on-and row 63 i ∙ ap (andb (on row i)) (on-ones 6 i h) ∙ and-true (on row i)
 
 module _ (cl given : List ℕ) (kn val v : ℕ) where
   -- codes that answer a subproblem answer each subproblem about fewer outputs, with the same rows for these

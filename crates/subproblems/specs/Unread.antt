@@ -9,7 +9,7 @@ use lib.Bits.{bitAnd}
 use Rattle.bits.specs.Logic.{andb}
 use Rattle.bits.specs.Digit.{on}
 use Rattle.bits.specs.DigitLaws.{on-zero}
-use Rattle.cells.specs.Lists.{never-both}
+use Rattle.bits.specs.LogicLaws.{never-both}
 use Rattle.cells.specs.Pigeon.{agree-and, and-agree}
 use Rattle.cells.specs.Codes.{digitsOf, on-digits, digits-none}
 use Rattle.subproblems.specs.Subproblem.{openOf, Barred}

@@ -2,7 +2,7 @@
 // into one order of the open cells, so that subproblems that differ in that order alone are one, and it is asked on what the
 // given tables leave of the conflicts. It rests on relation, joint and sorting.
 ghost use mathlib.Core.Path.{_≡_};
-ghost use mathlib.Core.Bool.{Bool, true, false};
+ghost use mathlib.Core.Bool.{true, false};
 ghost use Prim.Native.Nat.{ℕ, _<_, _≤_, _/_, _^_};
 ghost use lib.ListN.{length};
 ghost use Rattle.limits.specs.Limits.{searchOutputs, maxVertices, maxCodes, maxCells};
@@ -11,7 +11,7 @@ ghost use Rattle.relation.specs.Relation.{Classes};
 ghost use Rattle.coding.specs.Limit.{Sure};
 ghost use Rattle.sorting.specs.Order.{Order};
 ghost use Rattle.subproblems.specs.Subproblem.{openOf, givenOf, Barred, Settled, Same};
-ghost use Rattle.subproblems.specs.Gathering.{Moved, Turned, Gathered};
+ghost use Rattle.subproblems.specs.Gathering.{Moved, Gathered};
 use limits::MAX_VERTICES;
 use limits::SEARCH_OUTPUTS;
 

@@ -8,7 +8,7 @@ use native.Mathlib.Decide.{decLt}
 use native.Mathlib.Omega.{arith}
 use Rattle.bits.specs.LogicLaws.{true-false}
 use Rattle.bits.specs.DigitLaws.{on-ones, on-above}
-use Rattle.cells.specs.Lists.{less-or-equal}
+use Rattle.bits.specs.CountLaws.{less-or-equal}
 use Rattle.subsets.specs.Subset.{size, SomeOf, Earlier}
 use Rattle.subsets.specs.SubsetLaws.{some-size, all-some, all-size}
 use Rattle.unserved.specs.Unserved.{Fits, Lacking, FirstLacking, everyOutput, Answered}

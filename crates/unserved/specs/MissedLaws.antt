@@ -6,9 +6,9 @@ use native.Mathlib.Decide.{ℕ-discrete}
 use native.Mathlib.Omega.{arith}
 use lib.Dec.{eqb}
 use borrow.Author.Tests.{eq-eqb, ne-eqb}
-use Rattle.bits.specs.Logic.{orb}
-use Rattle.cells.specs.Core.{bit}
-use Rattle.cells.specs.Lists.{count, never-both, or-on}
+use Rattle.bits.specs.Logic.{orb, bit}
+use Rattle.bits.specs.LogicLaws.{never-both, or-true}
+use Rattle.bits.specs.Count.{count}
 
 -- whether j is one of the first n numbers of f
 unfoldable hit : (ℕ → ℕ) → ℕ → ℕ → Bool
@@ -21,7 +21,7 @@ hit-each f zero j i h e = absurd (omega arith)
 hit-each f (suc n) j i h e = at (ℕ-discrete i n) (λ l. hit-each f n j i l e)
   where
     at : Dec (i ≡ n) → (i < n → hit f n j ≡ true) → orb (hit f n j) (eqb (f n) j) ≡ true
-    at (yes q) below = ap (orb (hit f n j)) (eq-eqb (f n) j (sym (ap f q) ∙ e)) ∙ or-on (hit f n j)
+    at (yes q) below = ap (orb (hit f n j)) (eq-eqb (f n) j (sym (ap f q) ∙ e)) ∙ or-true (hit f n j)
     at (no q) below = ap (λ (b : Bool). orb b (eqb (f n) j)) (below (omega arith))
 
 -- ---- how many places are hit

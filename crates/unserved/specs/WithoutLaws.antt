@@ -7,11 +7,11 @@ use native.Mathlib.Omega.{arith}
 use lib.Bits.{bitXor, xor-lt}
 use lib.ListN.{length, length-append}
 use lib.Pow.{pow-lt}
-use Rattle.bits.specs.Logic.{pick, xorb}
+use Rattle.bits.specs.Logic.{pick, xorb, bit}
 use Rattle.bits.specs.Digit.{on}
 use Rattle.bits.specs.DigitLaws.{on-single, on-xor}
-use Rattle.cells.specs.Core.{bit}
-use Rattle.cells.specs.Lists.{count, count-drop}
+use Rattle.bits.specs.Count.{count}
+use Rattle.bits.specs.CountLaws.{count-drop}
 use Rattle.cells.specs.Sets.{on-power-other}
 use Rattle.subsets.specs.Subset.{members, size}
 use Rattle.subsets.specs.ListedLaws.{members-more}

@@ -38,7 +38,7 @@ use Rattle.writer.specs.declared.Writer.{Writer}
 use Rattle.writer.proofs.Writer as T
 use Rattle.writer.proofs.Writer.Laws as T′
 use Rattle.writer.proofs.Kind.{Kind}
-use Rattle.writer.proofs.Form.{X, body-of, covered, method, method-clauses, Covered}
+use Rattle.writer.proofs.Form.{X, body-of, method, method-clauses, Covered}
 use Rattle.writer.proofs.Spent.{writer-spent, writer-spent-goes}
 use Rattle.writer.proofs.Lent.{bytes-at, machine}
 use Rattle.writer.proofs.Lending.{Bytes, Put, lends}

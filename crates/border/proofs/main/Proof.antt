@@ -3,11 +3,11 @@ use mathlib.Core.Logic.{inl}
 use Prim.Native.Nat.{_-_, _≤_}
 use native.Mathlib.Omega.{arith}
 use lib.ListN.{length}
-use Rattle.cells.specs.Lists.{zeros-are}
 use Rattle.cache.specs.Cache.{Honest}
 use Rattle.cache.specs.CacheLaws.{honest-start}
 use Rattle.border.specs.Line.{lineLength, ZeroFirst}
 use borrow.Author.Needs.{needs}
+use Rattle.cells.specs.ListLaws.{zeros-are}
 use Rattle.border.proofs.main.Statement.{statement}
 use Rattle.border.proofs.main.Tie as tie
 use Rattle.border.proofs.main.Reads as reads

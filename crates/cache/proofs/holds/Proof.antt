@@ -1,7 +1,7 @@
 use Rattle.cache.specs.Cache.{rowAt}
 use Rattle.problem.specs.Problem.{item}
-use Rattle.cells.specs.Lists.{less-or-equal}
 use Rattle.bits.specs.LogicLaws.{true-false}
+use Rattle.bits.specs.CountLaws.{less-or-equal}
 use native.Mathlib.Omega.{arith}
 use Prim.Native.Nat.{ℕ, suc, _+_, _*_, _<_, _≤_, _-_}
 use mathlib.Core.Logic.{⊎-elim}

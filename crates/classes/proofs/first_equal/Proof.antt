@@ -3,7 +3,6 @@ use mathlib.Core.Path.{sym, _∙_}
 use Prim.Native.Nat.{_-_}
 use native.Mathlib.Omega.{arith}
 use borrow.Author.Needs.{needs}
-use lib.ListN.{length}
 use Rattle.classes.proofs.Search.{Unlike, unlike-none, unlike-more, like-found, like-itself}
 use Rattle.classes.specs.Seen.{alikeSeen}
 use Rattle.classes.proofs.first_equal.Statement.{statement}

@@ -4,7 +4,7 @@ use Prim.Native.Nat.{_≤_, _-_}
 use native.Mathlib.Omega.{arith}
 use borrow.Author.Needs.{needs}
 use lib.ListN.{length, take}
-use Rattle.rows.specs.Row.{bit}
+use Rattle.bits.specs.Logic.{bit}
 use Rattle.classes.proofs.Rows.{gather-none, gather-more, gather-all, gather-small, bit-most}
 use Rattle.classes.specs.Seen.{gathered}
 use Rattle.classes.proofs.gather.Statement.{statement}

@@ -1,7 +1,7 @@
 -- `one`: the digit 1 is 1, and any other byte 0. Assumes nothing.
 use mathlib.Core.Path.{sym, ap}
 use borrow.Author.Tests.{eq-eqb, ne-eqb}
-use Rattle.rows.specs.Row.{bit}
+use Rattle.bits.specs.Logic.{bit}
 use Rattle.comparing.proofs.one.Statement.{statement}
 use Rattle.comparing.proofs.one.Tie as tie
 

@@ -4,11 +4,11 @@ use mathlib.Core.Logic.{⊎-elim}
 use Prim.Native.Nat.{ℕ, _+_, _≤_, _-_}
 use native.Mathlib.Omega.{arith}
 use lib.ListN.{set}
-use Rattle.cells.specs.Lists.{zeros-are}
 use Rattle.problem.specs.Problem.{item}
 use Rattle.dominance.specs.Dominance.{Choosing}
 use Rattle.dominance.specs.DominanceLaws.{choosing-start, choosing-dominated, choosing-kept, choosing-all}
 use borrow.Author.Needs.{needs}
+use Rattle.cells.specs.ListLaws.{zeros-are}
 use Rattle.dominance.proofs.chosen.Statement.{statement}
 use Rattle.dominance.proofs.chosen.Tie as tie
 use Rattle.dominance.proofs.chosen.Reads as reads

@@ -1,11 +1,12 @@
 use Rattle.problem.specs.Problem.{partAt}
-use Rattle.cells.specs.Lists.{less-or-equal, never-both}
 use native.Mathlib.Omega.{arith}
 use Prim.Native.Nat.{ℕ, _<_, _≤_, _-_}
 use mathlib.Core.Logic.{⊎-elim}
 use mathlib.Core.Bool.{true}
 use mathlib.Core.Path.{_≡_, sym, ap, _∙_}
 use borrow.Author.Needs.{needs}
+use Rattle.bits.specs.LogicLaws.{never-both}
+use Rattle.bits.specs.CountLaws.{less-or-equal}
 use Rattle.holding.proofs.one_part.Statement.{statement}
 use Rattle.holding.proofs.one_part.Tie as tie
 use Rattle.holding.proofs.one_part.Reads as reads

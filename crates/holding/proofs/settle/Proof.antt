@@ -1,8 +1,8 @@
-use Rattle.cells.specs.Lists.{zeros-are}
 use Rattle.holding.specs.Blocks.{all-ones}
 use native.Mathlib.Omega.{arith}
 use mathlib.Core.Path.{refl, sym, _∙_}
 use borrow.Author.Needs.{needs}
+use Rattle.cells.specs.ListLaws.{zeros-are}
 use Rattle.holding.proofs.settle.Statement.{statement}
 use Rattle.holding.proofs.settle.Tie as tie
 use Rattle.holding.proofs.settle.Reads as reads

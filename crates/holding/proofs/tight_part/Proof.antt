@@ -1,6 +1,6 @@
-use Rattle.cells.specs.Lists.{never-both}
 use Rattle.bits.specs.DigitLaws.{on-zero}
 use Rattle.bits.specs.Logic.{orb}
+use Rattle.bits.specs.LogicLaws.{never-both}
 use borrow.Author.Tests.{eqb-true}
 use lib.Dec.{eqb}
 use native.Mathlib.Omega.{arith}

@@ -3,7 +3,7 @@ use mathlib.Core.Path.{refl}
 use Prim.Native.Nat.{_≤_, _-_, _*_}
 use native.Mathlib.Omega.{arith}
 use borrow.Author.Needs.{needs}
-use Rattle.cells.specs.Lists.{zeros-are}
+use Rattle.cells.specs.ListLaws.{zeros-are}
 use Rattle.lowerbounds.specs.Reasons.{Based}
 use Rattle.lowerbounds.specs.RaisingLaws.{based-start}
 use Rattle.lowerbounds.proofs.bases.Statement.{statement}

@@ -1,5 +1,6 @@
-use Rattle.cells.specs.Lists.{count, count-more, count-same}
 use Rattle.bits.specs.Digit.{on}
+use Rattle.bits.specs.Count.{count}
+use Rattle.bits.specs.CountLaws.{count-more, count-same}
 use native.Mathlib.Omega.{arith}
 use Prim.Native.Nat.{_≤_, _-_}
 use mathlib.Core.Logic.{⊎-elim}

@@ -6,7 +6,7 @@ use Prim.Native.Nat.{ℕ, _<_, _≤_, _+_, _-_, _*_}
 use native.Mathlib.Omega.{arith}
 use borrow.Author.Tests.{not-true}
 use borrow.Author.Needs.{needs}
-use Rattle.cells.specs.Lists.{zeros-are}
+use Rattle.cells.specs.ListLaws.{zeros-are}
 use Rattle.problem.specs.Problem.{Labels, labelAt}
 use Rattle.lowerbounds.specs.Counting.{Counting, KindsSoFar}
 use Rattle.lowerbounds.specs.CountingLaws.{counting-start, counting-skip, counting-new, kinds-start, kinds-skip, kinds-raised}

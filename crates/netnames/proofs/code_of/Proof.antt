@@ -4,8 +4,8 @@ use mathlib.Core.Logic.{⊎-elim}
 use Prim.Native.Nat.{ℕ, _-_, _+_}
 use native.Mathlib.Omega.{arith}
 use borrow.Author.Needs.{needs}
-use Rattle.rows.specs.Row.{bit}
 use Rattle.bits.specs.Digit.{on}
+use Rattle.bits.specs.Logic.{bit}
 use Rattle.netnames.specs.NumbersLaws.{Coding, coding-none, coding-without, coding-with, coding-below, coding-all, digit-read}
 use Rattle.netnames.proofs.code_of.Statement.{statement}
 use Rattle.netnames.proofs.code_of.Tie as tie

@@ -5,7 +5,7 @@ use Prim.Native.Nat.{ℕ, _<_, _≤_, _-_}
 use native.Mathlib.Omega.{arith}
 use Rattle.bits.specs.LogicLaws.{true-false, beq-self, beq-equal}
 use Rattle.bits.specs.Digit.{on}
-use Rattle.cells.specs.Lists.{less-or-equal}
+use Rattle.bits.specs.CountLaws.{less-or-equal}
 use Rattle.picking.specs.SoonerLaws.{sooner-differ, sooner-same}
 use borrow.Author.Tests.{not-true, not-false}
 use borrow.Author.Needs.{needs}

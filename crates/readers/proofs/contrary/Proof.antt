@@ -1,8 +1,7 @@
 use mathlib.Core.Path.{sym, _∙_}
 use native.Mathlib.Omega.{arith}
 use borrow.Author.Tests.{not-true, not-false}
-use Rattle.bits.specs.LogicLaws.{true-false}
-use Rattle.cells.specs.Lists.{never-both}
+use Rattle.bits.specs.LogicLaws.{true-false, never-both}
 use borrow.Author.Needs.{needs}
 use Rattle.readers.proofs.contrary.Statement.{statement}
 use Rattle.readers.proofs.contrary.Tie as tie

@@ -3,7 +3,7 @@ use mathlib.Core.Bool.{Bool, false}
 use mathlib.Core.List.{List}
 use Prim.Native.Nat.{ℕ, _≤_}
 use native.Mathlib.Omega.{arith}
-use Rattle.cells.specs.Lists.{zeros, zeros-are}
+use Rattle.cells.specs.Lists.{zeros}
 use Rattle.holding.specs.Narrow.{kept-start}
 use Rattle.holding.specs.Search.{told-found}
 use borrow.Author.Tests.{not-true}
@@ -13,6 +13,7 @@ use Rattle.readers.specs.Masks.{Short, Common, Planned, Decided, plan-of
 use Rattle.readers.specs.Answer.{decided-of, decided-lost}
 use Rattle.readers.specs.Needs.{bounds-of}
 use borrow.Author.Needs.{needs}
+use Rattle.cells.specs.ListLaws.{zeros-are}
 use Rattle.readers.proofs.search.Statement.{statement}
 use Rattle.readers.proofs.search.Tie as tie
 use Rattle.readers.proofs.search.Reads as reads

@@ -9,8 +9,8 @@ use Rattle.readingsets.specs.ChoiceLaws.{Tried, tried-start, tried-all, 
 use Rattle.readingsets.specs.ChoiceLaws.{chosen-end, chosen-found, chosen-lost, chosen-none, done-lost, known-or-none, number-room, on-with-same}
 use Rattle.readingsets.specs.ServedLaws.{served-chosen}
 use Rattle.readingsets.specs.Choice.{Lost, Chosen, turned}
-use Rattle.cells.specs.Lists.{count}
 use Rattle.bits.specs.Digit.{on}
+use Rattle.bits.specs.Count.{count}
 use Rattle.coding.specs.Limit.{Sure}
 use Rattle.coding.specs.LimitLaws.{sure-now, sure-then, sure-both}
 use Rattle.relation.specs.Relation.{NoneLeft}

@@ -2,7 +2,7 @@ use native.Mathlib.Omega.{arith}
 use Prim.Native.Nat.{ℕ, _≤_, _-_, _*_, _/_}
 use mathlib.Core.Path.{_≡_, refl, subst}
 use Rattle.limits.specs.Limits.{maxVertices, labelCount}
-use Rattle.cells.specs.Lists.{zeros-are}
+use Rattle.cells.specs.ListLaws.{zeros-are}
 use Rattle.relation.specs.Refining.{Copied, copied-more}
 use borrow.Author.Needs.{needs}
 use Rattle.relation.proofs.copied.Statement.{statement}

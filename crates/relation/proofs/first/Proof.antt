@@ -2,9 +2,9 @@ use native.Mathlib.Omega.{arith}
 use Prim.Native.Nat.{ℕ, _<_, _≤_, _-_}
 use mathlib.Core.Path.{_≡_, refl, sym, ap, _∙_}
 use mathlib.Core.Logic.{⊎-elim}
-use Rattle.cells.specs.Lists.{less-or-equal}
 use Rattle.problem.specs.Problem.{item}
 use borrow.Author.Needs.{needs}
+use Rattle.bits.specs.CountLaws.{less-or-equal}
 use Rattle.relation.proofs.first.Statement.{statement}
 use Rattle.relation.proofs.first.Tie as tie
 use Rattle.relation.proofs.first.Reads as reads

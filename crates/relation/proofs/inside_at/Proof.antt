@@ -3,7 +3,7 @@ use Prim.Native.Nat.{ℕ, _<_, _≤_, _-_}
 use mathlib.Core.Path.{_≡_, sym, _∙_, subst}
 use mathlib.Core.Logic.{⊎-elim}
 use Rattle.bits.specs.LogicLaws.{true-false}
-use Rattle.cells.specs.Lists.{less-or-equal}
+use Rattle.bits.specs.CountLaws.{less-or-equal}
 use Rattle.problem.specs.Problem.{labelAt}
 use Rattle.relation.specs.Relation.{Conflict}
 use Rattle.relation.specs.RelationLaws.{different-conflict, equal-no-conflict}

@@ -4,7 +4,7 @@ use mathlib.Core.Path.{_≡_, refl, sym, _∙_, subst}
 use mathlib.Core.Logic.{⊎-elim}
 use lib.Bits.{bitAnd}
 use Rattle.bits.specs.LogicLaws.{true-false}
-use Rattle.cells.specs.Lists.{less-or-equal}
+use Rattle.bits.specs.CountLaws.{less-or-equal}
 use Rattle.problem.specs.Problem.{item, labelAt}
 use Rattle.relation.specs.Relation.{Left}
 use Rattle.relation.specs.RelationLaws.{different-conflict, equal-not-left}

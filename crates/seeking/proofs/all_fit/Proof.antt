@@ -5,8 +5,7 @@ use native.Mathlib.Omega.{arith}
 use borrow.Author.Count.{below-more}
 use borrow.Author.Tests.{not-true, not-false}
 use Rattle.bits.specs.Digit.{on}
-use Rattle.bits.specs.LogicLaws.{true-false}
-use Rattle.cells.specs.Lists.{never-both}
+use Rattle.bits.specs.LogicLaws.{true-false, never-both}
 use borrow.Author.Needs.{needs}
 use Rattle.seeking.proofs.all_fit.Statement.{statement}
 use Rattle.seeking.proofs.all_fit.Tie as tie

@@ -1,10 +1,10 @@
 use Rattle.subproblems.specs.Gathering.{Gathered, gathered-start, gathered-skip, gathered-more, gathered-same}
-use Rattle.cells.specs.Lists.{zeros-are}
 use native.Mathlib.Omega.{arith}
 use Prim.Native.Nat.{ℕ, _+_, _≤_, _-_}
 use mathlib.Core.Logic.{⊎-elim}
 use mathlib.Core.Path.{refl, sym, _∙_, subst}
 use borrow.Author.Needs.{needs}
+use Rattle.cells.specs.ListLaws.{zeros-are}
 use Rattle.subproblems.proofs.gather.Statement.{statement}
 use Rattle.subproblems.proofs.gather.Tie as tie
 use Rattle.subproblems.proofs.gather.Reads as reads
