@@ -11,3 +11,6 @@ pub mod Count
 pub mod CountLaws
 pub mod Filled
 pub mod FilledLaws
+pub mod ShiftLaws
+pub mod Every
+pub mod EveryLaws

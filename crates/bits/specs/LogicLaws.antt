@@ -33,9 +33,9 @@ pub true-unless : (b : Bool) → (b ≡ false → ⊥) → b ≡ true
 true-unless true h = refl
 true-unless false h = absurd (h refl)
 
-pub not-true : (b : Bool) → not b ≡ true → b ≡ false
-not-true true e = sym e
-not-true false e = refl
+pub complement-true : (b : Bool) → not b ≡ true → b ≡ false
+complement-true true e = sym e
+complement-true false e = refl
 
 -- ---- and
 pub and-left : (a b : Bool) → andb a b ≡ true → a ≡ true

@@ -4,12 +4,11 @@ use mathlib.Core.Path.{_≡_, refl, ap, subst}
 use mathlib.Core.Bool.{true, false, not}
 use mathlib.Core.List.{List, [], _∷_, _++_}
 use borrow.Author.Tests.{not-true}
-use Rattle.bits.specs.LogicLaws.{and-left, and-right, and-both, false-unless}
+use Rattle.bits.specs.LogicLaws.{and-left, and-right, and-both, false-unless, neither-first, neither-second}
 use Rattle.text.specs.Bytes.{same}
 use Rattle.text.specs.BytesLaws.{differ-same}
 use Rattle.names.specs.Name.{Name, among, distinct}
 use Rattle.names.specs.Spelled.{standsIn}
-use Rattle.names.specs.LookupLaws.{neither-left, neither-right}
 use Rattle.names.specs.StandLaws.{stands-among, stands-first, stands-later}
 use Rattle.classes.specs.Cases.{not-both}
 use Rattle.classes.specs.FreeLaws.{distinct-first, distinct-later}
@@ -46,7 +45,7 @@ pub stands-neither : (s : Signal) (ss ts : List Signal) → standsIn s ss ≡ fa
 unfolding standsIn
 stands-neither s [] ts e f = f
 stands-neither s (t ∷ ss) ts e f =
-    rw (neither-left (same t s) (standsIn s ss) e) (stands-neither s ss ts (neither-right (same t s) (standsIn s ss) e) f)
+    rw (neither-first (same t s) (standsIn s ss) e) (stands-neither s ss ts (neither-second (same t s) (standsIn s ss) e) f)
 
 pub once-both : (ss ts : List Signal)
     → once ss ≡ true

@@ -4,11 +4,10 @@ use mathlib.Core.Path.{_≡_, sym, subst}
 use mathlib.Core.Logic.{⊎-elim}
 use mathlib.Core.Bool.{true}
 use mathlib.Core.List.{List, [], _∷_}
-use Rattle.bits.specs.LogicLaws.{true-false, and-left, and-right}
+use Rattle.bits.specs.LogicLaws.{true-false, and-left, and-right, either}
 use Rattle.names.specs.Name.{Name, among}
 use Rattle.names.specs.Spelled.{standsIn, allStandIn}
 use Rattle.names.specs.StandLaws.{stands-first, stands-later, stands-cases}
-use Rattle.classes.specs.Cases.{either}
 use Rattle.classes.specs.Columns.{free}
 
 pub all-stand : (ms ns : List Name) (n : Name) → allStandIn ms ns ≡ true → standsIn n ms ≡ true → standsIn n ns ≡ true

@@ -8,7 +8,7 @@ use mathlib.Core.Option.{Option, some, none}
 use Prim.Native.Nat.{ℕ, zero, suc, _+_, _^_, _≤_, _<_}
 use native.Mathlib.Omega.{arith}
 use lib.ListN.{length, getD, length-append, length-map, List·getD-map}
-use Rattle.bits.specs.LogicLaws.{true-false}
+use Rattle.bits.specs.LogicLaws.{true-false, either, neither-first, neither-second}
 use Rattle.rows.specs.Row.{rowOf, valuesOf}
 use Rattle.text.specs.Bytes.{same}
 use Rattle.text.specs.BytesLaws.{same-equal}
@@ -16,12 +16,10 @@ use Rattle.names.specs.Name.{Name, among, distinct}
 use Rattle.names.specs.Spelled.{standsIn}
 use Rattle.names.specs.SameLaws.{same-name-equal}
 use Rattle.names.specs.StandLaws.{stands-among, stands-first, stands-later}
-use Rattle.names.specs.LookupLaws.{neither-left, neither-right}
 use Rattle.formula.specs.Value.{onRow}
 use Rattle.sheet.specs.Lines.{Output}
 use Rattle.sheet.specs.Examine.{Design}
 use Rattle.sheet.specs.WellFormed.{WellFormed, outputAt}
-use Rattle.classes.specs.Cases.{either}
 use Rattle.classes.specs.Columns.{vertexOf}
 use Rattle.classes.specs.FreeLaws.{distinct-later, first-another}
 use Rattle.network.specs.Network.{Network, Node}
@@ -60,7 +58,7 @@ unfolding given standsIn
 given-none [] vs s e = refl
 given-none (t ∷ ns) [] s e = refl
 given-none (t ∷ ns) (v ∷ vs) s e =
-    rw (neither-left (same t s) (standsIn s ns) e) (given-none ns vs s (neither-right (same t s) (standsIn s ns) e))
+    rw (neither-first (same t s) (standsIn s ns) e) (given-none ns vs s (neither-second (same t s) (standsIn s ns) e))
 
 -- ---- what a block reads
 all-some : (us : List Bool) → allValues (map some us) ≡ some us

@@ -148,7 +148,7 @@ fn put_rows(buf: &mut [u8], at: usize, t: &[u8], place: usize, n: usize) -> usiz
     requires { ⌜ (at + rowsRoom ≤ reach) × (n ≤ maxInputs) × (place + 2 ^ n ≤ length (now t)) ⌝ }
     ensures { λ q. ⌜ Written rowsRoom (now (buf .entry)) (now (buf .exit)) at q (rowsText n (digitsAt (now (t .entry)) place)) ⌝ }
 {
-    let rows = rows::row_count(n);
+    let rows = bits::power(n);
     let mut p = at;
     let mut r = 0;
     while r < rows {

@@ -1,6 +1,6 @@
 -- A line of input: its length, and its labels read one after another. Assumes nothing.
-use mathlib.Core.Path.{_≡_, refl, sym, ap, _∙_, subst}
-use mathlib.Core.Bool.{Bool, true, false, not}
+use mathlib.Core.Path.{_≡_, sym, ap, _∙_, subst}
+use mathlib.Core.Bool.{true, false, not}
 use mathlib.Core.List.{List}
 use mathlib.Core.Logic.{_⊎_, inl, inr, ⊎-elim}
 use Prim.Native.Nat.{ℕ, _+_, _-_, _*_, _^_, _<_}
@@ -13,6 +13,7 @@ use Rattle.bits.specs.Logic.{andb}
 use Rattle.bits.specs.Digit.{on}
 use Rattle.bits.specs.DigitLaws.{on-and, on-single, on-complement}
 use Rattle.bits.specs.CountLaws.{less-or-equal}
+use Rattle.bits.specs.LogicLaws.{and-false}
 use Rattle.seeking.specs.Seeking.{Begins}
 
 -- 11 bytes for the name, three numbers and what parts them; the budgets; the labels; the number of given tables; these; the
@@ -38,13 +39,9 @@ low-more i x cl h l s = record {
       (less-or-equal k i (omega arith));
 }
 
-and-off : (b : Bool) → andb b false ≡ false
-and-off true = refl
-and-off false = refl
-
 -- without its digit 0 a number has none
 pub off-first : (n : ℕ) → on (bitAnd n (2 ^ 32 - 1 - 1)) 0 ≡ false
-off-first n = on-and n (2 ^ 32 - 1 - 1) 0 ∙ ap (andb (on n 0)) (on-complement 32 1 0 (omega arith) (omega arith) ∙ ap not (on-single 0)) ∙ and-off (on n 0)
+off-first n = on-and n (2 ^ 32 - 1 - 1) 0 ∙ ap (andb (on n 0)) (on-complement 32 1 0 (omega arith) (omega arith) ∙ ap not (on-single 0)) ∙ and-false (on n 0)
 
 -- with one cell, or none where nothing is known, the search may begin, and so with one more
 pub begins : (kn val u : ℕ) → (kn ≡ 0) ⊎ (u ≡ 1) → ZeroFirst kn val → Begins kn val u

@@ -8,7 +8,7 @@ use mathlib.Core.Logic.{_⊎_, inl, inr, ⊎-elim}
 use Prim.Native.Nat.{ℕ, _+_, _-_, _*_, _≤_, _<_}
 use native.Mathlib.Omega.{arith}
 use Rattle.bits.specs.Logic.{andb, bit}
-use Rattle.bits.specs.LogicLaws.{true-false, bit-le}
+use Rattle.bits.specs.LogicLaws.{true-false, bit-le, same-or-not}
 use Rattle.cells.specs.Core.{Cell, Apart, reading, Serves, Differ}
 use Rattle.cells.specs.Codes.{numberOf}
 
@@ -65,12 +65,6 @@ pub alike-apart : (o x y : ℕ) (l : List Cell) → Alike o x y l → Apart o x 
 alike-apart o x y [] s a = a
 alike-apart o x y (c ∷ l) s (inl p) = p .1 (s .0 (p .0))
 alike-apart o x y (c ∷ l) s (inr r) = alike-apart o x y l (s .1) r
-
-same-or-not : (a b : Bool) → (a ≡ b) ⊎ (a ≡ b → ⊥)
-same-or-not true true = inl refl
-same-or-not true false = inr (λ e. true-false e)
-same-or-not false true = inr (λ e. true-false (sym e))
-same-or-not false false = inl refl
 
 pub apart-or-alike : (o x y : ℕ) (l : List Cell) → Apart o x y l ⊎ Alike o x y l
 apart-or-alike o x y [] = inr tt

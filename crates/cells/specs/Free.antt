@@ -11,7 +11,7 @@ use lib.Dec.{ltb}
 use lib.ListN.{length}
 use borrow.Author.Tests.{ltb-true, ltb-false}
 use Rattle.bits.specs.Logic.{orb, xorb, bit}
-use Rattle.bits.specs.LogicLaws.{true-false, bit-le}
+use Rattle.bits.specs.LogicLaws.{true-false, bit-le, xor-self}
 use Rattle.cells.specs.Core.{Cell, Apart, reading, Serves, ZeroFirst}
 
 -- ---- a change of each cell's table
@@ -42,11 +42,7 @@ zeroed c x = xorb (c .table 0) (c .table x)
 pub zeroed-first : (l : List Cell) → ZeroFirst (retabled zeroed l)
 unfolding retabled
 zeroed-first [] = tt
-zeroed-first (c ∷ l) = (self (c .table 0), zeroed-first l)
-  where
-    self : (b : Bool) → xorb b b ≡ false
-    self true = refl
-    self false = refl
+zeroed-first (c ∷ l) = (xor-self (c .table 0), zeroed-first l)
 
 not-same : (b c : Bool) → not b ≡ not c → b ≡ c
 not-same true true e = refl

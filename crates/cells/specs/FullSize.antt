@@ -17,7 +17,7 @@ use borrow.Author.Tests.{le-leb, lt-leb}
 use Rattle.bits.specs.Logic.{andb, xorb, bit}
 use Rattle.bits.specs.Digit.{on}
 use Rattle.bits.specs.DigitLaws.{on-zero, on-and, on-xor, on-ones, on-above, equal-digits}
-use Rattle.bits.specs.LogicLaws.{and-true, and-false}
+use Rattle.bits.specs.LogicLaws.{and-true, and-false, xor-off, xor-self}
 use Rattle.bits.specs.Count.{count}
 use Rattle.cells.specs.Core.{Cell, Apart, reading, Serves, cellsFrom, coreOf}
 use Rattle.cells.specs.Pigeon.{and-agree}
@@ -264,10 +264,6 @@ low-digits w n h =
     go i (yes l) = ap (λ (b : Bool). andb (on n i) b) (on-ones w i l) ∙ and-true (on n i)
     go i (no l) = ap (λ (b : Bool). andb b (on (2 ^ w - 1) i)) (h i (omega arith)) ∙ sym (h i (omega arith))
 
-xor-off : (a b : Bool) → b ≡ false → xorb a b ≡ a
-xor-off true b e = rw e refl
-xor-off false b e = e
-
 between-out : (k u n i : ℕ) → (i < k) ⊎ (u ≤ i) → on (between k u n) i ≡ false
 between-out k u n i = ⊎-elim (λ a. below a (decLt i u)) (λ b. digits-above (λ (i : ℕ). andb (leb k i) (on n i)) u i b)
   where
@@ -283,11 +279,7 @@ module _ (k u : ℕ) (codes : ℕ → ℕ) where
   cleared-off i a b =
       on-xor (codes 0) (between k u (codes 0)) i
       ∙ ap (xorb (on (codes 0) i)) (on-digits (λ (i : ℕ). andb (leb k i) (on (codes 0) i)) u i b ∙ ap (λ (t : Bool). andb t (on (codes 0) i)) (le-leb k i a))
-      ∙ self (on (codes 0) i)
-    where
-      self : (b : Bool) → xorb b b ≡ false
-      self true = refl
-      self false = refl
+      ∙ xor-self (on (codes 0) i)
 
   pub cleared-low : (x n : ℕ) → u ≤ n → codes x < 2 ^ n → cleared k u codes x < 2 ^ n
   cleared-low x n l h = low-digits n (cleared k u codes x) (λ i a. cleared-kept x i (inr (omega arith)) ∙ on-above n (codes x) i h a)

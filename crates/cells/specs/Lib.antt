@@ -11,7 +11,6 @@ pub mod WrittenLaws
 pub mod Cut
 pub mod Shared
 pub mod Sets
-pub mod ShiftLaws
 pub mod Swap
 pub mod Reorder
 pub mod FullSize

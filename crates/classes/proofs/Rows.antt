@@ -1,6 +1,6 @@
 -- The loops that gather a row digit by digit, and that fill a list with rows. Assumes nothing.
 use mathlib.Core.Path.{_≡_, refl, sym, ap, ap₂, _∙_}
-use mathlib.Core.Bool.{Bool, true, false}
+use mathlib.Core.Bool.{Bool}
 use mathlib.Core.List.{List}
 use Prim.Native.Nat.{ℕ, _+_, _*_, _^_, _≤_, _<_, min}
 use native.Mathlib.Omega.{arith}
@@ -16,10 +16,6 @@ use Rattle.bits.specs.Logic.{bit}
 use Rattle.rows.specs.Row.{rowOf}
 use Rattle.classes.specs.Seen.{gathered, Gathered}
 use Rattle.classes.specs.DigitLaws.{gathered-lt, gathered-last}
-
-pub bit-most : (b : Bool) → bit b ≤ 1
-bit-most true = omega arith
-bit-most false = omega arith
 
 module _ (l : List ℕ) (z : ℕ) where
   pub gather-none : 0 ≡ gathered (take 0 l) z

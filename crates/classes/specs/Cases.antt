@@ -1,13 +1,8 @@
 -- A truth value is true or false, with the equation that says which: how the laws here go by cases on a test.
 -- Assumes nothing.
 use mathlib.Core.Path.{_≡_, refl, sym}
-use mathlib.Core.Logic.{_⊎_, inl, inr}
 use mathlib.Core.Bool.{Bool, true, false}
 use Rattle.bits.specs.LogicLaws.{true-false}
-
-pub either : (b : Bool) → (b ≡ true) ⊎ (b ≡ false)
-either true = inl refl
-either false = inr refl
 
 pub not-both : (b : Bool) → b ≡ true → b ≡ false → ⊥
 not-both true p q = true-false q

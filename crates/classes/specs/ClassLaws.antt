@@ -13,7 +13,8 @@ use lib.Dec.{eqb}
 use lib.ListN.{getD}
 use borrow.Author.Tests.{eq-eqb, ne-eqb, eqb-true}
 use Rattle.bits.specs.Logic.{pick}
-use Rattle.classes.specs.Cases.{either, not-both, same-test}
+use Rattle.bits.specs.LogicLaws.{either}
+use Rattle.classes.specs.Cases.{not-both, same-test}
 use Rattle.classes.specs.Classes.{firstFrom, firstLike, classCount, classOf}
 
 -- ---- the first related number of a range

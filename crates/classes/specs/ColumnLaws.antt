@@ -11,22 +11,18 @@ use native.Mathlib.Omega.{arith}
 use lib.ListN.{length}
 use borrow.Author.Tests.{not-true}
 use Rattle.bits.specs.Logic.{xorb}
-use Rattle.bits.specs.LogicLaws.{true-false, and-left, and-right, and-both}
-use Rattle.rows.specs.EveryLaws.{last-or-below}
+use Rattle.bits.specs.LogicLaws.{true-false, and-left, and-right, and-both, neither-first, neither-second, or-assoc, or-false, xor-self, either}
 use Rattle.names.specs.Name.{Name}
 use Rattle.sheet.specs.Examine.{Design}
-use Rattle.classes.specs.Cases.{either, not-both}
+use Rattle.classes.specs.Cases.{not-both}
 use Rattle.classes.specs.Columns.{freeCount, valueAt, column, sameValues, apart, conflict, alike, alikeUpto}
 use Rattle.bits.specs.Values.{valuesUpto}
 use Rattle.bits.specs.ValuesLaws.{values-length, values-same}
+use Rattle.bits.specs.CountLaws.{less-or-equal}
 use Rattle.classes.specs.Seen.{sameColumn}
 use Rattle.classes.specs.ClassLaws.{Equivalence}
 
 -- ---- two values
-xor-self : (a : Bool) → xorb a a ≡ false
-xor-self true = refl
-xor-self false = refl
-
 xor-equal : (a b : Bool) → xorb a b ≡ false → a ≡ b
 xor-equal true true e = refl
 xor-equal true false e = absurd (true-false e)
@@ -38,22 +34,6 @@ equal-or-xor true true c d e = e
 equal-or-xor true false c d e = refl
 equal-or-xor false true c d e = refl
 equal-or-xor false false c d e = e
-
-or-left : (a b : Bool) → a || b ≡ false → a ≡ false
-or-left true b e = e
-or-left false b e = refl
-
-or-right : (a b : Bool) → a || b ≡ false → b ≡ false
-or-right true b e = absurd (true-false e)
-or-right false b e = e
-
-or-assoc : (a b c : Bool) → a || (b || c) ≡ (a || b) || c
-or-assoc true b c = refl
-or-assoc false b c = refl
-
-or-false : (a : Bool) → a || false ≡ a
-or-false true = refl
-or-false false = refl
 
 -- ---- two lists
 pub apart-self : (us : List Bool) → apart us us ≡ false
@@ -68,8 +48,8 @@ apart-equal [] (v ∷ vs) n e = absurd (omega arith)
 apart-equal (u ∷ us) [] n e = absurd (omega arith)
 apart-equal (u ∷ us) (v ∷ vs) n e =
     ap₂ (λ (b : Bool) (l : List Bool). b ∷ l)
-    (xor-equal u v (or-left (xorb u v) (apart us vs) e))
-    (apart-equal us vs (omega arith) (or-right (xorb u v) (apart us vs) e))
+    (xor-equal u v (neither-first (xorb u v) (apart us vs) e))
+    (apart-equal us vs (omega arith) (neither-second (xorb u v) (apart us vs) e))
 
 apart-last : (us vs : List Bool) (u v : Bool) → length us ≡ length vs
     → apart (us ++ (u ∷ [])) (vs ++ (v ∷ [])) ≡ (apart us vs || xorb u v)
@@ -111,9 +91,9 @@ module _ (f g : ℕ → Bool) where
   apart-agree (suc n) e i l =
       let q : apart (valuesUpto f n) (valuesUpto g n) || xorb (f n) (g n) ≡ false = sym (apart-more n) ∙ e in
       ⊎-elim
-      (λ below. apart-agree n (or-left (apart (valuesUpto f n) (valuesUpto g n)) (xorb (f n) (g n)) q) i below)
-      (λ last. rw last (xor-equal (f n) (g n) (or-right (apart (valuesUpto f n) (valuesUpto g n)) (xorb (f n) (g n)) q)))
-      (last-or-below i n l)
+      (λ below. apart-agree n (neither-first (apart (valuesUpto f n) (valuesUpto g n)) (xorb (f n) (g n)) q) i below)
+      (λ last. rw last (xor-equal (f n) (g n) (neither-second (apart (valuesUpto f n) (valuesUpto g n)) (xorb (f n) (g n)) q)))
+      (less-or-equal i n l)
 
   -- columns that differ somewhere are
   pub differ-apart : (n i : ℕ) → i < n → (f i ≡ g i → ⊥) → apart (valuesUpto f n) (valuesUpto g n) ≡ true

@@ -11,16 +11,16 @@ use native.Mathlib.Nat.{add-zero, mul-assoc, pow-suc}
 use native.Mathlib.Numerals.{add-one}
 use lib.ListN.{length, length-map, length-append}
 use lib.Pow.{high, low, pow-pos}
-use Rattle.bits.specs.LogicLaws.{true-false}
+use Rattle.bits.specs.LogicLaws.{true-false, either}
 use Rattle.bits.specs.Digit.{on}
 use Rattle.bits.specs.DigitLaws.{on-zero, on-above}
 use Rattle.bits.specs.Logic.{bit}
+use Rattle.bits.specs.ShiftLaws.{on-cut}
 use Rattle.names.specs.Name.{Name, sameName, among}
 use Rattle.rows.specs.Row.{rowOf}
 use Rattle.rows.specs.RowLaws.{row-lt}
-use Rattle.rows.specs.PartLaws.{on-low, on-high}
+use Rattle.rows.specs.PartLaws.{on-high}
 use Rattle.formula.specs.Value.{onRow}
-use Rattle.classes.specs.Cases.{either}
 use Rattle.classes.specs.Columns.{free, onParts, joinRow, vertexCount}
 use Rattle.classes.specs.Seen.{fromLast, digitOf, gathered}
 use Rattle.classes.specs.FreeLaws.{map-agree, unbound-free}
@@ -29,7 +29,7 @@ use Rattle.classes.specs.JoinLaws.{on-bound, on-free, rows-add}
 -- ---- a number made of x below 2 ^ b and of y above
 module _ (b x y : ℕ) (l : x < 2 ^ b) where
   pub on-lower : (p : ℕ) → p < b → on (y * 2 ^ b + x) p ≡ on x p
-  on-lower p h = sym (on-low b (y * 2 ^ b + x) p h) ∙ ap (λ (z : ℕ). on z p) (low y b l)
+  on-lower p h = sym (on-cut b (y * 2 ^ b + x) p h) ∙ ap (λ (z : ℕ). on z p) (low y b l)
 
   pub on-upper : (p : ℕ) → on (y * 2 ^ b + x) (b + p) ≡ on y p
   on-upper p = sym (on-high b (y * 2 ^ b + x) p) ∙ ap (λ (z : ℕ). on z p) (high y b l)

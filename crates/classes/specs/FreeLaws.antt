@@ -2,24 +2,19 @@
 -- many as inputs are left when the bound ones are taken out. Assumes nothing.
 use mathlib.Core.Path.{_≡_, refl, sym, ap, ap₂, _∙_}
 use mathlib.Core.Logic.{_⊎_, ⊎-elim}
-use mathlib.Core.Bool.{Bool, true, false, not}
+use mathlib.Core.Bool.{true, false, not}
 use mathlib.Core.List.{List, [], _∷_, map}
 use Prim.Native.Nat.{ℕ, zero, suc, _+_, _-_, _<_}
 use native.Mathlib.Omega.{arith}
 use lib.ListN.{length, getD}
 use borrow.Author.Tests.{not-true}
-use Rattle.bits.specs.LogicLaws.{true-false, and-left, and-right, and-both, or-second, or-cases}
+use Rattle.bits.specs.LogicLaws.{true-false, and-left, and-right, and-both, or-second, or-cases, false-unless, either, neither-first, neither-second}
 use Rattle.names.specs.Name.{Name, sameName, among, distinct, allAmong}
 use Rattle.names.specs.SameLaws.{same-name-self, same-name-back, same-name-turned, among-same}
 use Rattle.names.specs.StandLaws.{all-stand-among}
-use Rattle.names.specs.LookupLaws.{neither-left, neither-right}
-use Rattle.classes.specs.Cases.{either, not-both}
+use Rattle.classes.specs.Cases.{not-both}
 use Rattle.classes.specs.Columns.{free}
 use Rattle.classes.specs.Proper.{Parted}
-
-pub false-unless : (b : Bool) → (b ≡ true → ⊥) → b ≡ false
-false-unless true h = absurd (h refl)
-false-unless false h = refl
 
 -- ---- a name among others
 pub among-here : (m n : Name) (ns : List Name) → sameName m n ≡ true → among n (m ∷ ns) ≡ true
@@ -154,9 +149,9 @@ free-another : (b : Name) (ns bs : List Name) → among b ns ≡ false → free 
 unfolding free among
 free-another b [] bs e = refl
 free-another b (n ∷ ns) bs e =
-    let other : sameName b n ≡ false = same-name-turned n b (neither-left (sameName n b) (among b ns) e) in
+    let other : sameName b n ≡ false = same-name-turned n b (neither-first (sameName n b) (among b ns) e) in
     let same : among n (b ∷ bs) ≡ among n bs = miss b n bs other in
-    rw (same, free-another b ns bs (neither-right (sameName n b) (among b ns) e))
+    rw (same, free-another b ns bs (neither-second (sameName n b) (among b ns) e))
 
 -- binding one input more leaves one free input less
 free-one-less : (b : Name) (ns bs : List Name) → distinct ns ≡ true → among b ns ≡ true → among b bs ≡ false

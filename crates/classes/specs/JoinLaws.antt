@@ -11,16 +11,16 @@ use lib.ListN.{length, length-map}
 use lib.Pow.{high, low, pow-mono}
 use Rattle.limits.specs.Limits.{maxInputs, maxRows}
 use Rattle.bits.specs.Logic.{pick, bit}
-use Rattle.bits.specs.LogicLaws.{true-false}
+use Rattle.bits.specs.LogicLaws.{true-false, either}
 use Rattle.bits.specs.Digit.{on, digit}
 use Rattle.bits.specs.DigitLaws.{on-zero}
+use Rattle.bits.specs.ShiftLaws.{on-cut}
 use Rattle.names.specs.Name.{Name, sameName, among, distinct}
 use Rattle.names.specs.SameLaws.{same-name-self}
 use Rattle.rows.specs.Row.{rowOf, valuesOf}
 use Rattle.rows.specs.RowLaws.{row-lt, row-values}
-use Rattle.rows.specs.PartLaws.{on-low, on-high}
+use Rattle.rows.specs.PartLaws.{on-high}
 use Rattle.formula.specs.Value.{onRow}
-use Rattle.classes.specs.Cases.{either}
 use Rattle.classes.specs.Columns.{free, onParts, joinRow, vertexOf, freeRowOf, vertexCount, freeCount}
 use Rattle.classes.specs.Proper.{Parted}
 use Rattle.classes.specs.FreeLaws.{map-agree, distinct-later, first-another, bound-input, free-input, free-not-bound, unbound-free, free-distinct}
@@ -42,7 +42,7 @@ row-low : (ms : List Name) (n : Name) (k r : ℕ) → length ms ≤ k → onRow 
 unfolding onRow
 row-low [] n k r l = refl
 row-low (m ∷ ms) n k r l =
-    ap₂ (λ (a b : Bool). pick (sameName m n) a b) (on-low k r (length ms) (omega arith)) (row-low ms n k r (omega arith))
+    ap₂ (λ (a b : Bool). pick (sameName m n) a b) (on-cut k r (length ms) (omega arith)) (row-low ms n k r (omega arith))
 
 module _ (v : Name → Bool) (respects : Respects v) where
   -- a name's value comes back out of the row of all values

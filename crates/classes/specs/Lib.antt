@@ -16,7 +16,6 @@ pub mod Masks
 pub mod NextLaws
 pub mod PlaceLaws
 pub mod PositionLaws
-pub mod PowerLaws
 pub mod SameNameLaws
 pub mod SeenLaws
 pub mod ShapeLaws

@@ -9,7 +9,7 @@ use Prim.Native.Nat.{ℕ, _+_, _-_, _^_, _<_}
 use lib.Bits.{bitOr}
 use lib.ListN.{length}
 use Rattle.bits.specs.Logic.{andb, xorb, pick}
-use Rattle.bits.specs.LogicLaws.{true-false}
+use Rattle.bits.specs.LogicLaws.{true-false, either}
 use Rattle.bits.specs.Digit.{on}
 use Rattle.bits.specs.DigitLaws.{on-or-one, on-or-none, on-ones}
 use Rattle.bits.specs.Carry.{full}
@@ -20,7 +20,6 @@ use Rattle.rows.specs.Row.{rowOf}
 use Rattle.rows.specs.Step.{stepped}
 use Rattle.rows.specs.StepLaws.{step-bound, step-free, step-lt}
 use Rattle.formula.specs.Value.{onRow}
-use Rattle.classes.specs.Cases.{either}
 use Rattle.classes.specs.Columns.{free, onParts, joinRow, vertexCount, freeCount}
 use Rattle.classes.specs.Masks.{boundDigits, freeDigits}
 use Rattle.classes.specs.Proper.{Parted}

@@ -9,6 +9,7 @@ use Prim.Native.Nat.{ℕ, zero, suc, _+_, _-_, _≤_, _<_}
 use native.Mathlib.Omega.{arith}
 use lib.ListN.{length, getD, drop, length-map}
 use lib.Seq.{drop-cons}
+use Rattle.bits.specs.LogicLaws.{either, false-unless}
 use Rattle.names.specs.Name.{Name, sameName, among, distinct}
 use Rattle.names.specs.Spelled.{spelledBy}
 use Rattle.names.specs.SameLaws.{same-name-self, same-name-back, among-same}
@@ -16,11 +17,10 @@ use Rattle.names.specs.SpelledLaws.{spelled-same}
 use Rattle.names.specs.LookupLaws.{look-first}
 use Rattle.sheet.specs.Known.{position}
 use Rattle.sheet.specs.PlaceLaws.{position-same}
-use Rattle.classes.specs.Cases.{either}
 use Rattle.classes.specs.Columns.{free}
 use Rattle.classes.specs.Proper.{Parted}
 use Rattle.classes.specs.Seen.{PlaceIs, fromLast, digitOf}
-use Rattle.classes.specs.FreeLaws.{false-unless, among-at, distinct-later, first-another, bound-input, free-bound, free-unbound}
+use Rattle.classes.specs.FreeLaws.{among-at, distinct-later, first-another, bound-input, free-bound, free-unbound}
 use Rattle.classes.specs.PositionLaws.{position-at, at-position}
 use Rattle.classes.specs.DigitLaws.{digit-if-bound, digit-if-free}
 

@@ -7,14 +7,13 @@ use mathlib.Core.List.{List, [], _∷_}
 use Prim.Native.Nat.{ℕ, zero, suc, _<_}
 use native.Mathlib.Omega.{arith}
 use lib.ListN.{length, getD}
-use Rattle.bits.specs.LogicLaws.{true-false}
+use Rattle.bits.specs.LogicLaws.{true-false, either}
 use Rattle.names.specs.Name.{Name, sameName, among, distinct}
 use Rattle.names.specs.Spelled.{spelledBy, standsIn}
 use Rattle.names.specs.SameLaws.{same-name-self}
 use Rattle.names.specs.StandLaws.{stands-among}
 use Rattle.names.specs.SpelledLaws.{spelled-own}
 use Rattle.sheet.specs.Known.{position}
-use Rattle.classes.specs.Cases.{either}
 use Rattle.classes.specs.FreeLaws.{among-at, distinct-later, first-another}
 
 pub position-at : (ns : List Name) (i : ℕ) → distinct ns ≡ true → i < length ns → position ns (getD ns i []) ≡ i

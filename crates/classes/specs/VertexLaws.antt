@@ -9,7 +9,7 @@ use Prim.Native.Nat.{ℕ, zero, suc, _^_, _≤_, _<_}
 use native.Mathlib.Omega.{arith}
 use lib.ListN.{length}
 use Rattle.bits.specs.LogicLaws.{and-left, and-right, and-both}
-use Rattle.rows.specs.EveryLaws.{last-or-below}
+use Rattle.bits.specs.CountLaws.{less-or-equal}
 use Rattle.names.specs.Name.{Name}
 use Rattle.sheet.specs.Examine.{Design}
 use Rattle.sheet.specs.Value.{outputOn}
@@ -56,7 +56,7 @@ module _ (d : Design) (bs : List Name) where
       ⊎-elim
       (λ below. upto-alike m x y (and-left (alikeUpto d bs m x y) (alike d bs m x y) e) o below)
       (λ last. rw last (and-right (alikeUpto d bs m x y) (alike d bs m x y) e))
-      (last-or-below o m l)
+      (less-or-equal o m l)
 
   pub alike-upto : (m x y : ℕ) → ((o : ℕ) → o < m → alike d bs o x y ≡ true) → alikeUpto d bs m x y ≡ true
   unfolding alikeUpto

@@ -7,7 +7,7 @@ use native.Mathlib.Omega.{arith}
 use native.Mathlib.Nat.{pow-suc, add-zero, zero-add, add-suc, suc-add}
 use lib.Dec.{leb}
 use borrow.Author.Tests.{leb-true, leb-false}
-use Rattle.classes.specs.Cases.{either}
+use Rattle.bits.specs.LogicLaws.{either}
 use Rattle.classes.specs.Width.{widthFrom, widthOf}
 
 below-power : (c : ℕ) → c < 2 ^ c

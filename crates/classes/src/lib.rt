@@ -1,7 +1,7 @@
 // Columns, classes and widths of a design: vertices are the rows of the bound inputs, and two of them are in one class
 // when their columns are equal. Rests on sheet for what a design says.
 ghost use mathlib.Core.Path.{_≡_};
-ghost use Prim.Native.Nat.{_^_, _≤_, _<_};
+ghost use Prim.Native.Nat.{_≤_, _<_};
 ghost use lib.ListN.{length};
 ghost use Rattle.limits.specs.Limits.{maxInputs, maxBound, maxRows, maxVertices, maxFreeRows, tableWords};
 ghost use Rattle.rows.specs.Row as row;
@@ -117,13 +117,6 @@ fn fill(out: &mut [usize], digits: &[usize], step: usize)
     }
 }
 
-fn power(n: usize) -> usize
-    requires { ⌜ n ≤ maxInputs ⌝ }
-    ensures { λ r. ⌜ r ≡ 2 ^ n ⌝ }
-{
-    1 << n
-}
-
 // The rows of each vertex and each free row.
 fn shape_of(k: Sheet) -> Shape
     requires { ⌜ Counts k ⌝ }
@@ -133,14 +126,14 @@ fn shape_of(k: Sheet) -> Shape
     let b = k.bounds;
     let bound = k.bound;
     let list = digits(&bound[..b], n);
-    let vertices = power(b);
+    let vertices = bits::power(b);
     let mut vertex = [0usize; limits::MAX_VERTICES];
     let mut free = [0usize; limits::MAX_FREE_ROWS];
     fill(&mut vertex, &list[..n], 1);
     fill(&mut free, &list[..n], vertices);
     Shape {
         vertices,
-        frees: power(n - b),
+        frees: bits::power(n - b),
         vertex,
         free,
     }

@@ -1,13 +1,15 @@
 -- The codes that a vertex may have where digits of cell 0 are known: those with the known digit, or any where none is known at
 -- the vertex. Assumes nothing.
 use mathlib.Core.Path.{_≡_, refl, sym, ap, _∙_}
-use mathlib.Core.Bool.{Bool, true, false, not}
+use mathlib.Core.Bool.{true, false, not}
 use Prim.Native.Nat.{ℕ, _-_, _^_, _<_}
 use Rattle.limits.specs.Limits.{maxCodes}
-use Rattle.bits.specs.LogicLaws.{true-false, never-both}
+use Rattle.bits.specs.LogicLaws.{never-both, complement-true}
 use Rattle.bits.specs.Digit.{digit, on}
 use Rattle.bits.specs.DigitLaws.{on-ones}
-use Rattle.holding.specs.Every.{every, every-at, same, same-equal, withoutCell, without-cell-on}
+use Rattle.bits.specs.Every.{every, same}
+use Rattle.bits.specs.EveryLaws.{every-at, same-equal}
+use Rattle.holding.specs.WithoutCell.{withoutCell, without-cell-on}
 
 -- ======== definitions
 -- fit has the codes with the known digit of cell 0 at vertex x, or all where none is known there
@@ -24,11 +26,11 @@ abbrev even : ℕ
 even = 6148914691236517205
 
 odd-on : (c : ℕ) → c < 64 → on odd c ≡ on c 0
-unfolding on digit every same
-odd-on c h = same-equal _ _ (every-at (λ (c : ℕ). same (on odd c) (on c 0)) 64 c refl h)
+unfolding on digit every
+odd-on c h = same-equal _ _ (every-at (λ (c : ℕ). same (on odd c) (on c 0)) 64 refl c h)
 
 even-on : (c : ℕ) → c < 64 → on even c ≡ not (on c 0)
-unfolding on digit every same withoutCell
+unfolding on digit every withoutCell
 even-on c h = without-cell-on even 0 refl c h
 
 pub fitting-any : (kn val x : ℕ) → on kn x ≡ false → Fitting kn val x (2 ^ 64 - 1)
@@ -39,10 +41,6 @@ fitting-one kn val x e d = record { only = λ c l t k. sym (odd-on c l) ∙ t �
 
 pub fitting-zero : (kn val x : ℕ) → on kn x ≡ true → on val x ≡ false → Fitting kn val x even
 fitting-zero kn val x e d = record {
-  only = λ c l t k. off (on c 0) (sym (even-on c l) ∙ t) ∙ sym d;
+  only = λ c l t k. complement-true (on c 0) (sym (even-on c l) ∙ t) ∙ sym d;
   all = λ c l k. even-on c l ∙ ap not (k e ∙ d);
 }
-  where
-    off : (b : Bool) → not b ≡ true → b ≡ false
-    off false e = refl
-    off true e = absurd (true-false (sym e))

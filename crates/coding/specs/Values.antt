@@ -14,10 +14,10 @@ use lib.ListN.{length, set, length-set}
 use lib.Seq.{getD-set-same, getD-set-other}
 use borrow.Author.Tests.{eq-eqb, ne-eqb, eqb-true}
 use Rattle.limits.specs.Limits.{maxCodes, maxCells}
-use Rattle.bits.specs.Logic.{andb, orb, pick}
-use Rattle.bits.specs.LogicLaws.{true-false, and-left, and-right, never-both, false-unless, and-true, and-false}
+use Rattle.bits.specs.Logic.{andb, pick}
+use Rattle.bits.specs.LogicLaws.{true-false, and-left, and-right, never-both, false-unless, and-true, and-false, or-cases, or-first}
 use Rattle.bits.specs.Digit.{on}
-use Rattle.bits.specs.DigitLaws.{on-and, on-or, on-zero, on-above, on-complement, equal-digits}
+use Rattle.bits.specs.DigitLaws.{on-and, on-or, on-zero, on-above, on-complement, equal-digits, on-or-one}
 use Rattle.bits.specs.CountLaws.{less-or-equal}
 use Rattle.cells.specs.Pigeon.{agree-and}
 use Rattle.problem.specs.Problem.{noCode, item, Block, Blocks, Solves, Knows}
@@ -101,28 +101,14 @@ pub record Marked (gs used : List ℕ) (c n : ℕ) (r : List ℕ) : Type 0 where
   pub rest : (k : ℕ) → n ≤ k → item r k ≡ item used k
 
 -- ======== laws
-or-l : (a b : Bool) → a ≡ true → orb a b ≡ true
-or-l a b e = ap (λ (x : Bool). orb x b) e
-
-or-r : (a b : Bool) → b ≡ true → orb a b ≡ true
-or-r true b e = refl
-or-r false b e = e
-
-or-case : (a b : Bool) → orb a b ≡ true → (a ≡ true) ⊎ (b ≡ true)
-or-case true b e = inl refl
-or-case false b e = inr e
-
 in-l : (a b c : ℕ) → on a c ≡ true → on (bitOr a b) c ≡ true
-in-l a b c e = on-or a b c ∙ or-l (on a c) (on b c) e
-
-in-r : (a b c : ℕ) → on b c ≡ true → on (bitOr a b) c ≡ true
-in-r a b c e = on-or a b c ∙ or-r (on a c) (on b c) e
+in-l a b c e = on-or a b c ∙ or-first (on a c) (on b c) e
 
 block-closed : (g c b : ℕ) → Block g c b → Closed g b
 block-closed g c b is x y p q e t = is y q ∙ eq-eqb _ _ (sym e ∙ eqb-true (bitAnd x g) (bitAnd c g) (sym (is x p) ∙ t))
 
 or-closed : (g a b : ℕ) → Closed g a → Closed g b → Closed g (bitOr a b)
-or-closed g a b f h x y p q e t = ⊎-elim (λ w. in-l a b y (f x y p q e w)) (λ w. in-r a b y (h x y p q e w)) (or-case (on a x) (on b x) (sym (on-or a b x) ∙ t))
+or-closed g a b f h x y p q e t = ⊎-elim (λ w. in-l a b y (f x y p q e w)) (λ w. on-or-one a b y (h x y p q e w)) (or-cases (on a x) (on b x) (sym (on-or a b x) ∙ t))
 
 -- ---- a value that is free
 pub fresh-some : (g a r c b : ℕ) → a < 2 ^ 64 → r ≡ 2 ^ 64 - 1 - a → c < 64 → on r c ≡ true → Block g c b → Fresh g a b
@@ -262,7 +248,7 @@ module _ (gs used : List ℕ) (sh n can b : ℕ) (h : n < 3) (groups : Groups gs
             (λ y k t. stays y k t ∙ i .2 y k t),
             on-both can (bitOr a₀ b) (F x)
                 (s .blind n (i .0 x) (F x) (omega arith) h (i .1 .small x l) small (λ d z t. sym (swap-outside g₀ low (i .0 x) c (i .0 x) d z t)) (i .3))
-                (in-r a₀ b (F x) (is (F x) small ∙ eq-eqb _ _ (swap-first g₀ low (i .0 x) c))),
+                (on-or-one a₀ b (F x) (is (F x) small ∙ eq-eqb _ _ (swap-first g₀ low (i .0 x) c))),
             (λ w y k. swap-outside g₀ low (i .0 x) c (i .0 y) 0 (omega arith) (w .outside n h) ∙ i .4 w y k),
           )
             where
@@ -327,7 +313,7 @@ module _ (codes : List ℕ) (v x c : ℕ) (long : length codes ≡ 32) (few : v 
   }
     where
       has : (k y : ℕ) → k < 3 → y < v → item (set codes x c) y < 64 → Dec (y ≡ x) → on (item r k) (item (set codes x c) y) ≡ true
-      has k y a b t (yes e) = let q = m .done k a in ap₂ on (q .2) (ap (item (set codes x c)) e ∙ here) ∙ in-r (item used k) (q .0) c
+      has k y a b t (yes e) = let q = m .done k a in ap₂ on (q .2) (ap (item (set codes x c)) e ∙ here) ∙ on-or-one (item used k) (q .0) c
           (q .1 c l ∙ eq-eqb (bitAnd c (item gs k)) (bitAnd c (item gs k)) refl)
       has k y a b t (no ne) = let q = m .done k a in ap₂ on (q .2) (there y ne) ∙ in-l (item used k) (q .0) (item codes y) (u .has k y a b (subst (λ (z : ℕ). z < 64) (there y ne) t))
 

@@ -85,10 +85,6 @@ row-more l b =
     let e = row-one b in
     omega arith
 
-pub bit-most : (b : Bool) → bit b ≤ 1
-bit-most true = omega arith
-bit-most false = omega arith
-
 module _ (t lutat : List ℕ) (m x : ℕ) where
   pub code-none : 0 ≡ codeAt t lutat m x 0
   unfolding codeAt numbersOf rowOf

@@ -116,7 +116,7 @@ pub fn compare(t: &[u8], k: Sheet, n: NetworkSheet, shape: Shape) -> Checked
     requires { ⌜ SomeDrawing (now t) k (placesOf n) shape ⌝ }
     ensures { λ r. ⌜ ((d : Design) (w : Network) → Drawing d w (now (t .entry)) k (placesOf n) shape → checkedOf r ≡ compared d w) ⌝ }
 {
-    let rows = rows::row_count(k.inputs);
+    let rows = bits::power(k.inputs);
     let outputs = k.outputs;
     let luts = n.luts;
     let lutat = n.lutat;

@@ -5,17 +5,9 @@ use mathlib.Core.List.{List, [], _∷_}
 use Prim.Native.Nat.{ℕ, zero, suc, _<_}
 use native.Mathlib.Omega.{arith}
 use lib.ListN.{length}
-use Rattle.bits.specs.LogicLaws.{true-false, and-both}
+use Rattle.bits.specs.LogicLaws.{true-false, and-both, or-first, or-second}
 use Rattle.cubes.specs.Cube.{Cube}
 use Rattle.cubes.specs.Cover.{covers, marked, coverOn, cubeAt, Covered}
-
-or-left : (a b : Bool) → a ≡ true → a || b ≡ true
-or-left true b e = refl
-or-left false b e = absurd (true-false (sym e))
-
-pub or-right : (a b : Bool) → b ≡ true → a || b ≡ true
-or-right true b e = refl
-or-right false b e = e
 
 covered-at : (cs : List Cube) (o r k : ℕ)
     → k < length cs
@@ -25,8 +17,8 @@ covered-at : (cs : List Cube) (o r k : ℕ)
 unfolding coverOn
 covered-at [] o r k h m c = absurd (omega arith)
 covered-at (x ∷ cs) o r zero h m c =
-    or-left (marked x o && covers (x .literals) r) (coverOn cs o r) (and-both (marked x o) (covers (x .literals) r) m c)
-covered-at (x ∷ cs) o r (suc k) h m c = or-right (marked x o && covers (x .literals) r) (coverOn cs o r) (covered-at cs o r k (omega arith) m c)
+    or-first (marked x o && covers (x .literals) r) (coverOn cs o r) (and-both (marked x o) (covers (x .literals) r) m c)
+covered-at (x ∷ cs) o r (suc k) h m c = or-second (marked x o && covers (x .literals) r) (coverOn cs o r) (covered-at cs o r k (omega arith) m c)
 
 pub covered-on : (cs : List Cube) (o r : ℕ) → Covered cs o r → coverOn cs o r ≡ true
 covered-on cs o r c = covered-at cs o r (c .which) (c .inside) (c .has-one) (c .contains)

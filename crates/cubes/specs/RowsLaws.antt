@@ -8,6 +8,7 @@ use lib.ListN.{length, getD, drop, length-map, drop-of-length-le}
 use Rattle.bits.specs.Digit.{on}
 use Rattle.bits.specs.Logic.{andb}
 use Rattle.limits.specs.Limits.{maxRows}
+use Rattle.bits.specs.LogicLaws.{and-true}
 use Rattle.rows.specs.Words.{Rowwise, rowOn}
 use Rattle.cubes.specs.Cube.{Literal, is-zero, is-one, any, literalByte}
 use Rattle.cubes.specs.Cover.{admits, covers}
@@ -15,10 +16,6 @@ use Rattle.cubes.specs.Cover.{admits, covers}
 and-assoc : (a b c : Bool) → (a && b) && c ≡ a && (b && c)
 and-assoc true b c = refl
 and-assoc false b c = refl
-
-and-true : (a : Bool) → a && true ≡ a
-and-true true = refl
-and-true false = refl
 
 and-is : (a b : Bool) → andb a b ≡ a && b
 and-is true b = refl

@@ -13,7 +13,7 @@ use lib.Seq.{drop-cons, getD-take, length-take-le}
 use borrow.Author.Tests.{eqb-true, eq-eqb}
 use Rattle.bits.specs.Logic.{pick}
 use Rattle.bits.specs.LogicLaws.{true-false}
-use Rattle.rows.specs.EveryLaws.{last-or-below}
+use Rattle.bits.specs.CountLaws.{less-or-equal}
 use Rattle.text.specs.Bytes.{space}
 use Rattle.cubes.specs.Cube.{Literal, is-zero, is-one, any, Cube, literalByte, printCube, readCube}
 use Rattle.cubes.specs.CubeLaws.{cube-print-of-read, cube-read-of-print, cube-line-length}
@@ -84,7 +84,7 @@ module _ (i o : ℕ) (l : List ℕ) where
   literals-more k h g e =
       record {
         few = omega arith;
-        each = λ j b. ⊎-elim (λ c. h .each j c) (λ c. ap (λ (n : ℕ). isLiteral (getD l n 0)) c ∙ e) (last-or-below j k (omega arith));
+        each = λ j b. ⊎-elim (λ c. h .each j c) (λ c. ap (λ (n : ℕ). isLiteral (getD l n 0)) c ∙ e) (less-or-equal j k (omega arith));
       }
 
   pub literals-all : (k : ℕ) → Literals k → i ≤ k → Literals i

@@ -9,12 +9,11 @@ use native.Mathlib.Omega.{arith}
 use lib.ListN.{length}
 use borrow.Author.Tests.{not-true}
 use Rattle.bits.specs.Logic.{pick}
-use Rattle.bits.specs.LogicLaws.{and-left, and-right, and-both}
+use Rattle.bits.specs.LogicLaws.{and-left, and-right, and-both, or-second, neither-first, neither-second}
 use Rattle.bits.specs.Digit.{on}
 use Rattle.names.specs.Name.{Name, isName, sameName, among, distinct, allAmong}
 use Rattle.names.specs.Names.{allNames}
 use Rattle.names.specs.SameLaws.{same-name-self, same-name-turned}
-use Rattle.names.specs.LookupLaws.{neither-left, neither-right}
 use Rattle.cursor.specs.Opening.{Gate, and-gate, or-gate}
 use Rattle.formula.specs.Tree.{Formula, depth, depths, knows, knowsAll}
 use Rattle.formula.specs.Printer.{spelled, spelledAll}
@@ -22,7 +21,6 @@ use Rattle.formula.specs.Value.{every, some, combine, value, values, onRow}
 use Rattle.formula.specs.GateLaws.{combine-one}
 use Rattle.cubes.specs.Cube.{Literal, is-zero, is-one, any, Cube}
 use Rattle.cubes.specs.Cover.{covers, marked, coverOn, cubeAt}
-use Rattle.cubes.specs.CoverLaws.{or-right}
 use Rattle.cubes.specs.Terms.{operandsOf, joined, literalFormulas, cubeFormula, onSet, coverFormula}
 
 -- ---- formulas under a gate
@@ -58,9 +56,9 @@ placed-behind : (m : Name) (ms ns : List Name) (r : ℕ) → among m ns ≡ fals
 unfolding among onRow
 placed-behind m ms [] r e p = tt
 placed-behind m ms (n ∷ ns) r e p =
-    let other = same-name-turned n m (neither-left (sameName n m) (among m ns) e) in (
+    let other = same-name-turned n m (neither-first (sameName n m) (among m ns) e) in (
       ap (λ (b : Bool). pick b (on r (length ms)) (onRow ms r n)) other ∙ p .0,
-      placed-behind m ms ns r (neither-right (sameName n m) (among m ns) e) (p .1),
+      placed-behind m ms ns r (neither-second (sameName n m) (among m ns) e) (p .1),
     )
 
 row-placed : (ns : List Name) (r : ℕ) → distinct ns ≡ true → Placed (onRow ns r) ns r
@@ -183,7 +181,7 @@ unfolding allAmong among
 all-among-more m [] ms e = refl
 all-among-more m (n ∷ ns) ms e =
     and-both (sameName m n || among n ms) (allAmong ns (m ∷ ms))
-    (or-right (sameName m n) (among n ms) (and-left (among n ms) (allAmong ns ms) e))
+    (or-second (sameName m n) (among n ms) (and-left (among n ms) (allAmong ns ms) e))
     (all-among-more m ns ms (and-right (among n ms) (allAmong ns ms) e))
 
 all-among-self : (ns : List Name) → allAmong ns ns ≡ true

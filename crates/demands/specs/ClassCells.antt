@@ -9,10 +9,10 @@ use native.Mathlib.Omega.{arith}
 use native.Mathlib.Decide.{decLt}
 use lib.ListN.{length}
 use lib.Pow.{pow-mono}
-use Rattle.bits.specs.LogicLaws.{and-both}
+use Rattle.bits.specs.LogicLaws.{and-both, either}
 use Rattle.sheet.specs.Examine.{Design}
 use Rattle.cells.specs.Core.{Cell, Apart}
-use Rattle.classes.specs.Cases.{either, not-both}
+use Rattle.classes.specs.Cases.{not-both}
 use Rattle.classes.specs.Columns.{alike, alikeUpto, alikeInAll, vertexCount}
 use Rattle.classes.specs.Classes.{globalCount}
 use Rattle.serving.specs.NetworkCore.{ServesDesign}

@@ -8,7 +8,7 @@ use Prim.Native.Nat.{ℕ, zero, suc, _+_, _/_}
 use lib.Dec.{eqb, leb}
 use lib.ListN.{length, getD}
 use Rattle.bits.specs.Logic.{andb, orb, xorb, bit}
-use Rattle.rows.specs.Every.{every}
+use Rattle.bits.specs.Every.{every}
 use Rattle.order.specs.Order.{listOrder, isLess, tableOrder, tablesOrder}
 use Rattle.sheet.specs.Examine.{Design}
 use Rattle.classes.specs.Columns.{vertexCount, freeCount}

@@ -10,11 +10,11 @@ use lib.Dec.{eqb, leb}
 use lib.ListN.{length, getD, List·getD-eq-default}
 use borrow.Author.Tests.{le-leb, ne-eqb}
 use Rattle.bits.specs.Logic.{andb, orb, xorb, bit}
-use Rattle.bits.specs.LogicLaws.{true-false, and-left, and-right, and-both}
+use Rattle.bits.specs.LogicLaws.{true-false, and-left, and-right, and-both, complement-true, or-second}
 use Rattle.bits.specs.Values.{valuesUpto}
 use Rattle.bits.specs.ValuesLaws.{values-at}
-use Rattle.rows.specs.Every.{every}
-use Rattle.rows.specs.EveryLaws.{every-at}
+use Rattle.bits.specs.Every.{every}
+use Rattle.bits.specs.EveryLaws.{every-at}
 use Rattle.order.specs.Order.{isLess, tableOrder, tablesOrder}
 use Rattle.order.specs.OrderLaws.{NotLess}
 use Rattle.order.specs.Tables.{Shaped, shaped-none, shaped-more, shaped-of}
@@ -44,19 +44,11 @@ use Rattle.demands.specs.FirstTest.{everyDigits, everyTables, Ask, askAt
 use Rattle.demands.specs.FirstTest.{tablesFirst, readsFirst, Tested, producedOrZero, Plain}
 
 -- ---- truth values
-or-right : (a b : Bool) → b ≡ true → orb a b ≡ true
-or-right true b e = refl
-or-right false b e = e
-
 -- a or not b, where b holds
 or-not : (a b : Bool) → orb a (not b) ≡ true → b ≡ true → a ≡ true
 or-not true b e f = refl
 or-not false true e f = absurd (true-false (sym e))
 or-not false false e f = absurd (true-false (sym f))
-
-not-true : (b : Bool) → not b ≡ true → b ≡ false
-not-true true e = absurd (true-false (sym e))
-not-true false e = refl
 
 or-none : (a b : Bool) → orb a b ≡ true → (a ≡ true → ⊥) → (b ≡ true → ⊥) → ⊥
 or-none true b e f g = f refl
@@ -118,7 +110,7 @@ apart-pair v o x y (c ∷ l) h k a =
     ap (λ (b : Bool). orb b rest)
     (and-both (c .readers o) (xorb (getD t x false) (getD t y false)) (q .0)
     (differ (getD t x false) (getD t y false) (λ e. q .1 (sym (values-at (c .table) v x h) ∙ e ∙ values-at (c .table) v y k)))))
-    (λ r. or-right here rest (apart-pair v o x y l h k r))
+    (λ r. or-second here rest (apart-pair v o x y l h k r))
     a
 
 module _ (d : Design) (o : ℕ) (l : List Cell) (s : ServesDesign d l) where
@@ -175,7 +167,7 @@ module _ (d : Design) (f : WellFormed d) (n : ℕ) (w : Network) (ks : List Ask)
         (λ o h e.
         (let bs = readsOf o (networkCore v) in
         let m = all-met o (subst (λ (k : ℕ). o < k) (t .counted) h) in
-        true-false (sym m ∙ not-true (meets (v .luts) (askAt ks o) bs)
+        true-false (sym m ∙ complement-true (meets (v .luts) (askAt ks o) bs)
         (every-digits (length (v .luts)) (λ cs. not (meets (v .luts) (askAt ks o) cs)) e bs (reads-count o)))))
 
     tables-after : NotLess (tablesOrder (v .luts) (w .luts))
@@ -188,7 +180,7 @@ module _ (d : Design) (f : WellFormed d) (n : ℕ) (w : Network) (ks : List Ask)
         let e : orb (not less) (someUnmet (v .luts) ks) ≡ true =
         every-tables (length (w .luts)) n (λ ts. orb (not (isLess (tablesOrder ts (w .luts)))) (someUnmet ts ks)) (t .tables) (v .luts) shape
         (λ i h. q .zero-first i (subst (λ (k : ℕ). i < k) (sym count) h)) in
-        record { is-not = not-true less (or-first (not less) (someUnmet (v .luts) ks) e met) }
+        record { is-not = complement-true less (or-first (not less) (someUnmet (v .luts) ks) e met) }
 
     reads-after : (o : ℕ) → v .luts ≡ w .luts → o < length (d .outputs)
         → NotLess (readsOrder (nodeAt (v .nodes) o .reads) (nodeAt (w .nodes) o .reads))
@@ -203,7 +195,7 @@ module _ (d : Design) (f : WellFormed d) (n : ℕ) (w : Network) (ks : List Ask)
         every-digits (length (w .luts)) (λ es. orb (not (isLess (tableOrder cs es))) (not (meets (w .luts) (askAt ks o) es)))
         (each-below (length (d .outputs)) (λ (k : ℕ). readsFirst w ks k ≡ true) (t .reads) o h) bs (reads-count o ∙ count) in
         let after : NotLess (tableOrder cs bs) =
-        record { is-not = not-true less (or-not (not less) (meets (w .luts) (askAt ks o) bs) tried m) } in
+        record { is-not = complement-true less (or-not (not less) (meets (w .luts) (askAt ks o) bs) tried m) } in
         let is = nodeAt (v .nodes) o .reads in
         let js = nodeAt (w .nodes) o .reads in
         let digits : readsOrder is js ≡ tableOrder cs bs =
@@ -248,7 +240,7 @@ plain-unproduced d w o j p h g = at (decLt j (length ds))
 
     at : Dec (j < length ds) → getD ds j false ≡ false
     at (yes l) =
-        not-true (getD ds j false)
+        complement-true (getD ds j false)
         (or-not (not (getD ds j false)) (every (other j) (vertexCount (d .bound)))
         (every-at (λ i. orb (not (getD ds i false)) (not (every (other i) (vertexCount (d .bound))))) (length ds)
         (each-below (length (d .outputs)) (λ (k : ℕ). producedOrZero d w k ≡ true) (p .entries) o h) j l)

@@ -9,7 +9,7 @@ use lib.Dec.{eqb}
 use lib.ListN.{length, getD, drop, drop-of-length-le}
 use lib.Seq.{drop-cons}
 use borrow.Author.Tests.{le-leb, lt-leb, ne-eqb, eqb-true}
-use Rattle.bits.specs.LogicLaws.{true-false}
+use Rattle.bits.specs.LogicLaws.{true-false, and-right}
 use Rattle.limits.specs.Limits.{maxSheet}
 use Rattle.text.specs.Bytes.{newline}
 use Rattle.sheet.specs.Examine.{sized, plain, plainLines, within}
@@ -70,10 +70,6 @@ walk-last s i h e =
     ap plainLines (drop-cons s i 0 (omega arith) ∙ ap (λ (t : List ℕ). getD s i 0 ∷ t) (drop-of-length-le s {i = suc i} (omega arith)))
 
 -- ---- the last byte of a text that passes
-and-right : (a b : Bool) → (a && b) ≡ true → b ≡ true
-and-right true b e = e
-and-right false b e = absurd (true-false (sym e))
-
 last-newline : (s : List ℕ) → plainLines s ≡ true → getD s (length s - 1) 0 ≡ newline
 unfolding plainLines
 last-newline [] e = absurd (true-false (sym e))
@@ -81,10 +77,6 @@ last-newline (b ∷ []) e = eqb-true b newline e
 last-newline (b ∷ c ∷ s) e =
     let h : suc (suc (length s)) - 1 ≡ suc (suc (length s) - 1) = omega arith in
     ap (λ (n : ℕ). getD (b ∷ c ∷ s) n 0) h ∙ last-newline (c ∷ s) (and-right (plain b) _ e)
-
-and-left : (a b : Bool) → (a && b) ≡ true → a ≡ true
-and-left true b e = refl
-and-left false b e = e
 
 pub sized-last : (s : List ℕ) → sized s ≡ true → getD s (length s - 1) 0 ≡ newline
 unfolding sized

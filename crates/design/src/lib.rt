@@ -147,7 +147,7 @@ pub fn table_of(e: Examined, output: usize, buffer: &mut [u8]) -> Tabled
     if k.outputs <= output {
         return Tabled::Refused { number: 6, line: 0 };
     }
-    let n = rows::row_count(k.inputs);
+    let n = bits::power(k.inputs);
     if buffer.len() < n {
         return Tabled::Refused { number: 9, line: 0 };
     }

@@ -11,7 +11,7 @@ use lib.Bits.{bitXor}
 use lib.ListN.{length, set, length-set}
 use Rattle.limits.specs.Limits.{maxVertices, searchOutputs}
 use Rattle.bits.specs.Logic.{xorb, bit}
-use Rattle.bits.specs.LogicLaws.{true-false, never-both}
+use Rattle.bits.specs.LogicLaws.{true-false, never-both, xor-self}
 use Rattle.bits.specs.Digit.{on}
 use Rattle.bits.specs.DigitLaws.{on-xor, on-none, on-zero}
 use Rattle.bits.specs.Count.{count}
@@ -64,12 +64,8 @@ opened-more rows n r f h e s = record {
   done = each-more (λ k z. z ≡ openOf (item rows k)) n f r (let z = s .long in omega arith) e (s .done);
 }
 
-xor-self : (a : ℕ) → bitXor a a ≡ 0
-xor-self a = on-none (bitXor a a) (λ i. on-xor a a i ∙ self (on a i))
-  where
-    self : (b : Bool) → xorb b b ≡ false
-    self true = refl
-    self false = refl
+xor-same : (a : ℕ) → bitXor a a ≡ 0
+xor-same a = on-none (bitXor a a) (λ i. on-xor a a i ∙ xor-self (on a i))
 
 -- cells with other tables and the same rows: where they tell no less apart
 cells-apart-more : (o x y n i : ℕ) (rows rows' codes codes' : ℕ → ℕ) → rows' o ≡ rows o → ((k : ℕ) → on (codes' x) k ≡ on (codes' y) k → on (codes x) k ≡ on (codes y) k)
@@ -163,7 +159,7 @@ answer-found cl given budgets v m u limit rows codes fs r true few outs cells h 
     record {
       serves = conflict-serves cl v m (item budgets) (coreOf u (item fs) (item r)) (zeroed-serves v m (Conflict cl) (item budgets) u rows codes fs r few outs f z
           (subst (Serves v m (Conflict cl) (item budgets)) (none-read (openCells u rows codes) rows) (c .serves [] (no-tables given v))));
-      zero = cells-zero u 0 (item fs) (item r) (z .done 0 (omega arith) ∙ xor-self (item codes 0));
+      zero = cells-zero u 0 (item fs) (item r) (z .done 0 (omega arith) ∙ xor-same (item codes 0));
       fewest = λ k s. rw (cells-length u 0 (item fs) (item r)) (no-fewer-length cl given budgets v m u k a s);
     },
   );

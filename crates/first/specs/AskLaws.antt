@@ -1,6 +1,6 @@
 -- The question about one digit, put to the search: the tables before it are given, the digits before it are known. What the search
 -- finds or rules out is the answer. Assumes nothing.
-use mathlib.Core.Path.{_≡_, refl, sym, ap, _∙_, subst}
+use mathlib.Core.Path.{_≡_, sym, ap, _∙_, subst}
 use mathlib.Core.Bool.{Bool, true, false}
 use mathlib.Core.List.{List}
 use mathlib.Core.Logic.{⊎-elim}
@@ -9,7 +9,7 @@ use native.Mathlib.Decide.{decLt}
 use native.Mathlib.Omega.{arith}
 use lib.ListN.{length, getD, take, drop, length-take, length-drop}
 use Rattle.bits.specs.Logic.{xorb}
-use Rattle.bits.specs.LogicLaws.{true-false}
+use Rattle.bits.specs.LogicLaws.{true-false, xor-off, xor-self}
 use Rattle.bits.specs.Digit.{on}
 use Rattle.bits.specs.Count.{count}
 use Rattle.bits.specs.CountLaws.{less-or-equal}
@@ -29,10 +29,6 @@ use Rattle.witness.specs.Witness.{Witness, Digits, Joined}
 use Rattle.first.specs.Drawn.{shown, Upto, Stands, Remembers, Replied}
 use Rattle.first.specs.DrawnLaws.{agrees-before, agrees-here, agrees-zero, shown-shaped, shown-digit, shown-agrees}
 use Rattle.first.specs.Parts.{parts-exchanged, rest-first, code-take, known-drop}
-
-xor-none : (a b : Bool) → b ≡ false → xorb a b ≡ a
-xor-none true b e = rw e refl
-xor-none false b e = e
 
 -- the first of some open cells has its known digits, in codes
 first-known : (kn val v n : ℕ) (rows codes : List ℕ) → 0 < n → Known kn val v (openCells n rows codes) → (x : ℕ) → x < v → on kn x ≡ true → on (item codes x) 0 ≡ on val x
@@ -56,7 +52,7 @@ module _ (cl budgets given codes : List ℕ) (v m u i x kn val : ℕ) (few : v �
 
     joined-digit : (y : ℕ) → y < suc x → on (item r y) i ≡ on val y
     joined-digit y b = ap (on (item r y)) (let e : i ≡ i + 0 = omega arith in e) ∙ j .after y 0 (omega arith) (omega arith)
-        ∙ xor-none (on (item opened y) 0) (on (item opened 0) 0) (opened-digit 0 (omega arith) ∙ val-first) ∙ opened-digit y b
+        ∙ xor-off (on (item opened y) 0) (on (item opened 0) 0) (opened-digit 0 (omega arith) ∙ val-first) ∙ opened-digit y b
 
     abbrev front : List Cell
     front = coreOf i (λ o. 0) (item codes)
@@ -121,13 +117,9 @@ module _ (cl budgets given codes : List ℕ) (v m u i x kn val : ℕ) (few : v �
     joined-zero : (k : ℕ) → k < u → on (item r 0) k ≡ false
     joined-zero k a = go (decLt k i)
       where
-        self : (b : Bool) → xorb b b ≡ false
-        self true = refl
-        self false = refl
-
         go : Dec (k < i) → on (item r 0) k ≡ false
         go (yes n) = j .before 0 k (omega arith) n ∙ w .zero k a
-        go (no n) = ap (on (item r 0)) (let e : k ≡ i + (k - i) = omega arith in e) ∙ j .after 0 (k - i) (omega arith) (omega arith) ∙ self (on (item opened 0) (k - i))
+        go (no n) = ap (on (item r 0)) (let e : k ≡ i + (k - i) = omega arith in e) ∙ j .after 0 (k - i) (omega arith) (omega arith) ∙ xor-self (on (item opened 0) (k - i))
 
     has-replied : Replied cl budgets v m u codes i x true r
     has-replied = (

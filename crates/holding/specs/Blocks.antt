@@ -16,7 +16,7 @@ use Rattle.limits.specs.Limits.{blockCount, maxCodes}
 use Rattle.bits.specs.Logic.{andb, orb}
 use Rattle.bits.specs.Digit.{on}
 use Rattle.bits.specs.DigitLaws.{on-and, on-or, on-single, on-complement, equal-digits}
-use Rattle.bits.specs.LogicLaws.{never-both, false-unless, or-true}
+use Rattle.bits.specs.LogicLaws.{never-both, false-unless, or-true, and-both}
 use Rattle.bits.specs.CountLaws.{less-or-equal}
 use Rattle.problem.specs.Problem.{item, Block}
 use Rattle.cells.specs.Sets.{on-power-other}
@@ -68,11 +68,8 @@ entry-again ms n bs m f e d ne t = λ k h. first .0 k h ∙ ap (λ (z : ℕ). eq
         same false y = refl
 
 -- ======== sets
-and-true : (a b : Bool) → a ≡ true → b ≡ true → andb a b ≡ true
-and-true a b e f = ap₂ andb e f
-
 pub on-both : (d m k : ℕ) → on d k ≡ true → on m k ≡ true → on (bitAnd d m) k ≡ true
-on-both d m k e f = on-and d m k ∙ and-true (on d k) (on m k) e f
+on-both d m k e f = on-and d m k ∙ and-both (on d k) (on m k) e f
 
 pub on-either : (a b k : ℕ) → (on a k ≡ true) ⊎ (on b k ≡ true) → on (bitOr a b) k ≡ true
 on-either a b k (inl e) = on-or a b k ∙ ap (λ (x : Bool). orb x (on b k)) e

@@ -13,7 +13,7 @@ use lib.ListN.{length, set}
 use borrow.Author.Tests.{eq-eqb, eqb-true}
 use Rattle.bits.specs.Logic.{orb}
 use Rattle.bits.specs.Digit.{on}
-use Rattle.bits.specs.LogicLaws.{never-both, false-unless, or-true}
+use Rattle.bits.specs.LogicLaws.{never-both, false-unless, or-true, neither-first}
 use Rattle.bits.specs.CountLaws.{less-or-equal}
 use Rattle.cells.specs.ListLaws.{all-map}
 use Rattle.cells.specs.Lists.{All, Pairs}
@@ -36,10 +36,6 @@ abbrev pub Free : List ℕ → ℕ → ℕ → ℕ → ℕ → ℕ → Type 0
 Free cl o seen b y k = on seen (labelAt cl o y) ≡ false → on b k ≡ false
 
 -- ======== laws
-unseen : (a b : Bool) → orb a b ≡ false → a ≡ false
-unseen true b e = e
-unseen false b e = refl
-
 -- the classes of other parts than p, of the first n
 pub record Others (cl : List ℕ) (o p n r : ℕ) : Type 0 where
   pub rest : (l : ℕ) → l < n → on r l ≡ false → partAt cl o l ≡ p
@@ -53,7 +49,7 @@ others-in cl o p n r r' q a e b f = subst (Others cl o p (n + 1)) (sym b) (recor
 
 pub others-out : (cl : List ℕ) (o p n r r' s : ℕ) → With r n s → r' ≡ s → Others cl o p n r → Others cl o p (n + 1) r'
 others-out cl o p n r r' s w b f = subst (Others cl o p (n + 1)) (sym b) (record {
-  rest = λ l h k. ⊎-elim (λ i. f .rest l i (unseen (on r l) (eqb l n) (sym (w l) ∙ k))) (λ i. absurd (never-both (w l ∙ ap (orb (on r l)) (eq-eqb l n i) ∙ or-true (on r l)) k))
+  rest = λ l h k. ⊎-elim (λ i. f .rest l i (neither-first (on r l) (eqb l n) (sym (w l) ∙ k))) (λ i. absurd (never-both (w l ∙ ap (orb (on r l)) (eq-eqb l n i) ∙ or-true (on r l)) k))
       (less-or-equal l n (omega arith));
 })
 
@@ -92,7 +88,7 @@ module _ (cl codes : List ℕ) (o p b : ℕ) where
       (let z = r .3 in omega arith),
     ));
     few = (let z = s .few in omega arith);
-    strangers = λ k h a. s .strangers k h (unseen (on seen k) (eqb k l) (sym (is k) ∙ a));
+    strangers = λ k h a. s .strangers k h (neither-first (on seen k) (eqb k l) (sym (is k) ∙ a));
   }))
 
   -- one vertex with a code in b is a crowd of one, of its own part
@@ -101,7 +97,7 @@ module _ (cl codes : List ℕ) (o p b : ℕ) where
   crowd-one v x r l seen h q own low in-b f is = record {
     found = (x ∷ [], ((h, low, in-b, subst (λ (z : ℕ). on seen z ≡ true) q (is l ∙ ap (orb (on r l)) (eq-eqb l l refl) ∙ or-true (on r l)), own), tt), (tt, tt), refl);
     few = omega arith;
-    strangers = λ k i a. f .rest k i (unseen (on r k) (eqb k l) (sym (is k) ∙ a));
+    strangers = λ k i a. f .rest k i (neither-first (on r k) (eqb k l) (sym (is k) ∙ a));
   }
 
 -- the block b of c is full: a vertex of another class of part p keeps out

@@ -1,8 +1,8 @@
 -- Which blocks each class of an output holds among the vertices with codes. Assumes nothing.
-use mathlib.Core.Path.{_≡_, refl, sym, ap, _∙_, subst}
+use mathlib.Core.Path.{_≡_, sym, ap, _∙_, subst}
 use mathlib.Core.Bool.{Bool, true, false}
 use mathlib.Core.List.{List, [], _∷_}
-use mathlib.Core.Logic.{_⊎_, inl, inr, ⊎-elim}
+use mathlib.Core.Logic.{_⊎_, ⊎-elim}
 use Prim.Native.Nat.{ℕ, _+_, _-_, _≤_, _<_}
 use native.Mathlib.Decide.{ℕ-discrete}
 use native.Mathlib.Omega.{arith}
@@ -14,7 +14,7 @@ use Rattle.limits.specs.Limits.{maxVertices, maxCodes}
 use Rattle.bits.specs.Logic.{orb}
 use Rattle.bits.specs.Digit.{on}
 use Rattle.bits.specs.DigitLaws.{on-or, on-zero}
-use Rattle.bits.specs.LogicLaws.{never-both, or-true}
+use Rattle.bits.specs.LogicLaws.{never-both, or-true, or-cases}
 use Rattle.bits.specs.CountLaws.{less-or-equal}
 use Rattle.cells.specs.ListLaws.{all-map}
 use Rattle.cells.specs.Lists.{All, Pairs}
@@ -107,10 +107,6 @@ module _ (cl codes : List ℕ) (o mask : ℕ) where
       other : (l : ℕ) → (l ≡ q → ⊥) → getD (set own q new) l 0 ≡ getD own l 0
       other l ne = getD-set-other own q l new 0 ne
 
-      or-case : (a b : Bool) → orb a b ≡ true → (a ≡ true) ⊎ (b ≡ true)
-      or-case true b e = inl refl
-      or-case false b e = inr e
-
       more : (l c : ℕ) → on (getD own l 0) c ≡ true → on (getD (set own q new) l 0) c ≡ true
       more l c e = go (ℕ-discrete l q)
         where
@@ -133,7 +129,7 @@ module _ (cl codes : List ℕ) (o mask : ℕ) where
       out l c h d e (yes p) = ⊎-elim
           (λ a. old l c h d (subst (λ (i : ℕ). on (getD own i 0) c ≡ true) (sym p) a))
           (λ a. (y, (omega arith), u, sym p, sym (eqb-true (bitAnd c mask) (bitAnd (item codes y) mask) (sym (is c d) ∙ a))))
-          (or-case (on (getD own q 0) c) (on bs c) (sym (on-or (getD own q 0) bs c) ∙ ap (λ (z : ℕ). on z c) (sym same) ∙ subst (λ (i : ℕ). on (getD (set own q new) i 0) c ≡ true) p e))
+          (or-cases (on (getD own q 0) c) (on bs c) (sym (on-or (getD own q 0) bs c) ∙ ap (λ (z : ℕ). on z c) (sym same) ∙ subst (λ (i : ℕ). on (getD (set own q new) i 0) c ≡ true) p e))
 
       owns' : List ℕ
       owns' = set owns q (getD owns q 0 + 1)

@@ -13,9 +13,9 @@ use Rattle.limits.specs.Limits.{maxCodes}
 use Rattle.bits.specs.Logic.{andb, orb, xorb}
 use Rattle.bits.specs.Digit.{on}
 use Rattle.bits.specs.DigitLaws.{on-and, on-or, on-xor, on-zero, on-above, on-single, equal-digits}
-use Rattle.bits.specs.LogicLaws.{never-both, true-unless, and-true, and-false, or-true, or-false}
+use Rattle.bits.specs.LogicLaws.{never-both, true-unless, and-true, and-false, or-true, or-false, xor-false}
+use Rattle.bits.specs.ShiftLaws.{on-cut, on-down, on-shifted, on-below-shifted}
 use Rattle.cells.specs.Pigeon.{agree-and, and-agree}
-use Rattle.cells.specs.ShiftLaws.{on-cut, on-down, on-shifted, on-below-shifted}
 use Rattle.cells.specs.Sets.{on-power-other}
 use Rattle.holding.specs.Blocks.{Spans}
 
@@ -46,11 +46,7 @@ across-here i k = on-xor k (2 ^ i) i ∙ ap (λ (b : Bool). xorb (on k i) b) (on
     turned false = refl
 
 across-other : (i k j : ℕ) → (j ≡ i → ⊥) → on (across i k) j ≡ on k j
-across-other i k j ne = on-xor k (2 ^ i) j ∙ ap (λ (b : Bool). xorb (on k j) b) (on-power-other i j ne) ∙ stays (on k j)
-  where
-    stays : (b : Bool) → xorb b false ≡ b
-    stays true = refl
-    stays false = refl
+across-other i k j ne = on-xor k (2 ^ i) j ∙ ap (λ (b : Bool). xorb (on k j) b) (on-power-other i j ne) ∙ xor-false (on k j)
 
 -- it is 2 ^ i below a code with cell i, and 2 ^ i above one without
 across-below : (i k : ℕ) → on k i ≡ true → 2 ^ i + across i k ≡ k

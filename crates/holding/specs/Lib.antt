@@ -1,7 +1,7 @@
--- Every has facts had by trying every number, Blocks sets of codes and blocks, Joined blocks made by joining codes cell by cell,
+-- WithoutCell has facts had by trying every number, Blocks sets of codes and blocks, Joined blocks made by joining codes cell by cell,
 -- Held and Wants what the classes hold and need, Rules what follows of every solution, Narrow, Full and Reach the sets of codes
 -- narrowed by it, Search the steps of the search. Contracts cite their definitions.
-pub mod Every
+pub mod WithoutCell
 pub mod Blocks
 pub mod Joined
 pub mod Held

@@ -1,7 +1,7 @@
 -- Line l of a text: where the lines before it and after it are given, it starts after those before it; line 0 and a line past the
 -- last is the empty part at the text's end. Assumes nothing.
 use mathlib.Core.Path.{_≡_, refl, sym, ap, _∙_}
-use mathlib.Core.Bool.{Bool, true, false, _&&_}
+use mathlib.Core.Bool.{Bool, true, false}
 use mathlib.Core.List.{List, [], _∷_, _++_}
 use Prim.Native.Nat.{ℕ, suc, _+_, _-_, _≤_, _<_}
 use native.Mathlib.Omega.{arith}
@@ -9,7 +9,7 @@ use lib.Dec.{leb}
 use lib.ListN.{length, take, drop, length-append}
 use lib.Seq.{take-at, getD-at, split-at, length-take-le}
 use borrow.Author.Tests.{le-leb, lt-leb, leb-true}
-use Rattle.bits.specs.LogicLaws.{and-left, and-right, and-both}
+use Rattle.bits.specs.LogicLaws.{and-left, and-right, and-both, and-false}
 use Rattle.text.specs.Line.{lines, endedLines, lineAt}
 use Rattle.locate.specs.Located.{hasLine, startOf, textOf, partOf}
 use Rattle.locate.specs.IsLine.{IsLine}
@@ -33,11 +33,7 @@ no-line-0 t = refl
 
 pub no-line-past : (t : List ℕ) (l : ℕ) → length (lines t) < l → hasLine t l ≡ false
 unfolding hasLine
-no-line-past t l h = rw (lt-leb l (length (lines t)) h) (neither (leb 1 l))
-  where
-    neither : (b : Bool) → b && false ≡ false
-    neither true = refl
-    neither false = refl
+no-line-past t l h = rw (lt-leb l (length (lines t)) h) (and-false (leb 1 l))
 
 -- ---- a line that is there
 module _ (t : List ℕ) (l : ℕ) (before : List (List ℕ)) (x : List ℕ) (after : List (List ℕ)) (split : lines t ≡ before ++ (x ∷ after))

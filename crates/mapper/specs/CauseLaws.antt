@@ -1,12 +1,11 @@
 -- From the search to the cause: cells serve a set of a design's outputs exactly where they serve the design with these outputs, so
 -- the first set that no cells within the limit serve is the cause. Assumes nothing.
-use mathlib.Core.Path.{_≡_, refl, sym, _∙_, subst}
-use mathlib.Core.Bool.{Bool, true, false}
+use mathlib.Core.Path.{sym, _∙_, subst}
 use mathlib.Core.List.{List}
 use Prim.Native.Nat.{ℕ, _≤_, _<_}
 use native.Mathlib.Omega.{arith}
 use lib.ListN.{length}
-use Rattle.bits.specs.LogicLaws.{true-false}
+use Rattle.bits.specs.LogicLaws.{true-false, true-unless}
 use Rattle.limits.specs.Limits.{maxCells}
 use Rattle.sheet.specs.Examine.{Design}
 use Rattle.sheet.specs.WellFormed.{WellFormed}
@@ -71,7 +70,7 @@ module _ (d : Design) (cl bs : List ℕ) (g : Given d cl bs (vertexCount (d .bou
             let o = memberAt (length (d .outputs)) s j in
             let i = member-below (length (d .outputs)) s j k in
             p .tells j x y h a b
-            (not-false-true (conflict (part s d) (d .bound) j x y)
+            (true-unless (conflict (part s d) (d .bound) j x y)
             (λ e. n
             (g .labels o x i a
             ∙ no-conflict-local d (d .bound) o x y (sym (part-conflict s d j k (d .bound) x y) ∙ e)
@@ -82,10 +81,6 @@ module _ (d : Design) (cl bs : List ℕ) (g : Given d cl bs (vertexCount (d .bou
             subst (λ (n : ℕ). reading j l ≤ n) (part-budget s d j k (d .bound) ∙ sym (g .budgeted (memberAt (length (d .outputs)) s j) i))
             (p .within j h));
       }
-    where
-      not-false-true : (b : Bool) → (b ≡ false → ⊥) → b ≡ true
-      not-false-true true h = refl
-      not-false-true false h = absurd (h refl)
 
   -- ---- cells within the limit, and networks
   module _ (f : WellFormed d) (few : d .limit ≤ maxCells) where

@@ -1,12 +1,12 @@
 -- From the search to Map: what it found, written out, is a permitted network; where it found nothing, no network within
 -- the limit and the widths has the design's value on every row. Assumes nothing.
-use mathlib.Core.Path.{_≡_, refl, sym, _∙_, subst}
-use mathlib.Core.Bool.{Bool, true, false}
+use mathlib.Core.Path.{_≡_, sym, _∙_, subst}
+use mathlib.Core.Bool.{true, false}
 use mathlib.Core.List.{List}
 use Prim.Native.Nat.{ℕ, _≤_, _<_}
 use native.Mathlib.Omega.{arith}
 use lib.ListN.{length}
-use Rattle.bits.specs.LogicLaws.{true-false}
+use Rattle.bits.specs.LogicLaws.{true-false, true-unless}
 use Rattle.limits.specs.Limits.{maxCells}
 use Rattle.sheet.specs.Examine.{Design}
 use Rattle.sheet.specs.WellFormed.{WellFormed}
@@ -28,10 +28,6 @@ use Rattle.mapper.specs.Map.{Permitted}
 use Rattle.mapper.specs.BuiltLaws.{built-permitted}
 use Rattle.mapper.specs.Posed.{Given}
 
-true-or-false : (b : Bool) → (b ≡ false → ⊥) → b ≡ true
-true-or-false true h = refl
-true-or-false false h = absurd (h refl)
-
 -- ---- labels differ exactly where columns conflict
 module _ (d : Design) (cl budgets : List ℕ) (v m limit : ℕ) (g : Given d cl budgets v m limit) where
   pub to-labels : (l : List Cell) → ServesDesign d l → Serves v m (Differ (labelAt cl)) (item budgets) l
@@ -41,7 +37,7 @@ module _ (d : Design) (cl budgets : List ℕ) (v m limit : ℕ) (g : Given d cl 
             (let h' = subst (λ (k : ℕ). o < k) (g .outputs) h in
             let a' = subst (λ (k : ℕ). x < k) (g .vertices) a in
             let b' = subst (λ (k : ℕ). y < k) (g .vertices) b in
-            s .tells o x y h' a' b' (true-or-false (conflict d (d .bound) o x y) (λ e. n (g .labels o x h' a' ∙ no-conflict-local d (d .bound) o x y e ∙ sym (g .labels o y h' b')))));
+            s .tells o x y h' a' b' (true-unless (conflict d (d .bound) o x y) (λ e. n (g .labels o x h' a' ∙ no-conflict-local d (d .bound) o x y e ∙ sym (g .labels o y h' b')))));
         within = λ o h.
             (let h' = subst (λ (k : ℕ). o < k) (g .outputs) h in
             subst (λ (n : ℕ). reading o l ≤ n) (sym (g .budgeted o h')) (s .within o h'));

@@ -7,19 +7,11 @@ use Prim.Native.Nat.{ℕ, zero, suc, _-_, _<_}
 use native.Mathlib.Omega.{arith}
 use lib.ListN.{length, getD, length-map, List·getD-map}
 use Rattle.bits.specs.Logic.{pick}
-use Rattle.bits.specs.LogicLaws.{true-false}
+use Rattle.bits.specs.LogicLaws.{neither-first, neither-second}
 use Rattle.names.specs.Name.{Name, sameName, among}
 use Rattle.names.specs.Pack.{unpackWithin, nameOf}
 use Rattle.names.specs.Word.{PositionIs}
 use Rattle.names.specs.declared.Position.the-variants.{At, Nowhere}
-
-pub neither-left : (a b : Bool) → a || b ≡ false → a ≡ false
-neither-left true b e = e
-neither-left false b e = refl
-
-pub neither-right : (a b : Bool) → a || b ≡ false → b ≡ false
-neither-right true b e = absurd (true-false e)
-neither-right false b e = e
 
 or-picks : (a b : Bool) → a || b ≡ pick a true b
 or-picks true b = refl
@@ -50,7 +42,7 @@ module _ {A : Type 0} (n : Name) (look : List Name → A) (hit : ℕ → A) (ste
   unfolding among
   look-none [] e = refl
   look-none (m ∷ ms) e =
-      look-miss m ms (neither-left (sameName m n) (among n ms) e) ∙ look-none ms (neither-right (sameName m n) (among n ms) e)
+      look-miss m ms (neither-first (sameName m n) (among n ms) e) ∙ look-none ms (neither-second (sameName m n) (among n ms) e)
 
 -- ---- by what the code finds
 name-at : (vs : List ℕ) (k : ℕ) → getD (map nameOf vs) k [] ≡ nameOf (getD vs k 0)

@@ -9,7 +9,7 @@ use native.Mathlib.Omega.{arith}
 use lib.ListN.{length, getD, take, drop, set, length-append, length-drop, List·getD-append}
 use lib.Seq.{drop-drop, drop-append-le, take-append-le, getD-at, getD-set-same, getD-set-other}
 use Rattle.limits.specs.Limits.{maxCells}
-use Rattle.rows.specs.EveryLaws.{last-or-below}
+use Rattle.bits.specs.CountLaws.{less-or-equal}
 use Rattle.network.specs.Network.{Network, Node}
 use Rattle.network.specs.Examine.{withLut, withNode}
 use Rattle.network.specs.LineAnswer.{Stands, NodeStands}
@@ -65,7 +65,7 @@ module _ {t : List ℕ} {b f : ℕ} {w : Network} {u : ℕ} {lutat reads nodeat 
             (λ e.
             subst (λ (a : ℕ). Stands t (2 ^ b) a (getD (w .luts ++ (ds ∷ [])) i [])) (place-last lutat u i (at + p) (omega arith) e)
             (subst (λ (x : List Bool). Stands t (2 ^ b) (at + p) x) (kept-last (w .luts) ds [] i (e ∙ c)) (stands-in-text q s)))
-            (last-or-below i u (omega arith));
+            (less-or-equal i u (omega arith));
         nodes-stand = λ o g. absurd (omega arith);
       }
 
@@ -88,5 +88,5 @@ module _ {t : List ℕ} {b f : ℕ} {w : Network} {u : ℕ} {lutat reads nodeat 
             subst (λ (m : ℕ). NodeStands t u f m (getD (set nodeat o (at + p)) i 0) (getD (w .nodes ++ (x ∷ [])) i nobody)) (place-last reads o i mask room e)
             (subst (λ (a : ℕ). NodeStands t u f mask a (getD (w .nodes ++ (x ∷ [])) i nobody)) (place-last nodeat o i (at + p) place e)
             (subst (λ (y : Node). NodeStands t u f mask (at + p) y) (kept-last (w .nodes) x nobody i (e ∙ sym here)) (node-in-text q s))))
-            (last-or-below i o (omega arith));
+            (less-or-equal i o (omega arith));
       }

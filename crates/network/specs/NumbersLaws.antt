@@ -14,7 +14,7 @@ use Rattle.bits.specs.Logic.{pick}
 use Rattle.bits.specs.Digit.{on, digit}
 use Rattle.bits.specs.DigitLaws.{on-above}
 use Rattle.limits.specs.Limits.{maxCells, maxCodes}
-use Rattle.rows.specs.PartLaws.{on-low}
+use Rattle.bits.specs.ShiftLaws.{on-cut}
 use Rattle.network.specs.Numbers.{numbersOf}
 
 numbers-by-digits : (u m n : ℕ) → ((k : ℕ) → k < u → on m k ≡ on n k) → numbersOf u m ≡ numbersOf u n
@@ -30,7 +30,7 @@ module _ (i m : ℕ) (small : m < 2 ^ i) where
   -- its digits below i are those of m, and digit i is 1
   with-low : (k : ℕ) → k < i → on (m + 2 ^ i) k ≡ on m k
   with-low k h =
-      sym (on-low i (m + 2 ^ i) k h) ∙ ap (λ (x : ℕ). on x k) (ap (λ (x : ℕ). x % 2 ^ i) turned ∙ low 1 i small)
+      sym (on-cut i (m + 2 ^ i) k h) ∙ ap (λ (x : ℕ). on x k) (ap (λ (x : ℕ). x % 2 ^ i) turned ∙ low 1 i small)
 
   with-top : on (m + 2 ^ i) i ≡ true
   unfolding on digit

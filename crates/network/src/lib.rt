@@ -191,7 +191,7 @@ pub fn read_lut(l: &[u8], bs: &[u64], i: usize) -> Table
     let Moved::To(c) = m else {
         return Table::Bad;
     };
-    table_at(l, c, rows::row_count(bs.len()))
+    table_at(l, c, bits::power(bs.len()))
 }
 
 // The shared tables of a node's list, of those below u: each number is looked for once, after those before it.
@@ -248,7 +248,7 @@ pub fn read_node(l: &[u8], name: u64, fs: &[u64], u: usize) -> NodeLine
     let Moved::To(d) = m else {
         return NodeLine::Bad;
     };
-    let p = table_at(l, d, rows::row_count(w.count + fs.len()));
+    let p = table_at(l, d, bits::power(w.count + fs.len()));
     match p {
         Table::At(at) => NodeLine::At(w.mask, at),
         Table::Bad => NodeLine::Bad,

@@ -15,7 +15,7 @@ use Rattle.cells.specs.Sets.{With}
 use lib.ListN.{length, set, length-set}
 use lib.Seq.{getD-set-same, getD-set-other}
 use Rattle.bits.specs.Logic.{andb, orb, bit}
-use Rattle.bits.specs.LogicLaws.{true-false, never-both, and-true, and-false, or-true, or-false}
+use Rattle.bits.specs.LogicLaws.{true-false, never-both, and-true, and-false, or-true, or-false, false-unless}
 use Rattle.bits.specs.Digit.{on}
 use Rattle.bits.specs.DigitLaws.{on-and, on-or, on-zero, on-ones, on-above, on-complement, equal-digits}
 use Rattle.bits.specs.Count.{count}
@@ -345,10 +345,6 @@ pub finished-start : (cl ms ps : List ℕ) (v : ℕ) (codes : List ℕ) → leng
 finished-start cl ms ps v codes e = record { long = e; kept = λ x i h l k. refl; parted = λ q x y h. absurd (omega arith) }
 
 module _ (cl ms ps caps : List ℕ) (v j : ℕ) (plan : Plan ms ps caps j) where
-  off-where : (b : Bool) → (b ≡ true → ⊥) → b ≡ false
-  off-where true h = absurd (h refl)
-  off-where false h = refl
-
   pub finished-more : (o : ℕ) (codes nums r r' : List ℕ) → o < j → Numbered cl codes o (item ms o) v nums
       → Wrote nums (item ps o) (item caps o) v r r' → Finished cl ms ps v o codes r
       → Finished cl ms ps v (o + 1) codes r'
@@ -366,13 +362,13 @@ module _ (cl ms ps caps : List ℕ) (v j : ℕ) (plan : Plan ms ps caps j) where
       before : (q x y : ℕ) → q < o → x < v → y < v → partOf cl q x ≡ partOf cl q y → bitAnd (item r' x) (item ms q) ≡ bitAnd (item r' y) (item ms q)
           → bitAnd (item r' x) (item ps q) ≡ bitAnd (item r' y) (item ps q) → labelAt cl q x ≡ labelAt cl q y
       before q x y l a b t e g = f .parted q x y l a b t
-          (same (item ms q) x y (plan .short-shared q (omega arith)) (λ i m. off-where _ (λ t. never-both m (plan .private o q i h (omega arith) t))) a b e)
+          (same (item ms q) x y (plan .short-shared q (omega arith)) (λ i m. false-unless _ (λ t. never-both m (plan .private o q i h (omega arith) t))) a b e)
           (same (item ps q) x y (plan .short q (omega arith)) (λ i m. plan .single q o i (omega arith) h (λ z. omega arith) m) a b g)
 
       -- what o's shared cells see is as it was given
       given : (x i : ℕ) → x < v → i < 6 → on (item ms o) i ≡ true → on (item r' x) i ≡ on (item codes x) i
-      given x i a l m = w .there x i a l (off-where _ (λ t. never-both m (plan .private o o i h h t))) ∙ f .kept x i a l
-          (λ q b. off-where _ (λ t. never-both m (plan .private q o i (omega arith) h t)))
+      given x i a l m = w .there x i a l (false-unless _ (λ t. never-both m (plan .private o o i h h t))) ∙ f .kept x i a l
+          (λ q b. false-unless _ (λ t. never-both m (plan .private q o i (omega arith) h t)))
 
       at : (x y : ℕ) → x < v → y < v → partOf cl o x ≡ partOf cl o y → bitAnd (item r' x) (item ms o) ≡ bitAnd (item r' y) (item ms o)
           → bitAnd (item r' x) (item ps o) ≡ bitAnd (item r' y) (item ps o) → labelAt cl o x ≡ labelAt cl o y

@@ -10,14 +10,11 @@ use lib.Seq.{getD-set-same, getD-set-other}
 use borrow.Author.Tests.{eq-eqb, ne-eqb}
 use Rattle.bits.specs.Logic.{orb}
 use Rattle.limits.specs.Limits.{maxOutputs}
+use Rattle.bits.specs.LogicLaws.{or-false}
 use Rattle.rows.specs.Words.{Rowwise, rowOn}
 use Rattle.sheet.specs.Known.{tableAt}
 use Rattle.sheet.specs.declared.Rows.{Rows}
 use Rattle.panel.specs.Held.{withRows, Added}
-
-pub or-false : (a : Bool) → a || false ≡ a
-or-false true = refl
-or-false false = refl
 
 or-is : (a b : Bool) → orb a b ≡ a || b
 or-is true b = refl

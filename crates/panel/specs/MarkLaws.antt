@@ -11,9 +11,9 @@ use lib.ListN.{length, getD, take, drop, drop-of-length-le}
 use lib.Seq.{drop-cons}
 use borrow.Author.Tests.{eq-eqb, ne-eqb}
 use Rattle.bits.specs.Logic.{pick}
+use Rattle.bits.specs.LogicLaws.{or-second}
 use Rattle.cubes.specs.Cube.{Cube}
 use Rattle.cubes.specs.Cover.{cubeAt}
-use Rattle.cubes.specs.CoverLaws.{or-right}
 use Rattle.platext.specs.Lines.{firstCube}
 use Rattle.platext.specs.Reading.{Stand}
 use Rattle.panel.specs.Questions.{zerosAndOnes, otherMark}
@@ -45,7 +45,7 @@ module _ (m : List ℕ) (i : ℕ) (w : MarksPassed m i) where
   byte-zero h e = byte-more h (ap (λ (b : Bool). b || eqb (getD m i 0) 0x31) (eq-eqb (getD m i 0) 0x30 e))
 
   pub byte-one : i < length m → getD m i 0 ≡ 0x31 → MarksPassed m (i + 1)
-  byte-one h e = byte-more h (or-right (eqb (getD m i 0) 0x30) (eqb (getD m i 0) 0x31) (eq-eqb (getD m i 0) 0x31 e))
+  byte-one h e = byte-more h (or-second (eqb (getD m i 0) 0x30) (eqb (getD m i 0) 0x31) (eq-eqb (getD m i 0) 0x31 e))
 
   pub byte-other : i < length m → (getD m i 0 ≡ 0x30 → ⊥) → (getD m i 0 ≡ 0x31 → ⊥) → false ≡ zerosAndOnes m
   byte-other h a b =

@@ -1,6 +1,6 @@
 -- The tables that the cubes say, cube after cube: the rows so far and the cubes to come cover what all cubes cover. Assumes nothing.
-use mathlib.Core.Path.{_≡_, refl, sym, ap, _∙_, subst}
-use mathlib.Core.Bool.{Bool, true, false, _&&_, _||_}
+use mathlib.Core.Path.{_≡_, sym, ap, _∙_, subst}
+use mathlib.Core.Bool.{Bool, false, _&&_, _||_}
 use mathlib.Core.List.{List, [], map}
 use Prim.Native.Nat.{ℕ, suc, _+_, _-_, _≤_, _<_}
 use native.Mathlib.Omega.{arith}
@@ -10,6 +10,7 @@ use lib.ListN.{length, getD, take, drop, length-take, replicate, getD-replicate,
 use lib.Seq.{drop-cons}
 use Rattle.bits.specs.DigitLaws.{on-zero}
 use Rattle.limits.specs.Limits.{maxRows, maxOutputs, tableWords}
+use Rattle.bits.specs.LogicLaws.{or-assoc, or-false}
 use Rattle.rows.specs.Words.{Rowwise, rowOn}
 use Rattle.rows.specs.WordLaws.{repeated}
 use Rattle.sheet.specs.Known.{tableAt}
@@ -20,12 +21,7 @@ use Rattle.platext.specs.Text.{Pla}
 use Rattle.platext.specs.Reading.{Stand, ReadAs}
 use Rattle.platext.specs.declared.PlaText.{PlaText}
 use Rattle.panel.specs.Held.{CubesStand, Added, Covering, Readable}
-use Rattle.panel.specs.AddLaws.{or-false}
 use Rattle.panel.specs.PassLaws.{CubesFrom, from-start, from-more, cube-there, literal-bytes, mark-bytes}
-
-or-assoc : (a b c : Bool) → a || (b || c) ≡ (a || b) || c
-or-assoc true b c = refl
-or-assoc false b c = refl
 
 -- ---- the cubes of a text that is read
 pub read-stand : (s : List ℕ) (x : Pla) (t : PlaText) (r : ReadAs s x t)

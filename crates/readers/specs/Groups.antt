@@ -14,7 +14,7 @@ use lib.Seq.{getD-set-same, getD-set-other}
 use borrow.Author.Tests.{eq-eqb}
 use Rattle.limits.specs.Limits.{searchOutputs}
 use Rattle.bits.specs.Logic.{andb, orb}
-use Rattle.bits.specs.LogicLaws.{and-right, never-both, false-unless}
+use Rattle.bits.specs.LogicLaws.{and-right, never-both, false-unless, or-true}
 use Rattle.bits.specs.Digit.{on}
 use Rattle.bits.specs.DigitLaws.{on-and, on-or, on-zero}
 use Rattle.bits.specs.CountLaws.{less-or-equal}
@@ -80,10 +80,6 @@ module _ (rows gs : List ℕ) (sh j done n g c : ℕ) (h : n < 3) (low : sh < 64
 
   in-or-r : (i : ℕ) → on g i ≡ true → on (bitOr done g) i ≡ true
   in-or-r i e = on-or done g i ∙ ap (orb (on done i)) e ∙ or-true (on done i)
-    where
-      or-true : (b : Bool) → orb b true ≡ true
-      or-true true = refl
-      or-true false = refl
 
   fresh-cell : (i : ℕ) → on g i ≡ true → on done i ≡ false
   fresh-cell i e = false-unless (on done i) (λ t. no-cell i (sym (ap (λ (z : ℕ). on z i) apart) ∙ on-and g done i ∙ ap₂ andb e t))

@@ -13,7 +13,7 @@ use lib.Bits.{bitAnd, bitOr, and-le-l, and-le-r}
 use lib.ListN.{length, getD, set, length-set}
 use lib.Seq.{getD-set-same, getD-set-other}
 use Rattle.bits.specs.Logic.{andb, orb}
-use Rattle.bits.specs.LogicLaws.{true-false, and-left, and-right, never-both, false-unless, and-false}
+use Rattle.bits.specs.LogicLaws.{true-false, and-left, and-right, never-both, false-unless, and-false, or-first, or-second}
 use Rattle.bits.specs.Digit.{on}
 use Rattle.bits.specs.DigitLaws.{on-and, on-or, on-ones, on-above, on-complement}
 use Rattle.bits.specs.Count.{count}
@@ -58,24 +58,17 @@ pub record Seen (rows : List ℕ) (o once many : ℕ) : Type 0 where
 pub seen-start : (rows : List ℕ) → Seen rows 0 0 0
 seen-start rows = record { any = λ q i h. absurd (omega arith); two = λ p q i h. absurd (omega arith) }
 
-or-l : (a b : Bool) → a ≡ true → orb a b ≡ true
-or-l a b e = ap (λ (x : Bool). orb x b) e
-
-or-r : (a b : Bool) → b ≡ true → orb a b ≡ true
-or-r true b e = refl
-or-r false b e = e
-
 pub seen-more : (rows : List ℕ) (o once many : ℕ) → Seen rows o once many → Seen rows (o + 1) (bitOr once (item rows o)) (bitOr many (bitAnd once (item rows o)))
 seen-more rows o once many s = record {
-  any = λ q i h e. on-or once (item rows o) i ∙ ⊎-elim (λ l. or-l _ _ (s .any q i l e)) (λ p. or-r (on once i) _ (subst (λ (z : ℕ). on (item rows z) i ≡ true) p e)) (less-or-equal q o (omega arith));
+  any = λ q i h e. on-or once (item rows o) i ∙ ⊎-elim (λ l. or-first _ _ (s .any q i l e)) (λ p. or-second (on once i) _ (subst (λ (z : ℕ). on (item rows z) i ≡ true) p e)) (less-or-equal q o (omega arith));
   two = λ p q i h k ne e f. on-or many (bitAnd once (item rows o)) i ∙ pair p q i (less-or-equal p o (omega arith)) (less-or-equal q o (omega arith)) ne e f;
 }
   where
     now-too : (q i : ℕ) → q < o → on (item rows q) i ≡ true → on (item rows o) i ≡ true → orb (on many i) (on (bitAnd once (item rows o)) i) ≡ true
-    now-too q i l e f = or-r (on many i) _ (on-and once (item rows o) i ∙ ap₂ andb (s .any q i l e) f)
+    now-too q i l e f = or-second (on many i) _ (on-and once (item rows o) i ∙ ap₂ andb (s .any q i l e) f)
 
     pair : (p q i : ℕ) → (p < o) ⊎ (p ≡ o) → (q < o) ⊎ (q ≡ o) → (p ≡ q → ⊥) → on (item rows p) i ≡ true → on (item rows q) i ≡ true → orb (on many i) (on (bitAnd once (item rows o)) i) ≡ true
-    pair p q i (inl a) (inl b) ne e f = or-l _ _ (s .two p q i a b ne e f)
+    pair p q i (inl a) (inl b) ne e f = or-first _ _ (s .two p q i a b ne e f)
     pair p q i (inl a) (inr b) ne e f = now-too p i a e (subst (λ (z : ℕ). on (item rows z) i ≡ true) b f)
     pair p q i (inr a) (inl b) ne e f = now-too q i b f (subst (λ (z : ℕ). on (item rows z) i ≡ true) a e)
     pair p q i (inr a) (inr b) ne e f = absurd (ne (a ∙ sym b))

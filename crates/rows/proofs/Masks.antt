@@ -9,9 +9,10 @@ use lib.ListN.{getD}
 use Rattle.limits.specs.Limits.{maxInputs, tableWords}
 use Rattle.bits.specs.Digit.{on, digit}
 use Rattle.bits.specs.DigitLaws.{on-ones, on-zero, on-above}
-use Rattle.rows.specs.Every.{every, same}
-use Rattle.rows.specs.EveryLaws.{every-at, same-equal}
-use Rattle.rows.specs.PartLaws.{on-low, on-high}
+use Rattle.bits.specs.Every.{every, same}
+use Rattle.bits.specs.EveryLaws.{every-at, same-equal}
+use Rattle.bits.specs.ShiftLaws.{on-cut}
+use Rattle.rows.specs.PartLaws.{on-high}
 use Rattle.rows.specs.Words.{WordOf}
 
 -- the code's constant table
@@ -36,7 +37,7 @@ mask-at p k h l =
 pub low-word : (p w : ℕ) → p < 6 → WordOf (λ r. on r p) w (getD masks p 0)
 low-word p w h =
     record {
-      each = λ k l. mask-at p k h l ∙ ap (λ (x : ℕ). on x p) (sym (digits-mod w l)) ∙ on-low 6 (w * 64 + k) p h;
+      each = λ k l. mask-at p k h l ∙ ap (λ (x : ℕ). on x p) (sym (digits-mod w l)) ∙ on-cut 6 (w * 64 + k) p h;
     }
 
 -- on the rows of word w, digit p above the six is digit p - 6 of w

@@ -11,7 +11,7 @@ use native.Mathlib.Numerals.{add-one}
 use lib.ListN.{length, getD, set, length-append, List·getD-append}
 use lib.Seq.{sets, getD-at}
 use Rattle.limits.specs.Limits.{maxRows}
-use Rattle.rows.specs.EveryLaws.{last-or-below}
+use Rattle.bits.specs.CountLaws.{less-or-equal}
 use Rattle.rows.specs.Words.{rowOn, Rowwise}
 use Rattle.rows.specs.Digits.{digit, digitsUpto}
 
@@ -28,7 +28,7 @@ digits-at f (suc n) i h =
     ⊎-elim
     (λ l. List·getD-append (digitsUpto f n) (digit (f n) ∷ []) 0 i (let e = length-digits f n in omega arith) ∙ digits-at f n i l)
     (λ q. getD-at (digitsUpto f n) (digit (f n)) [] 0 i (length-digits f n ∙ sym q) ∙ ap (λ (k : ℕ). digit (f k)) (sym q))
-    (last-or-below i n h)
+    (less-or-equal i n h)
 
 pub digits-same : (f g : ℕ → Bool) (n : ℕ) → ((i : ℕ) → i < n → f i ≡ g i) → digitsUpto f n ≡ digitsUpto g n
 unfolding digitsUpto

@@ -6,8 +6,6 @@ pub mod Words
 pub mod WordLaws
 pub mod Digits
 pub mod DigitLaws
-pub mod Every
-pub mod EveryLaws
 pub mod Step
 pub mod StepLaws
 pub mod WorkedStep

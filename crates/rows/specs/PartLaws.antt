@@ -4,21 +4,13 @@ use mathlib.Core.Path.{_≡_, ap, _∙_}
 use Prim.Native.Nat.{ℕ, zero, suc, _+_, _-_, _/_, _%_, _^_, _<_}
 use native.Mathlib.Omega.{arith}
 use lib.Dec.{eqb}
-use lib.Pow.{field, mod-mod-pow, shr-shr}
+use lib.Pow.{mod-mod-pow, shr-shr}
 use Rattle.bits.specs.Digit.{on, digit}
 
 odd-part : (x j : ℕ) → 0 < j → x % 2 ^ j % 2 ≡ x % 2
 odd-part x zero h = absurd (omega arith)
 odd-part x (suc j) h =
     ap (λ (n : ℕ). x % 2 ^ n % 2) (omega arith) ∙ mod-mod-pow x j 1
-
--- the digits of the lower part are the number's own
-pub on-low : (n x k : ℕ) → k < n → on (x % 2 ^ n) k ≡ on x k
-unfolding on digit
-on-low n x k h =
-    let e : n ≡ n - k + k = omega arith in
-    ap (λ (y : ℕ). eqb (y % 2) 1) (ap (λ (m : ℕ). x % 2 ^ m / 2 ^ k) e ∙ field x (n - k) k)
-    ∙ ap (λ (y : ℕ). eqb y 1) (odd-part (x / 2 ^ k) (n - k) (omega arith))
 
 -- the digits of the upper part are the number's own, further up
 pub on-high : (n x k : ℕ) → on (x / 2 ^ n) k ≡ on x (n + k)

@@ -14,7 +14,7 @@ use lib.ListN.{length, getD}
 use Rattle.bits.specs.Digit.{on, digit}
 use Rattle.bits.specs.DigitLaws.{Binary, is0, is1, digit-binary}
 use Rattle.bits.specs.Logic.{bit}
-use Rattle.rows.specs.PartLaws.{on-low}
+use Rattle.bits.specs.ShiftLaws.{on-cut}
 use Rattle.rows.specs.Row.{rowOf, inputOn, valuesOf}
 
 -- ---- from a list to its row
@@ -38,7 +38,7 @@ on-top b n x h = ap (λ (y : ℕ). eqb (y % 2) 1) (high (bit b) n h) ∙ bit-on 
 values-low : (m n r : ℕ) → n ≤ m → valuesOf n (r % 2 ^ m) ≡ valuesOf n r
 unfolding valuesOf
 values-low m zero r h = refl
-values-low m (suc n) r h = ap₂ (λ (b : Bool) (l : List Bool). b ∷ l) (on-low m r n h) (values-low m n r (omega arith))
+values-low m (suc n) r h = ap₂ (λ (b : Bool) (l : List Bool). b ∷ l) (on-cut m r n h) (values-low m n r (omega arith))
 
 pub values-row : (l : List Bool) → valuesOf (length l) (rowOf l) ≡ l
 unfolding rowOf valuesOf

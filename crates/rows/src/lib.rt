@@ -147,14 +147,6 @@ pub fn put_digits(buf: &mut [u8], a: [u64; limits::TABLE_WORDS], n: usize)
     }
 }
 
-// How many rows n inputs have.
-pub fn row_count(n: usize) -> usize
-    requires { ⌜ n < 64 ⌝ }
-    ensures { λ r. ⌜ r ≡ 2 ^ n ⌝ }
-{
-    1 << n
-}
-
 // The row with the digits of `bound` as in r, and the digits of `free` counted one further.
 pub fn step(r: usize, bound: usize, free: usize) -> usize
     requires { ⌜ (r < maxRows) × (bound < maxRows) ⌝ }

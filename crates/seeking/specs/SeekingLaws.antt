@@ -9,16 +9,17 @@ use Prim.Native.Nat.{ℕ, zero, suc, _+_, _-_, _*_, _/_, _%_, _^_, _≤_, _<_, m
 use native.Mathlib.Decide.{decLt}
 use native.Mathlib.Omega.{arith}
 use native.Mathlib.Nat.{mod-eq-of-lt, mod-lt, div-eq-of-lt, add-mul-div-left, add-mul-mod-self-left}
-use lib.Bits.{bitAnd, and-mask}
+use lib.Bits.{bitAnd}
 use lib.Dec.{eqb, leb}
 use lib.ListN.{length}
 use lib.Pow.{pow-pos, shr-shr}
-use Rattle.bits.specs.Logic.{andb, xorb, bit}
-use Rattle.bits.specs.LogicLaws.{and-left, and-right, never-both, and-true}
+use Rattle.bits.specs.Logic.{andb, bit}
+use Rattle.bits.specs.LogicLaws.{and-left, and-right, never-both, xor-off}
 use Rattle.bits.specs.Digit.{digit, on}
 use Rattle.bits.specs.DigitLaws.{on-zero, on-and, on-xor, on-ones, on-above, on-none}
 use Rattle.bits.specs.Count.{count}
 use Rattle.bits.specs.CountLaws.{count-alike}
+use Rattle.bits.specs.ShiftLaws.{on-cut}
 use Rattle.cells.specs.Core.{Cell, Serves, cellsFrom, coreOf}
 use Rattle.cells.specs.Pigeon.{agree-and, and-agree}
 use Rattle.cells.specs.Codes.{Coded, codeOf, on-digits, on-low}
@@ -32,9 +33,6 @@ use Rattle.readingsets.specs.ChoiceLaws.{count-sum, count-row, numberOf, number
 use Rattle.seeking.specs.Seeking.{Tables, Known, Begins, Lacks, openCells, givenCells, Has, Sought, AllFit, SoughtWhere, roundCount, Places}
 
 -- ======== digits
-on-rest : (u n i : ℕ) → i < u → on (n % 2 ^ u) i ≡ on n i
-on-rest u n i h = ap (λ (z : ℕ). on z i) (sym (and-mask n u)) ∙ on-and n (2 ^ u - 1) i ∙ ap (andb (on n i)) (on-ones u i h) ∙ and-true (on n i)
-
 on-next : (u n i : ℕ) → on n (u + i) ≡ on (n / 2 ^ u) i
 unfolding on digit
 on-next u n i = ap (λ (z : ℕ). eqb (z % 2) 1) (sym (shr-shr n u i))
@@ -50,7 +48,7 @@ joined-next : (u a b : ℕ) → joined u a b / 2 ^ u ≡ b
 joined-next u a b = add-mul-div-left (a % 2 ^ u) b (pow-pos u) ∙ ap (λ (z : ℕ). z + b) (div-eq-of-lt (mod-lt a (pow-pos u))) ∙ (let e : 0 + b ≡ b = omega arith in e)
 
 on-joined-first : (u a b i : ℕ) → i < u → on (joined u a b) i ≡ on a i
-on-joined-first u a b i h = sym (on-rest u (joined u a b) i h) ∙ ap (λ (z : ℕ). on z i) (joined-rest u a b) ∙ on-rest u a i h
+on-joined-first u a b i h = sym (on-cut u (joined u a b) i h) ∙ ap (λ (z : ℕ). on z i) (joined-rest u a b) ∙ on-cut u a i h
 
 on-joined-next : (u a b i : ℕ) → on (joined u a b) (u + i) ≡ on b i
 on-joined-next u a b i = on-next u (joined u a b) i ∙ ap (λ (z : ℕ). on z i) (joined-next u a b)
@@ -73,7 +71,7 @@ count-numbered u g r few room low =
     count-row (numbered u r)
     ∙ ap₂ (λ (a b : ℕ). count (on a) 6 + count (on b) 10) (numbered-open u g r few low) (numbered-given u g r few low)
     ∙ ap₂ (λ (a b : ℕ). a + b) (count-within (r % 2 ^ u) u 6 (mod-lt r (pow-pos u)) few) (count-within (r / 2 ^ u) g 10 (given-low u g r few low) room)
-    ∙ ap₂ (λ (a b : ℕ). a + b) (count-alike (on (r % 2 ^ u)) (on r) u (λ i h. on-rest u r i h)) (count-alike (on (r / 2 ^ u)) (λ (i : ℕ). on r (u + i)) g (λ i h. sym (on-next u r i)))
+    ∙ ap₂ (λ (a b : ℕ). a + b) (count-alike (on (r % 2 ^ u)) (on r) u (λ i h. on-cut u r i h)) (count-alike (on (r / 2 ^ u)) (λ (i : ℕ). on r (u + i)) g (λ i h. sym (on-next u r i)))
     ∙ sym (count-sum (on r) u g)
 
 -- where no table is given, an output reads open cells alone
@@ -88,10 +86,6 @@ fit-open budget u row few f =
 known-first : (kn val v : ℕ) (l : List Cell) → 0 < length l → Known kn val v l → (x : ℕ) → x < v → on kn x ≡ true → on (codeOf l x) 0 ≡ on val x
 known-first kn val v [] h k x a e = absurd (omega arith)
 known-first kn val v (c ∷ l) h k x a e = code-first c l x ∙ k x a e
-
-xor-false : (b c : Bool) → c ≡ false → xorb b c ≡ b
-xor-false true c e = rw e refl
-xor-false false c e = e
 
 module _ (cl given budgets : List ℕ) (kn val v m u g : ℕ) (few : u ≤ 6) (room : g ≤ 10) where
   module _ (ts : List Cell) (t : Tables given v g ts) (rows codes : ℕ → ℕ) (s : Full u g v m (Conflict cl) (item budgets) (codeOf ts) rows codes) where
@@ -110,8 +104,8 @@ module _ (cl given budgets : List ℕ) (kn val v m u g : ℕ) (few : u ≤ 6) (r
         table i z h l = s .known i z h ∙ t .digits i z h l
 
         go : (i : ℕ) → i < u + g → on (rows o) i ≡ true → Dec (i < u) → on (codes x) i ≡ on (codes y) i
-        go i h r (yes l) = sym (on-rest u (codes x) i l) ∙ and-agree u (openOf (rowsOf o)) (codesOf x) (codesOf y) q i l
-            (ap (λ (z : ℕ). on z i) (numbered-open u g (rows o) few (s .short o)) ∙ on-rest u (rows o) i l ∙ r) ∙ on-rest u (codes y) i l
+        go i h r (yes l) = sym (on-cut u (codes x) i l) ∙ and-agree u (openOf (rowsOf o)) (codesOf x) (codesOf y) q i l
+            (ap (λ (z : ℕ). on z i) (numbered-open u g (rows o) few (s .short o)) ∙ on-cut u (rows o) i l ∙ r) ∙ on-cut u (codes y) i l
         go i h r (no l) = subst (λ (i : ℕ). on (codes x) i ≡ on (codes y) i) (sym place) (table j x (omega arith) a
             ∙ and-agree g (givenOf (rowsOf o)) (item given x) (item given y) e j (omega arith)
             (ap (λ (z : ℕ). on z j) (numbered-given u g (rows o) few (s .short o)) ∙ sym (on-next u (rows o) j) ∙ ap (on (rows o)) (sym place) ∙ r)
@@ -152,7 +146,7 @@ module _ (cl given budgets : List ℕ) (kn val v m u g : ℕ) (few : u ≤ 6) (r
       zero codes = on-none (cleared 0 u codes 0 % 2 ^ u) (λ i. go i (decLt i u))
         where
           go : (i : ℕ) → Dec (i < u) → on (cleared 0 u codes 0 % 2 ^ u) i ≡ false
-          go i (yes l) = on-rest u (cleared 0 u codes 0) i l ∙ cleared-off 0 u codes i (omega arith) l
+          go i (yes l) = on-cut u (cleared 0 u codes 0) i l ∙ cleared-off 0 u codes i (omega arith) l
           go i (no l) = on-above u (cleared 0 u codes 0 % 2 ^ u) i (mod-lt (cleared 0 u codes 0) (pow-pos u)) (omega arith)
 
       fixed : (l : List Cell) → length l ≡ u → Known kn val v l → (codes : ℕ → ℕ) → ((i x : ℕ) → i < length l → on (codes x) i ≡ on (codeOf l x) i)
@@ -160,9 +154,9 @@ module _ (cl given budgets : List ℕ) (kn val v m u g : ℕ) (few : u ≤ 6) (r
       fixed l e k codes same x a h = ⊎-elim
           (λ q. absurd (never-both h (ap (λ (z : ℕ). on z x) q ∙ on-zero x)))
           (λ q. let some = q .0 in
-          on-rest u (cleared 0 u codes x) 0 (q .0)
+          on-cut u (cleared 0 u codes x) 0 (q .0)
           ∙ on-xor (codes x) (between 0 u (codes 0)) 0
-          ∙ xor-false (on (codes x) 0) (on (between 0 u (codes 0)) 0)
+          ∙ xor-off (on (codes x) 0) (on (between 0 u (codes 0)) 0)
           (on-digits (λ (i : ℕ). andb (leb 0 i) (on (codes 0) i)) u 0 (q .0) ∙ same 0 0 (omega arith) ∙ known-first kn val v l (omega arith) k 0 (omega arith) (q .1) ∙ q .2)
           ∙ same 0 x (omega arith) ∙ known-first kn val v l (omega arith) k x a h)
           begins

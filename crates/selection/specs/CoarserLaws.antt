@@ -7,7 +7,8 @@ use Prim.Native.Nat.{ℕ, zero, suc, _+_, _≤_, _<_}
 use native.Mathlib.Omega.{arith}
 use lib.Dec.{eqb}
 use borrow.Author.Tests.{eqb-true, eqb-false}
-use Rattle.classes.specs.Cases.{either, not-both}
+use Rattle.bits.specs.LogicLaws.{either}
+use Rattle.classes.specs.Cases.{not-both}
 use Rattle.classes.specs.Classes.{firstLike, classCount}
 use Rattle.classes.specs.ClassLaws.{First, first-unique, first-like, first-counts, other-counts, count-grows}
 

@@ -5,9 +5,9 @@ use Prim.Native.Nat.{ℕ, suc, _≤_}
 use native.Mathlib.Omega.{arith}
 use lib.ListN.{length}
 use Rattle.bits.specs.Digit.{on}
+use Rattle.bits.specs.LogicLaws.{either}
 use Rattle.text.specs.Line.{endedLines}
 use Rattle.text.specs.EndedLaws.{ended-more-length}
-use Rattle.classes.specs.Cases.{either}
 use Rattle.subsets.specs.Subset.{selected}
 
 pub fewer-lines : (s i : ℕ) (ls : List (List ℕ)) → length (endedLines (selected s i ls)) ≤ length (endedLines ls)

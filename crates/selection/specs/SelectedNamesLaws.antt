@@ -5,20 +5,18 @@ use mathlib.Core.Bool.{true, false, not}
 use mathlib.Core.List.{List, [], _∷_}
 use Prim.Native.Nat.{ℕ, suc}
 use borrow.Author.Tests.{not-true}
-use Rattle.bits.specs.LogicLaws.{and-left, and-right}
+use Rattle.bits.specs.LogicLaws.{and-left, and-right, either, neither-first, neither-second}
 use Rattle.bits.specs.Digit.{on}
 use Rattle.names.specs.Name.{Name, sameName, among, distinct}
-use Rattle.names.specs.LookupLaws.{neither-left, neither-right}
-use Rattle.classes.specs.Cases.{either}
 use Rattle.subsets.specs.Subset.{selected}
 
 selected-among : (n : Name) (s i : ℕ) (ns : List Name) → among n ns ≡ false → among n (selected s i ns) ≡ false
 unfolding among selected
 selected-among n s i [] h = refl
 selected-among n s i (m ∷ ns) h =
-    let later = selected-among n s (suc i) ns (neither-right (sameName m n) (among n ns) h) in
+    let later = selected-among n s (suc i) ns (neither-second (sameName m n) (among n ns) h) in
     ⊎-elim
-    (λ e. rw e (rw (neither-left (sameName m n) (among n ns) h) later))
+    (λ e. rw e (rw (neither-first (sameName m n) (among n ns) h) later))
     (λ e. rw e later)
     (either (on s i))
 

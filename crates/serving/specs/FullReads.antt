@@ -7,13 +7,14 @@ use mathlib.Core.Logic.{⊎-elim}
 use Prim.Native.Nat.{ℕ, _^_, _≤_, _<_}
 use native.Mathlib.Nat.{le-antisymm}
 use lib.ListN.{length}
+use Rattle.bits.specs.LogicLaws.{either}
 use Rattle.names.specs.Name.{Name}
 use Rattle.sheet.specs.Examine.{Design}
 use Rattle.classes.specs.Columns.{vertexCount, freeCount, valueAt, conflict, alike}
 use Rattle.classes.specs.Classes.{localCount}
 use Rattle.classes.specs.Width.{width, budget}
 use Rattle.classes.specs.Proper.{Proper}
-use Rattle.classes.specs.Cases.{either, not-both}
+use Rattle.classes.specs.Cases.{not-both}
 use Rattle.classes.specs.ColumnLaws.{conflict-differ, no-conflict-agree, agree-same, alike-columns}
 use Rattle.classes.specs.WidthLaws.{width-least}
 use Rattle.network.specs.Network.{Network}

@@ -10,7 +10,7 @@ use native.Mathlib.Decide.{ℕ-discrete}
 use lib.Dec.{eqb}
 use lib.ListN.{length, getD, length-map}
 use borrow.Author.Tests.{eq-eqb, ne-eqb}
-use Rattle.bits.specs.LogicLaws.{true-false}
+use Rattle.bits.specs.LogicLaws.{bit-le, same-or-not}
 use Rattle.bits.specs.Logic.{bit}
 use Rattle.rows.specs.Row.{rowOf, valuesOf}
 use Rattle.rows.specs.RowLaws.{values-row}
@@ -27,17 +27,7 @@ use Rattle.network.specs.Value.{lutAt}
 use Rattle.serving.specs.Parts.{Parts, Columns}
 
 -- ---- a number in a list
-has-or : (a b : Bool) → (a || b) ≡ true → (a ≡ true) ⊎ (b ≡ true)
-has-or true b e = inl refl
-has-or false b e = inr e
-
 -- ---- two vertices with equal values in the tables of a list, or a table where they differ
-same-or-not : (a b : Bool) → (a ≡ b) ⊎ (a ≡ b → ⊥)
-same-or-not true true = inl refl
-same-or-not true false = inr true-false
-same-or-not false true = inr (λ e. true-false (sym e))
-same-or-not false false = inl refl
-
 has-first : (i : ℕ) (is : List ℕ) → has i (i ∷ is) ≡ true
 unfolding has
 has-first i is = rw (eq-eqb i i refl) refl
@@ -165,10 +155,6 @@ tally-one a (suc k) j =
   where
     le-suc : (a j : ℕ) → a ≡ j → a < suc j
     le-suc a j e = omega arith
-
-    bit-le : (b : Bool) → bit b ≤ 1
-    bit-le true = omega arith
-    bit-le false = omega arith
 
 tally-none : (k j : ℕ) → tally (λ i. false) k j ≡ 0
 unfolding tally

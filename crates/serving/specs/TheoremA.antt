@@ -11,7 +11,7 @@ use lib.Dec.{eqb}
 use lib.ListN.{length, getD}
 use borrow.Author.Tests.{eqb-true}
 use Rattle.bits.specs.Logic.{pick, bit}
-use Rattle.bits.specs.LogicLaws.{true-false}
+use Rattle.bits.specs.LogicLaws.{true-false, false-unless}
 use Rattle.bits.specs.Digit.{on}
 use Rattle.limits.specs.Limits.{maxCells}
 use Rattle.names.specs.Name.{Name}
@@ -43,15 +43,11 @@ parts-of ns bs p =
       join-of = join-parts ns bs p;
     }
 
-not-true-false : (b : Bool) → (b ≡ true → ⊥) → b ≡ false
-not-true-false true h = absurd (h refl)
-not-true-false false h = refl
-
 pub columns-of : (d : Design) → Columns d
 columns-of d =
     record {
       conflict-at = λ o x y e. (let q = conflict-differ d (d .bound) o x y e in (q .place, q .below, q .different));
-      agree-at = λ o x y h z l. no-conflict-agree d (d .bound) o x y (not-true-false (conflict d (d .bound) o x y) h) z l;
+      agree-at = λ o x y h z l. no-conflict-agree d (d .bound) o x y (false-unless (conflict d (d .bound) o x y) h) z l;
     }
 
 -- ---- from a network to its core

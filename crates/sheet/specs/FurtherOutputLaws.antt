@@ -8,10 +8,9 @@ use native.Mathlib.Decide.{decLt}
 use lib.ListN.{length, length-append, List·getD-append}
 use lib.Seq.{getD-append-seam}
 use borrow.Author.Tests.{not-true}
-use Rattle.bits.specs.LogicLaws.{and-left, and-right}
+use Rattle.bits.specs.LogicLaws.{and-left, and-right, neither-first, neither-second}
 use Rattle.limits.specs.Limits.{maxOutputs}
 use Rattle.names.specs.Name.{Name, sameName, among, distinct}
-use Rattle.names.specs.LookupLaws.{neither-left, neither-right}
 use Rattle.names.specs.SameLaws.{same-name-turned}
 use Rattle.formula.specs.Tree.{constant}
 use Rattle.sheet.specs.Lines.{Output}
@@ -22,20 +21,20 @@ among-more : (n m : Name) (ns : List Name) → among n ns ≡ false → sameName
 unfolding among
 among-more n m [] e h = rw h refl
 among-more n m (k ∷ ns) e h =
-    rw (neither-left (sameName k n) (among n ns) e, among-more n m ns (neither-right (sameName k n) (among n ns) e) h) refl
+    rw (neither-first (sameName k n) (among n ns) e, among-more n m ns (neither-second (sameName k n) (among n ns) e) h) refl
 
 among-after : (n m : Name) (ns ms : List Name) → among n (ns ++ (m ∷ ms)) ≡ false → sameName m n ≡ false
 unfolding among
-among-after n m [] ms e = neither-left (sameName m n) (among n ms) e
-among-after n m (k ∷ ns) ms e = among-after n m ns ms (neither-right (sameName k n) (among n (ns ++ (m ∷ ms))) e)
+among-after n m [] ms e = neither-first (sameName m n) (among n ms) e
+among-after n m (k ∷ ns) ms e = among-after n m ns ms (neither-second (sameName k n) (among n (ns ++ (m ∷ ms))) e)
 
 pub distinct-more : (ns : List Name) (n : Name) → distinct ns ≡ true → among n ns ≡ false → distinct (ns ++ (n ∷ [])) ≡ true
 unfolding distinct among
 distinct-more [] n e h = refl
 distinct-more (m ∷ ns) n e h =
     let a = not-true (among m ns) (and-left (not (among m ns)) (distinct ns) e) in
-    let b = same-name-turned m n (neither-left (sameName m n) (among n ns) h) in
-    rw (among-more m n ns a b) (distinct-more ns n (and-right (not (among m ns)) (distinct ns) e) (neither-right (sameName m n) (among n ns) h))
+    let b = same-name-turned m n (neither-first (sameName m n) (among n ns) h) in
+    rw (among-more m n ns a b) (distinct-more ns n (and-right (not (among m ns)) (distinct ns) e) (neither-second (sameName m n) (among n ns) h))
 
 -- of different names none stands before itself
 pub distinct-before : (ns : List Name) (n : Name) (ms : List Name) → distinct (ns ++ (n ∷ ms)) ≡ true → among n ns ≡ false

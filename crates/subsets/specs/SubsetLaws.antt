@@ -1,8 +1,8 @@
 -- The members of a set of outputs in order: each is in the set and below the number of outputs, they rise, every output of the set
 -- is one of them, and the selected elements of a list stand at their places. The set of all outputs selects all. Assumes nothing.
 use mathlib.Core.Path.{_≡_, refl, ap, _∙_}
-use mathlib.Core.Logic.{_⊎_, inl, inr, ⊎-elim}
-use mathlib.Core.Bool.{Bool, true, false}
+use mathlib.Core.Logic.{_⊎_, ⊎-elim}
+use mathlib.Core.Bool.{true, false}
 use mathlib.Core.List.{List, [], _∷_, map}
 use Prim.Native.Nat.{ℕ, zero, suc, _+_, _-_, _^_, _≤_, _<_}
 use native.Mathlib.Omega.{arith}
@@ -11,11 +11,8 @@ use lib.ListN.{length, getD}
 use lib.Pow.{pow-pos, pow-mono}
 use Rattle.bits.specs.Digit.{on}
 use Rattle.bits.specs.DigitLaws.{on-above, on-none, on-ones}
+use Rattle.bits.specs.LogicLaws.{either}
 use Rattle.subsets.specs.Subset.{selected, members, size, memberAt, SomeOf}
-
-either : (b : Bool) → (b ≡ true) ⊎ (b ≡ false)
-either true = inl refl
-either false = inr refl
 
 -- ---- each member is in the set, among the k numbers from i on
 pub record Member (s i k x : ℕ) : Type 0 where

@@ -1,11 +1,11 @@
 -- `same` tells whether two texts are equal. Assumes nothing.
 use mathlib.Core.Path.{_≡_, refl, sym, ap₂}
-use mathlib.Core.Bool.{Bool, true, false}
+use mathlib.Core.Bool.{true, false}
 use mathlib.Core.List.{List, [], _∷_}
 use Prim.Native.Nat.{ℕ}
 use lib.Dec.{eqb}
 use borrow.Author.Tests.{eq-eqb, eqb-true}
-use Rattle.bits.specs.LogicLaws.{true-false, and-left, and-right}
+use Rattle.bits.specs.LogicLaws.{true-false, and-left, and-right, false-unless}
 use Rattle.text.specs.Bytes.{same}
 
 pub same-self : (a : List ℕ) → same a a ≡ true
@@ -26,10 +26,5 @@ same-equal (a ∷ s) (b ∷ t) e =
     (eqb-true a b (and-left (eqb a b) (same s t) e))
     (same-equal s t (and-right (eqb a b) (same s t) e))
 
--- a test that is not true is false
-not-so : (t : Bool) → (t ≡ true → ⊥) → t ≡ false
-not-so true h = absurd (h refl)
-not-so false h = refl
-
 pub differ-same : (a b : List ℕ) → (a ≡ b → ⊥) → same a b ≡ false
-differ-same a b h = not-so (same a b) (λ e. h (same-equal a b e))
+differ-same a b h = false-unless (same a b) (λ e. h (same-equal a b e))

@@ -12,6 +12,7 @@ use Rattle.bits.specs.Digit.{on}
 use Rattle.bits.specs.DigitLaws.{on-single, on-xor}
 use Rattle.bits.specs.Count.{count}
 use Rattle.bits.specs.CountLaws.{count-drop}
+use Rattle.bits.specs.LogicLaws.{xor-false}
 use Rattle.cells.specs.Sets.{on-power-other}
 use Rattle.subsets.specs.Subset.{members, size}
 use Rattle.subsets.specs.ListedLaws.{members-more}
@@ -20,13 +21,9 @@ use Rattle.subsets.specs.ListedLaws.{members-more}
 unfoldable pub without : ℕ → ℕ → ℕ
 without s k = bitXor s (2 ^ k)
 
-xor-none : (b : Bool) → xorb b false ≡ b
-xor-none true = refl
-xor-none false = refl
-
 pub without-other : (s k i : ℕ) → (i ≡ k → ⊥) → on (without s k) i ≡ on s i
 unfolding without
-without-other s k i e = on-xor s (2 ^ k) i ∙ ap (xorb (on s i)) (on-power-other k i e) ∙ xor-none (on s i)
+without-other s k i e = on-xor s (2 ^ k) i ∙ ap (xorb (on s i)) (on-power-other k i e) ∙ xor-false (on s i)
 
 without-it : (s k : ℕ) → on s k ≡ true → on (without s k) k ≡ false
 unfolding without

@@ -16,8 +16,8 @@ Inv-loop buf₀ at t place n rows p₀ r₀ buf p r = Texts (rowText n (digitsAt
 abbrev μ-loop : tie.MeasureT-loop
 μ-loop buf₀ at t place n rows p₀ r₀ buf p r = rows - r
 
-row-count-requires : tie.Need-row-count-requires Inv-loop μ-loop
-row-count-requires c κs = search needs
+power-requires : tie.Need-power-requires Inv-loop μ-loop
+power-requires c κs = search needs
 
 loop-holds : tie.Need-loop-holds Inv-loop μ-loop
 loop-holds c = texts-none _ _ _ _ _
@@ -25,25 +25,25 @@ loop-holds c = texts-none _ _ _ _ _
 add-put-row : tie.Need-add-put-row Inv-loop μ-loop
 add-put-row c =
     let loop-test = c .before .loop-test in
-    let row-count = c .before .before .before .row-count in
+    let power = c .before .before .before .power in
     let pre = c .before .before .before .before .before .before .pre in
     let fits = c .before .before .before .before .before .before .fits in
-    omega (arith, pre, loop-test .taken, row-count .ensures, fits)
+    omega (arith, pre, loop-test .taken, power .ensures, fits)
 
 shared-slice-read-put-row : tie.Need-shared-slice-read-put-row Inv-loop μ-loop
 shared-slice-read-put-row c =
     let loop-test = c .before .before .loop-test in
-    let row-count = c .before .before .before .before .row-count in
+    let power = c .before .before .before .before .power in
     let pre = c .before .before .before .before .before .before .before .pre in
-    omega (arith, pre, loop-test .taken, row-count .ensures)
+    omega (arith, pre, loop-test .taken, power .ensures)
 
 put-row-requires : tie.Need-put-row-requires Inv-loop μ-loop
 put-row-requires c κs =
     let loop-test = c .before .before .loop-test in
     let loop = c .before .before .before .loop in
-    let row-count = c .before .before .before .before .row-count in
+    let power = c .before .before .before .before .power in
     let pre = c .before .before .before .before .before .before .before .pre in
-    let few = rows-few _ _ (pre .1) (row-count .ensures) in
+    let few = rows-few _ _ (pre .1) (power .ensures) in
     (omega (arith, pre .0, few, loop-test .taken, loop .inv .so-far .place, loop .inv .so-far .short), pre .1)
 
 add-r : tie.Need-add-r Inv-loop μ-loop
@@ -68,11 +68,11 @@ returns : tie.Need-returns Inv-loop μ-loop
 returns c =
     let loop-test = c .loop-test in
     let loop = c .before .loop in
-    let row-count = c .before .before .row-count in
+    let power = c .before .before .power in
     let pre = c .before .before .before .before .before .pre in
     let args = c .before .before .before .before .before .args in
-    let few = rows-few _ _ (pre .1) (row-count .ensures) in
-    let text = rows-text (args .n) _ (digitsAt (args .t .now) (args .place)) (row-count .ensures) in
+    let few = rows-few _ _ (pre .1) (power .ensures) in
+    let text = rows-text (args .n) _ (digitsAt (args .t .now) (args .place)) (power .ensures) in
     texts-all (loop .inv) (loop-test .left) (omega (arith, few)) text
 
 pub put-rows-spec : {M : Type 1} → statement M
@@ -81,7 +81,7 @@ put-rows-spec =
     (tie.spec
     Inv-loop
     μ-loop
-    row-count-requires
+    power-requires
     loop-holds
     add-put-row
     shared-slice-read-put-row

@@ -5,8 +5,9 @@ use Prim.Native.Nat.{_+_, _≤_, _-_}
 use native.Mathlib.Omega.{arith}
 use lib.ListN.{getD}
 use Rattle.comparing.specs.Code.{oneAt, codeAt}
-use Rattle.comparing.specs.CodeLaws.{code-none, code-with, code-without, code-small, bit-most}
+use Rattle.comparing.specs.CodeLaws.{code-none, code-with, code-without, code-small}
 use borrow.Author.Needs.{needs}
+use Rattle.bits.specs.LogicLaws.{bit-le}
 use Rattle.comparing.proofs.code.Statement.{statement}
 use Rattle.comparing.proofs.code.Tie as tie
 
@@ -64,7 +65,7 @@ add-c c =
     omega (
       arith,
       c .one .ensures,
-      bit-most (oneAt (a .t .now) (getD (a .t2) (head .loop .i) 0 + a .x .0)),
+      bit-le (oneAt (a .t .now) (getD (a .t2) (head .loop .i) 0 + a .x .0)),
       code-small (a .t .now) (a .t2) (a .mask) (a .x .0) (head .loop .i) (omega arith),
     )
 

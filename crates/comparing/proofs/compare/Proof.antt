@@ -27,12 +27,12 @@ Inv-outputs t shape k rows outputs luts lutat reads nodeat o₀ r₀ o r =
 abbrev μ-outputs : tie.MeasureT-outputs
 μ-outputs t shape k rows outputs luts lutat reads nodeat o₀ r₀ o r = outputs - o
 
-row-count-requires : tie.Need-row-count-requires Inv-loop μ-loop Inv-outputs μ-outputs
-row-count-requires c κs = omega (arith, c .before .pre .drawing .holds .inputs-few)
+power-requires : tie.Need-power-requires Inv-loop μ-loop Inv-outputs μ-outputs
+power-requires c κs = omega (arith, c .before .pre .drawing .holds .inputs-few)
 
 -- how many rows there are
-few : (c : tie.After-row-count Inv-loop μ-loop Inv-outputs μ-outputs) → c .row-count .result ≤ maxRows
-few c = rows-few (c .before .before .pre) (c .row-count .result) (c .row-count .ensures)
+few : (c : tie.After-power Inv-loop μ-loop Inv-outputs μ-outputs) → c .power .result ≤ maxRows
+few c = rows-few (c .before .before .pre) (c .power .result) (c .power .ensures)
 
 outputs-holds : tie.Need-outputs-holds Inv-loop μ-loop Inv-outputs μ-outputs
 outputs-holds c = agreed-none
@@ -79,9 +79,9 @@ loop-again c =
     let head = output .before in
     let counted = head .before .before .before .before in
     let start = counted .before .before in
-    rows-more (head .outputs .o) (turn .before .loop .r) (counted .row-count .result)
+    rows-more (head .outputs .o) (turn .before .loop .r) (counted .power .result)
     (tableAt (start .args .t2 .tables) (head .outputs .o)) (filled .in-rows .result)
-    (output .outputs-test .taken) (turn .loop-test .taken) (counted .row-count .ensures) (few counted)
+    (output .outputs-test .taken) (turn .loop-test .taken) (counted .power .ensures) (few counted)
     refl (filled .in-rows .ensures) (turn .before .loop .inv) (sym (c .before .differs .ensures) ∙ c .if1 .left)
 
 add-o : tie.Need-add-o Inv-loop μ-loop Inv-outputs μ-outputs
@@ -98,8 +98,8 @@ outputs-again c =
     let output = c .before .before .before .before .before in
     let head = output .before in
     let counted = head .before .before .before .before in
-    agreed-more (head .outputs .o) (c .before .loop .r) (counted .row-count .result) (head .outputs .inv)
-    (output .outputs-test .taken) (counted .row-count .ensures) (c .before .loop .inv) (c .loop-test .left)
+    agreed-more (head .outputs .o) (c .before .loop .r) (counted .power .result) (head .outputs .inv)
+    (output .outputs-test .taken) (counted .power .ensures) (c .before .loop .inv) (c .loop-test .left)
 
 -- what is known where the ways out of the loops meet
 ended : (c : tie.Left-outputs Inv-loop μ-loop Inv-outputs μ-outputs)
@@ -117,9 +117,9 @@ ended c =
     (λ w. rw (w .1) (ended-agreed (head .outputs .o) (head .outputs .r) (head .outputs .inv) (w .0 .left)))
     (λ w.
     rw (w .10)
-    (ended-differs (head .outputs .o) (w .4 .r) (counted .row-count .result)
+    (ended-differs (head .outputs .o) (w .4 .r) (counted .power .result)
     (tableAt (start .args .t2 .tables) (head .outputs .o)) (w .3 .result)
-    (w .0 .taken) (w .5 .taken) (counted .row-count .ensures) (few counted)
+    (w .0 .taken) (w .5 .taken) (counted .power .ensures) (few counted)
     refl (w .3 .ensures) (head .outputs .inv) (w .4 .inv) (sym (w .8 .ensures) ∙ w .9 .taken)))
     (c .outputs-test .came)
 
@@ -137,7 +137,7 @@ compare-spec =
     μ-loop
     Inv-outputs
     μ-outputs
-    row-count-requires
+    power-requires
     outputs-holds
     mul-table
     element-copy-out-table

@@ -35,8 +35,8 @@ returns-2 c =
     table-no-output x (start .args .output) (start .args .buffer .now) (start .args .e .sheet) (valid-for passed x h)
     (c .if2 .taken)
 
-row-count-requires : tie.Need-row-count-requires
-row-count-requires c κs = omega (arith, found (c .before .before) .holds .inputs-few)
+power-requires : tie.Need-power-requires
+power-requires c κs = omega (arith, found (c .before .before) .holds .inputs-few)
 
 returns-3 : tie.Need-returns-3
 returns-3 c =
@@ -45,7 +45,7 @@ returns-3 c =
     let start = passed .before .before .before in
     λ x h.
     table-short x (start .args .output) (start .args .buffer .now) (start .args .e .sheet) (valid-for passed x h)
-    (counted .row-count .result) (counted .row-count .ensures) (counted .before .if2 .left) (c .if3 .taken)
+    (counted .power .result) (counted .power .ensures) (counted .before .if2 .left) (c .if3 .taken)
 
 mul-t : tie.Need-mul-t
 mul-t c =
@@ -64,7 +64,7 @@ put-digits-requires c κs =
     let passed = counted .before .before .before in
     let start = passed .before .before .before in (
       rows-few (start .pre .found) (start .args .output) (start .args .buffer .now) (start .args .e .sheet) (found passed)
-          (counted .row-count .result) (counted .row-count .ensures),
+          (counted .power .result) (counted .power .ensures),
       room .if3 .left,
     )
 
@@ -79,9 +79,9 @@ returns-4 c =
     let passed = counted .before .before .before in
     let start = passed .before .before .before in
     λ x h.
-    ap (λ (b : List ℕ). record { answer = written (counted .row-count .result); buffer = b }) (put .put-digits .ensures)
+    ap (λ (b : List ℕ). record { answer = written (counted .power .result); buffer = b }) (put .put-digits .ensures)
     ∙ table-written x (start .args .output) (start .args .buffer .now) (start .args .e .sheet) (valid-for passed x h)
-    (counted .row-count .result) (counted .row-count .ensures) (counted .before .if2 .left) (room .if3 .left)
+    (counted .power .result) (counted .power .ensures) (counted .before .if2 .left) (room .if3 .left)
 
 pub table-of-spec : {M : Type 1} → statement M
 table-of-spec =
@@ -89,7 +89,7 @@ table-of-spec =
     (tie.spec
     returns
     returns-2
-    row-count-requires
+    power-requires
     returns-3
     mul-t
     element-copy-out-t

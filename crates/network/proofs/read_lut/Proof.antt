@@ -23,8 +23,8 @@ returns c =
     let head = rw (c .enum-told .given .1) at (c .before .before .lut-head .ensures) in
     lut-no-head (a .l .now) (map nameOf (a .bs .now)) (a .i) head
 
-row-count-requires : tie.Need-row-count-requires
-row-count-requires c κs = search needs
+power-requires : tie.Need-power-requires
+power-requires c κs = search needs
 
 table-at-requires : tie.Need-table-at-requires
 table-at-requires c κs =
@@ -33,12 +33,12 @@ table-at-requires c κs =
 
 returns-2 : tie.Need-returns-2
 returns-2 c =
-    let row-count = c .before .row-count in
+    let power = c .before .power in
     let m = c .before .before .before .m in
     let lut-head = c .before .before .before .before .before .lut-head in
     let args = c .before .before .before .before .before .before .before .before .args in
     let a = args in
-    let rows = row-count in
+    let rows = power in
     let head = rw (m .given .1) at (lut-head .ensures) in
     lut-digits (a .l .now) (map nameOf (a .bs .now)) (a .i) head (c .table-at .result) (rows .result) (length (a .bs .now)) (rows .ensures) (sym (length-map (a .bs .now) nameOf))
     (c .table-at .ensures)
@@ -51,6 +51,6 @@ read-lut-spec =
     enum-known-m
     enum-told
     returns
-    row-count-requires
+    power-requires
     table-at-requires
     returns-2)

@@ -46,13 +46,13 @@ returns-2 c =
     let inputs = rw (c .enum-told2 .given .1) at (c .before .before .inputs-at .ensures) in
     node-no-inputs (a .l .now) (nameOf (a .name)) (map nameOf (a .fs .now)) (a .u) head (tables .result) (tables .ensures) inputs
 
-add-row-count : tie.Need-add-row-count
-add-row-count c =
+add-power : tie.Need-add-power
+add-power c =
     let pre = c .before .before .before .before .before .before .before .before .before .before .before .before .before .before .pre in
     omega (arith, c .before .before .before .before .before .before .before .reads-at .ensures .few, pre .0, pre .1)
 
-row-count-requires : tie.Need-row-count-requires
-row-count-requires c κs =
+power-requires : tie.Need-power-requires
+power-requires c κs =
     let pre = c .before .before .before .before .before .before .before .before .before .before .before .before .before .before .pre in
     omega (arith, c .before .before .before .before .before .before .before .reads-at .ensures .few, pre .0, pre .1)
 
@@ -71,7 +71,7 @@ returns-3 : tie.Need-returns-3
 returns-3 c =
     let p = c .before .p in
     let table-at = c .before .before .before .table-at in
-    let row-count = c .before .before .before .before .row-count in
+    let power = c .before .before .before .before .power in
     let m2 = c .before .before .before .before .before .before .before .m2 in
     let inputs-at = c .before .before .before .before .before .before .before .before .before .inputs-at in
     let reads-at = c .before .before .before .before .before .before .before .before .before .before .before .before .reads-at in
@@ -80,7 +80,7 @@ returns-3 c =
     let args = c .before .before .before .before .before .before .before .before .before .before .before .before .before .before .before .before .before .before .before .args in
     let a = args in
     let tables = reads-at in
-    let rows = row-count in
+    let rows = power in
     let head = rw (m .given .1) at (node-head .ensures) in
     let inputs = rw (m2 .given .1) at (inputs-at .ensures) in
     let table = rw (p .given .1) at (table-at .ensures) in
@@ -90,7 +90,7 @@ returns-3 c =
 returns-4 : tie.Need-returns-4
 returns-4 c =
     let table-at = c .before .before .table-at in
-    let row-count = c .before .before .before .row-count in
+    let power = c .before .before .before .power in
     let m2 = c .before .before .before .before .before .before .m2 in
     let inputs-at = c .before .before .before .before .before .before .before .before .inputs-at in
     let reads-at = c .before .before .before .before .before .before .before .before .before .before .before .reads-at in
@@ -99,7 +99,7 @@ returns-4 c =
     let args = c .before .before .before .before .before .before .before .before .before .before .before .before .before .before .before .before .before .before .args in
     let a = args in
     let tables = reads-at in
-    let rows = row-count in
+    let rows = power in
     let head = rw (m .given .1) at (node-head .ensures) in
     let inputs = rw (m2 .given .1) at (inputs-at .ensures) in
     let table = rw (c .enum-told3 .given .1) at (table-at .ensures) in
@@ -119,8 +119,8 @@ read-node-spec =
     enum-known-m-2
     enum-told-2
     returns-2
-    add-row-count
-    row-count-requires
+    add-power
+    power-requires
     table-at-requires
     enum-known-p
     enum-told-3

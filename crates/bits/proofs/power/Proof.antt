@@ -1,12 +1,12 @@
--- `row_count`: the shift is the power. Assumes nothing.
+-- `power`: the shift is the power. Assumes nothing.
 use mathlib.Core.Path.{_≡_, ap, _∙_}
 use Prim.Native.Nat.{ℕ, _*_, _%_, _^_, _≤_, _<_}
 use native.Mathlib.Omega.{arith}
 use native.Mathlib.Nat.{mod-eq-of-lt, one-mul}
 use lib.Pow.{pow-mono}
 use borrow.Author.Needs.{needs}
-use Rattle.rows.proofs.row_count.Statement.{statement}
-use Rattle.rows.proofs.row_count.Tie as tie
+use Rattle.bits.proofs.power.Statement.{statement}
+use Rattle.bits.proofs.power.Tie as tie
 
 abbrev wordEnd : ℕ
 wordEnd = 2 ^ 64
@@ -23,5 +23,5 @@ shl-result c = search needs
 returns : tie.Need-returns
 returns c = shifted (c .args .n) (c .pre)
 
-pub row-count-spec : {M : Type 1} → statement M
-row-count-spec = tie.close (tie.spec shl-result returns)
+pub power-spec : {M : Type 1} → statement M
+power-spec = tie.close (tie.spec shl-result returns)
