@@ -77,8 +77,9 @@ loop-again c =
 
 returns-3 : tie.Need-returns-3 Inv-loop μ-loop
 returns-3 c =
+    let if1 = c .before .before .if1 in
     let h = c .loop-test .left in
-    λ e. (c .before .before .if1 .left, λ o b. c .before .loop .inv .1 o (omega arith))
+    λ e. (if1 .left, λ o b. c .before .loop .inv .1 o (omega arith))
 
 pub holds-spec : {M : Type 1} → statement M
 holds-spec =

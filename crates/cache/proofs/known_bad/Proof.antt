@@ -42,11 +42,14 @@ is-bad-requires c κs = c .before .before .before .before .before .before .pre
 
 returns : tie.Need-returns Inv-loop μ-loop
 returns c =
+    let between = c .before .before .before .before .between in
+    let if1 = c .before .before .before .if1 in
+    let question = c .before .before .question in
     λ cl given kn val v free s e.
     let a = c .before .before .before .before .before .before .before .before .args in
     let i = c .before .before .before .before .before .before .loop .a in
-    barred-among cl given kn val v i (a .among) (item (a .rows)) (c .before .before .before .before .between .ensures (c .before .before .before .if1 .taken))
-    (c .before .before .question .ensures .barred cl given kn val v free (c .before .is-bad .ensures cl given kn val v s (c .if2 .taken)))
+    barred-among cl given kn val v i (a .among) (item (a .rows)) (between .ensures (if1 .taken))
+    (question .ensures .barred cl given kn val v free (c .before .is-bad .ensures cl given kn val v s (c .if2 .taken)))
 
 add-a : tie.Need-add-a Inv-loop μ-loop
 add-a c = let h = c .before .before .loop-test .taken in omega arith

@@ -36,7 +36,9 @@ cast-tell : tie.Need-cast-tell Inv-loop μ-loop
 cast-tell c = let h = c .before .before .before .before .loop-test .taken in record { fits = omega arith }
 
 tell-requires : tie.Need-tell-requires Inv-loop μ-loop
-tell-requires c κs = let p = c .before .before .before .before .before .before .before .before .before .pre in (p .0, p .1, p .2, c .before .before .before .before .before .loop .inv .1)
+tell-requires c κs =
+    let loop = c .before .before .before .before .before .loop in
+    let p = c .before .before .before .before .before .before .before .before .before .pre in (p .0, p .1, p .2, loop .inv .1)
 
 wrapping-add-u64-requires : tie.Need-wrapping-add-u64-requires Inv-loop μ-loop
 wrapping-add-u64-requires c κs = search needs
@@ -49,10 +51,11 @@ same-length c =
 
 returns : tie.Need-returns Inv-loop μ-loop
 returns c =
+    let if2 = c .before .before .before .before .before .before .before .if2 in
     let a = c .before .before .before .before .before .before .before .before .before .before .before .before .before .before .before .args in
     let t = c .before .before .before .before .before .tell in
     let i = c .before .before .before .before .before .before .before .before .before .before .before .loop .a in
-    let b = c .before .before .before .before .before .before .before .before .between .ensures (c .before .before .before .before .before .before .before .if2 .taken) in
+    let b = c .before .before .before .before .before .before .before .before .between .ensures (if2 .taken) in
     let n = not-true _ (c .if3 .taken) in
     (t .ensures .0, λ e. barred-among (a .cl .now) (a .given .now) (a .kn) (a .val) (a .v) i (a .among) (item (a .rows)) b (t .ensures .1 n))
 

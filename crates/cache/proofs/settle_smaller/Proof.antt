@@ -21,7 +21,9 @@ loop-holds : tie.Need-loop-holds Inv-loop μ-loop
 loop-holds c = c .before .before .before .before .pre .3
 
 settle-requires : tie.Need-settle-requires Inv-loop μ-loop
-settle-requires c κs = let p = c .before .before .before .before .before .before .before .pre in (p .0, p .1, p .2, c .before .before .loop .inv)
+settle-requires c κs =
+    let loop = c .before .before .loop in
+    let p = c .before .before .before .before .before .before .before .pre in (p .0, p .1, p .2, loop .inv)
 
 wrapping-add-u64-requires : tie.Need-wrapping-add-u64-requires Inv-loop μ-loop
 wrapping-add-u64-requires c κs = search needs

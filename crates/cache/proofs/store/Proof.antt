@@ -21,7 +21,9 @@ place-requires : tie.Need-place-requires Inv-loop μ-loop
 place-requires c κs = search needs
 
 loop-holds : tie.Need-loop-holds Inv-loop μ-loop
-loop-holds c = (omega arith, written-start (c .before .before .args .mem .now) (c .place .result) (c .before .before .args .t3))
+loop-holds c =
+    let start = c .before .before in
+    (omega arith, written-start (start .args .mem .now) (c .place .result) (start .args .t3))
 
 mul-mem : tie.Need-mul-mem Inv-loop μ-loop
 mul-mem c = search needs
@@ -52,12 +54,13 @@ loop-less c = search needs
 
 loop-again : tie.Need-loop-again Inv-loop μ-loop
 loop-again c =
+    let start = c .before .before .before .before in
     let h = c .loop-test .taken in
     let a = c .before .before .before .before .args in
     let i = c .before .before .place in
     let l = c .before .loop in (
       omega arith,
-      written-more (a .mem .now) (i .result) (a .t3) (l .o) (l .mem) (c .before .before .before .before .pre) (i .ensures) h (l .inv .1) _ _
+      written-more (a .mem .now) (i .result) (a .t3) (l .o) (l .mem) (start .pre) (i .ensures) h (l .inv .1) _ _
           (let z : i .result * 9 + (l .o + 1) ≡ i .result * 9 + suc (l .o) = omega arith in z) refl,
     )
 
@@ -74,7 +77,9 @@ slice-write-mem-2 : tie.Need-slice-write-mem-2 Inv-loop μ-loop
 slice-write-mem-2 c = let i = c .before .before .before .place .ensures in let l = c .before .before .loop .inv .1 .long in let p = c .before .before .before .before .before .pre in search needs
 
 same-length : tie.Need-same-length Inv-loop μ-loop
-same-length c = length-set (c .before .before .loop .mem) _ _ ∙ c .before .before .loop .inv .1 .long
+same-length c =
+    let loop = c .before .before .loop in
+    length-set (loop .mem) _ _ ∙ loop .inv .1 .long
 
 returns : tie.Need-returns Inv-loop μ-loop
 returns c =

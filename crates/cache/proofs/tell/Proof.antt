@@ -56,22 +56,26 @@ ask-requires : tie.Need-ask-requires
 ask-requires c κs = let p = c .before .before .before .before .before .before .before .before .before .before .before .before .pre in (p .0, p .1, p .2)
 
 store-requires : tie.Need-store-requires
-store-requires c κs = c .before .before .before .before .before .before .before .before .before .before .before .before .before .before .before .pre .3 .long
+store-requires c κs =
+    let start = c .before .before .before .before .before .before .before .before .before .before .before .before .before .before .before in
+    start .pre .3 .long
 
 same-length-3 : tie.Need-same-length-3
 same-length-3 c = search needs
 
 returns-3 : tie.Need-returns-3
 returns-3 c =
+    let if3 = c .before .before .before .before .if3 in
+    let store = c .before .before .store in
     let a = c .before .before .before .before .before .before .before .before .before .before .before .before .before .before .before .before .before .before .args in
     let s = c .before .before .before .before .before .before .before .before .before .before .before .before .before .before .before .before .before .before .pre .3 in
     let q = c .before .before .before .before .before .before .before .before .before .before .before .before .before .before .question in
     let k = c .before .before .before .before .before .ask in
-    let bad : c .before .before .before .before .if3 .ok ≡ false → Barred (a .cl .now) (a .given .now) (a .kn) (a .val) (a .v) (a .asked) (item (q .result)) = λ e. ⊎-elim
+    let bad : if3 .ok ≡ false → Barred (a .cl .now) (a .given .now) (a .kn) (a .val) (a .v) (a .asked) (item (q .result)) = λ e. ⊎-elim
     (λ w. absurd (true-false (sym (w .1) ∙ e)))
     (λ w. settled-barred (a .cl .now) (a .given .now) (a .kn) (a .val) (a .v) (a .asked) (item (q .result)) (k .result .ok) (k .result .codes) (k .ensures .sure (w .0 .left)) (sym (w .1) ∙ e))
-    (c .before .before .before .before .if3 .came) in (
-      c .before .before .store .ensures (a .cl .now) (a .given .now) (a .kn) (a .val) (a .v) bad s,
+    (if3 .came) in (
+      store .ensures (a .cl .now) (a .given .now) (a .kn) (a .val) (a .v) bad s,
       λ e. q .ensures .barred (a .cl .now) (a .given .now) (a .kn) (a .val) (a .v) (λ n. eqb-true (a .kn) 0 (not-false _ n)) (bad e),
     )
 

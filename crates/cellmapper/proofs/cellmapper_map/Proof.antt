@@ -11,8 +11,9 @@ map-requires c κs = search needs
 
 report-map-requires : tie.Need-report-map-requires
 report-map-requires c κs =
+    let map = c .before .before .map in
     let a = c .before .before .before .before .before .before .args in
-    map-number {most = panelNumbers} (omega arith) (a .sheet .now) (a .buffer .now) _ _ (c .before .before .map .ensures)
+    map-number {most = panelNumbers} (omega arith) (a .sheet .now) (a .buffer .now) _ _ (map .ensures)
 
 same-length : tie.Need-same-length
 same-length c = search needs

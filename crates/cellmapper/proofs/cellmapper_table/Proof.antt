@@ -14,8 +14,9 @@ table-requires c κs = search needs
 
 report-table-requires : tie.Need-report-table-requires
 report-table-requires c κs =
+    let table = c .before .before .table in
     let a = c .before .before .before .before .before .before .args in
-    subst (TableNumber panelNumbers) (sym (ap (λ (t : Tabulated). t .answer) (c .before .before .table .ensures))) (table-number (omega arith) (a .sheet .now) (a .output) (a .buffer .now))
+    subst (TableNumber panelNumbers) (sym (ap (λ (t : Tabulated). t .answer) (table .ensures))) (table-number (omega arith) (a .sheet .now) (a .output) (a .buffer .now))
 
 same-length : tie.Need-same-length
 same-length c = search needs

@@ -51,8 +51,9 @@ loop-again c =
 
 returns : tie.Need-returns Inv-loop μ-loop
 returns c =
-    let e : c .before .loop .i ≡ c .before .before .args .u = omega (arith, c .before .loop .inv .0, c .loop-test .left) in
-    c .before .loop .inv .1 ∙ ap (λ (i : ℕ). length (numbersOf i (c .before .before .args .mask))) e
+    let start = c .before .before in
+    let e : c .before .loop .i ≡ start .args .u = omega (arith, c .before .loop .inv .0, c .loop-test .left) in
+    c .before .loop .inv .1 ∙ ap (λ (i : ℕ). length (numbersOf i (start .args .mask))) e
 
 pub count-spec : {M : Type 1} → statement M
 count-spec =

@@ -37,17 +37,24 @@ add-result-2 : tie.Need-add-result-2 Inv-loop μ-loop
 add-result-2 c = omega (arith, c .before .before .before .before .before .pre .few-luts)
 
 add-result-3 : tie.Need-add-result-3 Inv-loop μ-loop
-add-result-3 c = omega (arith, c .before .before .before .before .before .pre .few-luts, c .before .before .before .before .before .pre .few-outputs, c .before .before .loop-test .taken)
+add-result-3 c =
+    let start = c .before .before .before .before .before in
+    let loop-test = c .before .before .loop-test in
+    omega (arith, start .pre .few-luts, start .pre .few-outputs, loop-test .taken)
 
 returns-2 : tie.Need-returns-2 Inv-loop μ-loop
 returns-2 c =
+    let loop-test = c .before .before .loop-test in
     let head = c .before .before .before in
     λ d w h.
-    node-judged h (head .loop .o) (c .before .count .result) (head .before .if1 .left) (c .before .before .loop-test .taken)
+    node-judged h (head .loop .o) (c .before .count .result) (head .before .if1 .left) (loop-test .taken)
     (head .loop .inv .1) (c .before .count .ensures) (c .if2 .taken)
 
 add-o : tie.Need-add-o Inv-loop μ-loop
-add-o c = omega (arith, c .before .before .before .before .before .pre .few-outputs, c .before .before .loop-test .taken)
+add-o c =
+    let start = c .before .before .before .before .before in
+    let loop-test = c .before .before .loop-test in
+    omega (arith, start .pre .few-outputs, loop-test .taken)
 
 loop-less : tie.Need-loop-less Inv-loop μ-loop
 loop-less c = search needs
@@ -61,8 +68,9 @@ loop-again c =
 
 returns-3 : tie.Need-returns-3 Inv-loop μ-loop
 returns-3 c =
+    let if1 = c .before .before .if1 in
     let end = c .loop-test .left in
-    λ d w h. none-judged h (c .before .before .if1 .left) (λ p l. c .before .loop .inv .1 p (omega arith))
+    λ d w h. none-judged h (if1 .left) (λ p l. c .before .loop .inv .1 p (omega arith))
 
 pub offending-spec : {M : Type 1} → statement M
 offending-spec =

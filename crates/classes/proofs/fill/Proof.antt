@@ -26,7 +26,9 @@ mul-gather c =
     omega (arith, product-small i (start .args .step) few (start .pre .1))
 
 gather-requires : tie.Need-gather-requires Inv-loop μ-loop
-gather-requires c κs = (c .before .before .before .before .pre .2, c .before .before .before .before .pre .3)
+gather-requires c κs =
+    let start = c .before .before .before .before in
+    (start .pre .2, start .pre .3)
 
 mul-out : tie.Need-mul-out Inv-loop μ-loop
 mul-out c = search needs

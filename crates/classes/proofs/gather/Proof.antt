@@ -32,10 +32,16 @@ shared-slice-read-has : tie.Need-shared-slice-read-has Inv-loop μ-loop
 shared-slice-read-has c = search needs
 
 cast-has : tie.Need-cast-has Inv-loop μ-loop
-cast-has c = omega (arith, c .before .before .before .before .pre .1 .each (c .before .before .loop .i))
+cast-has c =
+    let start = c .before .before .before .before in
+    let loop = c .before .before .loop in
+    omega (arith, start .pre .1 .each (loop .i))
 
 has-requires : tie.Need-has-requires Inv-loop μ-loop
-has-requires c κs = c .before .before .before .before .pre .1 .each (c .before .before .loop .i)
+has-requires c κs =
+    let start = c .before .before .before .before in
+    let loop = c .before .before .loop in
+    start .pre .1 .each (loop .i)
 
 bit-requires : tie.Need-bit-requires Inv-loop μ-loop
 bit-requires c κs = search needs

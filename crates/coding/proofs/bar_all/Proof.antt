@@ -23,9 +23,10 @@ abbrev μ-loop : tie.MeasureT-loop
 
 loop-holds : tie.Need-loop-holds Inv-loop μ-loop
 loop-holds c =
+    let start = c .before .before .before .before .before in
     let a = c .before .before .before .before .before .args in
     let p = a .p in
-    (omega arith, c .before .before .before .before .before .pre .7, λ base ms spots b. kept-start (a .cl .now) base ms (p .caps) spots (p .vertices) (p .outputs) (a .codes .now) (a .dom .now))
+    (omega arith, start .pre .7, λ base ms spots b. kept-start (a .cl .now) base ms (p .caps) spots (p .vertices) (p .outputs) (a .codes .now) (a .dom .now))
 
 mul-b : tie.Need-mul-b Inv-loop μ-loop
 mul-b c =
@@ -84,10 +85,11 @@ array-read-if1 c =
 
 shut-requires : tie.Need-shut-requires Inv-loop μ-loop
 shut-requires c κs =
+    let loop = c .before .before .before .before .before .before .loop in
     let h = c .before .before .before .before .before .loop-test .taken in
     let pre = c .before .before .before .before .before .before .before .before .before .before .before .before .pre in
     let a = pre .3 in
-    (pre .0, pre .2, omega arith, pre .6, c .before .before .before .before .before .before .loop .inv .1)
+    (pre .0, pre .2, omega arith, pre .6, loop .inv .1)
 
 add-o : tie.Need-add-o Inv-loop μ-loop
 add-o c = search needs

@@ -23,7 +23,10 @@ shared-slice-read-if1 : tie.Need-shared-slice-read-if1 Inv-loop μ-loop
 shared-slice-read-if1 c = let h = c .before .loop-test .taken in let z = c .before .before .before .pre .0 in let n = c .before .before .before .pre .1 in search needs
 
 returns : tie.Need-returns Inv-loop μ-loop
-returns c = λ e. (c .before .before .before .loop .y, c .before .before .loop-test .taken, c .if1 .taken)
+returns c =
+    let loop = c .before .before .before .loop in
+    let loop-test = c .before .before .loop-test in
+    λ e. (loop .y, loop-test .taken, c .if1 .taken)
 
 add-y : tie.Need-add-y Inv-loop μ-loop
 add-y c = search needs

@@ -9,7 +9,9 @@ use Rattle.coding.proofs.fresh.Lts as lts
 use Rattle.cells.proofs.lowest.Reads as lowest-reads
 
 returns : tie.Need-returns
-returns c = λ gs b. fresh-none (item gs (c .before .before .args .k)) (c .before .before .args .a) _ _ (c .before .before .fits .a .fits) refl (c .if1 .taken)
+returns c =
+    let start = c .before .before in
+    λ gs b. fresh-none (item gs (start .args .k)) (start .args .a) _ _ (start .fits .a .fits) refl (c .if1 .taken)
 
 lowest-requires : tie.Need-lowest-requires
 lowest-requires c κs = search needs

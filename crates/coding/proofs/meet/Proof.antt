@@ -28,11 +28,13 @@ array-read-with c = search needs
 
 with-requires : tie.Need-with-requires Inv-loop μ-loop
 with-requires c κs =
+    let loop = c .before .before .loop in
+    let start = c .before .before .before .before in
     let p = c .before .before .before .before .pre in
     let h = c .before .loop-test .taken in
     let j = p .1 in
     let x = p .2 in
-    let z = p .0 .low (c .before .before .loop .o * 32 + c .before .before .before .before .args .x) (omega arith) in
+    let z = p .0 .low (loop .o * 32 + start .args .x) (omega arith) in
     let e = c .label .ensures in
     omega arith
 

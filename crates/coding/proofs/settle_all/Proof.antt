@@ -27,15 +27,22 @@ bar-all-requires c κs = let pre = c .before .before .before .before .before .be
 
 loop-holds : tie.Need-loop-holds Inv-loop μ-loop
 loop-holds c =
+    let bar-all = c .before .before .bar-all in
     let a = c .before .before .before .before .before .before .before .before .before .args in
     let p = a .p in
-    (omega arith, c .before .before .bar-all .ensures .1, kept-start (a .cl .now) (a .base .now) (p .ms) (p .caps) (p .spots) (p .vertices) (p .outputs) (a .codes .now) _)
+    (omega arith, bar-all .ensures .1, kept-start (a .cl .now) (a .base .now) (p .ms) (p .caps) (p .spots) (p .vertices) (p .outputs) (a .codes .now) _)
 
 empty-requires : tie.Need-empty-requires Inv-loop μ-loop
-empty-requires c κs = (c .before .before .before .before .before .before .before .before .before .before .before .before .pre .3, c .before .before .loop .inv .1)
+empty-requires c κs =
+    let start = c .before .before .before .before .before .before .before .before .before .before .before .before in
+    let loop = c .before .before .loop in
+    (start .pre .3, loop .inv .1)
 
 same-length : tie.Need-same-length Inv-loop μ-loop
-same-length c = c .before .before .before .before .loop .inv .1 ∙ sym (c .before .before .before .before .before .before .before .before .before .before .before .before .before .before .pre .8)
+same-length c =
+    let loop = c .before .before .before .before .loop in
+    let start = c .before .before .before .before .before .before .before .before .before .before .before .before .before .before in
+    loop .inv .1 ∙ sym (start .pre .8)
 
 returns : tie.Need-returns Inv-loop μ-loop
 returns c =
@@ -52,13 +59,16 @@ returns c =
 
 settle-requires : tie.Need-settle-requires Inv-loop μ-loop
 settle-requires c κs =
+    let loop-test = c .before .before .before .before .loop-test in
+    let loop = c .before .before .before .before .before .loop in
     let pre = c .before .before .before .before .before .before .before .before .before .before .before .before .before .before .before .pre in
-    (pre .0, pre .1, pre .2, pre .3, pre .4, c .before .before .before .before .loop-test .taken, pre .7, c .before .before .before .before .before .loop .inv .1)
+    (pre .0, pre .1, pre .2, pre .3, pre .4, loop-test .taken, pre .7, loop .inv .1)
 
 same-length-2 : tie.Need-same-length-2 Inv-loop μ-loop
 same-length-2 c =
+    let settle = c .before .before .before .settle in
     let far = c .before .before .before .before .before .before .before .before .before .before .before .before in
-    c .before .before .before .settle .ensures .1 ∙ sym (far .before .before .before .before .before .before .before .pre .8)
+    settle .ensures .1 ∙ sym (far .before .before .before .before .before .before .before .pre .8)
 
 returns-2 : tie.Need-returns-2 Inv-loop μ-loop
 returns-2 c =
@@ -93,10 +103,16 @@ loop-again c =
     (omega arith, s .1, kept-more (a .cl .now) (a .base .now) (p .ms) (p .caps) (p .spots) (p .vertices) (p .outputs) (a .codes .now) _ (l .dom) _ (l .inv .2) (s .0))
 
 empty-requires-2 : tie.Need-empty-requires-2 Inv-loop μ-loop
-empty-requires-2 c κs = (c .before .before .before .before .before .before .before .before .before .before .before .before .pre .3, c .before .before .loop .inv .1)
+empty-requires-2 c κs =
+    let start = c .before .before .before .before .before .before .before .before .before .before .before .before in
+    let loop = c .before .before .loop in
+    (start .pre .3, loop .inv .1)
 
 same-length-3 : tie.Need-same-length-3 Inv-loop μ-loop
-same-length-3 c = c .before .before .before .loop .inv .1 ∙ sym (c .before .before .before .before .before .before .before .before .before .before .before .before .before .pre .8)
+same-length-3 c =
+    let loop = c .before .before .before .loop in
+    let start = c .before .before .before .before .before .before .before .before .before .before .before .before .before in
+    loop .inv .1 ∙ sym (start .pre .8)
 
 returns-3 : tie.Need-returns-3 Inv-loop μ-loop
 returns-3 c =

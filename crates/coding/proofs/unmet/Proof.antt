@@ -34,11 +34,13 @@ shared-slice-read-in-set c =
 
 in-set-requires : tie.Need-in-set-requires Inv-loop μ-loop
 in-set-requires c κs =
+    let loop = c .before .before .before .loop in
+    let start = c .before .before .before .before .before .before in
     let p = c .before .before .before .before .before .before .pre in
     let h = c .before .before .loop-test .taken in
     let j = p .1 in
     let x = p .2 in
-    let z = p .0 .low (c .before .before .before .loop .o * 32 + c .before .before .before .before .before .before .args .x) (omega arith) in
+    let z = p .0 .low (loop .o * 32 + start .args .x) (omega arith) in
     let e = c .before .label .ensures in
     omega arith
 

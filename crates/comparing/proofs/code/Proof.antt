@@ -43,13 +43,17 @@ mul-c c =
 
 add-one : tie.Need-add-one Inv-loop μ-loop
 add-one c =
+    let loop = c .before .before .before .loop in
+    let loop-test = c .before .before .loop-test in
     let start = c .before .before .before .before .before in
-    omega (arith, start .pre .1 (c .before .before .before .loop .i) (c .before .before .loop-test .taken))
+    omega (arith, start .pre .1 (loop .i) (loop-test .taken))
 
 shared-slice-read-one : tie.Need-shared-slice-read-one Inv-loop μ-loop
 shared-slice-read-one c =
+    let loop = c .before .before .before .before .loop in
+    let loop-test = c .before .before .before .loop-test in
     let start = c .before .before .before .before .before .before in
-    start .pre .1 (c .before .before .before .before .loop .i) (c .before .before .before .loop-test .taken)
+    start .pre .1 (loop .i) (loop-test .taken)
 
 one-requires : tie.Need-one-requires Inv-loop μ-loop
 one-requires c κs = search needs

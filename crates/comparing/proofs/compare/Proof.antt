@@ -41,32 +41,49 @@ mul-table : tie.Need-mul-table Inv-loop μ-loop Inv-outputs μ-outputs
 mul-table c = omega (arith, c .before .before .before .before .before .before .before .pre .drawing .holds .outputs-few, c .outputs-test .taken)
 
 element-copy-out-table : tie.Need-element-copy-out-table Inv-loop μ-loop Inv-outputs μ-outputs
-element-copy-out-table c = omega (arith, c .before .before .before .before .before .before .before .pre .drawing .holds .outputs-few, c .outputs-test .taken)
+element-copy-out-table c =
+    let start = c .before .before .before .before .before .before .before in
+    omega (arith, start .pre .drawing .holds .outputs-few, c .outputs-test .taken)
 
 array-read-in-rows : tie.Need-array-read-in-rows Inv-loop μ-loop Inv-outputs μ-outputs
-array-read-in-rows c = omega (arith, c .before .before .before .before .before .before .before .before .before .pre .drawing .holds .outputs-few, c .before .before .outputs-test .taken)
+array-read-in-rows c =
+    let start = c .before .before .before .before .before .before .before .before .before in
+    let outputs-test = c .before .before .outputs-test in
+    omega (arith, start .pre .drawing .holds .outputs-few, outputs-test .taken)
 
 mul-in-rows : tie.Need-mul-in-rows Inv-loop μ-loop Inv-outputs μ-outputs
-mul-in-rows c = omega (arith, c .before .before .before .before .before .before .before .before .before .pre .drawing .holds .outputs-few, c .before .before .outputs-test .taken)
+mul-in-rows c =
+    let start = c .before .before .before .before .before .before .before .before .before in
+    let outputs-test = c .before .before .outputs-test in
+    omega (arith, start .pre .drawing .holds .outputs-few, outputs-test .taken)
 
 array-read-in-rows-2 : tie.Need-array-read-in-rows-2 Inv-loop μ-loop Inv-outputs μ-outputs
-array-read-in-rows-2 c = omega (arith, c .before .before .before .before .before .before .before .before .before .pre .drawing .holds .outputs-few, c .before .before .outputs-test .taken)
+array-read-in-rows-2 c =
+    let start = c .before .before .before .before .before .before .before .before .before in
+    let outputs-test = c .before .before .outputs-test in
+    omega (arith, start .pre .drawing .holds .outputs-few, outputs-test .taken)
 
 in-rows-requires : tie.Need-in-rows-requires Inv-loop μ-loop Inv-outputs μ-outputs
-in-rows-requires c κs = some-ready (c .before .before .before .before .before .before .before .before .before .pre) (c .before .before .before .outputs .o) (c .before .before .outputs-test .taken)
+in-rows-requires c κs =
+    let start = c .before .before .before .before .before .before .before .before .before in
+    let outputs = c .before .before .before .outputs in
+    let outputs-test = c .before .before .outputs-test in
+    some-ready (start .pre) (outputs .o) (outputs-test .taken)
 
 loop-holds : tie.Need-loop-holds Inv-loop μ-loop Inv-outputs μ-outputs
 loop-holds c = rows-none (c .before .before .before .before .outputs .o)
 
 differs-requires : tie.Need-differs-requires Inv-loop μ-loop Inv-outputs μ-outputs
 differs-requires c κs =
+    let loop-test = c .before .before .loop-test in
     let counted = c .before .before .before .before .before .before .before .before .before .before .before .before in
-    omega (arith, few counted, c .before .before .loop-test .taken)
+    omega (arith, few counted, loop-test .taken)
 
 add-r : tie.Need-add-r Inv-loop μ-loop Inv-outputs μ-outputs
 add-r c =
+    let loop-test = c .before .before .before .before .loop-test in
     let counted = c .before .before .before .before .before .before .before .before .before .before .before .before .before .before in
-    omega (arith, few counted, c .before .before .before .before .loop-test .taken)
+    omega (arith, few counted, loop-test .taken)
 
 loop-less : tie.Need-loop-less Inv-loop μ-loop Inv-outputs μ-outputs
 loop-less c = search needs

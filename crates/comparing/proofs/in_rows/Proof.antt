@@ -24,25 +24,29 @@ code-requires c κs =
 
 mul-with-vertex : tie.Need-mul-with-vertex Inv-loop μ-loop
 mul-with-vertex c =
+    let loop = c .before .before .loop in
     let start = c .before .before .before .before in
-    omega (arith, vertex-room (start .pre) (c .before .before .loop .x) (c .code .result) (c .before .loop-test .taken) (c .code .ensures) .readable)
+    omega (arith, vertex-room (start .pre) (loop .x) (c .code .result) (c .before .loop-test .taken) (c .code .ensures) .readable)
 
 add-with-vertex : tie.Need-add-with-vertex Inv-loop μ-loop
 add-with-vertex c =
+    let loop = c .before .before .loop in
     let start = c .before .before .before .before in
-    omega (arith, vertex-room (start .pre) (c .before .before .loop .x) (c .code .result) (c .before .loop-test .taken) (c .code .ensures) .readable)
+    omega (arith, vertex-room (start .pre) (loop .x) (c .code .result) (c .before .loop-test .taken) (c .code .ensures) .readable)
 
 with-vertex-requires : tie.Need-with-vertex-requires Inv-loop μ-loop
 with-vertex-requires c κs =
+    let loop = c .before .before .loop in
     let start = c .before .before .before .before in (
       omega (arith, start .pre .few-vertices, c .before .loop-test .taken),
-      vertex-room (start .pre) (c .before .before .loop .x) (c .code .result) (c .before .loop-test .taken) (c .code .ensures),
+      vertex-room (start .pre) (loop .x) (c .code .result) (c .before .loop-test .taken) (c .code .ensures),
     )
 
 add-x : tie.Need-add-x Inv-loop μ-loop
 add-x c =
+    let loop-test = c .before .before .loop-test in
     let start = c .before .before .before .before .before in
-    omega (arith, start .pre .few-vertices, c .before .before .loop-test .taken)
+    omega (arith, start .pre .few-vertices, loop-test .taken)
 
 loop-less : tie.Need-loop-less Inv-loop μ-loop
 loop-less c = search needs

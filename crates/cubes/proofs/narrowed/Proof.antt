@@ -21,14 +21,16 @@ both-requires-2 c κs = search needs
 
 returns : tie.Need-returns
 returns c =
+    let match = c .before .before .before .match in
     let a = c .before .before .before .before .args in
     let u = c .before .before .input in
-    left-zero (a .b) (a .p) (a .t) (u .ensures) (c .before .before .before .match .keys1) (c .before .complement .ensures) (c .both .ensures)
+    left-zero (a .b) (a .p) (a .t) (u .ensures) (match .keys1) (c .before .complement .ensures) (c .both .ensures)
 
 returns-2 : tie.Need-returns-2
 returns-2 c =
+    let match = c .before .before .match in
     let a = c .before .before .before .args in
-    left-one (a .b) (a .p) (a .t) (c .before .input2 .ensures) (c .before .before .match .keys2) (c .both2 .ensures)
+    left-one (a .b) (a .p) (a .t) (c .before .input2 .ensures) (match .keys2) (c .both2 .ensures)
 
 returns-3 : tie.Need-returns-3
 returns-3 c =

@@ -26,7 +26,9 @@ is-numeral-requires : tie.Need-is-numeral-requires Inv-loop μ-loop
 is-numeral-requires c κs = search needs
 
 returns : tie.Need-returns Inv-loop μ-loop
-returns c = record { numerals = c .before .before .before .before .loop .inv; stops = λ h. sym (c .before .is-numeral .ensures) ∙ not-true _ (c .if1 .taken) }
+returns c =
+    let loop = c .before .before .before .before .loop in
+    record { numerals = loop .inv; stops = λ h. sym (c .before .is-numeral .ensures) ∙ not-true _ (c .if1 .taken) }
 
 add-e : tie.Need-add-e Inv-loop μ-loop
 add-e c = omega arith
@@ -36,7 +38,9 @@ loop-less c = omega arith
 
 loop-again : tie.Need-loop-again Inv-loop μ-loop
 loop-again c =
-    numerals-more _ _ _ (c .before .before .before .before .loop .inv) (c .before .before .before .loop-test .taken)
+    let loop = c .before .before .before .before .loop in
+    let loop-test = c .before .before .before .loop-test in
+    numerals-more _ _ _ (loop .inv) (loop-test .taken)
     (sym (c .before .is-numeral .ensures) ∙ not-false _ (c .if1 .left))
 
 returns-2 : tie.Need-returns-2 Inv-loop μ-loop

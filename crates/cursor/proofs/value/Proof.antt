@@ -23,8 +23,10 @@ shared-slice-read-digit-value c = omega arith
 
 digit-value-requires : tie.Need-digit-value-requires Inv-loop μ-loop
 digit-value-requires c κs =
-    c .before .before .before .before .pre .0 .each _ (c .before .loop-test .taken)
-    (c .before .before .loop .inv .after-start)
+    let start = c .before .before .before .before in
+    let loop = c .before .before .loop in
+    start .pre .0 .each _ (c .before .loop-test .taken)
+    (loop .inv .after-start)
 
 add-n : tie.Need-add-n Inv-loop μ-loop
 add-n c = omega (arith, valued-small maxPlaDigits _ _ _ _ _ (c .before .before .before .loop .inv) (omega arith))
@@ -37,7 +39,9 @@ loop-less c = omega arith
 
 loop-again : tie.Need-loop-again Inv-loop μ-loop
 loop-again c =
-    valued-more _ _ _ _ _ _ (c .before .before .before .loop .inv) (c .before .before .loop-test .taken)
+    let loop = c .before .before .before .loop in
+    let loop-test = c .before .before .loop-test in
+    valued-more _ _ _ _ _ _ (loop .inv) (loop-test .taken)
     (omega arith) (c .digit-value .ensures .0) (c .digit-value .ensures .1)
 
 returns : tie.Need-returns Inv-loop μ-loop

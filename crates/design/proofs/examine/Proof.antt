@@ -48,7 +48,9 @@ part-ask-line-end : tie.Need-part-ask-line-end Inv-loop μ-loop
 part-ask-line-end c = omega (arith, c .line-end .ensures .inside)
 
 ask-line-requires : tie.Need-ask-line-requires Inv-loop μ-loop
-ask-line-requires c κs = (c .before .before .before .loop .inv .holds .inputs-few, c .before .before .before .loop .inv .holds .outputs-few)
+ask-line-requires c κs =
+    let loop = c .before .before .before .loop in
+    (loop .inv .holds .inputs-few, loop .inv .holds .outputs-few)
 
 returns-2 : tie.Need-returns-2 Inv-loop μ-loop
 returns-2 c =
@@ -66,10 +68,15 @@ add-at : tie.Need-add-at Inv-loop μ-loop
 add-at c = omega (arith, c .before .before .before .before .before .line-end .ensures .inside)
 
 add-n : tie.Need-add-n Inv-loop μ-loop
-add-n c = omega (arith, c .before .before .before .before .before .before .before .loop .inv .few, c .before .before .before .before .before .before .before .loop .inv .inside)
+add-n c =
+    let loop = c .before .before .before .before .before .before .before .loop in
+    omega (arith, loop .inv .few, loop .inv .inside)
 
 loop-less : tie.Need-loop-less Inv-loop μ-loop
-loop-less c = omega (arith, c .before .before .before .before .before .line-end .ensures .after-start, c .before .before .before .before .before .before .loop-test .taken)
+loop-less c =
+    let line-end = c .before .before .before .before .before .line-end in
+    let loop-test = c .before .before .before .before .before .before .loop-test in
+    omega (arith, line-end .ensures .after-start, loop-test .taken)
 
 loop-again : tie.Need-loop-again Inv-loop μ-loop
 loop-again c =

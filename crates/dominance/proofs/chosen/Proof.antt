@@ -65,15 +65,18 @@ cast-by c =
 
 array-write-by : tie.Need-array-write-by Inv-loop μ-loop
 array-write-by c =
+    let loop = c .before .before .loop in
     let b = c .before .before .before .before .before .before .pre .2 in
-    let z = c .before .before .before .falling .ensures .0 .low (c .before .before .loop .i) (c .before .loop-test .taken) in
+    let z = c .before .before .before .falling .ensures .0 .low (loop .i) (c .before .loop-test .taken) in
     let l = c .before .before .loop .inv .1 .long in
     search needs
 
 cast-from : tie.Need-cast-from Inv-loop μ-loop
 cast-from c =
+    let loop = c .before .before .before .loop in
+    let loop-test = c .before .before .loop-test in
     let b = c .before .before .before .before .before .before .before .pre .2 in
-    let z = c .before .before .before .before .falling .ensures .0 .low (c .before .before .before .loop .i) (c .before .before .loop-test .taken) in
+    let z = c .before .before .before .before .falling .ensures .0 .low (loop .i) (loop-test .taken) in
     record { fits = omega arith }
 
 array-write-from : tie.Need-array-write-from Inv-loop μ-loop

@@ -24,12 +24,13 @@ label-requires c κs = let p = c .before .before .before .pre in let h = c .loop
 
 in-set-requires : tie.Need-in-set-requires Inv-loop μ-loop
 in-set-requires c κs =
+    let loop = c .before .before .loop in
     let args = c .before .before .before .before .args in
     let pre = c .before .before .before .before .pre in
     let h = c .before .loop-test .taken in
     let b = pre .1 in
     let o = pre .2 in
-    let z = pre .0 .low (args .o * 32 + c .before .before .loop .x) (omega arith) in
+    let z = pre .0 .low (args .o * 32 + loop .x) (omega arith) in
     let e = c .label .ensures in
     omega arith
 

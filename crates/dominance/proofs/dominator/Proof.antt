@@ -41,16 +41,18 @@ array-read-if1-2 c = let o = c .before .before .before .pre .4 in search needs
 
 inside-requires : tie.Need-inside-requires Inv-loop μ-loop
 inside-requires c κs =
+    let loop = c .before .before .loop in
     let p = c .before .before .before .before .pre in
     let n = p .3 in
     let h = c .before .loop-test .taken in
-    (p .0, p .4, p .2 .small (c .before .before .loop .k) (omega arith), p .1)
+    (p .0, p .4, p .2 .small (loop .k) (omega arith), p .1)
 
 returns : tie.Need-returns Inv-loop μ-loop
 returns c =
+    let if1 = c .before .before .if1 in
     let h = c .before .before .before .loop-test .taken in record {
       under = omega arith;
-      dominates = λ _. record { inside = c .before .inside .ensures (c .if2 .taken); budget = sym (c .before .before .if1 .taken) };
+      dominates = λ _. record { inside = c .before .inside .ensures (c .if2 .taken); budget = sym (if1 .taken) };
     }
 
 add-k : tie.Need-add-k Inv-loop μ-loop

@@ -11,7 +11,10 @@ chosen-requires : tie.Need-chosen-requires
 chosen-requires c κs = let p = c .before .pre in (p .0, p .1, p .2)
 
 labels-requires : tie.Need-labels-requires
-labels-requires c κs = (c .before .before .before .before .pre .0 .long, c .before .before .chosen .ensures .indices)
+labels-requires c κs =
+    let start = c .before .before .before .before in
+    let chosen = c .before .before .chosen in
+    (start .pre .0 .long, chosen .ensures .indices)
 
 picked-requires : tie.Need-picked-requires
 picked-requires c κs = c .before .before .before .chosen .ensures .indices

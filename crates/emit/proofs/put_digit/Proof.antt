@@ -16,7 +16,10 @@ same-length : tie.Need-same-length
 same-length c = put-length (c .before .before .put-byte .ensures)
 
 returns : tie.Need-returns
-returns c = put-same (c .before .before .put-byte .ensures) (ap (λ (b : Bool). digit b ∷ []) (sym (c .before .before .before .before .if1 .taken))) (omega arith)
+returns c =
+    let put-byte = c .before .before .put-byte in
+    let if1 = c .before .before .before .before .if1 in
+    put-same (put-byte .ensures) (ap (λ (b : Bool). digit b ∷ []) (sym (if1 .taken))) (omega arith)
 
 put-byte-requires-2 : tie.Need-put-byte-requires-2
 put-byte-requires-2 c κs = search needs
@@ -25,7 +28,10 @@ same-length-2 : tie.Need-same-length-2
 same-length-2 c = put-length (c .before .before .put-byte2 .ensures)
 
 returns-2 : tie.Need-returns-2
-returns-2 c = put-same (c .before .before .put-byte2 .ensures) (ap (λ (b : Bool). digit b ∷ []) (sym (c .before .before .before .before .if1 .left))) (omega arith)
+returns-2 c =
+    let put-byte2 = c .before .before .put-byte2 in
+    let if1 = c .before .before .before .before .if1 in
+    put-same (put-byte2 .ensures) (ap (λ (b : Bool). digit b ∷ []) (sym (if1 .left))) (omega arith)
 
 pub put-digit-spec : {M : Type 1} → statement M
 put-digit-spec =

@@ -25,7 +25,9 @@ cast-put-byte : tie.Need-cast-put-byte Inv-loop μ-loop
 cast-put-byte c = search needs
 
 put-byte-requires : tie.Need-put-byte-requires Inv-loop μ-loop
-put-byte-requires c κs = omega (arith, c .before .before .before .loop .inv .so-far .place, c .before .before .before .loop .inv .so-far .short)
+put-byte-requires c κs =
+    let loop = c .before .before .before .loop in
+    omega (arith, loop .inv .so-far .place, loop .inv .so-far .short)
 
 sub-left : tie.Need-sub-left Inv-loop μ-loop
 sub-left c = search needs

@@ -33,12 +33,13 @@ clear-requires c κs = c .before .before .before .before .before .before .pre .4
 
 loop-holds : tie.Need-loop-holds Inv-loop μ-loop
 loop-holds c =
+    let clear = c .before .before .clear in
     let a = c .before .before .before .before .before .before .before .before .before .args in
     let k = c .before .before .before .before .before .before .kept .result in (
       omega arith,
       refl,
       no-fewer-start (k .labels) _ (k .budgets) (a .v) (k .outputs),
-      c .before .before .clear .ensures (k .labels) _ 0 0 (a .v),
+      clear .ensures (k .labels) _ 0 0 (a .v),
     )
 
 slice-aggregate-seek : tie.Need-slice-aggregate-seek Inv-loop μ-loop
@@ -116,7 +117,9 @@ loop-again c =
     )
 
 same-length-2 : tie.Need-same-length-2 Inv-loop μ-loop
-same-length-2 c = c .before .loop .inv .3 .long ∙ sym (c .before .before .before .before .before .before .before .before .before .before .before .pre .4)
+same-length-2 c =
+    let start = c .before .before .before .before .before .before .before .before .before .before .before in
+    c .before .loop .inv .3 .long ∙ sym (start .pre .4)
 
 returns-2 : tie.Need-returns-2 Inv-loop μ-loop
 returns-2 c =

@@ -38,16 +38,18 @@ loop-less c = search needs
 
 loop-again : tie.Need-loop-again Inv-loop μ-loop
 loop-again c =
+    let start = c .before .before .before in
     let l = c .before .before .loop in
     let h = c .before .loop-test .taken in
-    (omega arith, opened-more (c .before .before .before .args .t1) (l .o) (l .r) _ h (c .open-of .ensures .0) (l .inv .1))
+    (omega arith, opened-more (start .args .t1) (l .o) (l .r) _ h (c .open-of .ensures .0) (l .inv .1))
 
 returns : tie.Need-returns Inv-loop μ-loop
 returns c =
+    let start = c .before .before in
     let l = c .before .loop in
     let h = c .loop-test .left in
     let z = l .inv .0 in
-    subst (λ (z : ℕ). Opened (c .before .before .args .t1) z (l .r)) (omega arith) (l .inv .1)
+    subst (λ (z : ℕ). Opened (start .args .t1) z (l .r)) (omega arith) (l .inv .1)
 
 pub opened-spec : {M : Type 1} → statement M
 opened-spec =

@@ -34,10 +34,14 @@ loop-less : tie.Need-loop-less Inv-loop μ-loop
 loop-less c = search needs
 
 loop-again : tie.Need-loop-again Inv-loop μ-loop
-loop-again c = let h = c .loop-test .taken in (omega arith, refl, zeroed-more (c .before .before .args .t1) (c .before .loop .x) (c .before .loop .r) _ h refl (c .before .loop .inv .2))
+loop-again c =
+    let start = c .before .before in
+    let h = c .loop-test .taken in (omega arith, refl, zeroed-more (start .args .t1) (c .before .loop .x) (c .before .loop .r) _ h refl (c .before .loop .inv .2))
 
 returns : tie.Need-returns Inv-loop μ-loop
-returns c = subst (λ (z : ℕ). Zeroed (c .before .before .args .t1) z (c .before .loop .r)) (let h = c .loop-test .left in let z = c .before .loop .inv .0 in omega arith) (c .before .loop .inv .2)
+returns c =
+    let start = c .before .before in
+    subst (λ (z : ℕ). Zeroed (start .args .t1) z (c .before .loop .r)) (let h = c .loop-test .left in let z = c .before .loop .inv .0 in omega arith) (c .before .loop .inv .2)
 
 pub zero-first-spec : {M : Type 1} → statement M
 zero-first-spec =

@@ -37,6 +37,7 @@ digits-requires c κs =
 
 seek-requires : tie.Need-seek-requires
 seek-requires c κs =
+    let keep-unread = c .before .before .before .before .before .before .before .keep-unread in
     let p = c .before .before .before .before .before .before .before .before .before .before .before .before .pre in
     let a = c .before .before .before .before .before .before .before .before .before .before .before .before .args in
     let q = a .p in
@@ -54,7 +55,7 @@ seek-requires c κs =
       omega arith,
       omega arith,
       inr (omega arith, n .ensures .has 0 (omega arith), first),
-      c .before .before .before .before .before .before .before .keep-unread .ensures (a .cl .now) (a .given .now) (r .kn) (r .val) (n .result) (d .result) (q .vertices) (r .free) (r .honest),
+      keep-unread .ensures (a .cl .now) (a .given .now) (r .kn) (r .val) (n .result) (d .result) (q .vertices) (r .free) (r .honest),
     )
 
 same-length : tie.Need-same-length
@@ -89,6 +90,7 @@ same-length-2 c =
 
 returns-2 : tie.Need-returns-2
 returns-2 c =
+    let if1 = c .before .before .if1 in
     let at = c .before .before .before .before .before .before in
     let p = at .before .before .before .before .before .before .before .before .before .before .before .before .before .pre in
     let a = at .before .before .before .before .before .before .before .before .before .before .before .before .before .args in
@@ -99,7 +101,7 @@ returns-2 c =
     let j = c .joined in
     found-replied (a .cl .now) (q .budgets) (a .given .now) (a .codes) (q .vertices) (q .outputs) (q .cells) (a .i) (a .x) (n .result) (d .result)
     (p .1) (p .3) (p .4) (p .5) (p .6) (p .7) (n .ensures) (d .ensures) (s .result .rows) (s .result .codes) (j .result) _ (s .result .ok)
-    (s .ensures .0) (not-false _ (c .before .before .if1 .left)) (j .ensures) (s .ensures .1)
+    (s .ensures .0) (not-false _ (if1 .left)) (j .ensures) (s .ensures .1)
 
 pub ask-spec : {M : Type 1} → statement M
 ask-spec =

@@ -34,6 +34,7 @@ slice-aggregate-least-tables c = search needs
 
 least-tables-requires : tie.Need-least-tables-requires
 least-tables-requires c κs =
+    let if1 = c .before .before .before .before .before .before .before .if1 in
     let a = c .before .before .before .before .before .before .before .before .before .before .before .before .before .args in
     let p = c .before .before .before .before .before .before .before .before .before .before .before .before .before .pre in
     let f = c .before .before .before .before .before .before .before .before .before .before .fewest in
@@ -48,7 +49,7 @@ least-tables-requires c κs =
       k .ensures .few,
       omega arith,
       witness-kept (a .cl .now) (a .budgets) (n .labels) (n .budgets) (a .v) (a .m) (n .outputs) (n .by) (k .ensures) (a .limit) (r .found) (r .count) (r .rows) (r .codes)
-          long (not-false _ (c .before .before .before .before .before .before .before .if1 .left)) (f .ensures .0),
+          long (not-false _ (if1 .left)) (f .ensures .0),
       f .ensures .1,
     )
 
@@ -61,6 +62,7 @@ first-rows-requires c κs =
 
 returns-2 : tie.Need-returns-2
 returns-2 c =
+    let if1 = c .before .before .before .before .before .before .before .before .before .before .before .if1 in
     let a = c .before .before .before .before .before .before .before .before .before .before .before .before .before .before .before .before .before .args in
     let f = c .before .before .before .before .before .before .before .before .before .before .before .before .before .before .fewest in
     let r = f .result in
@@ -69,7 +71,7 @@ returns-2 c =
     let t = c .before .before .before .least-tables in
     let w = c .first-rows in
     answered-found (a .cl .now) (a .budgets) (n .labels) (n .budgets) (a .v) (a .m) (n .outputs) (n .by) (k .ensures) (r .count) (t .result .codes) (w .result) (t .ensures) (w .ensures)
-    (a .limit) (r .found) (r .rows) (r .codes) (not-false _ (c .before .before .before .before .before .before .before .before .before .before .before .if1 .left)) (f .ensures .0)
+    (a .limit) (r .found) (r .rows) (r .codes) (not-false _ (if1 .left)) (f .ensures .0)
 
 pub first-spec : {M : Type 1} → statement M
 first-spec =

@@ -41,11 +41,13 @@ same-length c =
 
 returns-2 : tie.Need-returns-2
 returns-2 c =
+    let in-set = c .before .before .before .before .before .before .before .in-set in
+    let if1 = c .before .before .before .before .before .before .if1 in
     let p = c .before .before .before .before .before .before .before .before .before .before .before .pre in
     let a = c .before .before .before .before .before .before .before .before .before .before .before .args in
     let q = a .p in
     let k = c .before .before .before .before .ask in
-    let one = sym (c .before .before .before .before .before .before .before .in-set .ensures) ∙ not-false _ (c .before .before .before .before .before .before .if1 .left) in (
+    let one = sym (in-set .ensures) ∙ not-false _ (if1 .left) in (
       lowest-one (a .cl .now) (q .budgets) (q .vertices) (q .outputs) (q .cells) (a .i) (a .x) (a .t5) (p .4) (p .5) (p .6) (k .result .codes) (k .result .ok)
           (not-true _ (c .if2 .taken)) one (k .ensures .0),
       p .7,
@@ -73,12 +75,13 @@ same-length-2 c =
 
 returns-3 : tie.Need-returns-3
 returns-3 c =
+    let if2 = c .before .before .if2 in
     let p = c .before .before .before .before .before .before .before .before .before .before .before .before .before .pre in
     let a = c .before .before .before .before .before .before .before .before .before .before .before .before .before .args in
     let q = a .p in
     let k = c .before .before .before .before .before .before .ask in
     let s = c .sorted in
-    let found = not-false _ (c .before .before .if2 .left) in
+    let found = not-false _ (if2 .left) in
     let low = lowest-found (a .cl .now) (q .budgets) (q .vertices) (q .outputs) (q .cells) (a .i) (a .x) (a .t5) (p .4) (p .5) (p .6) (k .result .codes) (k .result .ok)
     found (k .ensures .0) in
     let stands = stands-found (a .cl .now) (q .budgets) (q .vertices) (q .outputs) (q .cells) (a .i) (a .x) (a .t5) (a .given .now) (k .result .codes) (k .result .ok)

@@ -30,6 +30,7 @@ clear-requires c κs = c .before .before .before .before .before .pre .6
 
 loop-holds : tie.Need-loop-holds Inv-loop μ-loop
 loop-holds c =
+    let clear = c .before .before .clear in
     let p = c .before .before .before .before .before .before .before .before .pre in
     let a = c .before .before .before .before .before .before .before .before .args in
     let q = a .p in
@@ -39,7 +40,7 @@ loop-holds c =
       lowest-same (a .cl .now) (q .budgets) (q .vertices) (q .outputs) (q .cells) (a .i) 0 (a .codes) (s .result) (p .4) (omega arith) (p .5) (s .ensures .0)
           (s .ensures .1 (a .cl .now) (q .budgets) (q .outputs) (p .5 .witness)),
       stands-front (a .i) (q .vertices) (s .result) (f .result) (p .1) (f .ensures),
-      remembers-none (a .cl .now) (f .result) (q .vertices) _ (c .before .before .clear .ensures (a .cl .now) (f .result) 0 0 (q .vertices)),
+      remembers-none (a .cl .now) (f .result) (q .vertices) _ (clear .ensures (a .cl .now) (f .result) 0 0 (q .vertices)),
     )
 
 slice-aggregate-least-digit : tie.Need-slice-aggregate-least-digit Inv-loop μ-loop
@@ -47,9 +48,10 @@ slice-aggregate-least-digit c = sym (c .before .before .before .loop .inv .2 .lo
 
 least-digit-requires : tie.Need-least-digit-requires Inv-loop μ-loop
 least-digit-requires c κs =
+    let if1 = c .before .before .if1 in
     let p = c .before .before .before .before .before .before .before .before .before .before .before .before .before .pre in
     let l = c .before .before .before .before .loop .inv in
-    (p .0, p .1, p .2, p .3, p .4, c .before .before .if1 .taken, l .1, l .2, l .3)
+    (p .0, p .1, p .2, p .3, p .4, if1 .taken, l .1, l .2, l .3)
 
 add-x : tie.Need-add-x Inv-loop μ-loop
 add-x c =
@@ -67,7 +69,10 @@ loop-again c =
     (omega arith, t .0, t .1, t .2)
 
 same-length : tie.Need-same-length Inv-loop μ-loop
-same-length c = c .before .before .loop .inv .3 .honest .long ∙ sym (c .before .before .before .before .before .before .before .before .before .before .before .pre .6)
+same-length c =
+    let loop = c .before .before .loop in
+    let start = c .before .before .before .before .before .before .before .before .before .before .before in
+    loop .inv .3 .honest .long ∙ sym (start .pre .6)
 
 returns : tie.Need-returns Inv-loop μ-loop
 returns c =

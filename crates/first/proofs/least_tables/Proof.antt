@@ -45,7 +45,10 @@ loop-again c =
     (omega arith, t .0, t .1)
 
 same-length : tie.Need-same-length Inv-loop μ-loop
-same-length c = c .before .before .loop .inv .2 ∙ sym (c .before .before .before .before .before .pre .5)
+same-length c =
+    let loop = c .before .before .loop in
+    let start = c .before .before .before .before .before in
+    loop .inv .2 ∙ sym (start .pre .5)
 
 returns : tie.Need-returns Inv-loop μ-loop
 returns c =

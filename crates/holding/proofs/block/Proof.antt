@@ -15,9 +15,10 @@ spread-requires c κs = search needs
 
 returns : tie.Need-returns
 returns c =
+    let start = c .before .before in
     let args = c .before .before .args in
     let single = c .before .single in
-    spans-block (args .mask) (args .c) (single .result) (c .spread .result) (c .before .before .pre) (single .ensures) (c .spread .ensures)
+    spans-block (args .mask) (args .c) (single .result) (c .spread .result) (start .pre) (single .ensures) (c .spread .ensures)
 
 pub block-spec : {M : Type 1} → statement M
 block-spec = tie.close (tie.spec single-requires spread-requires returns)

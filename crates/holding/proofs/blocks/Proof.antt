@@ -44,7 +44,10 @@ mul-r-2 : tie.Need-mul-r-2 Inv-loop μ-loop
 mul-r-2 c = let h = c .before .loop-test .taken in let e = c .before .before .loop .inv .1 in let p = c .before .before .before .pre in search needs
 
 cast-r : tie.Need-cast-r Inv-loop μ-loop
-cast-r c = let z = and-le-l (c .before .before .loop .i % 64) (item (c .before .before .before .args .t1) (c .before .before .loop .i / 64)) in search needs
+cast-r c =
+    let loop = c .before .before .loop in
+    let start = c .before .before .before in
+    let z = and-le-l (loop .i % 64) (item (start .args .t1) (loop .i / 64)) in search needs
 
 add-r : tie.Need-add-r Inv-loop μ-loop
 add-r c =
@@ -104,8 +107,9 @@ loop-again c =
 
 returns : tie.Need-returns Inv-loop μ-loop
 returns c =
+    let start = c .before .before in
     let loop = c .before .loop in
-    subst (λ (z : ℕ). Table (c .before .before .args .t1) z (loop .r)) (let h = c .loop-test .left in let z = loop .inv .0 in let e = loop .inv .1 in omega arith) (loop .inv .2)
+    subst (λ (z : ℕ). Table (start .args .t1) z (loop .r)) (let h = c .loop-test .left in let z = loop .inv .0 in let e = loop .inv .1 in omega arith) (loop .inv .2)
 
 pub blocks-spec : {M : Type 1} → statement M
 blocks-spec =

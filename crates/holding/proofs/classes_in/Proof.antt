@@ -22,7 +22,9 @@ abbrev μ-loop : tie.MeasureT-loop
 μ-loop cl v o p codes b seen₀ count₀ y₀ seen count y = v - y
 
 strangers-requires : tie.Need-strangers-requires Inv-loop μ-loop
-strangers-requires c κs = (c .before .before .pre .0, c .before .before .pre .2)
+strangers-requires c κs =
+    let start = c .before .before in
+    (start .pre .0, start .pre .2)
 
 loop-holds : tie.Need-loop-holds Inv-loop μ-loop
 loop-holds c =
@@ -48,22 +50,25 @@ label-requires c κs =
 
 in-set-requires : tie.Need-in-set-requires Inv-loop μ-loop
 in-set-requires c κs =
+    let start = c .before .before .before .before .before .before .before .before .before in
+    let loop = c .before .before .before .before .before .loop in
     let h = c .before .before .before .before .loop-test .taken in
     let p = c .before .before .before .before .before .before .before .before .before .pre in
     let v = p .1 in
     let o = p .2 in
-    let l = p .0 .low (c .before .before .before .before .before .before .before .before .before .args .o * 32 + c .before .before .before .before .before .loop .y) (omega arith) in
+    let l = p .0 .low (start .args .o * 32 + loop .y) (omega arith) in
     let e = c .label .ensures in
     omega arith
 
 with-requires : tie.Need-with-requires Inv-loop μ-loop
 with-requires c κs =
+    let loop = c .before .before .before .before .before .before .before .loop in
     let h = c .before .before .before .before .before .before .loop-test .taken in
     let p = c .before .before .before .before .before .before .before .before .before .before .before .pre in
     let v = p .1 in
     let o = p .2 in
     let a = c .before .before .before .before .before .before .before .before .before .before .before .args in
-    let l = p .0 .low (a .o * 32 + c .before .before .before .before .before .before .before .loop .y) (omega arith) in
+    let l = p .0 .low (a .o * 32 + loop .y) (omega arith) in
     let e = c .before .before .label .ensures in
     omega arith
 

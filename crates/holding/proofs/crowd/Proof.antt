@@ -42,24 +42,27 @@ with-requires c κs =
 
 returns : tie.Need-returns
 returns c =
+    let if3 = c .before .before .before .if3 in
+    let if2 = c .before .before .before .before .before .before .if2 in
     let entry = c .before .before .before .before .before .before .before .before .before .before .before in
     let a = entry .args in
     let part = c .before .before .before .before .before .before .before .before .part in
     let others = c .before .before .strangers in
     let label = c .before .label in
-    let in-b = c .before .before .before .before .inside .ensures (c .before .before .before .if3 .taken) in
+    let in-b = c .before .before .before .before .inside .ensures (if3 .taken) in
     subst (λ (p : ℕ). Crowd (a .cl .now) (a .codes .now) (a .o) p (a .b) (a .v) (c .with .result) 1) (part .ensures .0)
     (crowd-one (a .cl .now) (a .codes .now) (a .o) (part .result) (a .b) (a .v) (a .x) (others .result) (label .result) (c .with .result)
-    (c .before .before .before .before .before .before .if2 .taken) (label .ensures) (sym (part .ensures .0)) (in-b .0) (in-b .1) (others .ensures) (c .with .ensures))
+    (if2 .taken) (label .ensures) (sym (part .ensures .0)) (in-b .0) (in-b .1) (others .ensures) (c .with .ensures))
 
 classes-in-requires : tie.Need-classes-in-requires
 classes-in-requires c κs = search needs
 
 returns-2 : tie.Need-returns-2
 returns-2 c =
+    let part = c .before .before .part in
     let a = c .before .before .before .before .before .args in
     let k = c .classes-in in
-    subst (λ (p : ℕ). Crowd (a .cl .now) (a .codes .now) (a .o) p (a .b) (a .v) (k .result .seen) (k .result .count)) (c .before .before .part .ensures .0) (k .ensures)
+    subst (λ (p : ℕ). Crowd (a .cl .now) (a .codes .now) (a .o) p (a .b) (a .v) (k .result .seen) (k .result .count)) (part .ensures .0) (k .ensures)
 
 pub crowd-spec : {M : Type 1} → statement M
 crowd-spec =

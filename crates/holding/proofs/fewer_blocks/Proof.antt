@@ -63,7 +63,9 @@ add-k : tie.Need-add-k Inv-loop μ-loop
 add-k c = let h = c .before .before .before .before .if1 .left in search needs
 
 loop-less : tie.Need-loop-less Inv-loop μ-loop
-loop-less c = let a = c .minus .ensures .less in let b = c .before .without .ensures .less (c .before .before .before .lowest .ensures .1) in omega arith
+loop-less c =
+    let lowest = c .before .before .before .lowest in
+    let a = c .minus .ensures .less in let b = c .before .without .ensures .less (lowest .ensures .1) in omega arith
 
 loop-again : tie.Need-loop-again Inv-loop μ-loop
 loop-again c =

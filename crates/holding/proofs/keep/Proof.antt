@@ -17,7 +17,9 @@ add-if4 : tie.Need-add-if4
 add-if4 c = let z = c .before .before .pre in search needs
 
 returns-2 : tie.Need-returns-2
-returns-2 c = λ k l s. on-either (c .before .before .before .args .own) (c .before .before .before .args .meet) k (s .near (c .before .if3 .taken) (c .if4 .taken))
+returns-2 c =
+    let start = c .before .before .before in
+    λ k l s. on-either (start .args .own) (start .args .meet) k (s .near (c .before .if3 .taken) (c .if4 .taken))
 
 returns-3 : tie.Need-returns-3
 returns-3 c = λ k l s. on-ones 64 k l

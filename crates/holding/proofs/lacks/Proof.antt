@@ -23,15 +23,19 @@ loop-holds : tie.Need-loop-holds Inv-loop μ-loop
 loop-holds c = let a = c .before .before .before .before .args in (omega arith, lacks-start (a .cl .now) (a .owns .now) (a .wants .now) (a .base .now) (a .o) (a .p))
 
 class-part-requires : tie.Need-class-part-requires Inv-loop μ-loop
-class-part-requires c κs = (c .before .before .before .before .before .before .pre .0, c .before .before .before .before .before .before .pre .2, c .loop-test .taken)
+class-part-requires c κs =
+    let start = c .before .before .before .before .before .before in
+    (start .pre .0, start .pre .2, c .loop-test .taken)
 
 shared-slice-read-larger : tie.Need-shared-slice-read-larger Inv-loop μ-loop
 shared-slice-read-larger c = let n = c .before .before .before .before .before .before .before .before .pre .5 in search needs
 
 label-requires : tie.Need-label-requires Inv-loop μ-loop
 label-requires c κs =
+    let start = c .before .before .before .before .before .before .before .before in
+    let loop-test = c .before .before .loop-test in
     let z = c .before .before .before .before .before .before .before .before .pre .1 in
-    (omega arith, c .before .before .before .before .before .before .before .before .pre .2, c .before .before .loop-test .taken)
+    (omega arith, start .pre .2, loop-test .taken)
 
 larger-requires : tie.Need-larger-requires Inv-loop μ-loop
 larger-requires c κs = search needs
@@ -44,9 +48,11 @@ shared-slice-read-counted c = let n = c .before .before .before .before .before 
 
 sub-counted : tie.Need-sub-counted Inv-loop μ-loop
 sub-counted c =
+    let loop = c .before .before .before .before .before .before .before .loop in
+    let loop-test = c .before .before .before .before .before .before .loop-test in
     let far = c .before .before .before .before .before .before .before .before .before .before .before .before in
     let e = c .before .before .larger .ensures .0 in
-    let h = far .pre .3 (c .before .before .before .before .before .before .before .loop .l) (c .before .before .before .before .before .before .loop-test .taken) in
+    let h = far .pre .3 (loop .l) (loop-test .taken) in
     search needs
 
 counted-requires-2 : tie.Need-counted-requires-2 Inv-loop μ-loop
@@ -80,6 +86,7 @@ loop-less c = search needs
 
 loop-again : tie.Need-loop-again Inv-loop μ-loop
 loop-again c =
+    let label = c .before .before .before .before .label in
     let a = c .before .before .before .before .before .before .before .before .before .before .before .before .before .args in
     let l = c .before .before .before .before .before .before .before .before .loop in
     let h = c .before .before .before .before .before .before .before .loop-test .taken in
@@ -89,7 +96,7 @@ loop-again c =
     let s = c .counted2 in (
       omega arith,
       lacks-more (a .cl .now) (a .owns .now) (a .wants .now) (a .base .now) (a .o) (a .p) (l .l) (q .result) (n .result) (l .total) (l .news) _ _ (t .result) (s .result) (q .ensures .0)
-          (n .ensures .0 ∙ ap (max (getD (a .wants .now) (l .l) 0)) (c .before .before .before .before .label .ensures)) (t .ensures .0) (t .ensures .1) (s .ensures .0)
+          (n .ensures .0 ∙ ap (max (getD (a .wants .now) (l .l) 0)) (label .ensures)) (t .ensures .0) (t .ensures .1) (s .ensures .0)
           (s .ensures .1) refl refl (l .inv .1),
     )
 

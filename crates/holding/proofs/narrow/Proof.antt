@@ -21,10 +21,11 @@ abbrev μ-loop : tie.MeasureT-loop
 
 loop-holds : tie.Need-loop-holds Inv-loop μ-loop
 loop-holds c =
+    let start = c .before .before .before .before .before .before .before .before in
     let a = c .before .before .before .before .before .before .before .before .args in (
       omega arith,
       narrowed-start (Stays (a .cl .now) (a .base .now) (a .o) (a .tight) (a .own .now) (a .meet .now) (a .owns .now) (a .wants .now)) (a .dom .now)
-          (c .before .before .before .before .before .before .before .before .pre .8),
+          (start .pre .8),
     )
 
 shared-slice-read-if1 : tie.Need-shared-slice-read-if1 Inv-loop μ-loop
@@ -168,6 +169,7 @@ shared-slice-read-keep-4 c =
 
 keep-requires : tie.Need-keep-requires Inv-loop μ-loop
 keep-requires c κs =
+    let label = c .before .before .before .before .before .before .before .before .before .label in
     let h = c .before .before .before .before .before .before .before .before .before .before .before .before .loop-test .taken in
     let p = c .before .before .before .before .before .before .before .before .before .before .before .before .before .before .before .before .before .before .before .before .before .before .pre in
     let v = p .2 in
@@ -176,7 +178,7 @@ keep-requires c κs =
     let i = c .before .before .before .before .before .before .before .before .before .before .before .before .before .loop in
     let l = p .0 .low (a .o * 32 + i .y) (omega arith) in
     let e = c .before .before .before .before .before .before .before .before .before .label .ensures in
-    p .6 (c .before .before .before .before .before .before .before .before .before .label .result) (omega arith)
+    p .6 (label .result) (omega arith)
 
 mul-dom-2 : tie.Need-mul-dom-2 Inv-loop μ-loop
 mul-dom-2 c =

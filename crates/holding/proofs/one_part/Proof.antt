@@ -23,7 +23,9 @@ loop-holds : tie.Need-loop-holds Inv-loop μ-loop
 loop-holds c = (omega arith, λ e k h. absurd (omega arith))
 
 class-part-requires : tie.Need-class-part-requires Inv-loop μ-loop
-class-part-requires c κs = (c .before .before .before .pre .0, c .before .before .before .pre .1, c .loop-test .taken)
+class-part-requires c κs =
+    let start = c .before .before .before in
+    (start .pre .0, start .pre .1, c .loop-test .taken)
 
 add-l : tie.Need-add-l Inv-loop μ-loop
 add-l c = search needs

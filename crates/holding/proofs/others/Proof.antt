@@ -24,7 +24,9 @@ cast-class-part : tie.Need-cast-class-part Inv-loop μ-loop
 cast-class-part c = search needs
 
 class-part-requires : tie.Need-class-part-requires Inv-loop μ-loop
-class-part-requires c κs = (c .before .before .before .pre .0, c .before .before .before .pre .1, c .loop-test .taken)
+class-part-requires c κs =
+    let start = c .before .before .before in
+    (start .pre .0, start .pre .1, c .loop-test .taken)
 
 with-requires : tie.Need-with-requires Inv-loop μ-loop
 with-requires c κs = let h = c .before .before .loop-test .taken in omega arith

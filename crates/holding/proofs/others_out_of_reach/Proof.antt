@@ -41,7 +41,10 @@ returns-2 c =
     λ e. (r .0, (p, a .result .total, a .result .news, a .ensures, r .1))
 
 loop-less : tie.Need-loop-less Inv-loop μ-loop
-loop-less c = c .before .before .before .without .ensures .less (c .before .before .before .before .lowest .ensures .1)
+loop-less c =
+    let without = c .before .before .before .without in
+    let lowest = c .before .before .before .before .lowest in
+    without .ensures .less (lowest .ensures .1)
 
 loop-again : tie.Need-loop-again Inv-loop μ-loop
 loop-again c = tt

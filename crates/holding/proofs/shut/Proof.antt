@@ -22,8 +22,9 @@ abbrev μ-loop : tie.MeasureT-loop
 
 loop-holds : tie.Need-loop-holds Inv-loop μ-loop
 loop-holds c =
+    let start = c .before .before .before in
     let a = c .before .before .before .args in
-    (omega arith, narrowed-start (Free (a .cl .now) (a .o) (a .seen) (a .b)) (a .dom .now) (c .before .before .before .pre .4))
+    (omega arith, narrowed-start (Free (a .cl .now) (a .o) (a .seen) (a .b)) (a .dom .now) (start .pre .4))
 
 shared-slice-read-if1 : tie.Need-shared-slice-read-if1 Inv-loop μ-loop
 shared-slice-read-if1 c =
@@ -41,11 +42,13 @@ label-requires c κs =
 
 in-set-requires : tie.Need-in-set-requires Inv-loop μ-loop
 in-set-requires c κs =
+    let start = c .before .before .before .before .before .before .before .before in
+    let loop = c .before .before .before .before .loop in
     let h = c .before .before .before .loop-test .taken in
     let p = c .before .before .before .before .before .before .before .before .pre in
     let v = p .1 in
     let o = p .2 in
-    let l = p .0 .low (c .before .before .before .before .before .before .before .before .args .o * 32 + c .before .before .before .before .loop .y) (omega arith) in
+    let l = p .0 .low (start .args .o * 32 + loop .y) (omega arith) in
     let e = c .label .ensures in
     omega arith
 

@@ -48,12 +48,13 @@ loop-again c =
 
 returns : tie.Need-returns Inv-loop μ-loop
 returns c =
+    let start = c .before .before in
     let loop = c .before .loop in
     let args = c .before .before .args in
     let h = c .loop-test .left in
     let z = loop .inv .0 in
     let e : loop .i ≡ 6 = omega arith in
-    spreading-end (args .mask) (args .d) (loop .r) (c .before .before .fits .mask .fits) (subst (λ (n : ℕ). Spreading (args .mask) (args .d) n (loop .r)) e (loop .inv .1))
+    spreading-end (args .mask) (args .d) (loop .r) (start .fits .mask .fits) (subst (λ (n : ℕ). Spreading (args .mask) (args .d) n (loop .r)) e (loop .inv .1))
 
 pub spread-spec : {M : Type 1} → statement M
 spread-spec =

@@ -13,7 +13,9 @@ with-requires : tie.Need-with-requires
 with-requires c κs = let h = c .before .pre in omega arith
 
 returns : tie.Need-returns
-returns c = λ q e. (eqb-true q (c .before .before .args .p) (sym (ap (λ (b : Bool). orb b (eqb q (c .before .before .args .p))) (on-zero q)) ∙ sym (c .with .ensures q) ∙ e), c .before .if1 .taken)
+returns c =
+    let start = c .before .before in
+    λ q e. (eqb-true q (start .args .p) (sym (ap (λ (b : Bool). orb b (eqb q (start .args .p))) (on-zero q)) ∙ sym (c .with .ensures q) ∙ e), c .before .if1 .taken)
 
 returns-2 : tie.Need-returns-2
 returns-2 c = λ q e. absurd (never-both e (on-zero q))

@@ -25,7 +25,8 @@ loop-holds c =
 
 class-part-requires : tie.Need-class-part-requires Inv-loop μ-loop
 class-part-requires c κs =
-    (c .before .before .before .before .before .pre .0, c .before .before .before .before .before .pre .2, c .loop-test .taken)
+    let start = c .before .before .before .before .before in
+    (start .pre .0, start .pre .2, c .loop-test .taken)
 
 cast-p : tie.Need-cast-p Inv-loop μ-loop
 cast-p c = search needs
@@ -35,7 +36,9 @@ shared-slice-read-larger c = let n = c .before .before .before .before .before .
 
 label-requires : tie.Need-label-requires Inv-loop μ-loop
 label-requires c κs =
-    let z = c .before .before .before .before .before .before .before .pre .1 in (omega arith, c .before .before .before .before .before .before .before .pre .2, c .before .before .loop-test .taken)
+    let start = c .before .before .before .before .before .before .before in
+    let loop-test = c .before .before .loop-test in
+    let z = c .before .before .before .before .before .before .before .pre .1 in (omega arith, start .pre .2, loop-test .taken)
 
 larger-requires : tie.Need-larger-requires Inv-loop μ-loop
 larger-requires c κs = search needs
@@ -45,46 +48,51 @@ cast-n c = let z = c .larger .ensures .1 in search needs
 
 mul-t : tie.Need-mul-t Inv-loop μ-loop
 mul-t c =
+    let class-part = c .before .before .before .class-part in
     let k = c .before .before .before .class-part .ensures .1 in
     let n = c .larger .ensures .1 in
     let h = c .before .before .before .before .loop-test .taken in
-    let z = c .before .before .before .before .before .loop .inv .1 .low (c .before .before .before .class-part .result) k in
+    let z = c .before .before .before .before .before .loop .inv .1 .low (class-part .result) k in
     let w = c .before .before .before .before .before .loop .inv .1 .long in
     search needs
 
 array-read-t : tie.Need-array-read-t Inv-loop μ-loop
 array-read-t c =
+    let class-part = c .before .before .before .class-part in
     let k = c .before .before .before .class-part .ensures .1 in
     let n = c .larger .ensures .1 in
     let h = c .before .before .before .before .loop-test .taken in
-    let z = c .before .before .before .before .before .loop .inv .1 .low (c .before .before .before .class-part .result) k in
+    let z = c .before .before .before .before .before .loop .inv .1 .low (class-part .result) k in
     let w = c .before .before .before .before .before .loop .inv .1 .long in
     search needs
 
 add-t : tie.Need-add-t Inv-loop μ-loop
 add-t c =
+    let class-part = c .before .before .before .class-part in
     let k = c .before .before .before .class-part .ensures .1 in
     let n = c .larger .ensures .1 in
     let h = c .before .before .before .before .loop-test .taken in
-    let z = c .before .before .before .before .before .loop .inv .1 .low (c .before .before .before .class-part .result) k in
+    let z = c .before .before .before .before .before .loop .inv .1 .low (class-part .result) k in
     let w = c .before .before .before .before .before .loop .inv .1 .long in
     record { fits = omega arith }
 
 mul-t-2 : tie.Need-mul-t-2 Inv-loop μ-loop
 mul-t-2 c =
+    let class-part = c .before .before .before .class-part in
     let k = c .before .before .before .class-part .ensures .1 in
     let n = c .larger .ensures .1 in
     let h = c .before .before .before .before .loop-test .taken in
-    let z = c .before .before .before .before .before .loop .inv .1 .low (c .before .before .before .class-part .result) k in
+    let z = c .before .before .before .before .before .loop .inv .1 .low (class-part .result) k in
     let w = c .before .before .before .before .before .loop .inv .1 .long in
     search needs
 
 array-write-t : tie.Need-array-write-t Inv-loop μ-loop
 array-write-t c =
+    let class-part = c .before .before .before .class-part in
     let k = c .before .before .before .class-part .ensures .1 in
     let n = c .larger .ensures .1 in
     let h = c .before .before .before .before .loop-test .taken in
-    let z = c .before .before .before .before .before .loop .inv .1 .low (c .before .before .before .class-part .result) k in
+    let z = c .before .before .before .before .before .loop .inv .1 .low (class-part .result) k in
     let w = c .before .before .before .before .before .loop .inv .1 .long in
     search needs
 
@@ -96,12 +104,13 @@ loop-less c = search needs
 
 loop-again : tie.Need-loop-again Inv-loop μ-loop
 loop-again c =
+    let class-part = c .before .before .before .class-part in
     let a = c .before .before .before .before .before .before .before .before .before .args in
     let l = c .before .before .before .before .before .loop in
     let h = c .before .before .before .before .loop-test .taken in (
       omega arith,
-      totals-more (a .cl .now) (a .owns .now) (a .base .now) (a .o) (l .l) (l .t) (c .before .before .before .class-part .result) (c .larger .result)
-          (c .before .before .before .class-part .ensures .0) (c .before .before .before .class-part .ensures .1)
+      totals-more (a .cl .now) (a .owns .now) (a .base .now) (a .o) (l .l) (l .t) (class-part .result) (c .larger .result)
+          (class-part .ensures .0) (class-part .ensures .1)
           (c .larger .ensures .0 ∙ ap (max (getD (a .owns .now) (l .l) 0)) (c .before .label .ensures)) (c .larger .ensures .1) (l .inv .1),
     )
 

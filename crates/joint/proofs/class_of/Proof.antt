@@ -24,10 +24,11 @@ array-copy-out-y c = let h = c .loop-test .taken in let z = c .before .before .b
 
 alike-requires : tie.Need-alike-requires Inv-loop μ-loop
 alike-requires c κs =
+    let loop = c .before .before .loop in
     let h = c .before .loop-test .taken in
     let p = c .before .before .before .before .pre in
     let z = p .3 in
-    (p .0, p .1, p .2, p .4 (c .before .before .loop .i) (omega arith))
+    (p .0, p .1, p .2, p .4 (loop .i) (omega arith))
 
 returns : tie.Need-returns Inv-loop μ-loop
 returns c = let h = c .before .before .before .loop-test .taken in (omega arith, λ l. c .before .alike .ensures (c .if1 .taken))

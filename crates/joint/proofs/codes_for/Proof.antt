@@ -16,7 +16,10 @@ merge-requires : tie.Need-merge-requires
 merge-requires c κs = (c .before .pre .0, c .before .pre .1, c .before .pre .2)
 
 relabel-requires : tie.Need-relabel-requires
-relabel-requires c κs = (c .before .before .before .before .pre .0, c .before .before .before .before .pre .2, c .before .before .merge .ensures .small)
+relabel-requires c κs =
+    let start = c .before .before .before .before in
+    let merge = c .before .before .merge in
+    (start .pre .0, start .pre .2, merge .ensures .small)
 
 drawn-requires : tie.Need-drawn-requires
 drawn-requires c κs =

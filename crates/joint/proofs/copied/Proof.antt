@@ -31,11 +31,13 @@ loop-less c = search needs
 
 loop-again : tie.Need-loop-again Inv-loop μ-loop
 loop-again c =
-    let h = c .before .loop-test .taken in let l = c .before .before .loop in (omega arith, copied-more (c .before .before .before .args .cl .now) (l .i) _ (l .r) h refl (l .inv .1))
+    let start = c .before .before .before in
+    let h = c .before .loop-test .taken in let l = c .before .before .loop in (omega arith, copied-more (start .args .cl .now) (l .i) _ (l .r) h refl (l .inv .1))
 
 returns : tie.Need-returns Inv-loop μ-loop
 returns c =
-    let l = c .before .loop in subst (λ (n : ℕ). Copied (c .before .before .args .cl .now) n (l .r)) (let h = c .loop-test .left in let z = l .inv .0 in omega arith) (l .inv .1)
+    let start = c .before .before in
+    let l = c .before .loop in subst (λ (n : ℕ). Copied (start .args .cl .now) n (l .r)) (let h = c .loop-test .left in let z = l .inv .0 in omega arith) (l .inv .1)
 
 pub copied-spec : {M : Type 1} → statement M
 copied-spec =

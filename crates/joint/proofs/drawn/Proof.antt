@@ -31,18 +31,20 @@ array-copy-out-x c = let h = c .loop-test .taken in let p = c .before .before .b
 
 cast-in-set : tie.Need-cast-in-set Inv-loop μ-loop
 cast-in-set c =
+    let loop = c .before .before .before .loop in
     let h = c .before .before .loop-test .taken in
     let p = c .before .before .before .before .before .pre in
     let few = p .0 in
-    let z = p .1 (c .before .before .before .loop .i) (omega arith) in
+    let z = p .1 (loop .i) (omega arith) in
     omega arith
 
 in-set-requires : tie.Need-in-set-requires Inv-loop μ-loop
 in-set-requires c κs =
+    let loop = c .before .before .before .loop in
     let h = c .before .before .loop-test .taken in
     let p = c .before .before .before .before .before .pre in
     let few = p .0 in
-    let z = p .1 (c .before .before .before .loop .i) (omega arith) in
+    let z = p .1 (loop .i) (omega arith) in
     omega arith
 
 cast-with : tie.Need-cast-with Inv-loop μ-loop

@@ -24,7 +24,9 @@ array-copy-out-q : tie.Need-array-copy-out-q Inv-loop μ-loop
 array-copy-out-q c = let h = c .loop-test .taken in let z = c .before .before .pre .0 in search needs
 
 array-read-r : tie.Need-array-read-r Inv-loop μ-loop
-array-read-r c = let z = c .before .before .before .pre .1 (c .before .before .loop .x) (c .before .loop-test .taken) in search needs
+array-read-r c =
+    let loop = c .before .before .loop in
+    let z = c .before .before .before .pre .1 (loop .x) (c .before .loop-test .taken) in search needs
 
 array-write-r : tie.Need-array-write-r Inv-loop μ-loop
 array-write-r c = let h = c .before .loop-test .taken in let z = c .before .before .before .pre .0 in search needs

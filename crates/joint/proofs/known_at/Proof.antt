@@ -28,14 +28,18 @@ in-set-requires-2 c κs = let h = c .before .before .before .before .pre in omeg
 
 returns-2 : tie.Need-returns-2
 returns-2 c =
+    let in-set = c .before .before .before .before .in-set in
+    let if1 = c .before .before .before .if1 in
     let a = c .before .before .before .before .before .before .args in
-    let known = sym (c .before .before .before .before .in-set .ensures) ∙ not-false _ (c .before .before .before .if1 .left) in
+    let known = sym (in-set .ensures) ∙ not-false _ (if1 .left) in
     one-at (a .kn) (a .val) (a .x .0) known (sym (c .before .in-set2 .ensures) ∙ c .if2 .taken)
 
 returns-3 : tie.Need-returns-3
 returns-3 c =
+    let in-set = c .before .before .before .before .in-set in
+    let if1 = c .before .before .before .if1 in
     let a = c .before .before .before .before .before .before .args in
-    let known = sym (c .before .before .before .before .in-set .ensures) ∙ not-false _ (c .before .before .before .if1 .left) in
+    let known = sym (in-set .ensures) ∙ not-false _ (if1 .left) in
     zero-at (a .kn) (a .val) (a .x .0) known (sym (c .before .in-set2 .ensures) ∙ c .if2 .left)
 
 pub known-at-spec : {M : Type 1} → statement M

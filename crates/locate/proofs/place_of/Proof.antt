@@ -13,17 +13,19 @@ span-of-requires-2 c κs = search needs
 
 returns : tie.Need-returns
 returns c =
+    let if1 = c .before .before .if1 in
     let a = c .before .before .before .before .before .args in
     let r = c .span-of in
     place-design (a .design .now) (a .network .now) (a .number) (a .line) (r .result .start) (r .result .length)
-    (c .before .before .if1 .left) (c .before .if2 .taken) (r .ensures)
+    (if1 .left) (c .before .if2 .taken) (r .ensures)
 
 returns-2 : tie.Need-returns-2
 returns-2 c =
+    let if3 = c .before .before .if3 in
     let a = c .before .before .before .before .before .before .before .args in
     let r = c .span-of2 in
     place-network (a .design .now) (a .network .now) (a .number) (a .line) (r .result .start) (r .result .length)
-    (c .before .before .if3 .left) (c .before .if4 .taken) (r .ensures)
+    (if3 .left) (c .before .if4 .taken) (r .ensures)
 
 returns-3 : tie.Need-returns-3
 returns-3 c =

@@ -33,10 +33,11 @@ sub-t9 c =
 
 returns : tie.Need-returns Inv-loop μ-loop
 returns c =
+    let loop-test = c .before .before .loop-test in
     let a = c .before .before .before .before .before .args in
     let l = c .before .before .before .loop in
     let e = c .before .line-end in
-    reached-hit (a .s .now) (l .at) (l .number) (e .result) (c .before .before .loop-test .taken) (e .ensures) (l .inv .0) (a .line) (c .if1 .taken)
+    reached-hit (a .s .now) (l .at) (l .number) (e .result) (loop-test .taken) (e .ensures) (l .inv .0) (a .line) (c .if1 .taken)
 
 add-number : tie.Need-add-number Inv-loop μ-loop
 add-number c =
@@ -53,11 +54,12 @@ loop-less c =
 
 loop-again : tie.Need-loop-again Inv-loop μ-loop
 loop-again c =
+    let loop-test = c .before .before .loop-test in
     let a = c .before .before .before .before .before .args in
     let l = c .before .before .before .loop in
     let e = c .before .line-end in
     let n = c .if1 .left in (
-      reached-more (a .s .now) (l .at) (l .number) (e .result) (c .before .before .loop-test .taken) (e .ensures) (l .inv .0),
+      reached-more (a .s .now) (l .at) (l .number) (e .result) (loop-test .taken) (e .ensures) (l .inv .0),
       λ h.
           let m = l .inv .1 h in
           omega arith,

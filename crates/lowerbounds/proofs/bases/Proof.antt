@@ -22,7 +22,9 @@ slice-aggregate-raise-all : tie.Need-slice-aggregate-raise-all Inv-loop μ-loop
 slice-aggregate-raise-all c = let long = c .before .before .loop .inv .1 .long in search needs
 
 raise-all-requires : tie.Need-raise-all-requires Inv-loop μ-loop
-raise-all-requires c κs = let pre = c .before .before .before .before .pre in (pre .0, pre .1, pre .2, c .before .loop-test .taken, c .before .before .loop .inv .1)
+raise-all-requires c κs =
+    let loop = c .before .before .loop in
+    let pre = c .before .before .before .before .pre in (pre .0, pre .1, pre .2, c .before .loop-test .taken, loop .inv .1)
 
 add-o : tie.Need-add-o Inv-loop μ-loop
 add-o c = search needs

@@ -51,12 +51,13 @@ loop-again c =
 
 returns : tie.Need-returns Inv-loop μ-loop
 returns c =
+    let start = c .before .before in
     let l = c .before .loop in
     let left = c .loop-test .left in
     let upto = l .inv .0 in
     let few = l .inv .1 in
     let e : l .i ≡ 6 = omega arith in
-    (l .inv .2 ∙ ap (count (on (c .before .before .args .x))) e, omega arith)
+    (l .inv .2 ∙ ap (count (on (start .args .x))) e, omega arith)
 
 pub digits-spec : {M : Type 1} → statement M
 digits-spec =

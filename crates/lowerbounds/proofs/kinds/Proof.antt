@@ -76,18 +76,20 @@ mul-with c = search needs
 
 array-read-with : tie.Need-array-read-with Inv-loop μ-loop
 array-read-with c =
+    let label = c .before .before .before .label in
     let pre = c .before .before .before .before .before .before .before .pre in
     let loop = c .before .before .before .before .before .loop in
     let h = c .before .before .before .before .loop-test .taken in
-    let low = low-label (pre .0) (pre .2) (pre .1) h (c .before .before .before .label .ensures) in
+    let low = low-label (pre .0) (pre .2) (pre .1) h (label .ensures) in
     let sets = loop .inv .1 .sets in
     search needs
 
 with-requires : tie.Need-with-requires Inv-loop μ-loop
 with-requires c κs =
+    let label2 = c .before .before .label2 in
     let pre = c .before .before .before .before .before .before .before .pre in
     let h = c .before .before .before .before .loop-test .taken in
-    let low = low-label (pre .0) (pre .3) (pre .1) h (c .before .before .label2 .ensures) in
+    let low = low-label (pre .0) (pre .3) (pre .1) h (label2 .ensures) in
     omega arith
 
 mul-seen : tie.Need-mul-seen Inv-loop μ-loop
@@ -95,10 +97,11 @@ mul-seen c = search needs
 
 array-write-seen : tie.Need-array-write-seen Inv-loop μ-loop
 array-write-seen c =
+    let label = c .before .before .before .before .label in
     let pre = c .before .before .before .before .before .before .before .before .pre in
     let loop = c .before .before .before .before .before .before .loop in
     let h = c .before .before .before .before .before .loop-test .taken in
-    let low = low-label (pre .0) (pre .2) (pre .1) h (c .before .before .before .before .label .ensures) in
+    let low = low-label (pre .0) (pre .2) (pre .1) h (label .ensures) in
     let sets = loop .inv .1 .sets in
     search needs
 
@@ -120,48 +123,53 @@ add-i c = search needs
 
 array-read-n : tie.Need-array-read-n Inv-loop μ-loop
 array-read-n c =
+    let label = c .before .before .before .before .before .label in
     let pre = c .before .before .before .before .before .before .before .before .before .pre in
     let loop = c .before .before .before .before .before .before .before .loop in
     let h = c .before .before .before .before .before .before .loop-test .taken in
-    let low = low-label (pre .0) (pre .2) (pre .1) h (c .before .before .before .before .before .label .ensures) in
+    let low = low-label (pre .0) (pre .2) (pre .1) h (label .ensures) in
     let low-part = c .part .ensures .1 in
     let long = loop .inv .1 .long in
     search needs
 
 add-n : tie.Need-add-n Inv-loop μ-loop
 add-n c =
+    let label = c .before .before .before .before .before .label in
     let pre = c .before .before .before .before .before .before .before .before .before .pre in
     let loop = c .before .before .before .before .before .before .before .loop in
     let h = c .before .before .before .before .before .before .loop-test .taken in
-    let low = low-label (pre .0) (pre .2) (pre .1) h (c .before .before .before .before .before .label .ensures) in
-    let small = loop .inv .1 .found (c .before .before .before .before .before .label .result) (c .part .result) low (c .part .ensures .1) .few in
+    let low = low-label (pre .0) (pre .2) (pre .1) h (label .ensures) in
+    let small = loop .inv .1 .found (label .result) (c .part .result) low (c .part .ensures .1) .few in
     record { fits = omega arith }
 
 array-write-g : tie.Need-array-write-g Inv-loop μ-loop
 array-write-g c =
+    let label = c .before .before .before .before .before .label in
     let pre = c .before .before .before .before .before .before .before .before .before .pre in
     let loop = c .before .before .before .before .before .before .before .loop in
     let h = c .before .before .before .before .before .before .loop-test .taken in
-    let low = low-label (pre .0) (pre .2) (pre .1) h (c .before .before .before .before .before .label .ensures) in
+    let low = low-label (pre .0) (pre .2) (pre .1) h (label .ensures) in
     let low-part = c .part .ensures .1 in
     let long = loop .inv .1 .long in
     search needs
 
 array-read-if2 : tie.Need-array-read-if2 Inv-loop μ-loop
 array-read-if2 c =
+    let label = c .before .before .before .before .before .label in
     let pre = c .before .before .before .before .before .before .before .before .before .pre in
     let loop = c .before .before .before .before .before .before .before .loop in
     let h = c .before .before .before .before .before .before .loop-test .taken in
-    let low = low-label (pre .0) (pre .2) (pre .1) h (c .before .before .before .before .before .label .ensures) in
+    let low = low-label (pre .0) (pre .2) (pre .1) h (label .ensures) in
     let long = loop .inv .2 .long in
     search needs
 
 array-write-r : tie.Need-array-write-r Inv-loop μ-loop
 array-write-r c =
+    let label = c .before .before .before .before .before .before .label in
     let pre = c .before .before .before .before .before .before .before .before .before .before .pre in
     let loop = c .before .before .before .before .before .before .before .before .loop in
     let h = c .before .before .before .before .before .before .before .loop-test .taken in
-    let low = low-label (pre .0) (pre .2) (pre .1) h (c .before .before .before .before .before .before .label .ensures) in
+    let low = low-label (pre .0) (pre .2) (pre .1) h (label .ensures) in
     let long = loop .inv .2 .long in
     search needs
 

@@ -44,10 +44,12 @@ kinds-requires c κs =
 
 raise-requires : tie.Need-raise-requires Inv-loop μ-loop
 raise-requires c κs =
+    let loop = c .before .before .before .before .before .loop in
+    let digits = c .before .before .digits in
     let pre = c .before .before .before .before .before .before .before .before .pre in
     let few = pre .2 in
     let one = pre .3 in
-    (c .before .before .before .before .before .loop .inv .1 .long, omega arith, c .before .before .digits .ensures .1, λ l h. c .kinds .ensures l h .few)
+    (loop .inv .1 .long, omega arith, digits .ensures .1, λ l h. c .kinds .ensures l h .few)
 
 add-q : tie.Need-add-q Inv-loop μ-loop
 add-q c = search needs

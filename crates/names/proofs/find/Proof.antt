@@ -27,7 +27,9 @@ same-name-requires c κs = search needs
 
 returns : tie.Need-returns Inv-loop μ-loop
 returns c =
-    found-at (c .before .before .before .before .loop .inv) (c .before .before .before .loop-test .taken)
+    let loop = c .before .before .before .before .loop in
+    let loop-test = c .before .before .before .loop-test in
+    found-at (loop .inv) (loop-test .taken)
     (sym (c .before .same-name .ensures) ∙ c .if1 .taken)
 
 add-i : tie.Need-add-i Inv-loop μ-loop
@@ -38,7 +40,9 @@ loop-less c = search needs
 
 loop-again : tie.Need-loop-again Inv-loop μ-loop
 loop-again c =
-    missed-more (c .before .before .before .before .loop .inv) (c .before .before .before .loop-test .taken)
+    let loop = c .before .before .before .before .loop in
+    let loop-test = c .before .before .before .loop-test in
+    missed-more (loop .inv) (loop-test .taken)
     (sym (c .before .same-name .ensures) ∙ c .if1 .left)
 
 returns-2 : tie.Need-returns-2 Inv-loop μ-loop

@@ -29,10 +29,12 @@ cast-v c = omega (arith, c .shared-slice-known .given (c .before .before .loop .
 
 add-v : tie.Need-add-v Inv-loop μ-loop
 add-v c =
+    let loop = c .before .before .loop in
+    let start = c .before .before .before in
     omega (
       arith,
-      packed-room (c .before .before .loop .inv) (c .before .loop-test .taken) (c .before .before .before .pre .1),
-      c .shared-slice-known .given (c .before .before .loop .i - 1),
+      packed-room (loop .inv) (c .before .loop-test .taken) (start .pre .1),
+      c .shared-slice-known .given (loop .i - 1),
     )
 
 loop-less : tie.Need-loop-less Inv-loop μ-loop
@@ -40,8 +42,10 @@ loop-less c = search needs
 
 loop-again : tie.Need-loop-again Inv-loop μ-loop
 loop-again c =
-    packed-more (c .before .before .loop .inv) (c .before .loop-test .taken) (c .before .before .before .pre .2)
-    (omega (arith, c .shared-slice-known .given (c .before .before .loop .i - 1)))
+    let loop = c .before .before .loop in
+    let start = c .before .before .before in
+    packed-more (loop .inv) (c .before .loop-test .taken) (start .pre .2)
+    (omega (arith, c .shared-slice-known .given (loop .i - 1)))
 
 returns : tie.Need-returns Inv-loop μ-loop
 returns c = packed-all (c .before .loop .inv) (c .loop-test .left)

@@ -25,7 +25,9 @@ name-byte-requires c κs = search needs
 
 returns : tie.Need-returns Inv-loop μ-loop
 returns c =
-    passed-stop (c .before .before .before .before .loop .inv) (c .before .before .before .loop-test .taken)
+    let loop = c .before .before .before .before .loop in
+    let loop-test = c .before .before .before .loop-test in
+    passed-stop (loop .inv) (loop-test .taken)
     (sym (c .before .name-byte .ensures) ∙ not-true _ (c .if1 .taken))
 
 add-e : tie.Need-add-e Inv-loop μ-loop
@@ -36,7 +38,9 @@ loop-less c = search needs
 
 loop-again : tie.Need-loop-again Inv-loop μ-loop
 loop-again c =
-    passed-more (c .before .before .before .before .loop .inv) (c .before .before .before .loop-test .taken)
+    let loop = c .before .before .before .before .loop in
+    let loop-test = c .before .before .before .loop-test in
+    passed-more (loop .inv) (loop-test .taken)
     (sym (c .before .name-byte .ensures) ∙ not-false _ (c .if1 .left))
 
 returns-2 : tie.Need-returns-2 Inv-loop μ-loop

@@ -25,7 +25,10 @@ loop-holds : tie.Need-loop-holds Inv-loop μ-loop
 loop-holds c = texts-none _ _ _ _ _
 
 put-lut-requires : tie.Need-put-lut-requires Inv-loop μ-loop
-put-lut-requires c κs = omega (arith, c .before .before .before .before .pre, c .before .before .loop .inv .so-far .place, c .before .before .loop .inv .so-far .short)
+put-lut-requires c κs =
+    let start = c .before .before .before .before in
+    let loop = c .before .before .loop in
+    omega (arith, start .pre, loop .inv .so-far .place, loop .inv .so-far .short)
 
 add-i : tie.Need-add-i Inv-loop μ-loop
 add-i c = search needs

@@ -28,7 +28,10 @@ loop-holds : tie.Need-loop-holds Inv-loop μ-loop
 loop-holds c = freeing-none _ _ _ (c .no-names .ensures .0) (c .no-names .ensures .1)
 
 array-share-prefix-list : tie.Need-array-share-prefix-list Inv-loop μ-loop
-array-share-prefix-list c = omega (arith, c .before .before .before .before .pre .1, list-sized (c .before .before .before .before .args .bs) (c .before .before .before .before .good .1 .1 .0))
+array-share-prefix-list c =
+    let start = c .before .before .before .before in
+    let good = c .before .before .before .before .good in
+    omega (arith, start .pre .1, list-sized (start .args .bs) (good .1 .1 .0))
 
 slice-aggregate-find : tie.Need-slice-aggregate-find Inv-loop μ-loop
 slice-aggregate-find c =

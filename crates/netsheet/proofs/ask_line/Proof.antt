@@ -67,10 +67,12 @@ onward-requires-4 c κs = search needs
 
 returns : tie.Need-returns
 returns c =
+    let start = c .before .before .before .before .before .before in
+    let enum-told = c .before .before .before .enum-told in
     let a = c .before .before .before .before .before .before .args in
     let is = c .onward .ensures ∙ ap (λ (b : Bool). moved (a .s) b Place.Luts) (c .before .equal .ensures) in (
-      safe-moved (a .s) (c .onward .result) _ Place.Luts is (c .before .before .before .before .before .before .pre .1 .few) tt,
-      λ t d w q n kn some-outputs. network-line (a .l .now) t d w (a .s) (c .onward .result) kn (c .before .before .before .enum-told .given .1) is,
+      safe-moved (a .s) (c .onward .result) _ Place.Luts is (start .pre .1 .few) tt,
+      λ t d w q n kn some-outputs. network-line (a .l .now) t d w (a .s) (c .onward .result) kn (enum-told .given .1) is,
     )
 
 returns-2 : tie.Need-returns-2
@@ -82,31 +84,37 @@ returns-2 c =
 
 returns-3 : tie.Need-returns-3
 returns-3 c =
+    let p = c .before .before .p in
     let a = c .before .before .before .before .before .args in (
       c .ask-node .ensures .0,
-      λ t d w q n kn some-outputs. node-line (a .l .now) t d w (a .s) (c .ask-node .result) kn (c .before .before .p .given .0 .0) (c .before .before .p .given .1) (λ here below. c .ask-node .ensures .1 t d w q n (kn .held) here below),
+      λ t d w q n kn some-outputs. node-line (a .l .now) t d w (a .s) (c .ask-node .result) kn (p .given .0 .0) (p .given .1) (λ here below. c .ask-node .ensures .1 t d w q n (kn .held) here below),
     )
 
 returns-4 : tie.Need-returns-4
 returns-4 c =
+    let start = c .before .before .before .before .before in
+    let enum-told3 = c .before .before .enum-told3 in
     let a = c .before .before .before .before .before .args in
     let is = c .onward2 .ensures ∙ ap (λ (b : Bool). moved (a .s) b Place.End) (c .before .is-count .ensures) in (
-      safe-moved (a .s) (c .onward2 .result) _ Place.End is (c .before .before .before .before .before .pre .1 .few) tt,
-      λ t d w q n kn some-outputs. count-line (a .l .now) t d w (a .s) (c .onward2 .result) kn (c .before .before .enum-told3 .given .1) is,
+      safe-moved (a .s) (c .onward2 .result) _ Place.End is (start .pre .1 .few) tt,
+      λ t d w q n kn some-outputs. count-line (a .l .now) t d w (a .s) (c .onward2 .result) kn (enum-told3 .given .1) is,
     )
 
 returns-5 : tie.Need-returns-5
 returns-5 c =
+    let start = c .before .before .before .before .before .before in
+    let enum-told4 = c .before .before .before .enum-told4 in
     let a = c .before .before .before .before .before .before .args in
     let is = c .onward3 .ensures ∙ ap (λ (b : Bool). moved (a .s) b Place.Over) (c .before .equal2 .ensures) in (
-      safe-moved (a .s) (c .onward3 .result) _ Place.Over is (c .before .before .before .before .before .before .pre .1 .few) tt,
-      λ t d w q n kn some-outputs. end-line (a .l .now) t d w (a .s) (c .onward3 .result) kn (c .before .before .before .enum-told4 .given .1) is,
+      safe-moved (a .s) (c .onward3 .result) _ Place.Over is (start .pre .1 .few) tt,
+      λ t d w q n kn some-outputs. end-line (a .l .now) t d w (a .s) (c .onward3 .result) kn (enum-told4 .given .1) is,
     )
 
 returns-6 : tie.Need-returns-6
 returns-6 c =
+    let start = c .before .before .before .before in
     let a = c .before .before .before .before .args in (
-      safe-moved (a .s) (c .onward4 .result) _ Place.Over (c .onward4 .ensures) (c .before .before .before .before .pre .1 .few) tt,
+      safe-moved (a .s) (c .onward4 .result) _ Place.Over (c .onward4 .ensures) (start .pre .1 .few) tt,
       λ t d w q n kn some-outputs. over-line (a .l .now) t d w (a .s) (c .onward4 .result) kn (c .before .enum-told5 .given .1) Place.Over (c .onward4 .ensures),
     )
 

@@ -24,13 +24,24 @@ shared-slice-read-p : tie.Need-shared-slice-read-p Inv-loop μ-loop
 shared-slice-read-p c = search needs
 
 mul-list : tie.Need-mul-list Inv-loop μ-loop
-mul-list c = record { fits = omega (arith, c .before .before .before .pre .1 (c .before .before .loop .i) (c .before .loop-test .taken), c .before .before .before .good .0 .1) }
+mul-list c =
+    let start = c .before .before .before in
+    let loop = c .before .before .loop in
+    let good = c .before .before .before .good in
+    record { fits = omega (arith, start .pre .1 (loop .i) (c .before .loop-test .taken), good .0 .1) }
 
 shared-slice-read-list : tie.Need-shared-slice-read-list Inv-loop μ-loop
-shared-slice-read-list c = c .before .before .before .before .pre .1 (c .before .before .before .loop .i) (c .before .before .loop-test .taken)
+shared-slice-read-list c =
+    let start = c .before .before .before .before in
+    let loop = c .before .before .before .loop in
+    let loop-test = c .before .before .loop-test in
+    start .pre .1 (loop .i) (loop-test .taken)
 
 mul-list-2 : tie.Need-mul-list-2 Inv-loop μ-loop
-mul-list-2 c = record { fits = omega (arith, c .before .before .before .before .pre .0, c .before .before .loop-test .taken) }
+mul-list-2 c =
+    let start = c .before .before .before .before in
+    let loop-test = c .before .before .loop-test in
+    record { fits = omega (arith, start .pre .0, loop-test .taken) }
 
 array-write-list : tie.Need-array-write-list Inv-loop μ-loop
 array-write-list c = omega (arith, c .before .before .before .before .pre .0)
@@ -42,7 +53,11 @@ loop-less : tie.Need-loop-less Inv-loop μ-loop
 loop-less c = omega arith
 
 loop-again : tie.Need-loop-again Inv-loop μ-loop
-loop-again c = copied-more (c .before .before .before .loop .inv) (c .before .before .before .before .pre .0) (c .before .before .loop-test .taken)
+loop-again c =
+    let loop = c .before .before .before .loop in
+    let start = c .before .before .before .before in
+    let loop-test = c .before .before .loop-test in
+    copied-more (loop .inv) (start .pre .0) (loop-test .taken)
 
 returns : tie.Need-returns Inv-loop μ-loop
 returns c = copied-all (c .before .loop .inv) (c .loop-test .left)

@@ -36,13 +36,23 @@ enum-told-2 : tie.Need-enum-told-2 Inv-loop μ-loop
 enum-told-2 c = search needs
 
 mul-list : tie.Need-mul-list Inv-loop μ-loop
-mul-list c = record { fits = omega (arith, c .before .before .before .before .before .loop .inv .few, c .before .before .before .before .loop-test .taken, (c .before .before .before .before .before .before .before .before .pre)) }
+mul-list c =
+    let loop = c .before .before .before .before .before .loop in
+    let loop-test = c .before .before .before .before .loop-test in
+    let start = c .before .before .before .before .before .before .before .before in
+    record { fits = omega (arith, loop .inv .few, loop-test .taken, (start .pre)) }
 
 array-write-list : tie.Need-array-write-list Inv-loop μ-loop
-array-write-list c = omega (arith, (c .before .before .before .before .before .before .before .before .pre), c .before .before .before .before .before .loop .inv .few)
+array-write-list c =
+    let start = c .before .before .before .before .before .before .before .before in
+    let loop = c .before .before .before .before .before .loop in
+    omega (arith, (start .pre), loop .inv .few)
 
 add-count : tie.Need-add-count Inv-loop μ-loop
-add-count c = record { fits = omega (arith, c .before .before .before .before .before .loop .inv .few, (c .before .before .before .before .before .before .before .before .pre)) }
+add-count c =
+    let loop = c .before .before .before .before .before .loop in
+    let start = c .before .before .before .before .before .before .before .before in
+    record { fits = omega (arith, loop .inv .few, (start .pre)) }
 
 add-i : tie.Need-add-i Inv-loop μ-loop
 add-i c = omega arith
@@ -52,14 +62,16 @@ loop-less c = omega arith
 
 loop-again : tie.Need-loop-again Inv-loop μ-loop
 loop-again c =
+    let loop-test = c .before .before .before .loop-test in
+    let start = c .before .before .before .before .before .before .before in
     let turn = c .before .before .before .before .loop in
     ⊎-elim
     (λ w.
     let there = w .1 .given in
-    rw (w .2, w .3) (parting-bound (turn .inv) (c .before .before .before .loop-test .taken) (there .0 .0) (rw (there .1) at (c .before .find .ensures))))
+    rw (w .2, w .3) (parting-bound (turn .inv) (loop-test .taken) (there .0 .0) (rw (there .1) at (c .before .find .ensures))))
     (λ w.
     let nowhere = rw (w .1 .given .1) at (c .before .find .ensures) in
-    rw (w .2, w .3) (parting-free (turn .inv) (c .before .before .before .loop-test .taken) nowhere (c .before .before .before .before .before .before .before .pre)))
+    rw (w .2, w .3) (parting-free (turn .inv) (loop-test .taken) nowhere (start .pre)))
     (c .match .came)
 
 returns : tie.Need-returns Inv-loop μ-loop

@@ -16,26 +16,35 @@ returns c =
     no-more-luts (map nameOf (take (a .k .bounds) (a .k .bound))) (a .u) (a .l .now) (c .if1 .taken)
 
 array-share-prefix-bound : tie.Need-array-share-prefix-bound
-array-share-prefix-bound c = omega (arith, c .before .before .before .pre .few-bound, bound-sized (c .before .before .before .args .k) (c .before .before .before .good .1 .0))
+array-share-prefix-bound c =
+    let start = c .before .before .before in
+    let good = c .before .before .before .good in
+    omega (arith, start .pre .few-bound, bound-sized (start .args .k) (good .1 .0))
 
 slice-aggregate-read-lut : tie.Need-slice-aggregate-read-lut
 slice-aggregate-read-lut c =
+    let start = c .before .before .before .before in
+    let good = c .before .before .before .before .good in
     let a = c .before .before .before .before .args in
-    sym (length-take-le (a .k .bounds) (a .k .bound) (omega (arith, c .before .before .before .before .pre .few-bound, bound-sized (a .k) (c .before .before .before .before .good .1 .0))))
+    sym (length-take-le (a .k .bounds) (a .k .bound) (omega (arith, start .pre .few-bound, bound-sized (a .k) (good .1 .0))))
 
 read-lut-requires : tie.Need-read-lut-requires
 read-lut-requires c κs =
+    let good = c .before .before .before .before .good in
+    let if1 = c .before .before .if1 in
     let a = c .before .before .before .before .args in
     let few = c .before .before .before .before .pre .few-bound in
-    let count = length-take-le (a .k .bounds) (a .k .bound) (omega (arith, bound-sized (a .k) (c .before .before .before .before .good .1 .0))) in
-    (omega arith, omega (arith, c .before .before .if1 .left))
+    let count = length-take-le (a .k .bounds) (a .k .bound) (omega (arith, bound-sized (a .k) (good .1 .0))) in
+    (omega arith, omega (arith, if1 .left))
 
 returns-2 : tie.Need-returns-2
 returns-2 c =
+    let good = c .before .before .before .before .before .good in
+    let if1 = c .before .before .before .if1 in
     let a = c .before .before .before .before .before .args in
     let few = c .before .before .before .before .before .pre .few-bound in
-    let count = length-take-le (a .k .bounds) (a .k .bound) (omega (arith, bound-sized (a .k) (c .before .before .before .before .before .good .1 .0))) in
-    one-more-lut (map nameOf (take (a .k .bounds) (a .k .bound))) (a .u) (a .l .now) (c .read-lut .result) _ _ (c .before .before .before .if1 .left) count (c .read-lut .ensures)
+    let count = length-take-le (a .k .bounds) (a .k .bound) (omega (arith, bound-sized (a .k) (good .1 .0))) in
+    one-more-lut (map nameOf (take (a .k .bounds) (a .k .bound))) (a .u) (a .l .now) (c .read-lut .result) _ _ (if1 .left) count (c .read-lut .ensures)
 
 pub lut-line-spec : {M : Type 1} → statement M
 lut-line-spec =

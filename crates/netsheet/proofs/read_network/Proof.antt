@@ -37,7 +37,11 @@ blank-requires : tie.Need-blank-requires Inv-loop μ-loop
 blank-requires c κs = search needs
 
 loop-holds : tie.Need-loop-holds Inv-loop μ-loop
-loop-holds c = walk-start (c .before .before .before .before .before .args .t .now) (c .before .names-of .result) (c .blank .result) (c .blank .ensures) (c .before .before .before .if1 .left) (c .before .before .if2 .left)
+loop-holds c =
+    let start = c .before .before .before .before .before in
+    let if1 = c .before .before .before .if1 in
+    let if2 = c .before .before .if2 in
+    walk-start (start .args .t .now) (c .before .names-of .result) (c .blank .result) (c .blank .ensures) (if1 .left) (if2 .left)
 
 line-end-requires : tie.Need-line-end-requires Inv-loop μ-loop
 line-end-requires c κs = c .before .loop .inv .inside
@@ -47,8 +51,11 @@ bad-line-requires-3 c κs = search needs
 
 returns-3 : tie.Need-returns-3 Inv-loop μ-loop
 returns-3 c =
+    let loop = c .before .before .before .before .loop in
+    let loop-test = c .before .before .before .loop-test in
+    let names-of = c .before .before .before .before .before .before .names-of in
     let end = c .before .before .line-end in
-    λ d h p o. walk-open (c .before .before .before .before .loop .inv) (end .result) (c .before .before .before .loop-test .taken) (end .ensures) (c .before .if3 .taken) (c .bad-line3 .result) (c .bad-line3 .ensures) d (c .before .before .before .before .before .before .names-of .ensures .right d h p) o
+    λ d h p o. walk-open (loop .inv) (end .result) (loop-test .taken) (end .ensures) (c .before .if3 .taken) (c .bad-line3 .result) (c .bad-line3 .ensures) d (names-of .ensures .right d h p) o
 
 sub-ask-line : tie.Need-sub-ask-line Inv-loop μ-loop
 sub-ask-line c = omega (arith, c .before .line-end .ensures .after-start)
@@ -61,17 +68,24 @@ part-ask-line-end c = omega (arith, c .before .line-end .ensures .inside)
 
 ask-line-requires : tie.Need-ask-line-requires Inv-loop μ-loop
 ask-line-requires c κs =
+    let names-of = c .before .before .before .before .before .before .names-of in
+    let loop-test = c .before .before .before .loop-test in
     let turn = c .before .before .before .before .loop in
     let end = c .before .before .line-end in
-    (c .before .before .before .before .before .before .names-of .ensures .counts, turn .inv .safe, walk-room (turn .inv) (end .result) (c .before .before .before .loop-test .taken) (end .ensures))
+    (names-of .ensures .counts, turn .inv .safe, walk-room (turn .inv) (end .result) (loop-test .taken) (end .ensures))
 
 bad-line-requires-4 : tie.Need-bad-line-requires-4 Inv-loop μ-loop
 bad-line-requires-4 c κs = search needs
 
 returns-4 : tie.Need-returns-4 Inv-loop μ-loop
 returns-4 c =
+    let loop = c .before .before .before .before .before .before .before .before .loop in
+    let loop-test = c .before .before .before .before .before .before .before .loop-test in
+    let if3 = c .before .before .before .before .before .if3 in
+    let ask-line = c .before .before .before .ask-line in
+    let names-of = c .before .before .before .before .before .before .before .before .before .before .names-of in
     let end = c .before .before .before .before .before .before .line-end in
-    λ d h p o. walk-bad (c .before .before .before .before .before .before .before .before .loop .inv) (end .result) (c .before .before .before .before .before .before .before .loop-test .taken) (end .ensures) (c .before .before .before .before .before .if3 .left) (c .before .before .before .ask-line .result) (c .before .before .before .ask-line .ensures .1) (not-true _ (c .before .if4 .taken)) (c .bad-line4 .result) (c .bad-line4 .ensures) d (c .before .before .before .before .before .before .before .before .before .before .names-of .ensures .right d h p) o
+    λ d h p o. walk-bad (loop .inv) (end .result) (loop-test .taken) (end .ensures) (if3 .left) (ask-line .result) (ask-line .ensures .1) (not-true _ (c .before .if4 .taken)) (c .bad-line4 .result) (c .bad-line4 .ensures) d (names-of .ensures .right d h p) o
 
 add-at : tie.Need-add-at Inv-loop μ-loop
 add-at c = omega (arith, c .before .before .before .before .before .line-end .ensures .inside)
@@ -82,18 +96,28 @@ add-n c =
     omega (arith, turn .inv .few, turn .inv .inside)
 
 loop-less : tie.Need-loop-less Inv-loop μ-loop
-loop-less c = omega (arith, c .before .before .before .before .before .line-end .ensures .after-start, c .before .before .before .before .before .before .loop-test .taken)
+loop-less c =
+    let line-end = c .before .before .before .before .before .line-end in
+    let loop-test = c .before .before .before .before .before .before .loop-test in
+    omega (arith, line-end .ensures .after-start, loop-test .taken)
 
 loop-again : tie.Need-loop-again Inv-loop μ-loop
 loop-again c =
+    let loop = c .before .before .before .before .before .before .before .loop in
+    let loop-test = c .before .before .before .before .before .before .loop-test in
+    let if3 = c .before .before .before .before .if3 in
+    let ask-line = c .before .before .ask-line in
     let end = c .before .before .before .before .before .line-end in
-    walk-more (c .before .before .before .before .before .before .before .loop .inv) (end .result) (c .before .before .before .before .before .before .loop-test .taken) (end .ensures) (c .before .before .before .before .if3 .left) (c .before .before .ask-line .result) (c .before .before .ask-line .ensures .1) (not-false _ (c .if4 .left)) (c .before .before .ask-line .ensures .0)
+    walk-more (loop .inv) (end .result) (loop-test .taken) (end .ensures) (if3 .left) (ask-line .result) (ask-line .ensures .1) (not-false _ (c .if4 .left)) (ask-line .ensures .0)
 
 ended-requires : tie.Need-ended-requires Inv-loop μ-loop
 ended-requires c κs = search needs
 
 returns-5 : tie.Need-returns-5 Inv-loop μ-loop
-returns-5 c = λ d h p o. walk-end (c .before .before .loop .inv) (c .before .loop-test .left) (c .ended .result) (c .ended .ensures) d (c .before .before .before .before .names-of .ensures .right d h p) o
+returns-5 c =
+    let loop = c .before .before .loop in
+    let names-of = c .before .before .before .before .names-of in
+    λ d h p o. walk-end (loop .inv) (c .before .loop-test .left) (c .ended .result) (c .ended .ensures) d (names-of .ensures .right d h p) o
 
 pub read-network-spec : {M : Type 1} → statement M
 read-network-spec =

@@ -19,14 +19,16 @@ byte-requires-2 c κs = search needs
 
 returns : tie.Need-returns
 returns c =
+    let byte = c .before .before .before .byte in
     let a = c .before .before .before .before .before .args in
-    let zero = rw (c .before .m .given .1) at (c .before .before .before .byte .ensures) in
+    let zero = rw (c .before .m .given .1) at (byte .ensures) in
     digit-zero (drop (a .c .at) (a .s .now)) zero
 
 returns-2 : tie.Need-returns-2
 returns-2 c =
+    let byte = c .before .before .before .byte in
     let a = c .before .before .before .before .before .args in
-    let zero = rw (c .before .enum-told .given .1) at (c .before .before .before .byte .ensures) in
+    let zero = rw (c .before .enum-told .given .1) at (byte .ensures) in
     digit-one (a .s .now) (drop (a .c .at) (a .s .now)) (c .byte2 .result) zero (c .byte2 .ensures)
 
 pub digit-at-spec : {M : Type 1} → statement M

@@ -27,8 +27,11 @@ enum-told c = search needs
 
 returns : tie.Need-returns Inv-loop μ-loop
 returns c =
-    let digit = rw (c .enum-told .given .1) at (c .before .before .digit-at .ensures) in
-    skipping-missing (c .before .before .before .before .loop .inv) (c .before .before .before .loop-test .taken) digit
+    let digit-at = c .before .before .digit-at in
+    let loop = c .before .before .before .before .loop in
+    let loop-test = c .before .before .before .loop-test in
+    let digit = rw (c .enum-told .given .1) at (digit-at .ensures) in
+    skipping-missing (loop .inv) (loop-test .taken) digit
 
 sub-left : tie.Need-sub-left Inv-loop μ-loop
 sub-left c = omega arith
@@ -38,8 +41,11 @@ loop-less c = omega arith
 
 loop-again : tie.Need-loop-again Inv-loop μ-loop
 loop-again c =
-    let digit = rw (c .before .m .given .1) at (c .before .before .before .digit-at .ensures) in
-    skipping-more (c .before .before .before .before .before .loop .inv) (c .before .before .before .before .loop-test .taken) digit
+    let digit-at = c .before .before .before .digit-at in
+    let loop = c .before .before .before .before .before .loop in
+    let loop-test = c .before .before .before .before .loop-test in
+    let digit = rw (c .before .m .given .1) at (digit-at .ensures) in
+    skipping-more (loop .inv) (loop-test .taken) digit
 
 returns-2 : tie.Need-returns-2 Inv-loop μ-loop
 returns-2 c = skipping-all (c .before .loop .inv) (c .loop-test .left)

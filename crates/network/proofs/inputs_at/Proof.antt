@@ -18,8 +18,9 @@ enum-told c = search needs
 
 returns : tie.Need-returns
 returns c =
+    let names-at = c .before .before .names-at in
     let a = c .before .before .before .before .before .args in
-    let items = rw (c .enum-told .given .1) at (c .before .before .names-at .ensures) in
+    let items = rw (c .enum-told .given .1) at (names-at .ensures) in
     inputs-no-names (a .first) (map nameOf (a .ns .now)) (drop (a .c .at) (a .s .now)) items
 
 slice-aggregate-text : tie.Need-slice-aggregate-text
@@ -27,13 +28,17 @@ slice-aggregate-text c = search needs
 
 text-requires : tie.Need-text-requires
 text-requires c κs =
-    let items = rw (c .before .before .m .given .1) at (c .before .before .before .before .names-at .ensures) in
+    let m = c .before .before .m in
+    let names-at = c .before .before .before .before .names-at in
+    let items = rw (m .given .1) at (names-at .ensures) in
     items .inside
 
 returns-2 : tie.Need-returns-2
 returns-2 c =
+    let m = c .before .before .before .m in
+    let names-at = c .before .before .before .before .before .names-at in
     let a = c .before .before .before .before .before .before .before .before .args in
-    let items = rw (c .before .before .before .m .given .1) at (c .before .before .before .before .before .names-at .ensures) in
+    let items = rw (m .given .1) at (names-at .ensures) in
     inputs-end (a .first) (map nameOf (a .ns .now)) (drop (a .c .at) (a .s .now)) items (c .text .result) (c .text .ensures)
 
 pub inputs-at-spec : {M : Type 1} → statement M

@@ -21,8 +21,9 @@ equal-requires c κs = search needs
 
 returns : tie.Need-returns
 returns c =
+    let start = c .before .before .before in
     let a = c .before .before .before .args in
-    c .equal .ensures ∙ ap (same (a .l .now)) (count-bytes (a .u) (c .before .before .before .pre))
+    c .equal .ensures ∙ ap (same (a .l .now)) (count-bytes (a .u) (start .pre))
 
 pub is-count-spec : {M : Type 1} → statement M
 is-count-spec = tie.close (tie.spec cast-t4 add-t5 slice-aggregate-equal equal-requires returns)

@@ -29,13 +29,16 @@ enum-told c = search needs
 
 returns-2 : tie.Need-returns-2
 returns-2 c =
+    let text = c .before .before .text in
+    let if1 = c .before .before .before .before .if1 in
     let a = c .before .before .before .before .before .before .args in
-    let gap = rw (c .enum-told .given .1) at (c .before .before .text .ensures) in
-    rw (c .before .before .before .before .if1 .left) (part-missing (eat (space ∷ []) (drop (a .c .at) (a .s .now))) (readGiven (nameOf (a .v))) gap)
+    let gap = rw (c .enum-told .given .1) at (text .ensures) in
+    rw (if1 .left) (part-missing (eat (space ∷ []) (drop (a .c .at) (a .s .now))) (readGiven (nameOf (a .v))) gap)
 
 name-at-requires-2 : tie.Need-name-at-requires-2
 name-at-requires-2 c κs =
-    let gap = rw (c .before .m .given .1) at (c .before .before .before .text .ensures) in
+    let text = c .before .before .before .text in
+    let gap = rw (c .before .m .given .1) at (text .ensures) in
     gap .inside
 
 returns-3 : tie.Need-returns-3

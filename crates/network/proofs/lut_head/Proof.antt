@@ -24,16 +24,19 @@ enum-told c = search needs
 
 returns : tie.Need-returns
 returns c =
+    let text = c .before .before .text in
     let a = c .before .before .before .before .before .before .before .args in
     let start = c .before .before .before .before .start in
-    let word = rw (c .enum-told .given .1, start .ensures) at (c .before .before .text .ensures) in
+    let word = rw (c .enum-told .given .1, start .ensures) at (text .ensures) in
     lut-no-word (a .l .now) (map nameOf (a .bs .now)) (a .i) word
 
 lut-at-requires : tie.Need-lut-at-requires
 lut-at-requires c κs =
+    let text = c .before .before .before .text in
+    let start2 = c .before .before .before .before .before .before .before .before in
     let start = c .before .before .before .before .before .start in
-    let word = rw (c .before .m .given .1, start .ensures) at (c .before .before .before .text .ensures) in
-    (word .inside, (c .before .before .before .before .before .before .before .before .pre))
+    let word = rw (c .before .m .given .1, start .ensures) at (text .ensures) in
+    (word .inside, (start2 .pre))
 
 enum-known-m-2 : tie.Need-enum-known-m-2
 enum-known-m-2 c = search needs
@@ -43,10 +46,13 @@ enum-told-2 c = search needs
 
 returns-2 : tie.Need-returns-2
 returns-2 c =
+    let m = c .before .before .before .before .m in
+    let text = c .before .before .before .before .before .before .text in
+    let lut-at = c .before .before .lut-at in
     let a = c .before .before .before .before .before .before .before .before .before .before .before .args in
     let start = c .before .before .before .before .before .before .before .before .start in
-    let word = rw (c .before .before .before .before .m .given .1, start .ensures) at (c .before .before .before .before .before .before .text .ensures) in
-    let number = rw (c .enum-told2 .given .1) at (c .before .before .lut-at .ensures) in
+    let word = rw (m .given .1, start .ensures) at (text .ensures) in
+    let number = rw (c .enum-told2 .given .1) at (lut-at .ensures) in
     lut-no-number (a .l .now) (map nameOf (a .bs .now)) (a .i) word number
 
 slice-aggregate-text-2 : tie.Need-slice-aggregate-text-2
@@ -54,7 +60,9 @@ slice-aggregate-text-2 c = search needs
 
 text-requires-2 : tie.Need-text-requires-2
 text-requires-2 c κs =
-    let number = rw (c .before .before .m2 .given .1) at (c .before .before .before .before .lut-at .ensures) in
+    let m2 = c .before .before .m2 in
+    let lut-at = c .before .before .before .before .lut-at in
+    let number = rw (m2 .given .1) at (lut-at .ensures) in
     number .inside
 
 enum-known-m-3 : tie.Need-enum-known-m-3
@@ -81,7 +89,8 @@ returns-3 c =
 
 inputs-at-requires : tie.Need-inputs-at-requires
 inputs-at-requires c κs =
-    let list = rw (c .before .m3 .given .1) at (c .before .before .before .text2 .ensures) in
+    let text2 = c .before .before .before .text2 in
+    let list = rw (c .before .m3 .given .1) at (text2 .ensures) in
     list .inside
 
 returns-4 : tie.Need-returns-4

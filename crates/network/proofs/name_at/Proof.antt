@@ -18,8 +18,9 @@ enum-told c = search needs
 
 returns : tie.Need-returns
 returns c =
+    let name2 = c .before .before .name in
     let a = c .before .before .before .before .args in
-    let name = rw (c .enum-told .given .1) at (c .before .before .name .ensures) in
+    let name = rw (c .enum-told .given .1) at (name2 .ensures) in
     given-no-name (nameOf (a .v)) (drop (a .c .at) (a .s .now)) name
 
 same-name-requires : tie.Need-same-name-requires
@@ -27,14 +28,18 @@ same-name-requires c κs = search needs
 
 returns-2 : tie.Need-returns-2
 returns-2 c =
+    let r = c .before .before .before .r in
+    let name2 = c .before .before .before .before .before .name in
     let a = c .before .before .before .before .before .before .before .args in
-    let name = rw (c .before .before .before .r .given .1) at (c .before .before .before .before .before .name .ensures) in
+    let name = rw (r .given .1) at (name2 .ensures) in
     given-same (nameOf (a .v)) (drop (a .c .at) (a .s .now)) name (sym (c .before .same-name .ensures) ∙ c .if1 .taken)
 
 returns-3 : tie.Need-returns-3
 returns-3 c =
+    let r = c .before .before .before .r in
+    let name2 = c .before .before .before .before .before .name in
     let a = c .before .before .before .before .before .before .before .args in
-    let name = rw (c .before .before .before .r .given .1) at (c .before .before .before .before .before .name .ensures) in
+    let name = rw (r .given .1) at (name2 .ensures) in
     given-other (nameOf (a .v)) (drop (a .c .at) (a .s .now)) name (sym (c .before .same-name .ensures) ∙ c .if1 .left)
 
 pub name-at-spec : {M : Type 1} → statement M

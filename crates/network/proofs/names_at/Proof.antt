@@ -16,8 +16,9 @@ abbrev μ-loop : tie.MeasureT-loop
 
 loop-holds : tie.Need-loop-holds Inv-loop μ-loop
 loop-holds c =
+    let start = c .before .before in
     let a = c .before .before .args in
-    listed-none (a .s .now) (a .ns .now) (a .first) (a .c .at) (c .before .before .pre)
+    listed-none (a .s .now) (a .ns .now) (a .first) (a .c .at) (start .pre)
 
 mul-led-name : tie.Need-mul-led-name Inv-loop μ-loop
 mul-led-name c = search needs
@@ -36,8 +37,11 @@ enum-told c = search needs
 
 returns : tie.Need-returns Inv-loop μ-loop
 returns c =
-    let item = rw (c .enum-told .given .1) at (c .before .before .led-name .ensures) in
-    listed-missing (c .before .before .before .before .before .loop .inv) (c .before .before .before .before .loop-test .taken) item
+    let led-name = c .before .before .led-name in
+    let loop = c .before .before .before .before .before .loop in
+    let loop-test = c .before .before .before .before .loop-test in
+    let item = rw (c .enum-told .given .1) at (led-name .ensures) in
+    listed-missing (loop .inv) (loop-test .taken) item
 
 add-i : tie.Need-add-i Inv-loop μ-loop
 add-i c = omega arith
@@ -47,8 +51,11 @@ loop-less c = omega arith
 
 loop-again : tie.Need-loop-again Inv-loop μ-loop
 loop-again c =
-    let item = rw (c .before .m .given .1) at (c .before .before .before .led-name .ensures) in
-    listed-more (c .before .before .before .before .before .before .loop .inv) (c .before .before .before .before .before .loop-test .taken) item
+    let led-name = c .before .before .before .led-name in
+    let loop = c .before .before .before .before .before .before .loop in
+    let loop-test = c .before .before .before .before .before .loop-test in
+    let item = rw (c .before .m .given .1) at (led-name .ensures) in
+    listed-more (loop .inv) (loop-test .taken) item
 
 returns-2 : tie.Need-returns-2 Inv-loop μ-loop
 returns-2 c = listed-all (c .before .loop .inv) _ refl (c .loop-test .left)

@@ -23,15 +23,17 @@ enum-told c = search needs
 
 returns : tie.Need-returns
 returns c =
+    let text = c .before .before .text in
     let a = c .before .before .before .before .before .before .args in
     let start = c .before .before .before .before .start in
-    let word = rw (c .enum-told .given .1, start .ensures) at (c .before .before .text .ensures) in
+    let word = rw (c .enum-told .given .1, start .ensures) at (text .ensures) in
     node-no-word (a .l .now) (nameOf (a .name)) word
 
 name-at-requires : tie.Need-name-at-requires
 name-at-requires c κs =
+    let text = c .before .before .before .text in
     let start = c .before .before .before .before .before .start in
-    let word = rw (c .before .m .given .1, start .ensures) at (c .before .before .before .text .ensures) in
+    let word = rw (c .before .m .given .1, start .ensures) at (text .ensures) in
     word .inside
 
 enum-known-m-2 : tie.Need-enum-known-m-2
@@ -42,10 +44,13 @@ enum-told-2 c = search needs
 
 returns-2 : tie.Need-returns-2
 returns-2 c =
+    let m = c .before .before .before .before .m in
+    let text = c .before .before .before .before .before .before .text in
+    let name-at = c .before .before .name-at in
     let a = c .before .before .before .before .before .before .before .before .before .before .args in
     let start = c .before .before .before .before .before .before .before .before .start in
-    let word = rw (c .before .before .before .before .m .given .1, start .ensures) at (c .before .before .before .before .before .before .text .ensures) in
-    let name = rw (c .enum-told2 .given .1) at (c .before .before .name-at .ensures) in
+    let word = rw (m .given .1, start .ensures) at (text .ensures) in
+    let name = rw (c .enum-told2 .given .1) at (name-at .ensures) in
     node-no-name (a .l .now) (nameOf (a .name)) word name
 
 slice-aggregate-text-2 : tie.Need-slice-aggregate-text-2
@@ -53,7 +58,9 @@ slice-aggregate-text-2 c = search needs
 
 text-requires-2 : tie.Need-text-requires-2
 text-requires-2 c κs =
-    let name = rw (c .before .before .m2 .given .1) at (c .before .before .before .before .name-at .ensures) in
+    let m2 = c .before .before .m2 in
+    let name-at = c .before .before .before .before .name-at in
+    let name = rw (m2 .given .1) at (name-at .ensures) in
     name .inside
 
 returns-3 : tie.Need-returns-3

@@ -19,8 +19,9 @@ enum-told c = search needs
 
 returns : tie.Need-returns
 returns c =
+    let lut-head = c .before .before .lut-head in
     let a = c .before .before .before .before .before .args in
-    let head = rw (c .enum-told .given .1) at (c .before .before .lut-head .ensures) in
+    let head = rw (c .enum-told .given .1) at (lut-head .ensures) in
     lut-no-head (a .l .now) (map nameOf (a .bs .now)) (a .i) head
 
 power-requires : tie.Need-power-requires
@@ -28,7 +29,9 @@ power-requires c κs = search needs
 
 table-at-requires : tie.Need-table-at-requires
 table-at-requires c κs =
-    let head = rw (c .before .before .m .given .1) at (c .before .before .before .before .lut-head .ensures) in
+    let m = c .before .before .m in
+    let lut-head = c .before .before .before .before .lut-head in
+    let head = rw (m .given .1) at (lut-head .ensures) in
     head .inside
 
 returns-2 : tie.Need-returns-2

@@ -20,14 +20,17 @@ enum-told c = search needs
 
 returns : tie.Need-returns
 returns c =
+    let node-head = c .before .before .node-head in
     let a = c .before .before .before .before .before .args in
-    let head = rw (c .enum-told .given .1) at (c .before .before .node-head .ensures) in
+    let head = rw (c .enum-told .given .1) at (node-head .ensures) in
     node-no-head (a .l .now) (nameOf (a .name)) (map nameOf (a .fs .now)) (a .u) head
 
 reads-at-requires : tie.Need-reads-at-requires
 reads-at-requires c κs =
-    let head = rw (c .before .m .given .1) at (c .before .before .before .node-head .ensures) in
-    (head .inside, c .before .before .before .before .before .before .pre .1)
+    let node-head = c .before .before .before .node-head in
+    let start = c .before .before .before .before .before .before in
+    let head = rw (c .before .m .given .1) at (node-head .ensures) in
+    (head .inside, start .pre .1)
 
 inputs-at-requires : tie.Need-inputs-at-requires
 inputs-at-requires c κs = c .before .before .reads-at .ensures .inside
@@ -40,25 +43,32 @@ enum-told-2 c = search needs
 
 returns-2 : tie.Need-returns-2
 returns-2 c =
+    let m = c .before .before .before .before .before .before .before .m in
+    let node-head = c .before .before .before .before .before .before .before .before .before .node-head in
+    let inputs-at = c .before .before .inputs-at in
     let a = c .before .before .before .before .before .before .before .before .before .before .before .before .args in
     let tables = c .before .before .before .before .before .reads-at in
-    let head = rw (c .before .before .before .before .before .before .before .m .given .1) at (c .before .before .before .before .before .before .before .before .before .node-head .ensures) in
-    let inputs = rw (c .enum-told2 .given .1) at (c .before .before .inputs-at .ensures) in
+    let head = rw (m .given .1) at (node-head .ensures) in
+    let inputs = rw (c .enum-told2 .given .1) at (inputs-at .ensures) in
     node-no-inputs (a .l .now) (nameOf (a .name)) (map nameOf (a .fs .now)) (a .u) head (tables .result) (tables .ensures) inputs
 
 add-power : tie.Need-add-power
 add-power c =
+    let reads-at = c .before .before .before .before .before .before .before .reads-at in
     let pre = c .before .before .before .before .before .before .before .before .before .before .before .before .before .before .pre in
-    omega (arith, c .before .before .before .before .before .before .before .reads-at .ensures .few, pre .0, pre .1)
+    omega (arith, reads-at .ensures .few, pre .0, pre .1)
 
 power-requires : tie.Need-power-requires
 power-requires c κs =
+    let reads-at = c .before .before .before .before .before .before .before .reads-at in
     let pre = c .before .before .before .before .before .before .before .before .before .before .before .before .before .before .pre in
-    omega (arith, c .before .before .before .before .before .before .before .reads-at .ensures .few, pre .0, pre .1)
+    omega (arith, reads-at .ensures .few, pre .0, pre .1)
 
 table-at-requires : tie.Need-table-at-requires
 table-at-requires c κs =
-    let inputs = rw (c .before .before .before .m2 .given .1) at (c .before .before .before .before .before .inputs-at .ensures) in
+    let m2 = c .before .before .before .m2 in
+    let inputs-at = c .before .before .before .before .before .inputs-at in
+    let inputs = rw (m2 .given .1) at (inputs-at .ensures) in
     inputs .inside
 
 enum-known-p : tie.Need-enum-known-p

@@ -39,7 +39,10 @@ add-mask c =
     record { fits = omega (arith, shifted-byte (turn .i) (omega (arith, pre .1)), mask-fits (turn .i) (turn .mask) (omega (arith, pre .1)) (turn .inv .small)) }
 
 add-count : tie.Need-add-count Inv-loop μ-loop
-add-count c = record { fits = omega (arith, c .before .before .before .before .before .loop .inv .few, c .before .before .before .before .before .before .before .pre .1) }
+add-count c =
+    let loop = c .before .before .before .before .before .loop in
+    let start = c .before .before .before .before .before .before .before in
+    record { fits = omega (arith, loop .inv .few, start .pre .1) }
 
 enum-told : tie.Need-enum-told Inv-loop μ-loop
 enum-told c = search needs
@@ -52,15 +55,16 @@ loop-less c = omega arith
 
 loop-again : tie.Need-loop-again Inv-loop μ-loop
 loop-again c =
+    let loop = c .before .before .before .loop in
     let below = c .before .before .before .before .before .pre .1 in
     let turn = c .before .before .loop-test .taken in
     ⊎-elim
     (λ w.
     let there = rw (w .1 .given .1) at (c .before .lut-at .ensures) in
-    rw (w .3, w .4, w .5, shifted-byte (c .before .before .before .loop .i) (omega arith)) (gathered-with (c .before .before .before .loop .inv) turn there))
+    rw (w .3, w .4, w .5, shifted-byte (loop .i) (omega arith)) (gathered-with (loop .inv) turn there))
     (λ w.
     let missing = rw (w .1 .given .1) at (c .before .lut-at .ensures) in
-    rw (w .2, w .3, w .4) (gathered-without (c .before .before .before .loop .inv) turn missing))
+    rw (w .2, w .3, w .4) (gathered-without (loop .inv) turn missing))
     (c .match .came)
 
 returns : tie.Need-returns Inv-loop μ-loop

@@ -37,6 +37,7 @@ write-requires c κs = c .before .before .before .before .before .before .before
 
 returns : tie.Need-returns Inv-loop μ-loop
 returns c =
+    let loop-test = c .before .before .before .loop-test in
     let start = c .before .before .before .before .before .before .before .before .before in
     let a = start .args in
     let p = a .p in
@@ -44,7 +45,7 @@ returns c =
     let o = c .before .before .before .before .loop .o in
     let b = written-large _ _ _ _ _ _ _ (c .if1 .left) (c .before .write .ensures) in
     λ base spots dom kn val k. crowded (a .cl .now) base (p .ms) (p .caps) spots (p .vertices) (p .outputs) o kn val (a .codes) dom (numbers .result) (b .0)
-    (c .before .before .before .loop-test .taken) (b .1) (start .pre .4) (b .2) (numbers .ensures)
+    (loop-test .taken) (b .1) (start .pre .4) (b .2) (numbers .ensures)
 
 add-o : tie.Need-add-o Inv-loop μ-loop
 add-o c = search needs
@@ -54,6 +55,7 @@ loop-less c = search needs
 
 loop-again : tie.Need-loop-again Inv-loop μ-loop
 loop-again c =
+    let write = c .before .before .write in
     let start = c .before .before .before .before .before .before .before .before .before .before in
     let a = start .args in
     let p = a .p in
@@ -62,7 +64,7 @@ loop-again c =
     let h = c .before .before .before .before .loop-test .taken in (
       omega arith,
       finished-more (a .cl .now) (p .ms) (p .ps) (p .caps) (p .vertices) (p .outputs) (start .pre .3) (loop .o) (a .codes) (numbers .result) (loop .r) _ h (numbers .ensures)
-          (written-whole _ _ _ _ _ _ _ (c .before .if1 .taken) (c .before .before .write .ensures)) (loop .inv .1),
+          (written-whole _ _ _ _ _ _ _ (c .before .if1 .taken) (write .ensures)) (loop .inv .1),
     )
 
 returns-2 : tie.Need-returns-2 Inv-loop μ-loop

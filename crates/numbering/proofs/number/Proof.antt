@@ -26,7 +26,9 @@ label-requires : tie.Need-label-requires Inv-loop μ-loop
 label-requires c κs = let z = c .before .pre .0 .long in (omega arith, c .before .pre .1, c .before .pre .2)
 
 part-requires : tie.Need-part-requires Inv-loop μ-loop
-part-requires c κs = (c .before .before .pre .0, c .before .before .pre .1, c .before .before .pre .2)
+part-requires c κs =
+    let start = c .before .before in
+    (start .pre .0, start .pre .1, start .pre .2)
 
 loop-holds : tie.Need-loop-holds Inv-loop μ-loop
 loop-holds c =
@@ -58,12 +60,13 @@ label-requires-2 c κs =
 
 returns : tie.Need-returns Inv-loop μ-loop
 returns c =
+    let if1 = c .before .before .if1 in
     let together = c .before .before .before .together in
     let loop-test = c .before .before .before .before .loop-test in
     let loop = c .before .before .before .before .before .loop in
     let args = c .before .before .before .before .before .before .before .before .before .args in
     let pre = c .before .before .before .before .before .before .before .before .before .pre in
-    let t = together .ensures .0 (c .before .before .if1 .taken) in
+    let t = together .ensures .0 (if1 .taken) in
     number-old (args .cl .now) (args .t4) (args .o) (args .mask) (args .x) (args .t5) (loop .y) (loop-test .taken) (both-same (t .0 ∙ loop .inv .4) (t .1 ∙ loop .inv .1))
     (sym (c .before .label2 .ensures) ∙ c .if2 .taken ∙ loop .inv .2) (pre .3)
 

@@ -48,7 +48,10 @@ zeros-and-ones-requires : tie.Need-zeros-and-ones-requires Inv-loop μ-loop
 zeros-and-ones-requires c κs = search needs
 
 add-result : tie.Need-add-result Inv-loop μ-loop
-add-result c = omega (arith, room (c .before .before .before), c .before .before .before .before .loop .inv .cubes-from .apart)
+add-result c =
+    let at = c .before .before .before in
+    let loop = c .before .before .before .before .loop in
+    omega (arith, room (at), loop .inv .cubes-from .apart)
 
 returns : tie.Need-returns Inv-loop μ-loop
 returns c =

@@ -25,7 +25,8 @@ single-requires c κs = let p = c .before .before .pre .4 in omega arith
 
 cast-end : tie.Need-cast-end Inv-loop μ-loop
 cast-end c =
-    let few : 2 ^ c .before .before .before .args .u ≤ 2 ^ 6 = pow-mono (c .before .before .before .pre .4) in
+    let start = c .before .before .before in
+    let few : 2 ^ start .args .u ≤ 2 ^ 6 = pow-mono (start .pre .4) in
     let e = c .single .ensures in
     record { fits = omega arith }
 
@@ -42,8 +43,9 @@ suits-requires c κs = let p = c .before .before .before .before .before .before
 
 add-f : tie.Need-add-f Inv-loop μ-loop
 add-f c =
+    let start = c .before .before .before .before .before .before .before in
     let a = c .before .before .before .before .before .before .before .args in
-    let few : 2 ^ a .u ≤ 2 ^ 6 = pow-mono (c .before .before .before .before .before .before .before .pre .4) in
+    let few : 2 ^ a .u ≤ 2 ^ 6 = pow-mono (start .pre .4) in
     let e = c .before .before .before .before .single .ensures in
     let h = c .before .before .loop-test .taken in
     omega arith
@@ -53,11 +55,12 @@ loop-less c = let h = c .before .before .loop-test .taken in search needs
 
 loop-again : tie.Need-loop-again Inv-loop μ-loop
 loop-again c =
+    let single = c .before .before .before .before .single in
     let a = c .before .before .before .before .before .before .before .args in
     let l = c .before .before .before .loop in
     let h = c .before .before .loop-test .taken in
     let first = c .before .sooner .ensures in
-    let low : l .f < 2 ^ a .u = subst (λ (n : ℕ). l .f < n) (c .before .before .before .before .single .ensures) h in
+    let low : l .f < 2 ^ a .u = subst (λ (n : ℕ). l .f < n) (single .ensures) h in
     let B : ℕ → Type 0 = Best (a .cl .now) (a .codes .now) (a .v) (a .o) (a .u) (a .budget) (l .f + 1) in (
       omega arith,
       ⊎-elim

@@ -40,10 +40,11 @@ array-read-first-row c =
 
 first-row-requires : tie.Need-first-row-requires Inv-loop μ-loop
 first-row-requires c κs =
+    let loop = c .before .before .loop in
     let p = c .before .before .before .before .before .pre in
     let outs = p .2 in
     let h = c .before .loop-test .taken in
-    (p .0, c .before .before .loop .inv .1, p .1, omega arith, p .3)
+    (p .0, loop .inv .1, p .1, omega arith, p .3)
 
 array-write-r : tie.Need-array-write-r Inv-loop μ-loop
 array-write-r c =

@@ -26,7 +26,9 @@ class-part-requires c κs =
     (a .pre .0, p, omega arith)
 
 returns : tie.Need-returns
-returns c = (c .class-part .ensures .0 ∙ ap (partAt (c .before .before .before .args .cl .now) (c .before .before .before .args .o)) (c .before .label .ensures), c .class-part .ensures .1)
+returns c =
+    let start = c .before .before .before in
+    (c .class-part .ensures .0 ∙ ap (partAt (start .args .cl .now) (start .args .o)) (c .before .label .ensures), c .class-part .ensures .1)
 
 pub part-spec : {M : Type 1} → statement M
 part-spec = tie.close (tie.spec label-requires cast-l class-part-requires returns)

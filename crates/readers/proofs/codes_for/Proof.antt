@@ -48,11 +48,13 @@ written-requires c κs = c .before .before .before .before .before .before .befo
 
 returns-3 : tie.Need-returns-3
 returns-3 c =
+    let start = c .before .before .before .before .before .before .before .before in
+    let if2 = c .before .before .if2 in
     let a = c .before .before .before .before .before .before .before .before .args in
     let k = c .before .before .before .before .before .before .asked in
     let s = c .before .before .before .search in
     let written = decided-written (a .cl .now) (a .v) (a .j) (a .rows) (a .kn) (a .val) (s .result .codes) (c .written .result)
-    (c .before .before .before .before .before .before .before .before .pre .3) (k .result) (c .before .before .if2 .left) (k .ensures) (c .written .ensures) in
+    (start .pre .3) (k .result) (if2 .left) (k .ensures) (c .written .ensures) in
     record { sure = λ e. written (s .result .ok) (s .ensures .sure e); never = s .ensures .never }
 
 pub codes-for-spec : {M : Type 1} → statement M

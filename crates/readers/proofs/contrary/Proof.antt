@@ -25,8 +25,9 @@ in-set-requires-2 c κs = search needs
 
 returns-3 : tie.Need-returns-3
 returns-3 c =
+    let in-set = c .before .before .in-set in
     let some = c .before .before .before .if1 .left in
-    let known = sym (c .before .before .in-set .ensures) ∙ not-false _ (c .before .if2 .left) in
+    let known = sym (in-set .ensures) ∙ not-false _ (c .before .if2 .left) in
     let d = c .in-set2 .ensures in
     (λ t. (omega arith, known, sym d ∙ t), λ t h k. sym d ∙ t)
 

@@ -21,7 +21,9 @@ loop-holds : tie.Need-loop-holds Inv-loop μ-loop
 loop-holds c = (omega arith, grouping-start (c .args .rows) (c .args .sh) (c .args .j))
 
 twins-requires : tie.Need-twins-requires Inv-loop μ-loop
-twins-requires c κs = let h = c .loop-test .taken in (c .before .before .pre .0, h)
+twins-requires c κs =
+    let start = c .before .before in
+    let h = c .loop-test .taken in (start .pre .0, h)
 
 useful-requires : tie.Need-useful-requires Inv-loop μ-loop
 useful-requires c κs = c .before .before .before .before .pre .0

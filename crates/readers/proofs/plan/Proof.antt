@@ -54,6 +54,7 @@ loop-less c = search needs
 
 loop-again : tie.Need-loop-again Inv-loop μ-loop
 loop-again c =
+    let digits = c .before .before .before .digits in
     let start = c .before .before .before .before .before .before in
     let a = start .args in
     let z = start .pre in
@@ -63,7 +64,7 @@ loop-again c =
     let spot = c .power2 in (
       omega arith,
       planned-more (a .t3) (a .sh) (l .o) (l .ms) (l .ps) (l .caps) (l .spots) _ _ (cap .result) (spot .result) (omega arith) refl refl
-          (cap .ensures .0 ∙ ap (λ (z : ℕ). 2 ^ z) (c .before .before .before .digits .ensures .0))
+          (cap .ensures .0 ∙ ap (λ (z : ℕ). 2 ^ z) (digits .ensures .0))
           (spot .ensures .0 ∙ ap (λ (z : ℕ). 2 ^ z) (c .before .digits2 .ensures .0)) (l .inv .1),
     )
 

@@ -27,7 +27,9 @@ plan-requires : tie.Need-plan-requires Inv-loop μ-loop
 plan-requires c κs = c .before .before .pre .2
 
 bases-requires : tie.Need-bases-requires Inv-loop μ-loop
-bases-requires c κs = (c .before .before .before .before .pre .0, c .before .before .before .before .pre .1, c .before .before .before .before .pre .2)
+bases-requires c κs =
+    let start = c .before .before .before .before in
+    (start .pre .0, start .pre .1, start .pre .2)
 
 loop-holds : tie.Need-loop-holds Inv-loop μ-loop
 loop-holds c = omega arith
@@ -40,20 +42,26 @@ slice-aggregate-total-2 c = search needs
 
 total-requires : tie.Need-total-requires Inv-loop μ-loop
 total-requires c κs =
+    let start = c .before .before .before .before .before .before .before .before .before in
+    let bases = c .before .before .before .before .bases in
     let h = c .before .before .loop-test .taken in
     let z = c .before .before .before .before .before .before .before .before .before .pre .2 in
-    (c .before .before .before .before .before .before .before .before .before .pre .0, c .before .before .before .before .bases .ensures .long, omega arith, search needs)
+    (start .pre .0, bases .ensures .long, omega arith, search needs)
 
 array-read-if1 : tie.Need-array-read-if1 Inv-loop μ-loop
 array-read-if1 c = let h = c .before .before .before .loop-test .taken in let z = c .before .before .before .before .before .before .before .before .before .before .pre .2 in search needs
 
 cast-if1 : tie.Need-cast-if1 Inv-loop μ-loop
 cast-if1 c =
+    let loop = c .before .before .before .before .loop in
     let plan = c .before .before .before .before .before .before .before .plan in
-    elem-fits-field w8 w64 (plan .result .spots) _ (c .before .before .before .before .loop .o) (plan .ok .1 .1 .1 .1 .1 .0 .1 .1) tt
+    elem-fits-field w8 w64 (plan .result .spots) _ (loop .o) (plan .ok .1 .1 .1 .1 .1 .0 .1 .1) tt
 
 returns : tie.Need-returns Inv-loop μ-loop
-returns c = λ e kn val.
+returns c =
+    let loop = c .before .before .before .before .before .loop in
+    let loop-test = c .before .before .before .before .loop-test in
+    λ e kn val.
     let a = c .before .before .before .before .before .before .before .before .before .before .before .args in
     let p = c .before .before .before .before .before .before .before .before .before .before .before .pre in
     let sh = c .before .before .before .before .before .before .before .before .before .shared in
@@ -61,7 +69,7 @@ returns c = λ e kn val.
     let bases = c .before .before .before .before .before .before .bases in
     let bounds = bounds-of (a .cl .now) (a .rows) (sh .result) (a .v) (a .j) _ _ _ _ (bases .result) (p .3) (sh .ensures) (plan .ensures .0) (bases .ensures) in
     decided-crowded (a .cl .now) (bases .result) (a .rows) (sh .result) (a .v) (a .j) _ _ _ _ (p .1) (p .3) (sh .ensures) (plan .ensures .0) bounds
-    (c .before .before .before .before .before .loop .o) (c .before .total .ensures .0) kn val (a .rows) (c .before .before .before .before .loop-test .taken)
+    (loop .o) (c .before .total .ensures .0) kn val (a .rows) (loop-test .taken)
     (let e = c .before .total .ensures .1 in let h = c .if1 .taken in omega arith)
 
 add-o : tie.Need-add-o Inv-loop μ-loop

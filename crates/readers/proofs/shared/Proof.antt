@@ -27,9 +27,10 @@ loop-less c = search needs
 
 loop-again : tie.Need-loop-again Inv-loop μ-loop
 loop-again c =
+    let start = c .before .before in
     let l = c .before .loop in
     let h = c .loop-test .taken in
-    (omega arith, seen-more (c .before .before .args .t1) (l .o) (l .once) (l .many) (l .inv .1))
+    (omega arith, seen-more (start .args .t1) (l .o) (l .once) (l .many) (l .inv .1))
 
 returns : tie.Need-returns Inv-loop μ-loop
 returns c =

@@ -19,7 +19,9 @@ loop-holds : tie.Need-loop-holds Inv-loop μ-loop
 loop-holds c = search needs
 
 read-by-requires-2 : tie.Need-read-by-requires-2 Inv-loop μ-loop
-read-by-requires-2 c κs = let h = c .loop-test .taken in (c .before .before .before .pre .0, h)
+read-by-requires-2 c κs =
+    let start = c .before .before .before in
+    let h = c .loop-test .taken in (start .pre .0, h)
 
 add-k : tie.Need-add-k Inv-loop μ-loop
 add-k c = search needs

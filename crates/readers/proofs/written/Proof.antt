@@ -48,13 +48,14 @@ loop-less c = search needs
 
 loop-again : tie.Need-loop-again Inv-loop μ-loop
 loop-again c =
+    let in-set = c .before .before .in-set in
     let a = c .before .before .before .before .before .args in
     let few = c .before .before .before .before .before .pre in
     let h = c .before .before .before .loop-test .taken in
     let l = c .before .before .before .before .loop in (
       omega arith,
-      wrote-more (a .kn) (a .val) (a .codes) (l .x) (l .r) (c .with-digit .result) (c .before .before .in-set .result) (c .before .in-set2 .result) (omega arith)
-          (c .before .before .in-set .ensures) (c .before .in-set2 .ensures) (c .with-digit .ensures) (l .inv .1),
+      wrote-more (a .kn) (a .val) (a .codes) (l .x) (l .r) (c .with-digit .result) (in-set .result) (c .before .in-set2 .result) (omega arith)
+          (in-set .ensures) (c .before .in-set2 .ensures) (c .with-digit .ensures) (l .inv .1),
     )
 
 returns : tie.Need-returns Inv-loop μ-loop

@@ -50,6 +50,7 @@ wrapping-add-u64-requires c κs = search needs
 
 same-length-2 : tie.Need-same-length-2
 same-length-2 c =
+    let if2 = c .before .before .if2 in
     let start = c .before .before .before .before .before .before .before .before .before .before .before in
     let a = start .args in
     let p = a .p in
@@ -63,11 +64,12 @@ same-length-2 c =
     let bad = lost (not-true _ (w .2 .taken)) (k .ensures .sure (not-true _ (w .4 .taken))) in
     subst H (sym (w .9)) (w .6 .ensures (a .cl .now) (a .given .now) (p .kn) (p .val) (p .vertices) (λ e. bad) h))
     (⊎-elim (λ w. subst H (sym (w .5)) h) (⊎-elim (λ w. subst H (sym (w .3)) h) (λ w. subst H (sym (w .1)) h)))
-    (c .before .before .if2 .came) in
+    (if2 .came) in
     kept .long ∙ sym (h .long)
 
 returns-2 : tie.Need-returns-2
 returns-2 c =
+    let if2 = c .before .before .if2 in
     let start = c .before .before .before .before .before .before .before .before .before .before .before in
     let a = start .args in
     let p = a .p in
@@ -81,7 +83,7 @@ returns-2 c =
     let bad = lost (not-true _ (w .2 .taken)) (k .ensures .sure (not-true _ (w .4 .taken))) in
     subst H (sym (w .9)) (w .6 .ensures (a .cl .now) (a .given .now) (p .kn) (p .val) (p .vertices) (λ e. bad) h))
     (⊎-elim (λ w. subst H (sym (w .5)) h) (⊎-elim (λ w. subst H (sym (w .3)) h) (λ w. subst H (sym (w .1)) h)))
-    (c .before .before .if2 .came) in
+    (if2 .came) in
     (refl, k .ensures, kept)
 
 pub ask-all-spec : {M : Type 1} → statement M

@@ -29,10 +29,11 @@ loop-holds c = let e = c .numbers .ensures in (e .0, e .1, omega arith, omega ar
 
 row-of-requires : tie.Need-row-of-requires Inv-loop μ-loop
 row-of-requires c κs =
+    let numbers = c .before .before .numbers in
     let p = c .before .before .before .before .before .before .args .p in
     let q = c .before .before .before .before .before .before .pre in
     let l = c .before .loop in
-    (q .4, number-room (p .cells) (p .tables) (l .r) (c .before .before .numbers .result) (q .5) (l .inv .0) (c .loop-test .taken))
+    (q .4, number-room (p .cells) (p .tables) (l .r) (numbers .result) (q .5) (l .inv .0) (c .loop-test .taken))
 
 counts-requires : tie.Need-counts-requires Inv-loop μ-loop
 counts-requires c κs = search needs

@@ -23,7 +23,9 @@ abbrev μ-loop : tie.MeasureT-loop
 μ-loop cl given p done same budgets m best₀ least₀ o₀ best least o = m - o
 
 loop-holds : tie.Need-loop-holds Inv-loop μ-loop
-loop-holds c = (omega arith, c .before .before .before .pre .3, next-start (c .before .before .before .args .done))
+loop-holds c =
+    let start = c .before .before .before in
+    (omega arith, start .pre .3, next-start (start .args .done))
 
 cast-in-set : tie.Need-cast-in-set Inv-loop μ-loop
 cast-in-set c = let i = c .before .loop .inv in let h = c .loop-test .taken in let r = i .1 in search needs
@@ -75,11 +77,12 @@ loop-again c =
 
 returns : tie.Need-returns Inv-loop μ-loop
 returns c =
+    let start = c .before .before .before .before .before in
     let l = c .before .loop in
     let i = l .inv in
     let a = i .0 in
     let h = c .loop-test .left in
-    subst (λ (m : ℕ). Next m (c .before .before .before .before .before .args .done) (l .best)) (let e : l .o ≡ c .before .before .before .before .before .args .p .outputs = omega arith in e) (i .2)
+    subst (λ (m : ℕ). Next m (start .args .done) (l .best)) (let e : l .o ≡ start .args .p .outputs = omega arith in e) (i .2)
 
 pub next-spec : {M : Type 1} → statement M
 next-spec =

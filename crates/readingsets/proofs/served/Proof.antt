@@ -55,13 +55,14 @@ none-left-requires c κs = let q = c .before .before .before .before .before .be
 
 returns-2 : tie.Need-returns-2 Inv-loop μ-loop
 returns-2 c =
+    let if2 = c .before .before .before .if2 in
     let a = c .before .before .before .before .before .before .before .before .before .before .before .before .before .before .args in
     let p = a .p in
     let l = c .before .before .before .before .before .before .before .loop in
     let e = c .before .before .before .before .before .before .before .before .before .before .numbers in
     let row = c .before .before .before .before .before .row-of in
     let g = c .before .before .given-of in
-    let full = c .before .before .before .before .suits .ensures .right (c .before .before .before .if2 .taken) in
+    let full = c .before .before .before .before .suits .ensures .right (if2 .taken) in
     served-here (a .cl .now) (a .given .now) (p .vertices) (p .cells) (p .tables) (a .n) (a .want) (l .r) (row .result) (g .result)
     (row .ensures) (g .ensures .0) full (c .before .none-left .ensures .0 (c .if3 .taken))
 

@@ -59,8 +59,9 @@ loop-again c =
 
 returns : tie.Need-returns Inv-loop μ-loop
 returns c =
+    let start = c .before .before in
     let l = c .before .loop in
-    subst (λ (z : ℕ). Numbers (c .before .before .args .keys) z (l .r)) (let h = c .loop-test .left in let z = l .inv .0 in omega arith) (l .inv .1 .numbers)
+    subst (λ (z : ℕ). Numbers (start .args .keys) z (l .r)) (let h = c .loop-test .left in let z = l .inv .0 in omega arith) (l .inv .1 .numbers)
 
 pub numbers-spec : {M : Type 1} → statement M
 numbers-spec =

@@ -39,8 +39,9 @@ cast-l c = search needs
 
 mul-r : tie.Need-mul-r Inv-loop μ-loop
 mul-r c =
+    let loop = c .before .before .loop in
     let start = c .before .before .before .before in
-    let low = start .pre .3 (c .before .before .loop .x) (c .before .loop-test .taken) in
+    let low = start .pre .3 (loop .x) (c .before .loop-test .taken) in
     omega arith
 
 add-r : tie.Need-add-r Inv-loop μ-loop

@@ -22,6 +22,8 @@ numbers-requires-2 c κs = c .before .before .before .before .before .pre .3
 
 place-requires : tie.Need-place-requires
 place-requires c κs =
+    let values = c .before .before .before .values in
+    let numbers = c .before .before .numbers in
     let start = c .before .before .before .before .before .before in
     let a = start .args in
     let p = start .pre in (
@@ -29,16 +31,19 @@ place-requires c κs =
       p .4,
       p .3,
       fine (a .cl .now) (a .given .now) (a .o) (a .g) (a .v) _ _ _ _ (p .2) (p .3) (p .0)
-          (c .before .before .before .values .ensures) (c .before .before .numbers .ensures) (c .before .pairs .ensures) (c .numbers2 .ensures),
+          (values .ensures) (numbers .ensures) (c .before .pairs .ensures) (c .numbers2 .ensures),
     )
 
 returns : tie.Need-returns
 returns c =
+    let values = c .before .before .before .before .values in
+    let numbers = c .before .before .before .numbers in
+    let pairs = c .before .before .pairs in
     let start = c .before .before .before .before .before .before .before in
     let a = start .args in
     let p = start .pre in
     placed-refined (a .cl .now) (a .given .now) (a .o) (a .g) (a .v) _ _ _ _ (p .2) (p .3) (p .0)
-    (c .before .before .before .before .values .ensures) (c .before .before .before .numbers .ensures) (c .before .before .pairs .ensures) (c .before .numbers2 .ensures)
+    (values .ensures) (numbers .ensures) (pairs .ensures) (c .before .numbers2 .ensures)
     (a .i) (a .old) (c .place .result) (c .place .ensures)
 
 pub refine-spec : {M : Type 1} → statement M

@@ -45,6 +45,7 @@ label-requires-2 c κs = let z = c .before .before .before .before .before .befo
 
 returns : tie.Need-returns Inv-loop μ-loop
 returns c =
+    let if1 = c .before .before .if1 in
     let a = c .before .before .before .before .before .before .before .before .before .before .args in
     let l = c .before .before .before .before .before .loop in
     let i = l .inv in
@@ -53,7 +54,7 @@ returns c =
       λ e. absurd (true-false (sym e)),
       λ e none. none (l .y) h (record {
         conflict = different-conflict (a .cl .now) (a .o) (a .x) (l .y) (λ q. c .if2 .taken (there .ensures ∙ sym q ∙ sym (i .2)));
-        agree = sym (i .1) ∙ sym (c .before .before .if1 .taken);
+        agree = sym (i .1) ∙ sym (if1 .taken);
       }),
     )
 

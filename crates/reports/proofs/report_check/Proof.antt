@@ -9,7 +9,8 @@ enum-known-c c = search needs
 
 cast-t7 : tie.Need-cast-t7
 cast-t7 c =
-    let q = rw (c .before .c .given .1) at (c .before .before .before .pre) in
+    let start = c .before .before .before in
+    let q = rw (c .before .c .given .1) at (start .pre) in
     record { fits = omega (arith, q .high) }
 
 enum-told : tie.Need-enum-told

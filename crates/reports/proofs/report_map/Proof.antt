@@ -9,7 +9,8 @@ enum-known-m c = search needs
 
 cast-t7 : tie.Need-cast-t7
 cast-t7 c =
-    let q = rw (c .before .m .given .1) at (c .before .before .before .pre) in
+    let start = c .before .before .before in
+    let q = rw (c .before .m .given .1) at (start .pre) in
     record { fits = omega (arith, q .high) }
 
 enum-known-m-2 : tie.Need-enum-known-m-2

@@ -9,7 +9,8 @@ enum-known-t c = search needs
 
 cast-t6 : tie.Need-cast-t6
 cast-t6 c =
-    let q = rw (c .before .t .given .1) at (c .before .before .before .pre) in
+    let start = c .before .before .before in
+    let q = rw (c .before .t .given .1) at (start .pre) in
     record { fits = omega (arith, q .high) }
 
 enum-known-t-2 : tie.Need-enum-known-t-2

@@ -32,7 +32,10 @@ alone-requires : tie.Need-alone-requires Inv-loop μ-loop
 alone-requires c κs = search needs
 
 loop-holds : tie.Need-loop-holds Inv-loop μ-loop
-loop-holds c = (omega arith, refl, refl, c .before .before .places .ensures, c .before .before .before .before .before .before .pre .7)
+loop-holds c =
+    let places = c .before .before .places in
+    let start = c .before .before .before .before .before .before in
+    (omega arith, refl, refl, places .ensures, start .pre .7)
 
 some-nodes-requires : tie.Need-some-nodes-requires Inv-loop μ-loop
 some-nodes-requires c κs = c .before .loop .inv .0
@@ -51,8 +54,9 @@ choose-requires c κs =
 
 same-length : tie.Need-same-length Inv-loop μ-loop
 same-length c =
+    let choose = c .before .before .before .before .choose in
     let start = c .before .before .before .before .before .before .before .before .before .before .before .before .before .before .before .before .before in
-    c .before .before .before .before .choose .ensures .1 .long ∙ sym (start .pre .7 .long)
+    choose .ensures .1 .long ∙ sym (start .pre .7 .long)
 
 returns : tie.Need-returns Inv-loop μ-loop
 returns c =
@@ -74,18 +78,20 @@ add-i c = let i = c .before .before .before .before .before .before .before .bef
 
 loop-less : tie.Need-loop-less Inv-loop μ-loop
 loop-less c =
+    let if1 = c .before .before .before .before .if1 in
     let called = c .before .before .before .before .before .before .before .before in
     let at = called .before .before .before .before .before .before in
-    let early = unsure-early _ (at .loop .i) _ _ (called .choose .ensures .0) (called .before .before .all-nodes .ensures) (not-false _ (c .before .before .before .before .if1 .left)) in
+    let early = unsure-early _ (at .loop .i) _ _ (called .choose .ensures .0) (called .before .before .all-nodes .ensures) (not-false _ (if1 .left)) in
     omega arith
 
 loop-again : tie.Need-loop-again Inv-loop μ-loop
 loop-again c =
+    let if1 = c .before .before .before .before .if1 in
     let called = c .before .before .before .before .before .before .before .before in
     let at = called .before .before .before .before .before .before in
     let a = at .before .before .before .before .before .before .before .args in
     let p = a .p in
-    let early = unsure-early _ (at .loop .i) _ _ (called .choose .ensures .0) (called .before .before .all-nodes .ensures) (not-false _ (c .before .before .before .before .if1 .left)) in
+    let early = unsure-early _ (at .loop .i) _ _ (called .choose .ensures .0) (called .before .before .all-nodes .ensures) (not-false _ (if1 .left)) in
     let kept = c .before .before .forget .ensures (a .cl .now) (a .given .now) (p .kn) (p .val) (p .vertices) (called .choose .ensures .1) in
     (omega arith, refl, refl, at .loop .inv .3, kept)
 

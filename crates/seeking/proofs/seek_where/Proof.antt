@@ -24,8 +24,9 @@ same-length c = search needs
 
 returns-2 : tie.Need-returns-2
 returns-2 c =
+    let if1 = c .before .before .before .before .if1 in
     let seek = c .before .before .seek in
-    let all = c .before .before .before .before .before .all-fit .ensures .0 (not-false _ (c .before .before .before .before .if1 .left)) in
+    let all = c .before .before .before .before .before .all-fit .ensures .0 (not-false _ (if1 .left)) in
     let args = c .before .before .before .before .before .before .before .before .before .args in
     let p = args .p in
     let r = seek .result in (

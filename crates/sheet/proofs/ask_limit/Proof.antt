@@ -16,8 +16,10 @@ refuse-requires c κs = search needs
 
 returns : tie.Need-returns
 returns c =
+    let start = c .before .before .before .before .before .before .before in
+    let limit-line = c .before .before .before .before .before .limit-line in
     let w = c .before .before .before .w .given in
-    λ d h. limit-too-large d (readLimit (c .before .before .before .before .before .before .before .args .l .now)) (c .refuse .result) (w .0 .0) (rw (w .1) at (c .before .before .before .before .before .limit-line .ensures)) (c .before .if1 .taken) (c .refuse .ensures)
+    λ d h. limit-too-large d (readLimit (start .args .l .now)) (c .refuse .result) (w .0 .0) (rw (w .1) at (limit-line .ensures)) (c .before .if1 .taken) (c .refuse .ensures)
 
 onward-requires : tie.Need-onward-requires
 onward-requires c κs = search needs
@@ -30,11 +32,16 @@ refuse-requires-2 c κs = search needs
 
 returns-2 : tie.Need-returns-2
 returns-2 c =
+    let start = c .before .before .before .before .before .before .before in
+    let limit-line = c .before .before .before .before .before .limit-line in
     let w = c .before .before .before .w .given in
-    λ d h. limit-passes d (readLimit (c .before .before .before .before .before .before .before .args .l .now)) (c .onward .result) (c .before .before .before .before .before .before .before .args .k) (w .0 .0) (rw (w .1) at (c .before .before .before .before .before .limit-line .ensures)) (c .before .if1 .left) (c .onward .ensures) h
+    λ d h. limit-passes d (readLimit (start .args .l .now)) (c .onward .result) (start .args .k) (w .0 .0) (rw (w .1) at (limit-line .ensures)) (c .before .if1 .left) (c .onward .ensures) h
 
 returns-3 : tie.Need-returns-3
-returns-3 c = λ d h. limit-misspelled d (readLimit (c .before .before .before .before .before .args .l .now)) (c .refuse2 .result) (rw (c .before .enum-told .given .1) at (c .before .before .before .limit-line .ensures)) (c .refuse2 .ensures)
+returns-3 c =
+    let start = c .before .before .before .before .before in
+    let limit-line = c .before .before .before .limit-line in
+    λ d h. limit-misspelled d (readLimit (start .args .l .now)) (c .refuse2 .result) (rw (c .before .enum-told .given .1) at (limit-line .ensures)) (c .refuse2 .ensures)
 
 pub ask-limit-spec : {M : Type 1} → statement M
 ask-limit-spec =

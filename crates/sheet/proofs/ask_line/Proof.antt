@@ -60,28 +60,52 @@ refuse-requires-2 : tie.Need-refuse-requires-2
 refuse-requires-2 c κs = search needs
 
 returns : tie.Need-returns
-returns c = λ d h f. line-design d (c .before .before .before .before .before .before .before .args .l .now) (c .onward .result) (c .before .before .before .before .enum-told .given .1) (sym (c .before .before .equal .ensures) ∙ c .before .if1 .taken) (c .onward .ensures) h
+returns c =
+    let start = c .before .before .before .before .before .before .before in
+    let enum-told = c .before .before .before .before .enum-told in
+    let equal = c .before .before .equal in
+    λ d h f. line-design d (start .args .l .now) (c .onward .result) (enum-told .given .1) (sym (equal .ensures) ∙ c .before .if1 .taken) (c .onward .ensures) h
 
 returns-2 : tie.Need-returns-2
-returns-2 c = λ d h f. line-no-design d (c .before .before .before .before .before .before .before .args .l .now) (c .refuse .result) (c .before .before .before .before .enum-told .given .1) (sym (c .before .before .equal .ensures) ∙ c .before .if1 .left) (c .refuse .ensures)
+returns-2 c =
+    let start = c .before .before .before .before .before .before .before in
+    let enum-told = c .before .before .before .before .enum-told in
+    let equal = c .before .before .equal in
+    λ d h f. line-no-design d (start .args .l .now) (c .refuse .result) (enum-told .given .1) (sym (equal .ensures) ∙ c .before .if1 .left) (c .refuse .ensures)
 
 returns-3 : tie.Need-returns-3
-returns-3 c = λ d h f. line-in d (c .before .before .before .before .args .l .now) (c .ask-in .result) (c .before .enum-told2 .given .1) (c .ask-in .ensures d h) f
+returns-3 c =
+    let start = c .before .before .before .before in
+    λ d h f. line-in d (start .args .l .now) (c .ask-in .result) (c .before .enum-told2 .given .1) (c .ask-in .ensures d h) f
 
 returns-4 : tie.Need-returns-4
-returns-4 c = λ d h f. line-bound d (c .before .before .before .before .args .l .now) (c .ask-bound .result) (c .before .enum-told3 .given .1) (c .ask-bound .ensures d h)
+returns-4 c =
+    let start = c .before .before .before .before in
+    λ d h f. line-bound d (start .args .l .now) (c .ask-bound .result) (c .before .enum-told3 .given .1) (c .ask-bound .ensures d h)
 
 returns-5 : tie.Need-returns-5
-returns-5 c = λ d h f. line-limit d (c .before .before .before .before .args .l .now) (c .ask-limit .result) (c .before .enum-told4 .given .1) (c .ask-limit .ensures d h)
+returns-5 c =
+    let start = c .before .before .before .before in
+    λ d h f. line-limit d (start .args .l .now) (c .ask-limit .result) (c .before .enum-told4 .given .1) (c .ask-limit .ensures d h)
 
 returns-6 : tie.Need-returns-6
-returns-6 c = λ d h f. line-end d (c .before .before .before .before .before .before .before .args .l .now) (c .ask-end .result) (c .before .before .before .before .enum-told5 .given .1) (sym (c .before .before .equal2 .ensures) ∙ c .before .if2 .taken) (c .ask-end .ensures d h)
+returns-6 c =
+    let start = c .before .before .before .before .before .before .before in
+    let enum-told5 = c .before .before .before .before .enum-told5 in
+    let equal2 = c .before .before .equal2 in
+    λ d h f. line-end d (start .args .l .now) (c .ask-end .result) (enum-told5 .given .1) (sym (equal2 .ensures) ∙ c .before .if2 .taken) (c .ask-end .ensures d h)
 
 returns-7 : tie.Need-returns-7
-returns-7 c = λ d h f. line-out d (c .before .before .before .before .before .before .before .args .l .now) (c .ask-out .result) (c .before .before .before .before .enum-told5 .given .1) (sym (c .before .before .equal2 .ensures) ∙ c .before .if2 .left) (c .ask-out .ensures d h)
+returns-7 c =
+    let start = c .before .before .before .before .before .before .before in
+    let enum-told5 = c .before .before .before .before .enum-told5 in
+    let equal2 = c .before .before .equal2 in
+    λ d h f. line-out d (start .args .l .now) (c .ask-out .result) (enum-told5 .given .1) (sym (equal2 .ensures) ∙ c .before .if2 .left) (c .ask-out .ensures d h)
 
 returns-8 : tie.Need-returns-8
-returns-8 c = λ d h f. line-over d (c .before .before .before .before .args .l .now) (c .refuse2 .result) (c .before .enum-told6 .given .1) (c .refuse2 .ensures)
+returns-8 c =
+    let start = c .before .before .before .before in
+    λ d h f. line-over d (start .args .l .now) (c .refuse2 .result) (c .before .enum-told6 .given .1) (c .refuse2 .ensures)
 
 pub ask-line-spec : {M : Type 1} → statement M
 ask-line-spec =

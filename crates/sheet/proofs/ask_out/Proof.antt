@@ -21,7 +21,10 @@ use Rattle.sheet.proofs.ask_out.Statement.{statement}
 use Rattle.sheet.proofs.ask_out.Tie as tie
 
 array-share-prefix-inputs : tie.Need-array-share-prefix-inputs
-array-share-prefix-inputs c = omega (arith, names-sized (c .before .before .args .k) (c .before .before .good .0))
+array-share-prefix-inputs c =
+    let start = c .before .before in
+    let good = c .before .before .good in
+    omega (arith, names-sized (start .args .k) (good .0))
 
 slice-aggregate-out-line : tie.Need-slice-aggregate-out-line
 slice-aggregate-out-line c =
@@ -82,27 +85,32 @@ refuse-requires-3 c κs = search needs
 
 returns-3 : tie.Need-returns-3
 returns-3 c =
+    let if3 = c .before .before .before .if3 in
+    let if2 = c .before .before .before .before .before .if2 in
     let p = c .before .before .before .before .before .before .before in
     let q = c .refuse3 in
     let n = c .before .before .is-new in
-    let flat = ltb-false maxDepth (read-at p .depth) (c .before .before .before .if3 .left) in
+    let flat = ltb-false maxDepth (read-at p .depth) (if3 .left) in
     let old = sym (not-true (n .result) (c .before .if4 .taken)) in
     λ d h. spelled p d h (q .result) (λ x g.
-    out-old-name d (sheet-at p) h (read-at p) (q .result) x g (c .before .before .before .before .before .if2 .left) flat (old ∙ n .ensures d h) (q .ensures))
+    out-old-name d (sheet-at p) h (read-at p) (q .result) x g (if2 .left) flat (old ∙ n .ensures d h) (q .ensures))
 
 refuse-requires-4 : tie.Need-refuse-requires-4
 refuse-requires-4 c κs = search needs
 
 returns-4 : tie.Need-returns-4
 returns-4 c =
+    let if3 = c .before .before .before .before .before .if3 in
+    let if4 = c .before .before .before .if4 in
+    let if2 = c .before .before .before .before .before .before .before .if2 in
     let p = c .before .before .before .before .before .before .before .before .before in
     let q = c .refuse4 in
     let n = c .before .before .before .before .is-new in
-    let flat = ltb-false maxDepth (read-at p .depth) (c .before .before .before .before .before .if3 .left) in
-    let new = sym (not-false (n .result) (c .before .before .before .if4 .left)) in
+    let flat = ltb-false maxDepth (read-at p .depth) (if3 .left) in
+    let new = sym (not-false (n .result) (if4 .left)) in
     let unknown = not-true (read-at p .known) (c .before .if5 .taken) in
     λ d h. spelled p d h (q .result) (λ x g.
-    out-unknown d (sheet-at p) h (read-at p) (q .result) x g (c .before .before .before .before .before .before .before .if2 .left) flat (new ∙ n .ensures d h) unknown (q .ensures))
+    out-unknown d (sheet-at p) h (read-at p) (q .result) x g (if2 .left) flat (new ∙ n .ensures d h) unknown (q .ensures))
 
 with-output-requires : tie.Need-with-output-requires
 with-output-requires c κs = search needs

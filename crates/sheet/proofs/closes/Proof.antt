@@ -32,8 +32,9 @@ returns c =
 
 returns-2 : tie.Need-returns-2
 returns-2 c =
+    let start = c .before .before .before .before in
     let l = c .before .before .before .before .args .l .now in
-    let t = drop (c .before .before .before .before .args .c .at) l in
+    let t = drop (start .args .c .at) l in
     let b = c .before .before .byte in
     closes-not t (moved-nowhere l (b .result) (eat (closeBracket ∷ []) t) (b .ensures) (c .enum-told .given .1))
 

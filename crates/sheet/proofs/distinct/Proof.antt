@@ -44,8 +44,9 @@ enum-told c = search needs
 
 returns : tie.Need-returns Inv-loop μ-loop
 returns c =
+    let find = c .before .before .find in
     let t = c .before .before .before .before .before in
-    stands-twice (t .before .loop .inv) (t .loop-test .taken) (c .before .before .find .ensures) (c .enum-told .given .1)
+    stands-twice (t .before .loop .inv) (t .loop-test .taken) (find .ensures) (c .enum-told .given .1)
 
 enum-told-2 : tie.Need-enum-told-2 Inv-loop μ-loop
 enum-told-2 c = search needs
@@ -58,8 +59,9 @@ loop-less c = search needs
 
 loop-again : tie.Need-loop-again Inv-loop μ-loop
 loop-again c =
+    let find = c .before .before .find in
     let t = c .before .before .before .before .before in
-    passed-more (t .before .loop .inv) (t .loop-test .taken) (c .before .before .find .ensures) (c .enum-told2 .given .1)
+    passed-more (t .before .loop .inv) (t .loop-test .taken) (find .ensures) (c .enum-told2 .given .1)
 
 returns-2 : tie.Need-returns-2 Inv-loop μ-loop
 returns-2 c = passed-all (c .before .loop .inv) (c .loop-test .left)

@@ -38,8 +38,9 @@ in-range-requires c κs = search needs
 
 returns-2 : tie.Need-returns-2
 returns-2 c =
+    let at = c .before .before in
     let a = c .before .before .before .before .before .args in
-    no-to-three (a .high) (a .w) (spelled (c .before .before)) (sym (c .before .in-range .ensures) ∙ not-true _ (c .if2 .taken))
+    no-to-three (a .high) (a .w) (spelled (at)) (sym (c .before .in-range .ensures) ∙ not-true _ (c .if2 .taken))
 
 array-share-prefix-ns : tie.Need-array-share-prefix-ns
 array-share-prefix-ns c = kept c

@@ -48,34 +48,39 @@ enum-told-2 c = search needs
 
 returns-2 : tie.Need-returns-2
 returns-2 c =
+    let number = c .before .before .number in
     let l = c .before .before .before .before .before .before .before .before .before .before .args .l .now in
     let t = c .before .before .before .before .before .before .text in
     let o = c .before .before .before .before .before .before .before .before .start in
     let h = moved-start l (bytes "(limit ") (t .result) (o .result) (o .ensures) (t .ensures) in
     let m = c .before .before .before .before .m .given in
-    limit-no-number l (moved-to l (t .result) (eat (bytes "(limit ") l) h (m .0 .0) (m .1)) (rw (c .enum-told2 .given .1) at (c .before .before .number .ensures))
+    limit-no-number l (moved-to l (t .result) (eat (bytes "(limit ") l) h (m .0 .0) (m .1)) (rw (c .enum-told2 .given .1) at (number .ensures))
 
 closes-requires : tie.Need-closes-requires
 closes-requires c κs = search needs
 
 returns-3 : tie.Need-returns-3
 returns-3 c =
+    let w = c .before .before .before .w in
+    let number2 = c .before .before .before .before .before .number in
     let l = c .before .before .before .before .before .before .before .before .before .before .before .before .before .args .l .now in
     let t = c .before .before .before .before .before .before .before .before .before .text in
     let o = c .before .before .before .before .before .before .before .before .before .before .before .start in
     let h = moved-start l (bytes "(limit ") (t .result) (o .result) (o .ensures) (t .ensures) in
     let m = c .before .before .before .before .before .before .before .m .given in
-    let number = rw (c .before .before .before .w .given .1) at (c .before .before .before .before .before .number .ensures) in
+    let number = rw (w .given .1) at (number2 .ensures) in
     limit-closed l (moved-to l (t .result) (eat (bytes "(limit ") l) h (m .0 .0) (m .1)) number (sym (c .before .closes .ensures) ∙ c .if1 .taken)
 
 returns-4 : tie.Need-returns-4
 returns-4 c =
+    let w = c .before .before .before .w in
+    let number2 = c .before .before .before .before .before .number in
     let l = c .before .before .before .before .before .before .before .before .before .before .before .before .before .args .l .now in
     let t = c .before .before .before .before .before .before .before .before .before .text in
     let o = c .before .before .before .before .before .before .before .before .before .before .before .start in
     let h = moved-start l (bytes "(limit ") (t .result) (o .result) (o .ensures) (t .ensures) in
     let m = c .before .before .before .before .before .before .before .m .given in
-    let number = rw (c .before .before .before .w .given .1) at (c .before .before .before .before .before .number .ensures) in
+    let number = rw (w .given .1) at (number2 .ensures) in
     limit-unclosed l (moved-to l (t .result) (eat (bytes "(limit ") l) h (m .0 .0) (m .1)) number (sym (c .before .closes .ensures) ∙ c .if1 .left)
 
 pub limit-line-spec : {M : Type 1} → statement M

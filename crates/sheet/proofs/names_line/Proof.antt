@@ -41,23 +41,26 @@ no-names-requires-2 c κs = search needs
 
 returns : tie.Need-returns
 returns c =
+    let m = c .before .before .before .before .before .m in
     let a = c .before .before .before .before .before .before .before .before .before .before .before .args in
     let t = c .before .before .before .before .before .before .before .text in
     let o = c .before .before .before .before .before .before .before .before .start in
     let h = moved-start (a .l .now) (a .head .now) (t .result) (o .result) (o .ensures) (t .ensures) in
     let r = c .before .before .before .names in
     let e = leb-true (length (a .l .now)) (r .result .next .at) (sym (c .before .at-end .ensures) ∙ c .if1 .taken) in
-    whole-line (a .head .now) (a .l .now) h readNames (c .before .before .before .before .before .m .given .1) (r .result) (r .ensures) e
+    whole-line (a .head .now) (a .l .now) h readNames (m .given .1) (r .result) (r .ensures) e
 
 returns-2 : tie.Need-returns-2
 returns-2 c =
+    let at-end = c .before .before .at-end in
+    let m = c .before .before .before .before .before .before .m in
     let a = c .before .before .before .before .before .before .before .before .before .before .before .before .args in
     let t = c .before .before .before .before .before .before .before .before .text in
     let o = c .before .before .before .before .before .before .before .before .before .start in
     let h = moved-start (a .l .now) (a .head .now) (t .result) (o .result) (o .ensures) (t .ensures) in
     let r = c .before .before .before .before .names in
-    let e = leb-false (length (a .l .now)) (r .result .next .at) (sym (c .before .before .at-end .ensures) ∙ c .before .if1 .left) in
-    longer-line (a .head .now) (a .l .now) h readNames (c .before .before .before .before .before .before .m .given .1) (r .result) (r .ensures) e (c .no-names .result) (c .no-names .ensures)
+    let e = leb-false (length (a .l .now)) (r .result .next .at) (sym (at-end .ensures) ∙ c .before .if1 .left) in
+    longer-line (a .head .now) (a .l .now) h readNames (m .given .1) (r .result) (r .ensures) e (c .no-names .result) (c .no-names .ensures)
 
 returns-3 : tie.Need-returns-3
 returns-3 c =

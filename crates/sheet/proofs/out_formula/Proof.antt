@@ -31,17 +31,20 @@ no-out-requires-2 c κs = search needs
 
 returns-2 : tie.Need-returns-2
 returns-2 c =
+    let if1 = c .before .before .before .if1 in
+    let closes = c .before .before .closes in
     let a = c .before .before .before .before .before .before .before .before .before .before .args in
     let p = c .before .before .before .before .before .before .before .formula in
-    let read = not-false (p .result .ok) (c .before .before .before .if1 .left) in
-    let more = sym (c .before .before .closes .ensures) ∙ not-true (c .before .before .closes .result) (c .before .if2 .taken) in
+    let read = not-false (p .result .ok) (if1 .left) in
+    let more = sym (closes .ensures) ∙ not-true (closes .result) (c .before .if2 .taken) in
     out-unclosed (a .l .now) (map nameOf (a .inputs .now)) (p .result) (drop (a .c .at) (a .l .now)) (p .ensures) (a .n) read more (c .no-out2 .result) (c .no-out2 .ensures)
 
 returns-3 : tie.Need-returns-3
 returns-3 c =
+    let if1 = c .before .before .if1 in
     let a = c .before .before .before .before .before .before .before .before .before .args in
     let p = c .before .before .before .before .before .before .formula in
-    let read = not-false (p .result .ok) (c .before .before .if1 .left) in
+    let read = not-false (p .result .ok) (if1 .left) in
     let ends = sym (c .before .closes .ensures) ∙ not-false (c .before .closes .result) (c .if2 .left) in
     out-closed (a .l .now) (map nameOf (a .inputs .now)) (p .result) (drop (a .c .at) (a .l .now)) (p .ensures) (a .n) read ends
 

@@ -58,6 +58,7 @@ no-out-requires-2 c κs = search needs
 
 returns-2 : tie.Need-returns-2
 returns-2 c =
+    let name = c .before .before .before .name in
     let a = c .before .before .before .before .before .before .before .before .before .before .before .before .args in
     let t = c .before .before .before .before .before .before .before .text in
     let o = c .before .before .before .before .before .before .before .before .before .start in
@@ -65,7 +66,7 @@ returns-2 c =
     let m = c .before .before .before .before .before .m .given in
     let head = moved-to (a .l .now) (t .result) (eat (bytes "(out ") (a .l .now)) h (m .0 .0) (m .1) in
     out-no-name (a .l .now) (map nameOf (a .inputs .now)) (c .no-out2 .result) head
-    (rw (c .before .enum-told2 .given .1) at (c .before .before .before .name .ensures)) (c .no-out2 .ensures)
+    (rw (c .before .enum-told2 .given .1) at (name .ensures)) (c .no-out2 .ensures)
 
 byte-requires : tie.Need-byte-requires
 byte-requires c κs = search needs
@@ -81,6 +82,7 @@ no-out-requires-3 c κs = search needs
 
 returns-3 : tie.Need-returns-3
 returns-3 c =
+    let name = c .before .before .before .before .before .before .before .name in
     let a = c .before .before .before .before .before .before .before .before .before .before .before .before .before .before .before .before .args in
     let t = c .before .before .before .before .before .before .before .before .before .before .before .text in
     let o = c .before .before .before .before .before .before .before .before .before .before .before .before .before .start in
@@ -89,19 +91,21 @@ returns-3 c =
     let head = moved-to (a .l .now) (t .result) (eat (bytes "(out ") (a .l .now)) h (m .0 .0) (m .1) in
     let w = c .before .before .before .before .before .w .given in
     let b = c .before .before .before .byte in
-    out-no-space (a .l .now) (map nameOf (a .inputs .now)) (c .no-out3 .result) head (rw (w .1) at (c .before .before .before .before .before .before .before .name .ensures))
+    out-no-space (a .l .now) (map nameOf (a .inputs .now)) (c .no-out3 .result) head (rw (w .1) at (name .ensures))
     (moved-nowhere (a .l .now) (b .result) (eat (space ∷ []) (from (a .l .now) (w .0 .1 .0))) (b .ensures) (c .before .enum-told3 .given .1))
     (c .no-out3 .ensures)
 
 out-formula-requires : tie.Need-out-formula-requires
 out-formula-requires c κs =
+    let w = c .before .before .before .before .before .w in
     let l = c .before .before .before .before .before .before .before .before .before .before .before .before .before .before .before .before .args .l .now in
     let b = c .before .before .before .byte in
     let g = c .before .g .given in
-    moved-to l (b .result) (eat (space ∷ []) (from l (c .before .before .before .before .before .w .given .0 .1 .0))) (b .ensures) (g .0 .0) (g .1) .inside
+    moved-to l (b .result) (eat (space ∷ []) (from l (w .given .0 .1 .0))) (b .ensures) (g .0 .0) (g .1) .inside
 
 returns-4 : tie.Need-returns-4
 returns-4 c =
+    let name = c .before .before .before .before .before .before .before .before .name in
     let a = c .before .before .before .before .before .before .before .before .before .before .before .before .before .before .before .before .before .args in
     let t = c .before .before .before .before .before .before .before .before .before .before .before .before .text in
     let o = c .before .before .before .before .before .before .before .before .before .before .before .before .before .before .start in
@@ -111,7 +115,7 @@ returns-4 c =
     let w = c .before .before .before .before .before .before .w .given in
     let b = c .before .before .before .before .byte in
     let g = c .before .before .g .given in
-    out-after (a .l .now) (map nameOf (a .inputs .now)) (c .out-formula .result) head (rw (w .1) at (c .before .before .before .before .before .before .before .before .name .ensures))
+    out-after (a .l .now) (map nameOf (a .inputs .now)) (c .out-formula .result) head (rw (w .1) at (name .ensures))
     (moved-to (a .l .now) (b .result) (eat (space ∷ []) (from (a .l .now) (w .0 .1 .0))) (b .ensures) (g .0 .0) (g .1))
     (c .out-formula .ensures)
 

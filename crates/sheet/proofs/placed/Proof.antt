@@ -15,7 +15,9 @@ abbrev μ-loop : tie.MeasureT-loop
 μ-loop ns inputs list₀ i₀ list i = length ns - i
 
 loop-holds : tie.Need-loop-holds Inv-loop μ-loop
-loop-holds c = placed-none (c .before .before .args .ns .now) (c .before .before .args .inputs .now) (0 ∷ 0 ∷ 0 ∷ 0 ∷ 0 ∷ []) refl
+loop-holds c =
+    let start = c .before .before in
+    placed-none (start .args .ns .now) (start .args .inputs .now) (0 ∷ 0 ∷ 0 ∷ 0 ∷ 0 ∷ []) refl
 
 mul-find : tie.Need-mul-find Inv-loop μ-loop
 mul-find c = search needs
@@ -40,8 +42,9 @@ enum-told c = search needs
 
 returns : tie.Need-returns Inv-loop μ-loop
 returns c =
+    let find = c .before .before .find in
     let t = c .before .before .before .before in
-    place-missing (t .before .loop .inv) (t .loop-test .taken) (c .before .before .find .ensures) (c .enum-told .given .1)
+    place-missing (t .before .loop .inv) (t .loop-test .taken) (find .ensures) (c .enum-told .given .1)
 
 add-i : tie.Need-add-i Inv-loop μ-loop
 add-i c = search needs
@@ -51,8 +54,9 @@ loop-less c = search needs
 
 loop-again : tie.Need-loop-again Inv-loop μ-loop
 loop-again c =
+    let find = c .before .before .before .find in
     let t = c .before .before .before .before .before in
-    placed-more (t .before .loop .inv) (t .loop-test .taken) (c .before .before .before .find .ensures) (c .before .p .given .1) (t .before .before .before .before .pre)
+    placed-more (t .before .loop .inv) (t .loop-test .taken) (find .ensures) (c .before .p .given .1) (t .before .before .before .before .pre)
 
 returns-2 : tie.Need-returns-2 Inv-loop μ-loop
 returns-2 c = placed-all (c .before .loop .inv) (c .loop-test .left)

@@ -37,7 +37,9 @@ loop-less : tie.Need-loop-less Inv-loop μ-loop
 loop-less c = search needs
 
 loop-again : tie.Need-loop-again Inv-loop μ-loop
-loop-again c = let h = c .before .loop-test .taken in (omega arith, length-set (c .before .before .loop .r) _ _ ∙ c .before .before .loop .inv .1)
+loop-again c =
+    let loop = c .before .before .loop in
+    let h = c .before .loop-test .taken in (omega arith, length-set (loop .r) _ _ ∙ loop .inv .1)
 
 array-write-r-2 : tie.Need-array-write-r-2 Inv-loop μ-loop
 array-write-r-2 c = search needs

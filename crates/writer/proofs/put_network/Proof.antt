@@ -21,13 +21,15 @@ same-length : tie.Need-same-length
 same-length c = search needs
 
 returns : tie.Need-returns
-returns c = λ d h proper s.
+returns c =
+    let put-sheet = c .before .before .put-sheet in
+    λ d h proper s.
     let split = c .before .before .before .before in
     let start = split .before .before .before .before .before in
     let sh = start .args .sh in
     let good = start .good .1 .1 .0 in
     let fit = start .pre .4 in
-    let w = put-same {k = sheetRoom} (c .before .before .put-sheet .ensures)
+    let w = put-same {k = sheetRoom} (put-sheet .ensures)
     (lines-are-sheet _ (split .before .bound-names .ensures .0) (split .free-names .ensures .0) (vertices-held sh good fit) (frees-held sh good fit) d h proper s)
     (omega arith) in
     (omega (arith, w .place), w .bytes)

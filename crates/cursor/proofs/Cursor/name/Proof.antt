@@ -14,7 +14,10 @@ enum-told : tie.Need-enum-told
 enum-told c = search needs
 
 named-requires : tie.Need-named-requires
-named-requires c κs = (c .before .before .before .before .pre, sym (c .before .before .kind .ensures) ∙ c .enum-told .given .1)
+named-requires c κs =
+    let start = c .before .before .before .before in
+    let kind = c .before .before .kind in
+    (start .pre, sym (kind .ensures) ∙ c .enum-told .given .1)
 
 returns : tie.Need-returns
 returns c = c .named .ensures

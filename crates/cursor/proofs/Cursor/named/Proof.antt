@@ -23,16 +23,18 @@ is-operator-word-requires c κs = search needs
 
 returns-2 : tie.Need-returns-2
 returns-2 c =
+    let packed = c .before .before .packed in
     let word = c .before .before .before .before in
     let asked = c .before .is-operator-word in
-    operator-bad _ _ _ (word .word-end .ensures) _ (omega arith) (c .before .before .packed .ensures)
+    operator-bad _ _ _ (word .word-end .ensures) _ (omega arith) (packed .ensures)
     (sym (asked .ensures) ∙ c .if2 .taken)
 
 returns-3 : tie.Need-returns-3
 returns-3 c =
+    let packed = c .before .before .packed in
     let word = c .before .before .before .before in
     let asked = c .before .is-operator-word in
-    named-there _ _ _ (word .word-end .ensures) _ (omega arith) (c .before .before .packed .ensures) _ (word .before .before .pre .1)
+    named-there _ _ _ (word .word-end .ensures) _ (omega arith) (packed .ensures) _ (word .before .before .pre .1)
     (sym (asked .ensures) ∙ c .if2 .left)
     refl
 

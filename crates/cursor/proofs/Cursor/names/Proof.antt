@@ -33,17 +33,19 @@ add-count c = omega arith
 
 loop-less : tie.Need-loop-less Inv-loop μ-loop
 loop-less c =
+    let next-name = c .before .before .before .before .before .next-name in
     let h = c .before .before .before .before .before .before in
     let n = c .before .before .before .n .given in
-    let more : NameNext (h .before .before .args .s .now) (h .loop .c .at) _ (n .0 .1 .0) = rw (n .1) at (c .before .before .before .before .before .next-name .ensures) in
+    let more : NameNext (h .before .before .args .s .now) (h .loop .c .at) _ (n .0 .1 .0) = rw (n .1) at (next-name .ensures) in
     omega arith
 
 loop-again : tie.Need-loop-again Inv-loop μ-loop
 loop-again c =
+    let next-name = c .before .before .before .before .before .next-name in
     let h = c .before .before .before .before .before .before .loop in
     let n = c .before .before .before .n .given in
     gathered-more _ _ _ _ (n .0 .0) (n .0 .1 .0) _ _ (h .inv)
-    (rw (n .1) at (c .before .before .before .before .before .next-name .ensures))
+    (rw (n .1) at (next-name .ensures))
     (c .keep .ensures)
 
 enum-known-n-2 : tie.Need-enum-known-n-2 Inv-loop μ-loop
@@ -51,13 +53,14 @@ enum-known-n-2 c = search needs
 
 returns : tie.Need-returns Inv-loop μ-loop
 returns c =
+    let next-name = c .before .before .before .next-name in
     let a = c .before .before .before .before .before .before .args in
     let h = c .before .before .before .before .loop in
     let n = c .before .n2 .given in
     gathered-all (a .s .now) (a .self .at) (h .c .at)
     (record { ok = true; next = n .0 .0; count = h .count; names = h .names })
     (h .inv)
-    (rw (n .1) at (c .before .before .before .next-name .ensures))
+    (rw (n .1) at (next-name .ensures))
     refl
 
 enum-told : tie.Need-enum-told Inv-loop μ-loop
@@ -65,13 +68,14 @@ enum-told c = search needs
 
 returns-2 : tie.Need-returns-2 Inv-loop μ-loop
 returns-2 c =
+    let next-name = c .before .before .next-name in
     let a = c .before .before .before .before .before .args in
     let h = c .before .before .before .loop in
     gathered-bad (a .s .now) (a .self .at) (h .c .at) (h .count)
     (record { ok = false; next = a .self; count = h .count; names = h .names })
     (h .names)
     (h .inv)
-    (rw (c .enum-told .given .1) at (c .before .before .next-name .ensures))
+    (rw (c .enum-told .given .1) at (next-name .ensures))
     refl
 
 pub names-spec : {M : Type 1} → statement M

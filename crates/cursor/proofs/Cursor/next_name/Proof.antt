@@ -49,31 +49,35 @@ returns c =
 
 returns-2 : tie.Need-returns-2
 returns-2 c =
+    let name = c .before .before .before .name in
     let a = c .before .before .before .before .before .before .before .before .before .before .before .before .args in
     let m = c .before .before .before .before .before .before .before .before .before .byte2 in
     let g = c .before .before .before .before .before .g .given in
     let r = c .before .r .given in
     name-next (a .s .now) (a .self .at) (g .0 .0)
     (moved-to (a .s .now) (m .result) (eat (space ∷ []) (drop (a .self .at) (a .s .now))) (m .ensures) (g .0 .0) (g .1))
-    _ (r .0 .1 .0) (rw (r .1) at (c .before .before .before .name .ensures))
+    _ (r .0 .1 .0) (rw (r .1) at (name .ensures))
 
 returns-3 : tie.Need-returns-3
 returns-3 c =
+    let name = c .before .before .name in
     let a = c .before .before .before .before .before .before .before .before .before .before .before .args in
     let m = c .before .before .before .before .before .before .before .before .byte2 in
     let g = c .before .before .before .before .g .given in
     no-name-bad (a .s .now) (a .self .at) (g .0 .0)
     (moved-to (a .s .now) (m .result) (eat (space ∷ []) (drop (a .self .at) (a .s .now))) (m .ensures) (g .0 .0) (g .1))
-    (rw (c .enum-told2 .given .1) at (c .before .before .name .ensures))
+    (rw (c .enum-told2 .given .1) at (name .ensures))
 
 returns-4 : tie.Need-returns-4
 returns-4 c =
+    let start = c .before .before .before .before .before .before .before in
+    let enum-told = c .before .before .enum-told in
     let s = c .before .before .before .before .before .before .before .args .s .now in
-    let t = drop (c .before .before .before .before .before .before .before .args .self .at) s in
+    let t = drop (start .args .self .at) s in
     let e = c .before .before .before .before .before .byte in
     let m = c .before .before .before .before .byte2 in
     other-bad t
-    (moved-nowhere s (e .result) (eat (closeBracket ∷ []) t) (e .ensures) (c .before .before .enum-told .given .1))
+    (moved-nowhere s (e .result) (eat (closeBracket ∷ []) t) (e .ensures) (enum-told .given .1))
     (moved-nowhere s (m .result) (eat (space ∷ []) t) (m .ensures) (c .enum-told3 .given .1))
 
 pub next-name-spec : {M : Type 1} → statement M

@@ -15,13 +15,16 @@ is-number-requires c κs = search needs
 
 value-requires : tie.Need-value-requires
 value-requires c κs =
+    let numerals-end = c .before .before .numerals-end in
     let test = sym (c .before .is-number .ensures) ∙ c .if1 .taken in
-    (c .before .before .numerals-end .ensures .numerals, number-short _ _ _ _ (omega arith) (omega arith) maxPlaDigits (omega arith) test)
+    (numerals-end .ensures .numerals, number-short _ _ _ _ (omega arith) (omega arith) maxPlaDigits (omega arith) test)
 
 returns : tie.Need-returns
 returns c =
-    number-there _ _ _ _ _ _ (c .before .before .before .numerals-end .ensures)
-    (sym (c .before .before .is-number .ensures) ∙ c .before .if1 .taken) (c .value .ensures) refl
+    let numerals-end = c .before .before .before .numerals-end in
+    let is-number = c .before .before .is-number in
+    number-there _ _ _ _ _ _ (numerals-end .ensures)
+    (sym (is-number .ensures) ∙ c .before .if1 .taken) (c .value .ensures) refl
 
 returns-2 : tie.Need-returns-2
 returns-2 c = no-number _ _ _ _ (c .before .before .numerals-end .ensures) (sym (c .before .is-number .ensures) ∙ c .if1 .left)

@@ -12,7 +12,10 @@ enum-told : tie.Need-enum-told
 enum-told c = search needs
 
 opens-name-requires : tie.Need-opens-name-requires
-opens-name-requires c κs = (c .before .before .before .before .pre, sym (c .before .before .kind .ensures) ∙ c .enum-told .given .1)
+opens-name-requires c κs =
+    let start = c .before .before .before .before in
+    let kind = c .before .before .kind in
+    (start .pre, sym (kind .ensures) ∙ c .enum-told .given .1)
 
 enum-told-2 : tie.Need-enum-told-2
 enum-told-2 c = search needs

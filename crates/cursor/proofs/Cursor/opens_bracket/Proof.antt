@@ -24,10 +24,11 @@ enum-told c = search needs
 
 returns : tie.Need-returns
 returns c =
+    let start = c .before .before .before .before in
     let s = c .before .before .before .before .args .s .now in
-    let t = drop (c .before .before .before .before .args .self .at) s in
+    let t = drop (start .args .self .at) s in
     let m = c .before .before .byte in
-    bracket-bad t (c .before .before .before .before .pre) (moved-nowhere s (m .result) (eat (openBracket ∷ []) t) (m .ensures) (c .enum-told .given .1))
+    bracket-bad t (start .pre) (moved-nowhere s (m .result) (eat (openBracket ∷ []) t) (m .ensures) (c .enum-told .given .1))
 
 operator-requires : tie.Need-operator-requires
 operator-requires c κs =
@@ -47,13 +48,14 @@ enum-told-2 c = search needs
 
 returns-2 : tie.Need-returns-2
 returns-2 c =
+    let start = c .before .before .before .before .before .before .before .before .before .before in
     let s = c .before .before .before .before .before .before .before .before .before .before .args .s .now in
-    let t = drop (c .before .before .before .before .before .before .before .before .before .before .args .self .at) s in
+    let t = drop (start .args .self .at) s in
     let m = c .before .before .before .before .before .before .before .before .byte in
     let g = c .before .before .before .before .before .before .m .given in
     let w = c .before .before .before .before .operator in
     let b = c .before .before .byte2 in
-    unspaced-bad s t (c .before .before .before .before .before .before .before .before .before .before .pre) (g .0 .0)
+    unspaced-bad s t (start .pre) (g .0 .0)
     (moved-to s (m .result) (eat (openBracket ∷ []) t) (m .ensures) (g .0 .0) (g .1))
     (w .result) (w .ensures) (moved-nowhere s (b .result) (eat (space ∷ []) (from s (w .result .next))) (b .ensures) (c .enum-told2 .given .1))
 

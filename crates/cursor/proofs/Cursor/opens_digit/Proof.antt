@@ -28,28 +28,32 @@ enum-told-2 c = search needs
 
 returns : tie.Need-returns
 returns c =
+    let start = c .before .before .before .before .before .before in
     let s = c .before .before .before .before .before .before .args .s .now in
-    let t = drop (c .before .before .before .before .before .before .args .self .at) s in
+    let t = drop (start .args .self .at) s in
     let z = c .before .before .before .before .byte in
     let g = c .before .zero .given in
-    zero-opened s t (c .before .before .before .before .before .before .pre) (g .0 .0) (moved-to s (z .result) (eat (0x30 ∷ []) t) (z .ensures) (g .0 .0) (g .1))
+    zero-opened s t (start .pre) (g .0 .0) (moved-to s (z .result) (eat (0x30 ∷ []) t) (z .ensures) (g .0 .0) (g .1))
 
 returns-2 : tie.Need-returns-2
 returns-2 c =
+    let start = c .before .before .before .before .before .before .before .before in
     let s = c .before .before .before .before .before .before .before .before .args .s .now in
-    let t = drop (c .before .before .before .before .before .before .before .before .args .self .at) s in
+    let t = drop (start .args .self .at) s in
     let o = c .before .before .before .before .before .byte2 in
     let g = c .before .one .given in
-    one-opened s t (c .before .before .before .before .before .before .before .before .pre) (g .0 .0) (moved-to s (o .result) (eat (0x31 ∷ []) t) (o .ensures) (g .0 .0) (g .1))
+    one-opened s t (start .pre) (g .0 .0) (moved-to s (o .result) (eat (0x31 ∷ []) t) (o .ensures) (g .0 .0) (g .1))
 
 returns-3 : tie.Need-returns-3
 returns-3 c =
+    let start = c .before .before .before .before .before .before .before in
+    let enum-told = c .before .before .enum-told in
     let s = c .before .before .before .before .before .before .before .args .s .now in
-    let t = drop (c .before .before .before .before .before .before .before .args .self .at) s in
+    let t = drop (start .args .self .at) s in
     let z = c .before .before .before .before .before .byte in
     let o = c .before .before .before .before .byte2 in
-    digit-bad t (c .before .before .before .before .before .before .before .pre)
-    (moved-nowhere s (z .result) (eat (0x30 ∷ []) t) (z .ensures) (c .before .before .enum-told .given .1))
+    digit-bad t (start .pre)
+    (moved-nowhere s (z .result) (eat (0x30 ∷ []) t) (z .ensures) (enum-told .given .1))
     (moved-nowhere s (o .result) (eat (0x31 ∷ []) t) (o .ensures) (c .enum-told2 .given .1))
 
 pub opens-digit-spec : {M : Type 1} → statement M

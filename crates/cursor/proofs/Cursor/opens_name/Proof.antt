@@ -15,11 +15,16 @@ enum-told c = search needs
 
 returns : tie.Need-returns
 returns c =
-    name-opened _ _ _ _ (c .before .before .before .before .before .pre .1)
-    (rw (c .before .r .given .1) at (c .before .before .before .named .ensures))
+    let start = c .before .before .before .before .before in
+    let named = c .before .before .before .named in
+    name-opened _ _ _ _ (start .pre .1)
+    (rw (c .before .r .given .1) at (named .ensures))
 
 returns-2 : tie.Need-returns-2
-returns-2 c = name-bad _ (c .before .before .before .before .pre .1) (rw (c .enum-told .given .1) at (c .before .before .named .ensures))
+returns-2 c =
+    let start = c .before .before .before .before in
+    let named = c .before .before .named in
+    name-bad _ (start .pre .1) (rw (c .enum-told .given .1) at (named .ensures))
 
 pub opens-name-spec : {M : Type 1} → statement M
 opens-name-spec = tie.close (tie.spec named-requires enum-known-r enum-told returns returns-2)

@@ -33,8 +33,10 @@ shared-slice-read-if2-2 c = omega arith
 
 returns-2 : tie.Need-returns-2 Inv-loop μ-loop
 returns-2 c =
-    eating-differs _ _ _ _ (c .before .before .before .before .loop .inv)
-    (c .before .before .before .loop-test .taken) (c .if2 .taken)
+    let loop = c .before .before .before .before .loop in
+    let loop-test = c .before .before .before .loop-test in
+    eating-differs _ _ _ _ (loop .inv)
+    (loop-test .taken) (c .if2 .taken)
 
 add-i : tie.Need-add-i Inv-loop μ-loop
 add-i c = omega arith
@@ -44,7 +46,9 @@ loop-less c = omega arith
 
 loop-again : tie.Need-loop-again Inv-loop μ-loop
 loop-again c =
-    eating-more _ _ _ _ (c .before .before .before .before .loop .inv) (c .before .before .before .loop-test .taken)
+    let loop = c .before .before .before .before .loop in
+    let loop-test = c .before .before .before .loop-test in
+    eating-more _ _ _ _ (loop .inv) (loop-test .taken)
     (c .if2 .left)
 
 add-t6 : tie.Need-add-t6 Inv-loop μ-loop
