@@ -4,7 +4,7 @@ ghost use mathlib.Core.Path.{_≡_};
 ghost use Prim.Native.Nat.{_≤_, _<_};
 ghost use lib.ListN.{length};
 ghost use Rattle.limits.specs.Limits.{maxInputs, maxBound, maxRows, maxVertices, maxFreeRows, tableWords};
-ghost use Rattle.rows.specs.Row as row;
+ghost use Rattle.bits.specs.Logic as logic;
 ghost use Rattle.rows.specs.Words.{rowOn};
 ghost use Rattle.sheet.specs.Examine.{Design};
 ghost use Rattle.sheet.specs.Known.{Holds};
@@ -86,7 +86,7 @@ fn digits(bound: &[usize], n: usize) -> [usize; limits::MAX_INPUTS]
 }
 
 fn bit(b: bool) -> usize
-    ensures { λ r. ⌜ r ≡ row.bit b ⌝ }
+    ensures { λ r. ⌜ r ≡ logic.bit b ⌝ }
 {
     if b { 1 } else { 0 }
 }

@@ -5,7 +5,7 @@ ghost use Prim.Native.Nat.{ℕ, _+_, _≤_, _<_};
 ghost use lib.ListN.{length, getD};
 ghost use Rattle.bits.specs.Logic.{xorb};
 ghost use Rattle.limits.specs.Limits.{maxCells, maxVertices, maxRows};
-ghost use Rattle.rows.specs.Row as row;
+ghost use Rattle.bits.specs.Logic as logic;
 ghost use Rattle.rows.specs.Words.{rowOn};
 ghost use Rattle.sheet.specs.Examine.{Design};
 ghost use Rattle.network.specs.Network.{Network};
@@ -28,7 +28,7 @@ pub enum Checked {
 
 // The digit of a byte, 1 or 0.
 fn one(b: u8) -> usize
-    ensures { λ r. ⌜ r ≡ row.bit (isOne b) ⌝ }
+    ensures { λ r. ⌜ r ≡ logic.bit (isOne b) ⌝ }
 {
     if b == b'1' { 1 } else { 0 }
 }

@@ -64,8 +64,8 @@ opened-more rows n r f h e s = record {
   done = each-more (λ k z. z ≡ openOf (item rows k)) n f r (let z = s .long in omega arith) e (s .done);
 }
 
-xor-same : (a : ℕ) → bitXor a a ≡ 0
-xor-same a = on-none (bitXor a a) (λ i. on-xor a a i ∙ xor-self (on a i))
+xor-own : (a : ℕ) → bitXor a a ≡ 0
+xor-own a = on-none (bitXor a a) (λ i. on-xor a a i ∙ xor-self (on a i))
 
 -- cells with other tables and the same rows: where they tell no less apart
 cells-apart-more : (o x y n i : ℕ) (rows rows' codes codes' : ℕ → ℕ) → rows' o ≡ rows o → ((k : ℕ) → on (codes' x) k ≡ on (codes' y) k → on (codes x) k ≡ on (codes y) k)
@@ -159,7 +159,7 @@ answer-found cl given budgets v m u limit rows codes fs r true few outs cells h 
     record {
       serves = conflict-serves cl v m (item budgets) (coreOf u (item fs) (item r)) (zeroed-serves v m (Conflict cl) (item budgets) u rows codes fs r few outs f z
           (subst (Serves v m (Conflict cl) (item budgets)) (none-read (openCells u rows codes) rows) (c .serves [] (no-tables given v))));
-      zero = cells-zero u 0 (item fs) (item r) (z .done 0 (omega arith) ∙ xor-same (item codes 0));
+      zero = cells-zero u 0 (item fs) (item r) (z .done 0 (omega arith) ∙ xor-own (item codes 0));
       fewest = λ k s. rw (cells-length u 0 (item fs) (item r)) (no-fewer-length cl given budgets v m u k a s);
     },
   );

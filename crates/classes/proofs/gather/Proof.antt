@@ -5,7 +5,8 @@ use native.Mathlib.Omega.{arith}
 use borrow.Author.Needs.{needs}
 use lib.ListN.{length, take}
 use Rattle.bits.specs.Logic.{bit}
-use Rattle.classes.proofs.Rows.{gather-none, gather-more, gather-all, gather-small, bit-most}
+use Rattle.bits.specs.LogicLaws.{bit-le}
+use Rattle.classes.proofs.Rows.{gather-none, gather-more, gather-all, gather-small}
 use Rattle.classes.specs.Seen.{gathered}
 use Rattle.classes.proofs.gather.Statement.{statement}
 use Rattle.classes.proofs.gather.Tie as tie
@@ -51,7 +52,7 @@ add-r c =
     let head = c .before .before .before .before in
     let start = head .before .before in
     let small = gather-small (start .args .digits .now) (start .args .z) (head .loop .i) (start .pre .0) in
-    omega (arith, small, head .loop .inv .1, c .bit .ensures, bit-most (c .before .has .result))
+    omega (arith, small, head .loop .inv .1, c .bit .ensures, bit-le (c .before .has .result))
 
 add-i : tie.Need-add-i Inv-loop μ-loop
 add-i c = search needs
