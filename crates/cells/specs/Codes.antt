@@ -6,7 +6,7 @@ use mathlib.Core.Path.{_≡_, refl, sym, ap, ap₂, _∙_, subst}
 use mathlib.Core.Bool.{Bool, true, false}
 use mathlib.Core.List.{List, [], _∷_}
 use mathlib.Core.Logic.{_⊎_, inl, inr, ⊎-elim}
-use Prim.Native.Nat.{ℕ, zero, suc, _+_, _-_, _*_, _/_, _%_, _^_, min, _≤_, _<_}
+use Prim.Native.Nat.{ℕ, zero, suc, _+_, _-_, _*_, _/_, _%_, _^_, _≤_, _<_}
 use native.Mathlib.Omega.{arith}
 use native.Mathlib.Nat.{pow-suc}
 use native.Mathlib.Numerals.{one-add}
@@ -21,28 +21,13 @@ use Rattle.bits.specs.Count.{count}
 use Rattle.bits.specs.CountLaws.{less-or-equal, count-alike}
 use Rattle.bits.specs.Logic.{bit}
 use Rattle.cells.specs.Core.{Cell, Apart, reading, Serves, ZeroFirst, cellsFrom, coreOf}
-use Rattle.cells.specs.Pigeon.{agree-and, and-agree}
-use Rattle.cells.specs.Free.{retabled, retabled-length, retabled-reading, retabled-apart, zeroed, zeroed-first, zeroed-same, filled, filled-length, filled-apart}
-use Rattle.cells.specs.Free.{filled-reading, padded, padded-length, padded-serves}
-use Rattle.cells.specs.Sorted.{Sorted, sort, sort-apart, sort-reading, sort-length, sort-sorted, neighbours}
+use Rattle.cells.specs.Pigeon.{agree-and}
+use Rattle.cells.specs.Free.{retabled}
 
 -- ======== definitions
 -- the first j outputs tell their conflicting vertices apart
 pub record Coded (v j : ℕ) (Conflict : ℕ → ℕ → ℕ → Type 0) (rows codes : ℕ → ℕ) : Type 0 where
   pub tells : (o x y : ℕ) → o < j → x < v → y < v → Conflict o x y → bitAnd (codes x) (rows o) ≡ bitAnd (codes y) (rows o) → ⊥
-
--- of two neighbouring cells that the outputs before o read alike, o reads the second only where it reads the first
-abbrev pub Ordered : ℕ → ℕ → (ℕ → ℕ) → Type 0
-Ordered u m rows = (i o : ℕ) → suc i < u → o < m → ((p : ℕ) → p < o → on (rows p) i ≡ on (rows p) (suc i)) → on (rows o) (suc i) ≡ true → on (rows o) i ≡ true
-
--- a core of u cells in normal form
-pub record Normal (u v m : ℕ) (Conflict : ℕ → ℕ → ℕ → Type 0) (budget : ℕ → ℕ) (rows codes : ℕ → ℕ) : Type 0 where
-  pub coded : Coded v m Conflict rows codes
-  pub full : (o : ℕ) → o < m → count (on (rows o)) u ≡ min (budget o) u
-  pub short : (o : ℕ) → rows o < 2 ^ u
-  pub low : (x : ℕ) → codes x < 2 ^ u
-  pub zero : codes 0 ≡ 0
-  pub ordered : Ordered u m rows
 
 -- the cells with p, as a number
 unfoldable pub numberOf : (Cell → Bool) → List Cell → ℕ
@@ -116,77 +101,10 @@ number-apart o x y (c ∷ l) a h = ⊎-elim
     (λ r. number-apart o x y l r (λ i e. sym (on-high (c .table x) (codeOf l x) i) ∙ h (suc i) (on-high (c .readers o) (rowOf l o) i ∙ e) ∙ on-high (c .table y) (codeOf l y) i))
     a
 
-number-ordered : (m : ℕ) (l : List Cell) → Sorted m l → Ordered (length l) m (rowOf l)
-unfolding numberOf
-number-ordered m [] s i o h b g e = absurd (omega arith)
-number-ordered m (c ∷ []) s i o h b g e = absurd (omega arith)
-number-ordered m (c ∷ d ∷ l) s zero o h b g e =
-    let here : (p : ℕ) → on (rowOf (c ∷ d ∷ l) p) 0 ≡ c .readers p = λ p. on-low (c .readers p) (rowOf (d ∷ l) p) in
-    let next : (p : ℕ) → on (rowOf (c ∷ d ∷ l) p) 1 ≡ d .readers p = λ p. on-high (c .readers p) (rowOf (d ∷ l) p) 0 ∙ on-low (d .readers p) (rowOf l p) in
-    here o ∙ neighbours m o c d b (s .0) (λ p q. sym (here p) ∙ g p q ∙ next p) (sym (next o) ∙ e)
-number-ordered m (c ∷ d ∷ l) s (suc i) o h b g e =
-    let up : (p k : ℕ) → on (rowOf (c ∷ d ∷ l) p) (suc k) ≡ on (rowOf (d ∷ l) p) k = λ p k. on-high (c .readers p) (rowOf (d ∷ l) p) k in
-    up o i ∙ number-ordered m (d ∷ l) (s .1) i o (omega arith) b (λ p q. sym (up p i) ∙ g p q ∙ up p (suc i)) (sym (up o (suc i)) ∙ e)
-
 retabled-row : (g : Cell → ℕ → Bool) (o : ℕ) (l : List Cell) → rowOf (retabled g l) o ≡ rowOf l o
 unfolding retabled numberOf
 retabled-row g o [] = refl
 retabled-row g o (c ∷ l) = ap (λ (n : ℕ). bit (c .readers o) + 2 * n) (retabled-row g o l)
-
-zero-code : (l : List Cell) → ZeroFirst l → codeOf l 0 ≡ 0
-unfolding numberOf
-zero-code [] z = refl
-zero-code (c ∷ l) z = ap₂ (λ (a b : ℕ). a + 2 * b) (ap bit (z .0)) (zero-code l (z .1))
-
--- a core that serves with at most u cells gives one of u cells in normal form
-pub normal-of : (u v m : ℕ) (Conflict : ℕ → ℕ → ℕ → Type 0) (budget : ℕ → ℕ) (l : List Cell) → length l ≤ u
-    → Serves v m Conflict budget l → (rows : ℕ → ℕ) × (codes : ℕ → ℕ) × Normal u v m Conflict budget rows codes
-normal-of u v m Conflict budget l h s = (
-  rowOf k,
-  codeOf k,
-  record {
-    coded = record { tells = λ o x y i p q c e. number-apart o x y k (apart o x y (w .tells o x y i p q c)) (λ i r. and-agree (suc i) (rowOf k o) (codeOf k x) (codeOf k y) e i (omega arith) r) };
-    full = λ o i. subst (λ (n : ℕ). count (on (rowOf k o)) n ≡ min (budget o) u) long
-        (number-reading o k ∙ retabled-reading zeroed o k₂ ∙ sort-reading m o k₁ ∙ filled-reading o d k₀ ∙ (let b = w .within o i in let z = long₀ in omega arith));
-    short = λ o. subst (λ (n : ℕ). rowOf k o < 2 ^ n) long (number-lt (λ c. c .readers o) k);
-    low = λ x. subst (λ (n : ℕ). codeOf k x < 2 ^ n) long (number-lt (λ c. c .table x) k);
-    zero = zero-code k (zeroed-first k₂);
-    ordered = λ i o a b g e. row o i ∙ number-ordered m k₂ (sort-sorted m k₁) i o (let z = long₂ in omega arith) b (λ p q. sym (row p i) ∙ g p q ∙ row p (suc i)) (sym (row o (suc i)) ∙ e);
-  },
-)
-  where
-    k₀ : List Cell
-    k₀ = padded (u - length l) l
-
-    d : ℕ → ℕ
-    d o = budget o - reading o k₀
-
-    k₁ : List Cell
-    k₁ = filled d k₀
-
-    k₂ : List Cell
-    k₂ = sort m k₁
-
-    k : List Cell
-    k = retabled zeroed k₂
-
-    w : Serves v m Conflict budget k₀
-    w = padded-serves (u - length l) v m Conflict budget l s
-
-    long₀ : length k₀ ≡ u
-    long₀ = padded-length (u - length l) l ∙ (omega arith)
-
-    long₂ : length k₂ ≡ u
-    long₂ = sort-length m k₁ ∙ filled-length d k₀ ∙ long₀
-
-    long : length k ≡ u
-    long = retabled-length zeroed k₂ ∙ long₂
-
-    apart : (o x y : ℕ) → Apart o x y k₀ → Apart o x y k
-    apart o x y a = retabled-apart zeroed o x y x y (λ c e. zeroed-same c x y e) k₂ (sort-apart m o x y k₁ (filled-apart o x y d k₀ a))
-
-    row : (o i : ℕ) → on (rowOf k o) i ≡ on (rowOf k₂ o) i
-    row o i = ap (λ (n : ℕ). on n i) (retabled-row zeroed o k₂)
 
 -- ======== from numbers to cells
 pub cells-length : (n i : ℕ) (rows codes : ℕ → ℕ) → length (cellsFrom n i rows codes) ≡ n

@@ -11,8 +11,8 @@ use lib.Dec.{ltb}
 use lib.ListN.{length}
 use borrow.Author.Tests.{ltb-true, ltb-false}
 use Rattle.bits.specs.Logic.{orb, xorb, bit}
-use Rattle.bits.specs.LogicLaws.{true-false, bit-le, xor-self}
-use Rattle.cells.specs.Core.{Cell, Apart, reading, Serves, ZeroFirst}
+use Rattle.bits.specs.LogicLaws.{true-false, bit-le}
+use Rattle.cells.specs.Core.{Cell, Apart, reading, Serves}
 
 -- ---- a change of each cell's table
 unfoldable pub retabled : (Cell → ℕ → Bool) → List Cell → List Cell
@@ -38,11 +38,6 @@ retabled-apart g o x y x' y' k (c ∷ l) a = ⊎-elim (λ p. inl (p .0, λ e. p 
 -- ---- complementing: every table 0 at vertex 0
 abbrev pub zeroed : Cell → ℕ → Bool
 zeroed c x = xorb (c .table 0) (c .table x)
-
-pub zeroed-first : (l : List Cell) → ZeroFirst (retabled zeroed l)
-unfolding retabled
-zeroed-first [] = tt
-zeroed-first (c ∷ l) = (xor-self (c .table 0), zeroed-first l)
 
 not-same : (b c : Bool) → not b ≡ not c → b ≡ c
 not-same true true e = refl

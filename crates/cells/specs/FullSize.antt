@@ -23,7 +23,7 @@ use Rattle.cells.specs.Core.{Cell, Apart, reading, Serves, cellsFrom, co
 use Rattle.cells.specs.Pigeon.{and-agree}
 use Rattle.cells.specs.Free.{filled, filled-length, filled-apart, filled-reading}
 use Rattle.cells.specs.Codes.{Coded, numberOf, rowOf, codeOf, digitsOf, on-digits, on-low, on-high, number-lt, number-reading, number-apart, core-serves}
-use Rattle.cells.specs.Reorder.{Off, Exchanged}
+use Rattle.cells.specs.Reorder.{Off}
 
 -- ======== definitions
 -- u open cells and g given ones, given x being the values of the given cells at vertex x: each output reads as many cells
@@ -293,15 +293,4 @@ cleared-full k u g v m Conflict budget given rows codes s = record {
   short = s .short;
   low = λ x. cleared-low k u codes x (u + g) (omega arith) (s .low x);
   known = λ i x h. cleared-kept k u codes x (u + i) (inr (omega arith)) ∙ s .known i x h;
-}
-
-pub exchanged-full : (k u g v m : ℕ) (Conflict : ℕ → ℕ → ℕ → Type 0) (Before : ℕ → Type 0) (budget given rows codes rows' codes' : ℕ → ℕ)
-    → Exchanged v m k u Conflict Before rows codes rows' codes' → Full u g v m Conflict budget given rows codes
-    → Full u g v m Conflict budget given rows' codes'
-exchanged-full k u g v m Conflict Before budget given rows codes rows' codes' t s = record {
-  coded = t .coded (s .coded);
-  full = λ o h. t .counts o (u + g) (omega arith) ∙ s .full o h;
-  short = λ o. t .short o (u + g) (omega arith) (s .short o);
-  low = λ x. t .low x (u + g) (omega arith) (s .low x);
-  known = λ i x h. t .codes-kept x (u + i) (inr (omega arith)) ∙ s .known i x h;
 }

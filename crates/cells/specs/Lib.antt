@@ -5,7 +5,6 @@ pub mod Lists
 pub mod ListLaws
 pub mod Pigeon
 pub mod Free
-pub mod Sorted
 pub mod Codes
 pub mod WrittenLaws
 pub mod Cut

@@ -105,10 +105,3 @@ same-codes-tables v (suc n) i rows rows' codes codes' e = ap₂ _∷_
 
 pub tables-of-rows : (v n i : ℕ) (rows rows' codes : ℕ → ℕ) → tablesOf v (cellsFrom n i rows codes) ≡ tablesOf v (cellsFrom n i rows' codes)
 tables-of-rows v n i rows rows' codes = same-codes-tables v n i rows rows' codes codes (λ x h. refl)
-
-pub same-row-reads : (o n i : ℕ) (rows rows' codes codes' : ℕ → ℕ) → rows o ≡ rows' o
-    → readsOf o (cellsFrom n i rows codes) ≡ readsOf o (cellsFrom n i rows' codes')
-unfolding cellsFrom readsOf
-same-row-reads o zero i rows rows' codes codes' e = refl
-same-row-reads o (suc n) i rows rows' codes codes' e =
-    ap₂ _∷_ (ap (λ (r : ℕ). on r i) e) (same-row-reads o n (suc i) rows rows' codes codes' e)

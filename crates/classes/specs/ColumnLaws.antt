@@ -41,16 +41,6 @@ unfolding apart
 apart-self [] = refl
 apart-self (u ∷ us) = rw (xor-self u) (apart-self us)
 
-pub apart-equal : (us vs : List Bool) → length us ≡ length vs → apart us vs ≡ false → us ≡ vs
-unfolding apart
-apart-equal [] [] n e = refl
-apart-equal [] (v ∷ vs) n e = absurd (omega arith)
-apart-equal (u ∷ us) [] n e = absurd (omega arith)
-apart-equal (u ∷ us) (v ∷ vs) n e =
-    ap₂ (λ (b : Bool) (l : List Bool). b ∷ l)
-    (xor-equal u v (neither-first (xorb u v) (apart us vs) e))
-    (apart-equal us vs (omega arith) (neither-second (xorb u v) (apart us vs) e))
-
 apart-last : (us vs : List Bool) (u v : Bool) → length us ≡ length vs
     → apart (us ++ (u ∷ [])) (vs ++ (v ∷ [])) ≡ (apart us vs || xorb u v)
 unfolding apart

@@ -1,25 +1,22 @@
 -- The local and the global classes of a design's vertices, by the laws of classes: one class means no conflict, in one
 -- output or in every output; class numbers are those below the number of classes; an output's width is at most the
 -- number of bound inputs. Assumes nothing.
-use mathlib.Core.Path.{_≡_, refl, ap}
+use mathlib.Core.Path.{_≡_, refl}
 use mathlib.Core.Logic.{⊎-elim}
 use mathlib.Core.Bool.{true, false}
 use mathlib.Core.List.{List}
-use Prim.Native.Nat.{ℕ, zero, suc, _^_, _≤_, _<_}
+use Prim.Native.Nat.{ℕ, zero, suc, _≤_, _<_}
 use native.Mathlib.Omega.{arith}
 use lib.ListN.{length}
 use Rattle.bits.specs.LogicLaws.{and-left, and-right, and-both}
 use Rattle.bits.specs.CountLaws.{less-or-equal}
 use Rattle.names.specs.Name.{Name}
 use Rattle.sheet.specs.Examine.{Design}
-use Rattle.sheet.specs.Value.{outputOn}
-use Rattle.classes.specs.Columns.{vertexOf, freeRowOf, vertexCount, freeCount, valueAt, conflict, alike, alikeUpto, alikeInAll}
-use Rattle.classes.specs.Proper.{Parted}
+use Rattle.classes.specs.Columns.{vertexCount, conflict, alike, alikeUpto, alikeInAll}
 use Rattle.classes.specs.Classes.{localCount, localClass, globalCount, globalClass}
 use Rattle.classes.specs.Width.{width}
 use Rattle.classes.specs.ClassLaws.{Taken, count-most, related-class, class-related, class-below, class-taken}
-use Rattle.classes.specs.ColumnLaws.{no-conflict-agree, alike-no-conflict, no-conflict-alike, alike-equivalence, upto-equivalence}
-use Rattle.classes.specs.JoinLaws.{join-parts}
+use Rattle.classes.specs.ColumnLaws.{alike-no-conflict, no-conflict-alike, alike-equivalence, upto-equivalence}
 use Rattle.classes.specs.WidthLaws.{width-least}
 
 module _ (d : Design) (bs : List Name) where
@@ -97,13 +94,3 @@ module _ (d : Design) (bs : List Name) where
   global-taken c l = class-taken (alikeInAll d bs) (upto-equivalence d bs (length (d .outputs))) (vertexCount bs) c l
 
 -- ---- rows
--- an output's value on a row is its value at the row's vertex and free row
-pub value-on-row : (d : Design) (bs : List Name) (o r : ℕ) → Parted (d .inputs) bs → r < 2 ^ length (d .inputs)
-    → valueAt d bs o (vertexOf (d .inputs) bs r) (freeRowOf (d .inputs) bs r) ≡ outputOn d o r
-unfolding valueAt
-value-on-row d bs o r p l = ap (outputOn d o) (join-parts (d .inputs) bs p r l)
-
--- vertices of one local class have one value at each free row
-pub local-value : (d : Design) (bs : List Name) (o x y i : ℕ) → localClass d bs o x ≡ localClass d bs o y → i < freeCount (d .inputs) bs
-    → valueAt d bs o x i ≡ valueAt d bs o y i
-local-value d bs o x y i e l = no-conflict-agree d bs o x y (local-no-conflict d bs o x y e) i l

@@ -1,5 +1,5 @@
 -- The width is the least w with 2 ^ w at least the number of classes. Assumes nothing.
-use mathlib.Core.Path.{_≡_, refl}
+use mathlib.Core.Path.{_≡_}
 use mathlib.Core.Logic.{⊎-elim}
 use Prim.Native.Nat.{ℕ, zero, suc, _+_, _*_, _^_, _≤_, _<_}
 use native.Mathlib.Decide.{decLt}
@@ -51,10 +51,6 @@ width-enough c = from-enough c 0 c (rw zero-add (let l : c < 2 ^ c = below-power
 pub width-least : (c w : ℕ) → c ≤ 2 ^ w → widthOf c ≤ w
 unfolding widthOf
 width-least c w h = from-least c 0 c w h (omega arith)
-
-pub width-of-one : widthOf 1 ≡ 0
-unfolding widthOf widthFrom
-width-of-one = refl
 
 -- the two laws decide the width
 pub width-is : (c w : ℕ) → c ≤ 2 ^ w → ((v : ℕ) → v < w → 2 ^ v < c) → widthOf c ≡ w

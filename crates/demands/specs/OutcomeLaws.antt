@@ -2,14 +2,10 @@
 use mathlib.Core.Path.{_≡_, subst}
 use mathlib.Core.List.{List}
 use Prim.Native.Nat.{ℕ}
-use native.Mathlib.Omega.{arith}
 use Rattle.sheet.specs.Examine.{Design, Examined, refused, valid}
 use Rattle.mapper.specs.Map.{MapAnswer, OutcomeFor, RefusedSheet, OutcomeOf}
 
 -- ---- what the examination answered
-pub refused-valid : {q l : ℕ} {d : Design} → refused q l ≡ valid d → ⊥
-refused-valid e = let z : _≡_ {A = ℕ} 0 1 = cc in omega arith
-
 pub valid-same : {d e : Design} → valid d ≡ valid e → d ≡ e
 valid-same q = cc
 

@@ -19,18 +19,14 @@ use Rattle.formula.specs.Tree.{Formula, input, constant, negation, gate,
 use Rattle.formula.specs.Printer.{print, prints, spelled, spelledAll}
 use Rattle.formula.specs.Reader.{spaceNext, closeNot, closeGate, readFormula, readOperands}
 use Rattle.formula.specs.PrintLaws.{print-constant, print-negation, print-gate, prints-more}
-use Rattle.formula.specs.Front.{Ends, AllEnd, FormulaFront, OperandsFront}
-use Rattle.formula.specs.Within.{formula-within, operands-within}
+use Rattle.formula.specs.Front.{Ends, AllEnd, FormulaFront}
+use Rattle.formula.specs.Within.{formula-within}
 use Rattle.formula.specs.ReaderLaws.{formula-opened, operands-more, operands-none}
 
 -- ---- what was read stands at the front
 pub formula-front-found : (s : List ℕ) (f : Formula) (t : List ℕ) → readFormula s ≡ found f t → FormulaFront s f t
 unfolding readFormula
 formula-front-found s f t e = formula-within (suc (length s)) s f t e
-
-pub operands-front-found : (s : List ℕ) (fs : Operands) (t : List ℕ) → readOperands s ≡ found fs t → OperandsFront s fs t
-unfolding readOperands
-operands-front-found s fs t e = operands-within (suc (length s)) s fs t e
 
 -- ---- where a text stops, any formula may end
 pub stops-ends : (f : Formula) (t : List ℕ) → Stops t → Ends f t
@@ -110,10 +106,6 @@ mutual
 -- ---- in particular where the text stops
 pub formula-stops-read : (f : Formula) (t : List ℕ) → spelled f ≡ true → Stops t → readFormula (print f ++ t) ≡ found f t
 formula-stops-read f t e h = formula-front-read f t e (stops-ends f t h)
-
-pub operands-stops-read : (fs : Operands) (t : List ℕ) → spelledAll fs ≡ true → Stops t → spaceNext t ≡ false
-    → readOperands (prints fs ++ t) ≡ found fs t
-operands-stops-read fs t e h n = operands-front-read fs t e (stops-all-end fs t h) n
 
 -- ---- whole texts
 pub formula-read-of-print : (s : List ℕ) (f : Formula) → spelled f ≡ true → s ≡ print f → whole (readFormula s) ≡ some f

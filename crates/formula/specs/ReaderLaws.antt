@@ -3,7 +3,7 @@
 use mathlib.Core.Path.{_≡_, refl, sym, ap, _∙_}
 use mathlib.Core.Bool.{Bool, true, false}
 use mathlib.Core.List.{List, [], _∷_}
-use Prim.Native.Nat.{ℕ, zero, suc, _≤_, _<_}
+use Prim.Native.Nat.{ℕ, zero, suc, _<_}
 use native.Mathlib.Omega.{arith}
 use lib.ListN.{length, length-append}
 use Rattle.bits.specs.Logic.{pick}
@@ -16,7 +16,7 @@ use Rattle.cursor.specs.OpeningLaws.{opening-shorter}
 use Rattle.formula.specs.Tree.{Formula, input, constant, negation, gate, Operands, none, more}
 use Rattle.formula.specs.Printer.{print, spelled}
 use Rattle.formula.specs.Reader.{spaceNext, rest, closeNot, closeGate, finish, readWithin, operandsWithin, readFormula, readOperands}
-use Rattle.formula.specs.Within.{formula-within, operands-within}
+use Rattle.formula.specs.Within.{formula-within}
 
 -- ---- the text after an item is shorter
 print-long : (f : Formula) → spelled f ≡ true → 0 < length (print f)
@@ -35,12 +35,6 @@ within-shorter k s f t e =
 pub formula-shorter : (s : List ℕ) (f : Formula) (t : List ℕ) → readFormula s ≡ found f t → length t < length s
 unfolding readFormula
 formula-shorter s f t e = within-shorter (suc (length s)) s f t e
-
-pub operands-shorter : (s : List ℕ) (fs : Operands) (t : List ℕ) → readOperands s ≡ found fs t → length t ≤ length s
-unfolding readOperands
-operands-shorter s fs t e =
-    let r = operands-within (suc (length s)) s fs t e in
-    omega (arith, simp length-append at (ap length (r .is-split)))
 
 -- ---- two bounds above the text's length
 finish-same : (i : Opening) (t : List ℕ) (r r′ : Read Formula) (q q′ : List ℕ → Read Operands) → r ≡ r′

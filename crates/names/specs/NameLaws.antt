@@ -30,12 +30,6 @@ word-after (b ∷ s) =
     (λ _. ap (λ (x : List ℕ). b ∷ x) (word-after s))
     (λ _. refl)
 
-pub after-length : (s : List ℕ) → length (word s) + length (afterWord s) ≡ length s
-after-length s = sym (length-append (word s) (afterWord s)) ∙ ap length (word-after s)
-
-pub after-shorter : (s : List ℕ) → length (afterWord s) ≤ length s
-after-shorter s = omega (arith, after-length s)
-
 pub word-name-bytes : (s : List ℕ) → allNameBytes (word s) ≡ true
 unfolding word
 word-name-bytes [] = refl

@@ -5,7 +5,7 @@ use mathlib.Core.List.{List, [], _∷_, _++_, append-assoc}
 use Prim.Native.Nat.{ℕ, zero, suc, _<_}
 use native.Mathlib.Omega.{arith}
 use lib.Dec.{eqb}
-use lib.ListN.{length, length-append}
+use lib.ListN.{length}
 use borrow.Author.Tests.{eqb-true, ne-eqb}
 use Rattle.bits.specs.Logic.{pick}
 use Rattle.bits.specs.LogicLaws.{and-left, and-right, and-both}
@@ -61,11 +61,6 @@ names-within (suc k) (b ∷ s) ns t e =
 pub names-print-of-read : (s : List ℕ) (ns : List Name) (t : List ℕ) → readNames s ≡ found ns t → NamesFront s ns t
 unfolding readNames
 names-print-of-read s ns t e = names-within (suc (length s)) s ns t e
-
-pub names-shorter : (s : List ℕ) (ns : List Name) (t : List ℕ) → readNames s ≡ found ns t → length t < length s
-names-shorter s ns t e =
-    let f = names-print-of-read s ns t e in
-    omega (arith, simp length-append at (ap length (f .is-split)))
 
 -- ---- two bounds above the text's length
 names-agree : (j k : ℕ) (s : List ℕ) → length s < j → length s < k → namesWithin j s ≡ namesWithin k s

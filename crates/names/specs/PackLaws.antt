@@ -15,9 +15,9 @@ use Rattle.bits.specs.Logic.{pick}
 use Rattle.bits.specs.LogicLaws.{and-left, and-right}
 use Rattle.text.specs.Bytes.{same}
 use Rattle.text.specs.BytesLaws.{differ-same}
-use Rattle.names.specs.Name.{Name, nameByte, allNameBytes, isName}
+use Rattle.names.specs.Name.{Name, nameByte, allNameBytes}
 use Rattle.names.specs.Pack.{pack, unpackWithin, nameOf}
-use Rattle.names.specs.IsNameLaws.{name-bytes, name-short, name-byte-between}
+use Rattle.names.specs.IsNameLaws.{name-byte-between}
 
 -- ---- a number, unpacked and packed
 below-step : (p v : ℕ) → v < p * 256 → v / 256 < p
@@ -83,9 +83,6 @@ name-bytes-no-zero (b ∷ s) e =
 
 pub name-bytes-back : (n : Name) → allNameBytes n ≡ true → length n ≤ maxName → nameOf (pack n) ≡ n
 name-bytes-back n e h = name-of-pack n h (name-bytes-no-zero n e)
-
-pub name-back : (n : Name) → isName n ≡ true → nameOf (pack n) ≡ n
-name-back n e = name-bytes-back n (name-bytes n e) (name-short n e)
 
 -- ---- byte by byte
 unpack-more : (k v : ℕ) → v < 256 ^ k → unpackWithin (suc k) v ≡ unpackWithin k v

@@ -52,15 +52,6 @@ module _ (i mask : ℕ) where
   pub numbers-without : on mask i ≡ false → numbers (i + 1) 0 mask ≡ numbers i 0 mask
   numbers-without e = numbers-one ∙ ap (λ (b : Bool). numbers i 0 mask ++ pick b (i ∷ []) []) e ∙ append-nil (numbers i 0 mask)
 
-either-few : (k i : ℕ) (l : List ℕ) (b : Bool) → length l ≤ k → length (pick b (i ∷ l) l) ≤ suc k
-either-few k i l true h = omega arith
-either-few k i l false h = omega arith
-
-pub numbers-few : (k i mask : ℕ) → length (numbers k i mask) ≤ k
-unfolding numbers
-numbers-few zero i mask = omega arith
-numbers-few (suc k) i mask = either-few k i (numbers k (suc i) mask) (on mask i) (numbers-few k (suc i) mask)
-
 -- ---- the names of the tables
 pub record Reading (mask u i count : ℕ) (now : List Name) : Type 0 where
   pub within : i ≤ u

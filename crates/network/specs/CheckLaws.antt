@@ -97,10 +97,6 @@ module _ (t : List ℕ) where
   unfolding examinePair
   drawn-pair x d w e f = rw (e, f .is-read, f .passes) refl
 
-pub check-refused : (t : List ℕ) (q l : ℕ) → checkOf (refused q l) t ≡ refused-by q l
-unfolding checkOf
-check-refused t q l = ap comparePair (pair-refused t q l)
-
 -- ---- beside a design
 module _ (d : Design) (t : List ℕ) where
   -- from the questions to the answer

@@ -1,8 +1,7 @@
 -- Rising numbers: from where on and below what they rise, and how many there are. Assumes nothing.
 use mathlib.Core.List.{List, _∷_}
-use Prim.Native.Nat.{ℕ, zero, suc, _+_, _≤_, _<_}
+use Prim.Native.Nat.{ℕ, suc, _≤_, _<_}
 use native.Mathlib.Omega.{arith}
-use lib.ListN.{length, getD}
 use Rattle.network.specs.Reads.{Rising, rising-none, rising-more}
 
 -- from a lower number on, and below a higher one
@@ -19,14 +18,3 @@ rising-high (rising-more l m r) = m
 
 pub rising-later : {i u j : ℕ} {js : List ℕ} → Rising i u (j ∷ js) → Rising (suc j) u js
 rising-later (rising-more l m r) = r
-
--- there are at most as many as numbers between
-pub rising-few : {i u : ℕ} {is : List ℕ} → i ≤ u → Rising i u is → i + length is ≤ u
-rising-few h rising-none = omega arith
-rising-few h (rising-more l m r) = omega (arith, rising-few m r)
-
--- each is below the bound
-pub rising-below : {i u : ℕ} {is : List ℕ} → Rising i u is → (k : ℕ) → k < length is → getD is k 0 < u
-rising-below rising-none k h = absurd (omega arith)
-rising-below (rising-more l m r) zero h = m
-rising-below (rising-more l m r) (suc k) h = rising-below r k (omega arith)

@@ -3,16 +3,13 @@
 use mathlib.Core.Path.{_≡_, refl, sym, ap, ap₂, _∙_}
 use mathlib.Core.Bool.{Bool}
 use mathlib.Core.List.{List}
-use Prim.Native.Nat.{ℕ, _+_, _*_, _/_, _%_, _^_, _<_}
-use native.Mathlib.Decide.{decLt}
+use Prim.Native.Nat.{ℕ, _+_, _*_, _/_, _%_, _<_}
 use native.Mathlib.Omega.{arith}
 use lib.Arith.{digits-div, digits-mod}
-use lib.ListN.{length, getD, replicate, getD-replicate}
-use lib.Seq.{ext-getD}
+use lib.ListN.{getD, replicate, getD-replicate}
 use Rattle.limits.specs.Limits.{maxRows, tableWords}
 use Rattle.bits.specs.Digit.{on}
-use Rattle.bits.specs.DigitLaws.{on-above, equal-digits}
-use Rattle.rows.specs.Words.{rowOn, Rowwise, WordOf, Sized}
+use Rattle.rows.specs.Words.{rowOn, Rowwise, WordOf}
 
 pub row-word : (ws : List ℕ) (w k : ℕ) → k < 64 → rowOn ws (w * 64 + k) ≡ on (getD ws w 0) k
 unfolding rowOn
@@ -58,21 +55,3 @@ word-of-two op p law a b w =
     }
 
 -- ---- a table is decided by its rows
-word-equal : (x y : ℕ) → x < 2 ^ 64 → y < 2 ^ 64 → ((k : ℕ) → k < 64 → on x k ≡ on y k) → x ≡ y
-word-equal x y bx by h =
-    equal-digits x y
-    (λ k.
-    elim (decLt k 64) as (λ _. on x k ≡ on y k) [
-      | yes l ↦ h k l
-      | no g ↦ on-above 64 x k bx (omega arith) ∙ sym (on-above 64 y k by (omega arith))
-    ])
-
-pub equal-rows : {a b : List ℕ} → Sized a → Sized b
-    → ((r : ℕ) → r < maxRows → rowOn a r ≡ rowOn b r) → a ≡ b
-equal-rows {a} {b} sa sb h =
-    ext-getD 0 a b (sa .size ∙ sym (sb .size))
-    (λ w l.
-    let s : length a ≡ tableWords = sa .size in
-    let m : w < tableWords = omega arith in
-    word-equal (getD a w 0) (getD b w 0) (sa .fits w m) (sb .fits w m)
-    (λ k g. sym (row-word a w k g) ∙ h (w * 64 + k) (omega arith) ∙ row-word b w k g))

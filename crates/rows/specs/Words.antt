@@ -3,9 +3,9 @@
 use mathlib.Core.Path.{_≡_}
 use mathlib.Core.Bool.{Bool}
 use mathlib.Core.List.{List}
-use Prim.Native.Nat.{ℕ, _+_, _*_, _/_, _%_, _^_, _<_}
-use lib.ListN.{length, getD}
-use Rattle.limits.specs.Limits.{maxRows, tableWords}
+use Prim.Native.Nat.{ℕ, _+_, _*_, _/_, _%_, _<_}
+use lib.ListN.{getD}
+use Rattle.limits.specs.Limits.{maxRows}
 use Rattle.bits.specs.Digit.{on}
 
 -- the value of the table on row r
@@ -19,8 +19,3 @@ pub record Rowwise (f : ℕ → Bool) (ws : List ℕ) : Type 0 where
 -- x has the values of f on the 64 rows of word w
 pub record WordOf (f : ℕ → Bool) (w x : ℕ) : Type 0 where
   pub each : (k : ℕ) → k < 64 → on x k ≡ f (w * 64 + k)
-
--- as many words as a table has, each of 64 digits
-pub record Sized (ws : List ℕ) : Type 0 where
-  pub size : length ws ≡ tableWords
-  pub fits : (w : ℕ) → w < tableWords → getD ws w 0 < 2 ^ 64

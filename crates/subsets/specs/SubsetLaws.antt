@@ -213,13 +213,6 @@ all-size-from s i zero h = refl
 all-size-from s i (suc k) h =
     rw (h i (omega arith) (omega arith)) (ap suc (all-size-from s (suc i) k (all-later s i k h)))
 
-all-at-from : (s i k j : ℕ) → AllIn s i k → j < k → getD (members s i k) j 0 ≡ i + j
-unfolding members
-all-at-from s i zero j h l = absurd (omega arith)
-all-at-from s i (suc k) zero h l = rw (h i (omega arith) (omega arith)) (omega arith)
-all-at-from s i (suc k) (suc j) h l =
-    rw (h i (omega arith) (omega arith)) (omega (arith, all-at-from s (suc i) k j (all-later s i k h) (omega arith)))
-
 all-selected-from : {A : Type 0} (s i : ℕ) (l : List A) → AllIn s i (length l) → selected s i l ≡ l
 unfolding selected
 all-selected-from s i [] h = refl
@@ -238,9 +231,6 @@ all-some m h =
 
 pub all-size : (m : ℕ) → size m (2 ^ m - 1) ≡ m
 all-size m = all-size-from (2 ^ m - 1) 0 m (all-in m)
-
-pub all-at : (m j : ℕ) → j < m → memberAt m (2 ^ m - 1) j ≡ j
-all-at m j h = omega (arith, all-at-from (2 ^ m - 1) 0 m j (all-in m) h)
 
 pub all-selected : {A : Type 0} (l : List A) → selected (2 ^ length l - 1) 0 l ≡ l
 all-selected l = all-selected-from (2 ^ length l - 1) 0 l (all-in (length l))

@@ -4,7 +4,7 @@ use mathlib.Core.Path.{_≡_, refl, sym, ap, ap₂, _∙_}
 use mathlib.Core.Bool.{Bool, true, false}
 use mathlib.Core.List.{List, [], _∷_, _++_}
 use mathlib.Core.Option.{some}
-use Prim.Native.Nat.{ℕ, _+_, _≤_}
+use Prim.Native.Nat.{ℕ, _+_}
 use native.Mathlib.Omega.{arith}
 use lib.Dec.{eqb}
 use lib.ListN.{length, length-append}
@@ -46,9 +46,6 @@ eat-found (b ∷ w) (c ∷ s) t e =
 
 pub eat-lengths : (w s t : List ℕ) → eat w s ≡ found tt t → length w + length t ≡ length s
 eat-lengths w s t e = sym (ap length (eat-found w s t e) ∙ length-append w t)
-
-pub eat-length : (w s t : List ℕ) → eat w s ≡ found tt t → length t ≤ length s
-eat-length w s t e = omega (arith, eat-lengths w s t e)
 
 -- ---- an item after an item
 pub after-found : {A B : Type 0} (r : Read A) (f : A → List ℕ → Read B) (b : B) (u : List ℕ)

@@ -5,7 +5,6 @@ pub mod Line
 pub mod LineEnd
 pub mod Unbroken
 pub mod Solid
-pub mod Breaks
 pub mod Number
 pub mod Numerals
 pub mod BytesLaws

@@ -3,11 +3,11 @@
 use mathlib.Core.Path.{_≡_, refl}
 use mathlib.Core.Bool.{Bool, true, false, not}
 use mathlib.Core.List.{List, [], _∷_, _++_}
-use Prim.Native.Nat.{ℕ, zero, suc, _<_}
+use Prim.Native.Nat.{ℕ, suc, _<_}
 use native.Mathlib.Omega.{arith}
 use lib.Dec.{eqb}
 use lib.ListN.{length, getD}
-use borrow.Author.Tests.{ne-eqb, eqb-false, not-true}
+use borrow.Author.Tests.{ne-eqb, not-true}
 use Rattle.bits.specs.Logic.{pick}
 use Rattle.bits.specs.LogicLaws.{and-left, and-right}
 use Rattle.text.specs.Bytes.{newline}
@@ -41,11 +41,6 @@ unfolding unbroken
 none-unbroken [] h = refl
 none-unbroken (b ∷ l) h =
     unbroken-cons b l (ne-eqb b newline (h 0 (omega arith))) (none-unbroken l (λ k i. h (suc k) (omega arith)))
-
-pub unbroken-none : (l : List ℕ) → unbroken l ≡ true → (k : ℕ) → k < length l → getD l k 0 ≡ newline → ⊥
-unbroken-none [] u k h = absurd (omega arith)
-unbroken-none (b ∷ l) u zero h = eqb-false b newline (unbroken-head b l u)
-unbroken-none (b ∷ l) u (suc k) h = unbroken-none l (unbroken-tail b l u) k (omega arith)
 
 -- ---- lines
 pub lines-empty : lines [] ≡ []

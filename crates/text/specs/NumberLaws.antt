@@ -7,7 +7,7 @@ use native.Mathlib.Nat.{pow-suc, pow-le-pow-right}
 use native.Mathlib.Omega.{arith}
 use native.Mathlib.Decide.{decLt}
 use lib.Dec.{eqb, leb}
-use lib.ListN.{length, length-append}
+use lib.ListN.{length}
 use borrow.Author.Tests.{leb-true, le-leb, ne-eqb, eqb-false, not-true}
 use Rattle.bits.specs.LogicLaws.{true-false, and-left, and-right}
 use Rattle.limits.specs.Limits.{maxDigits}
@@ -157,18 +157,6 @@ number-found-of k s n t e =
       is-print = numerals-split s ∙ ap₂ (λ (a b : List ℕ). a ++ b) (sym (p .is-print) ∙ ap (printNumberOf k) (f .value)) (f .onward);
       stopped = rw (f .onward) at (after-stops s);
     }
-
-pub number-shorter : (k : ℕ) (s : List ℕ) (n : ℕ) (t : List ℕ) → readNumberOf k s ≡ found n t → length t < length s
-number-shorter k s n t e =
-    let f = front k s n t e in
-    let l : length s ≡ length (numerals s) + length t =
-    ap length (numerals-split s) ∙ length-append (numerals s) (afterNumerals s) ∙ ap (λ (u : List ℕ). length (numerals s) + length u) (f .onward)
-    in
-    omega (arith, some-digit (numerals s) (f .no-zero))
-  where
-    some-digit : (ds : List ℕ) → noLeadingZero ds ≡ true → 0 < length ds
-    some-digit [] h = absurd (true-false (sym h))
-    some-digit (d ∷ ds) h = omega arith
 
 -- ---- the numbers of a design sheet
 pub read-printed : (n : ℕ) (t : List ℕ) → n < 1000 → stops t ≡ true → readNumber (printNumber n ++ t) ≡ found n t
