@@ -17,7 +17,7 @@ use Rattle.sheet.specs.WellFormed.{WellFormed}
 use Rattle.network.specs.Network.{Network, Node}
 use Rattle.network.specs.Parts.{freeOf, namesOf}
 use Rattle.network.specs.PartLaws.{names-count}
-use Rattle.network.specs.Wellformed.{Wellformed, nodeAt}
+use Rattle.network.specs.NetworkFor.{NetworkFor, nodeAt}
 use Rattle.blif.specs.Printer.{cellName}
 use Rattle.blif.specs.Model.{Block, drivesOf}
 use Rattle.blif.specs.Modelled.{blockOf, lutBlocksOf, nodeBlocksOf, modelOf}
@@ -82,7 +82,7 @@ node-count fs (n ∷ ns) [] e = absurd (omega (arith, e))
 node-count fs (n ∷ ns) (x ∷ xs) e = ap suc (node-count fs ns xs (omega (arith, e)))
 
 -- ---- a network's model
-module _ (d : Design) (w : Network) (g : Wellformed d w) where
+module _ (d : Design) (w : Network) (g : NetworkFor d w) where
   abbrev luts : List Block
   luts = lutBlocksOf (d .bound) 0 (w .luts)
 

@@ -26,7 +26,7 @@ use Rattle.network.specs.Printer.{printDigits}
 use Rattle.network.specs.Parts.{freeOf, namesOf}
 use Rattle.network.specs.PartLaws.{free-named, names-count}
 use Rattle.network.specs.NamedLaws.{design-named}
-use Rattle.network.specs.Wellformed.{Wellformed, nodeAt}
+use Rattle.network.specs.NetworkFor.{NetworkFor, nodeAt}
 use Rattle.classes.specs.ProperLaws.{proper-of}
 use Rattle.network.specs.TableBoundLaws.{node-narrow, node-digits-few, lut-digits-few}
 use Rattle.network.specs.Answers.{WithinLimits}
@@ -130,7 +130,7 @@ nodes-length fs (n ∷ ns) (x ∷ xs) f e l h =
     omega arith
 
 -- ---- the whole text
-pub text-fits : (d : Design) (w : Network) → WellFormed d → Wellformed d w → WithinLimits d w → length (printBlif d w) ≤ maxBlif
+pub text-fits : (d : Design) (w : Network) → WellFormed d → NetworkFor d w → WithinLimits d w → length (printBlif d w) ≤ maxBlif
 unfolding printBlif blifLines endedLines
 text-fits d w v f l =
     let named = design-named d v in

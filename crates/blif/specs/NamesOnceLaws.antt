@@ -20,7 +20,7 @@ use Rattle.network.specs.Network.{Network, Node}
 use Rattle.network.specs.Parts.{freeOf, namesOf}
 use Rattle.network.specs.PartLaws.{names-count}
 use Rattle.network.specs.NamedLaws.{design-named}
-use Rattle.network.specs.Wellformed.{Wellformed}
+use Rattle.network.specs.NetworkFor.{NetworkFor}
 use Rattle.blif.specs.Printer.{cellName}
 use Rattle.blif.specs.Model.{Signal, Block, drivesOf}
 use Rattle.blif.specs.Modelled.{blockOf, lutBlocksOf, nodeBlocksOf, modelOf}
@@ -41,7 +41,7 @@ node-drives fs [] xs e = refl
 node-drives fs (n ∷ ns) [] e = absurd (omega (arith, e))
 node-drives fs (n ∷ ns) (x ∷ xs) e = ap (λ (l : List Name). n ∷ l) (node-drives fs ns xs (omega (arith, e)))
 
-model-drives : (d : Design) (w : Network) → Wellformed d w
+model-drives : (d : Design) (w : Network) → NetworkFor d w
     → drivesOf (modelOf d w .blocks) ≡ cellNames 0 (length (w .luts)) ++ namesOf d
 unfolding modelOf
 model-drives d w g =
@@ -92,7 +92,7 @@ no-output-stands n ns (o ∷ os) h e g =
     (λ l. no-output-stands n ns os (λ i k. h (suc i) (omega arith)) e l)
     (stands-cases (o .name) n (outputNames os) g)
 
-module _ (d : Design) (w : Network) (f : WellFormed d) (g : Wellformed d w) where
+module _ (d : Design) (w : Network) (f : WellFormed d) (g : NetworkFor d w) where
   abbrev cells : List Signal
   cells = cellNames 0 (length (w .luts))
 

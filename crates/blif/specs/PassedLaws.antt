@@ -24,7 +24,7 @@ use Rattle.classes.specs.Columns.{free}
 use Rattle.network.specs.Network.{Network, Node}
 use Rattle.network.specs.Numbers.{numbersOf}
 use Rattle.network.specs.LineAnswer.{Stands}
-use Rattle.network.specs.Wellformed.{nodeAt}
+use Rattle.network.specs.NetworkFor.{nodeAt}
 use Rattle.network.specs.TableBoundLaws.{node-narrow}
 use Rattle.comparing.specs.DrawingLaws.{digit-stands}
 use Rattle.netnames.specs.Listed.{item}

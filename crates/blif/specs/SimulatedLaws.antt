@@ -16,7 +16,7 @@ use Rattle.network.specs.Network.{Network}
 use Rattle.network.specs.Check as checks
 use Rattle.network.specs.Check.{checkOf}
 use Rattle.network.specs.Value.{networkOn}
-use Rattle.network.specs.Wellformed.{Wellformed}
+use Rattle.network.specs.NetworkFor.{NetworkFor}
 use Rattle.network.specs.Answers.{Drawn}
 use Rattle.network.specs.NamedLaws.{design-named}
 use Rattle.network.specs.CheckLaws.{check-same}
@@ -32,7 +32,7 @@ use Rattle.blif.specs.ValueLaws.{output-valued}
 use Rattle.blif.specs.OutcomeLaws.{put-fits, put-text, outcome, drawn-put, export-refuses}
 use Rattle.blif.specs.OutcomeLaws.{refusal-because, refusal-untouched, outcome-length, outcome-later}
 
-pub simulated : (d : Design) (w : Network) → WellFormed d → Wellformed d w → Simulates d (networkOn d w) (printBlif d w)
+pub simulated : (d : Design) (w : Network) → WellFormed d → NetworkFor d w → Simulates d (networkOn d w) (printBlif d w)
 unfolding modelOf
 simulated d w f g =
     record {

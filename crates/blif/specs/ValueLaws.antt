@@ -26,7 +26,7 @@ use Rattle.network.specs.Network.{Network, Node}
 use Rattle.network.specs.Reads.{Rising, rising-none, rising-more}
 use Rattle.network.specs.Value.{lutOn, nodeRow, networkOn}
 use Rattle.network.specs.Parts.{freeOf}
-use Rattle.network.specs.Wellformed.{Wellformed, nodeAt}
+use Rattle.network.specs.NetworkFor.{NetworkFor, nodeAt}
 use Rattle.blif.specs.Printer.{cellName}
 use Rattle.blif.specs.Model.{Signal, Block}
 use Rattle.blif.specs.Modelled.{coverOf, blockOf, modelOf}
@@ -104,7 +104,7 @@ module _ (f : Signal → Option Bool) where
       ∙ ap some (cover-row ds us (l ∙ ap (λ (n : ℕ). 2 ^ n) long))
 
 -- ---- a network's model on the values of row r
-module _ (d : Design) (w : Network) (f : WellFormed d) (g : Wellformed d w) (r : ℕ) where
+module _ (d : Design) (w : Network) (f : WellFormed d) (g : NetworkFor d w) (r : ℕ) where
   abbrev within : ℕ → Signal → Option Bool
   within k = valueWithin k (modelOf d w) (valuesOf (length (d .inputs)) r)
 

@@ -14,13 +14,13 @@ use Rattle.cells.specs.Codes.{numberOf}
 
 -- ======== definitions
 -- each cell of l that output o reads has one value at x and y
-abbrev pub Alike : ℕ → ℕ → ℕ → List Cell → Type 0
-Alike o x y [] = Unit {0}
-Alike o x y (c ∷ l) = (c .readers o ≡ true → c .table x ≡ c .table y) × Alike o x y l
+abbrev pub SameRead : ℕ → ℕ → ℕ → List Cell → Type 0
+SameRead o x y [] = Unit {0}
+SameRead o x y (c ∷ l) = (c .readers o ≡ true → c .table x ≡ c .table y) × SameRead o x y l
 
 -- what given cells leave of a conflict
 abbrev pub Cut : (ℕ → ℕ → ℕ → Type 0) → List Cell → ℕ → ℕ → ℕ → Type 0
-Cut Conflict given o x y = Conflict o x y × Alike o x y given
+Cut Conflict given o x y = Conflict o x y × SameRead o x y given
 
 -- and of a budget
 abbrev pub rest : (ℕ → ℕ) → List Cell → ℕ → ℕ
@@ -61,16 +61,16 @@ pub apart-right : (o x y : ℕ) (l k : List Cell) → Apart o x y k → Apart o 
 apart-right o x y [] k a = a
 apart-right o x y (c ∷ l) k a = inr (apart-right o x y l k a)
 
-pub alike-apart : (o x y : ℕ) (l : List Cell) → Alike o x y l → Apart o x y l → ⊥
+pub alike-apart : (o x y : ℕ) (l : List Cell) → SameRead o x y l → Apart o x y l → ⊥
 alike-apart o x y [] s a = a
 alike-apart o x y (c ∷ l) s (inl p) = p .1 (s .0 (p .0))
 alike-apart o x y (c ∷ l) s (inr r) = alike-apart o x y l (s .1) r
 
-pub apart-or-alike : (o x y : ℕ) (l : List Cell) → Apart o x y l ⊎ Alike o x y l
+pub apart-or-alike : (o x y : ℕ) (l : List Cell) → Apart o x y l ⊎ SameRead o x y l
 apart-or-alike o x y [] = inr tt
 apart-or-alike o x y (c ∷ l) = go (c .readers o) refl (same-or-not (c .table x) (c .table y)) (apart-or-alike o x y l)
   where
-    go : (b : Bool) → c .readers o ≡ b → (c .table x ≡ c .table y) ⊎ (c .table x ≡ c .table y → ⊥) → Apart o x y l ⊎ Alike o x y l → Apart o x y (c ∷ l) ⊎ Alike o x y (c ∷ l)
+    go : (b : Bool) → c .readers o ≡ b → (c .table x ≡ c .table y) ⊎ (c .table x ≡ c .table y → ⊥) → Apart o x y l ⊎ SameRead o x y l → Apart o x y (c ∷ l) ⊎ SameRead o x y (c ∷ l)
     go b e s (inl a) = inl (inr a)
     go b e (inl q) (inr a) = inr (λ r. q, a)
     go true e (inr q) (inr a) = inl (inl (e, q))
@@ -96,7 +96,7 @@ module _ (v m : ℕ) (Conflict : ℕ → ℕ → ℕ → Type 0) (budget : ℕ �
 
 -- ======== parts
 -- o reads the same of the given cells at x and y exactly when the codes are equal
-pub alike-code : (given : List Cell) (o x y : ℕ) → Alike o x y given → givenCode given o x ≡ givenCode given o y
+pub alike-code : (given : List Cell) (o x y : ℕ) → SameRead o x y given → givenCode given o x ≡ givenCode given o y
 unfolding numberOf
 alike-code [] o x y a = refl
 alike-code (c ∷ l) o x y a = ap₂ (λ (b : Bool) (n : ℕ). bit b + 2 * n) (go (c .readers o) (a .0)) (alike-code l o x y (a .1))
@@ -105,7 +105,7 @@ alike-code (c ∷ l) o x y a = ap₂ (λ (b : Bool) (n : ℕ). bit b + 2 * n) (g
     go true e = e refl
     go false e = refl
 
-pub code-alike : (given : List Cell) (o x y : ℕ) → givenCode given o x ≡ givenCode given o y → Alike o x y given
+pub code-alike : (given : List Cell) (o x y : ℕ) → givenCode given o x ≡ givenCode given o y → SameRead o x y given
 unfolding numberOf
 code-alike [] o x y e = tt
 code-alike (c ∷ l) o x y e = (

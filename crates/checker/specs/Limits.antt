@@ -9,7 +9,7 @@ use Rattle.sheet.specs.Examine.{Design}
 use Rattle.classes.specs.Width.{budget}
 use Rattle.network.specs.Network.{Network}
 use Rattle.network.specs.Examine.{offending}
-use Rattle.network.specs.Wellformed.{nodeAt}
+use Rattle.network.specs.NetworkFor.{nodeAt}
 use Rattle.network.specs.Numbers.{numbersOf}
 
 pub record Small (limit luts outputs : ℕ) : Type 0 where

@@ -36,7 +36,7 @@ pub record Groups (gs : List ℕ) (sh : ℕ) : Type 0 where
   pub disjoint : (k l i : ℕ) → k < groupCount → l < groupCount → (k ≡ l → ⊥) → on (item gs k) i ≡ true → on (item gs l) i ≡ false
 
 -- each of j outputs, which read the cells of ms, reads cells of sh, and all cells of a group or none
-pub record Alike (ms gs : List ℕ) (sh j : ℕ) : Type 0 where
+pub record ReadTogether (ms gs : List ℕ) (sh j : ℕ) : Type 0 where
   pub short : (o : ℕ) → o < j → item ms o < maxCodes
   pub masked : (o i : ℕ) → o < j → on (item ms o) i ≡ true → on sh i ≡ true
   pub uniform : (k o : ℕ) → k < groupCount → o < j → Uniform (item ms o) (item gs k)
@@ -73,7 +73,7 @@ pub record Valued (ms gb : List ℕ) (all j kn : ℕ) (codes : List ℕ) (v : �
   pub over : Over sh all
   pub blocks : Blocks gs gb groupCount
   pub groups : Groups gs sh
-  pub alike : Alike ms gs sh j
+  pub alike : ReadTogether ms gs sh j
   pub alone : (x : ℕ) → x < v → on kn x ≡ true → Alone gs sh
   pub values : Used gs codes v used
 
@@ -88,7 +88,7 @@ Agrees codes v g = (x : ℕ) → x < v → item codes x < noCode → g x ≡ ite
 -- where a solution goes on from the codes given, there is one whose code at a vertex without a code is in can, with the same
 -- digits of cell 0 where that is in no group; the first n groups have narrowed can, and it does not look at the others
 pub record Canon (gs used : List ℕ) (sh n can : ℕ) : Type 0 where
-  pub reach : (cl base ms caps spots codes : List ℕ) (v j x : ℕ) → noCode ≤ item codes x → Alike ms gs sh j
+  pub reach : (cl base ms caps spots codes : List ℕ) (v j x : ℕ) → noCode ≤ item codes x → ReadTogether ms gs sh j
       → ((k y : ℕ) → k < groupCount → y < v → item codes y < noCode → on (item used k) (item codes y) ≡ true)
       → (g : ℕ → ℕ) → Solves cl base ms caps spots v j g → Agrees codes v g → x < v
       → (g' : ℕ → ℕ) × Solves cl base ms caps spots v j g' × Agrees codes v g' × (on can (g' x) ≡ true) × (Alone gs sh → (y : ℕ) → y < v → on (g' y) 0 ≡ on (g y) 0)
@@ -158,7 +158,7 @@ module _ (gs used : List ℕ) (sh all : ℕ) (o : Over sh all) where
       blind : (k c d : ℕ) → 0 ≤ k → k < 3 → c < 64 → d < 64 → ((i : ℕ) → i < 6 → on (item gs k) i ≡ false → on c i ≡ on d i) → on all c ≡ true → on all d ≡ true
       blind k c d n l p q e t = over-of d q (λ i h z. sym (e i h (false-unless (on (item gs k) i) (λ w. never-both (groups .among k i l w) z))) ∙ of-over c i p h t z)
 
-      reach : (cl base ms caps spots codes : List ℕ) (v j x : ℕ) → 64 ≤ item codes x → Alike ms gs sh j
+      reach : (cl base ms caps spots codes : List ℕ) (v j x : ℕ) → 64 ≤ item codes x → ReadTogether ms gs sh j
           → ((k y : ℕ) → k < 3 → y < v → item codes y < 64 → on (item used k) (item codes y) ≡ true) → (g : ℕ → ℕ)
           → Solves cl base ms caps spots v j g → Agrees codes v g → x < v
           → (g' : ℕ → ℕ) × Solves cl base ms caps spots v j g' × Agrees codes v g' × (on all (g' x) ≡ true) × (Alone gs sh → (y : ℕ) → y < v → on (g' y) 0 ≡ on (g y) 0)
@@ -227,7 +227,7 @@ module _ (gs used : List ℕ) (sh n can b : ℕ) (h : n < 3) (groups : Groups gs
           (s .blind k c d (omega arith) l p q e (and-left (on can c) _ w))
           (passes c d p q (agree-and 6 g₀ c d (groups .low n h) (λ i z y. e i z (groups .disjoint n k i h l (λ r. omega arith) y))) (and-right (on can c) _ w))
 
-      reach : (cl base ms caps spots codes : List ℕ) (v j x : ℕ) → 64 ≤ item codes x → Alike ms gs sh j
+      reach : (cl base ms caps spots codes : List ℕ) (v j x : ℕ) → 64 ≤ item codes x → ReadTogether ms gs sh j
           → ((k y : ℕ) → k < 3 → y < v → item codes y < 64 → on (item used k) (item codes y) ≡ true) → (g : ℕ → ℕ)
           → Solves cl base ms caps spots v j g → Agrees codes v g → x < v
           → (g' : ℕ → ℕ) × Solves cl base ms caps spots v j g' × Agrees codes v g' × (on (bitAnd can (bitOr a₀ b)) (g' x) ≡ true) × (Alone gs sh → (y : ℕ) → y < v → on (g' y) 0 ≡ on (g y) 0)

@@ -19,7 +19,7 @@ use Rattle.network.specs.Printer.{printNetwork}
 use Rattle.network.specs.Examine.{bad-line, network, readNetwork, offending}
 use Rattle.network.specs.Check as checks
 use Rattle.network.specs.Check.{check, checkOf}
-use Rattle.network.specs.Wellformed.{Wellformed}
+use Rattle.network.specs.NetworkFor.{NetworkFor}
 use Rattle.network.specs.Answers.{WithinLimits, Computes}
 use Rattle.mapper.specs.Map.{Permitted, MapAnswer, refused-by}
 
@@ -39,7 +39,7 @@ pub data MapRefuses (x : Examined) (n : ℕ) : ℕ → ℕ → Type 0 where
   by-cells : (d : Design)
       → x ≡ valid d
       → globalCount d (d .bound) ≤ maxClasses
-      → ((w : Network) → Wellformed d w → WithinLimits d w → Computes d w → ⊥)
+      → ((w : Network) → NetworkFor d w → WithinLimits d w → Computes d w → ⊥)
       → MapRefuses x n 8 0
   by-buffer : (d : Design) (w : Network)
       → x ≡ valid d

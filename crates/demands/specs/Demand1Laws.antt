@@ -25,7 +25,7 @@ use Rattle.network.specs.Examine.{Answer, bad-line, network, readNetwork, offen
 use Rattle.network.specs.Check as checks
 use Rattle.network.specs.Check.{check, checkOf, examinePair, comparePair, beside, judge}
 use Rattle.network.specs.CheckLaws.{compared-not-refused}
-use Rattle.network.specs.Wellformed.{Wellformed}
+use Rattle.network.specs.NetworkFor.{NetworkFor}
 use Rattle.network.specs.Answers.{WithinLimits, Computes}
 use Rattle.mapper.specs.Map.{Permitted, MapAnswer, refused-by, OutcomeFor, OutcomeOf, Outcome}
 use Rattle.mapper.specs.Map.{too-many-classes, no-network, buffer-short, written}
@@ -127,7 +127,7 @@ module _ (b : List ℕ) (d : Design) (formed : WellFormed d) where
 
   says-cells : {a : MapAnswer} {b' : List ℕ}
       → globalCount d (d .bound) ≤ maxClasses
-      → ((w : Network) → Wellformed d w → WithinLimits d w → Computes d w → ⊥)
+      → ((w : Network) → NetworkFor d w → WithinLimits d w → Computes d w → ⊥)
       → OutcomeFor d b a b'
       → a ≡ refused-by 8 0
   says-cells m k (too-many-classes h) = absurd (omega (arith, h, m))

@@ -14,7 +14,7 @@ use Rattle.sheet.specs.ExaminationLaws.{valid-well-formed}
 use Rattle.classes.specs.Classes.{globalCount}
 use Rattle.network.specs.Network.{Network}
 use Rattle.network.specs.Printer.{printNetwork}
-use Rattle.network.specs.Wellformed.{Wellformed}
+use Rattle.network.specs.NetworkFor.{NetworkFor}
 use Rattle.network.specs.Answers.{WithinLimits, Computes, Drawn}
 use Rattle.network.specs.Check.{Checked, same, differs, checkOf}
 use Rattle.network.specs.NamedLaws.{design-named}
@@ -114,7 +114,7 @@ module _ (d : Design) (f : WellFormed d) where
       }
 
   demand-none : (b : List ℕ)
-      → ((w : Network) → Wellformed d w → WithinLimits d w → Computes d w → ⊥)
+      → ((w : Network) → NetworkFor d w → WithinLimits d w → Computes d w → ⊥)
       → Demand3 (valid d) d b (refused-by 8 0) b
   demand-none b h =
       let m = design-named d f in

@@ -14,7 +14,7 @@ use Rattle.sheet.specs.Examine.{Design}
 use Rattle.classes.specs.Columns.{vertexCount, freeCount}
 use Rattle.classes.specs.Width.{budget}
 use Rattle.network.specs.Network.{Network}
-use Rattle.network.specs.Wellformed.{nodeAt}
+use Rattle.network.specs.NetworkFor.{nodeAt}
 use Rattle.network.specs.Value.{lutAt, codeAt}
 use Rattle.cells.specs.Written.{readsOf}
 use Rattle.serving.specs.NetworkCore.{has, cellsOf, networkCore}

@@ -23,7 +23,7 @@ use Rattle.sheet.specs.WellFormed.{WellFormed}
 use Rattle.classes.specs.ProperLaws.{proper-of}
 use Rattle.classes.specs.Columns.{vertexCount, freeCount}
 use Rattle.network.specs.Network.{Network}
-use Rattle.network.specs.Wellformed.{nodeAt}
+use Rattle.network.specs.NetworkFor.{nodeAt}
 use Rattle.network.specs.NamedLaws.{design-named}
 use Rattle.network.specs.Value.{codeAt}
 use Rattle.cells.specs.Core.{Cell, Apart, reading}

@@ -15,7 +15,7 @@ use Rattle.design.specs.Sheets.{designA}
 use Rattle.classes.specs.Columns.{free}
 use Rattle.network.specs.Network.{Network}
 use Rattle.network.specs.Reads.{Rising, rising-none, rising-more}
-use Rattle.network.specs.Wellformed.{nodeAt}
+use Rattle.network.specs.NetworkFor.{nodeAt}
 use Rattle.network.specs.Answers.{Computes, readCount}
 use Rattle.demands.specs.Each.{digits-are}
 use Rattle.demands.specs.Computing.{computing}

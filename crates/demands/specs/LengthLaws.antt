@@ -19,7 +19,7 @@ use Rattle.network.specs.Network.{Network, Node}
 use Rattle.network.specs.Printer.{led, ledAll, lutName, printDigits, networkLine, lutHead, printLut, nodeHead, printNode}
 use Rattle.network.specs.Printer.{printCount, lutLines, nodeLines, networkLines, printNetwork}
 use Rattle.network.specs.Reads.{Rising, rising-none, rising-more}
-use Rattle.network.specs.Wellformed.{Wellformed, nodeAt}
+use Rattle.network.specs.NetworkFor.{NetworkFor, nodeAt}
 use Rattle.network.specs.Answers.{readCount}
 use Rattle.lineorder.specs.PrintOrder.{digits-alike}
 use Rattle.mapper.specs.Map.{Permitted}
@@ -118,7 +118,7 @@ node-lines-alike fs (n ∷ ns) (x ∷ xs) (y ∷ ys) e h =
     (node-lines-alike fs ns xs ys (let g : suc (length xs) ≡ suc (length ys) = e in omega arith) (λ o k. h (suc o) (omega arith)))
 
 -- ---- the whole sheet
-module _ (d : Design) (v w : Network) (f : Wellformed d v) (g : Wellformed d w) (e : length (v .luts) ≡ length (w .luts)) where
+module _ (d : Design) (v w : Network) (f : NetworkFor d v) (g : NetworkFor d w) (e : length (v .luts) ≡ length (w .luts)) where
   nodes-alike : (o : ℕ) → o < length (v .nodes) → readCount v o ≡ readCount w o → NodesAlike (nodeAt (v .nodes) o) (nodeAt (w .nodes) o)
   nodes-alike o h r =
       let x = f .node-fits o h in

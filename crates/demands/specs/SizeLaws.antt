@@ -24,7 +24,7 @@ use Rattle.sheet.specs.WellFormed.{WellFormed}
 use Rattle.classes.specs.Columns.{free}
 use Rattle.network.specs.Network.{Network, Node}
 use Rattle.network.specs.Printer.{led, ledAll, lutName, printDigits, networkLine, lutHead, printLut, nodeHead, printNode, printCount, lutLines, nodeLines, networkLines, printNetwork}
-use Rattle.network.specs.Wellformed.{Wellformed, nodeAt}
+use Rattle.network.specs.NetworkFor.{NetworkFor, nodeAt}
 use Rattle.network.specs.PartLaws.{free-named, names-count}
 use Rattle.network.specs.NamedLaws.{design-named}
 use Rattle.network.specs.Answers.{WithinLimits}
@@ -138,7 +138,7 @@ last-lines u =
     omega arith
 
 -- ---- the whole sheet
-module _ (d : Design) (w : Network) (v : WellFormed d) (f : Wellformed d w) (l : WithinLimits d w) where
+module _ (d : Design) (w : Network) (v : WellFormed d) (f : NetworkFor d w) (l : WithinLimits d w) where
   pub print-fits : length (printNetwork d w) ≤ maxNetwork
   unfolding printNetwork networkLines endedLines
   print-fits =

@@ -14,7 +14,7 @@ use Rattle.rows.specs.Row.{rowOf}
 use Rattle.sheet.specs.Value.{outputOn}
 use Rattle.network.specs.Network.{Network}
 use Rattle.network.specs.Reads.{Rising, rising-none, rising-more}
-use Rattle.network.specs.Wellformed.{nodeAt}
+use Rattle.network.specs.NetworkFor.{nodeAt}
 use Rattle.network.specs.Value.{lutAt, codeAt, nodeRow}
 use Rattle.demands.specs.Computing.{computing}
 use Rattle.demands.specs.NeededCells.{two-needed}

@@ -18,7 +18,7 @@ use Rattle.network.specs.Network.{Network}
 use Rattle.network.specs.Examine as sheets
 use Rattle.network.specs.Examine.{readNetwork, offending}
 use Rattle.network.specs.Printer.{printNetwork}
-use Rattle.network.specs.Wellformed.{Named}
+use Rattle.network.specs.NetworkFor.{Named}
 use Rattle.network.specs.Answers.{Drawn}
 use Rattle.network.specs.Check.{compared, same}
 use Rattle.network.specs.NamedLaws.{design-named}

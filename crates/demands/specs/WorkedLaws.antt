@@ -20,7 +20,7 @@ use Rattle.classes.specs.Width.{budget}
 use Rattle.network.specs.Network.{Network}
 use Rattle.network.specs.Examine.{network, readNetwork, offending}
 use Rattle.network.specs.Printer.{printNetwork}
-use Rattle.network.specs.Wellformed.{Wellformed, Named}
+use Rattle.network.specs.NetworkFor.{NetworkFor, Named}
 use Rattle.network.specs.Answers.{WithinLimits, Computes, Drawn, readCount}
 use Rattle.network.specs.Check.{compared}
 use Rattle.network.specs.Check.{same}
@@ -47,7 +47,7 @@ least-network : (s : List ℕ) (d : Design) (u : ℕ)
     → examine s ≡ valid d
     → AtLeast u d
     → (v : Network)
-    → Wellformed d v
+    → NetworkFor d v
     → WithinLimits d v
     → Computes d v
     → u ≤ length (v .luts)
@@ -56,7 +56,7 @@ least-network s d u e least v f l c =
 
 -- ---- a sheet that needs more cells than its limit is refused by 8
 module _ (s : List ℕ) (d : Design) (e : examine s ≡ valid d) (few : globalCount d (d .bound) ≤ maxClasses) (least : AtLeast (suc (d .limit)) d) where
-  pub none-within : (v : Network) → Wellformed d v → WithinLimits d v → Computes d v → ⊥
+  pub none-within : (v : Network) → NetworkFor d v → WithinLimits d v → Computes d v → ⊥
   none-within v f l c =
       let h = least-network s d (suc (d .limit)) e least v f l c in
       let k = l .luts-within in
@@ -113,7 +113,7 @@ module _ (s t : List ℕ) (d : Design) (w : Network) (x : Fewest s t d w) where
   named : Named d
   named = design-named d formed
 
-  well : Wellformed d w
+  well : NetworkFor d w
   well = drawn-wellformed d w named t (x .drawn)
 
   inside : WithinLimits d w

@@ -12,7 +12,7 @@ use Rattle.classes.specs.Columns.{vertexCount}
 use Rattle.network.specs.Network.{Network}
 use Rattle.network.specs.Examine as networks
 use Rattle.network.specs.Examine.{readNetwork}
-use Rattle.network.specs.Wellformed.{nodeAt}
+use Rattle.network.specs.NetworkFor.{nodeAt}
 use Rattle.network.specs.Value.{codeAt}
 use Rattle.network.specs.Check.{check, same}
 use Rattle.mapper.specs.Map.{Permitted}

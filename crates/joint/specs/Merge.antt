@@ -27,12 +27,12 @@ abbrev pub jointAt : List JointClass → ℕ → ℕ
 jointAt l x = getD l x (record { 0 = 0 }) .0
 
 -- x and y have the same classes for the first n outputs
-abbrev pub Alike : List ℕ → ℕ → ℕ → ℕ → Type 0
-Alike cl n x y = (o : ℕ) → o < n → labelAt cl o x ≡ labelAt cl o y
+abbrev pub SameLabels : List ℕ → ℕ → ℕ → ℕ → Type 0
+SameLabels cl n x y = (o : ℕ) → o < n → labelAt cl o x ≡ labelAt cl o y
 
 -- x and y may be merged: they have the same classes, and the same is known of cell 0
 abbrev pub Mergeable : List ℕ → ℕ → ℕ → ℕ → ℕ → ℕ → Type 0
-Mergeable cl j kn val x y = Alike cl j x y × (knownAt kn val x ≡ knownAt kn val y)
+Mergeable cl j kn val x y = SameLabels cl j x y × (knownAt kn val x ≡ knownAt kn val y)
 
 -- the first x vertices belong to n joint classes: vertex y to class place y, whose first vertex is first of it
 pub record Merged (cl : List ℕ) (j kn val x n : ℕ) (first : List Vertex) (place : List JointClass) : Type 0 where
@@ -62,7 +62,7 @@ pub record Spread (place : List JointClass) (codes : List ℕ) (n : ℕ) (r : Li
   pub done : (x : ℕ) → x < n → item r x ≡ item codes (jointAt place x)
 
 -- ======== laws
-pub alike-more : (cl : List ℕ) (n x y : ℕ) → labelAt cl n x ≡ labelAt cl n y → Alike cl n x y → Alike cl (n + 1) x y
+pub alike-more : (cl : List ℕ) (n x y : ℕ) → labelAt cl n x ≡ labelAt cl n y → SameLabels cl n x y → SameLabels cl (n + 1) x y
 alike-more cl n x y e a o h = ⊎-elim (a o) (λ q. subst (λ (o : ℕ). labelAt cl o x ≡ labelAt cl o y) (sym q) e) (less-or-equal o n (omega arith))
 
 pub vertices-zero : (n i : ℕ) → vertexAt (replicate n (record { 0 = 0 })) i ≡ 0

@@ -21,7 +21,7 @@ use Rattle.cells.specs.Written.{tablesOf, readsOf}
 use Rattle.network.specs.Network.{Network, Node}
 use Rattle.network.specs.Reads.{Rising, rising-none, rising-more}
 use Rattle.network.specs.RisingLaws.{rising-wider}
-use Rattle.network.specs.Wellformed.{Wellformed, nodeAt}
+use Rattle.network.specs.NetworkFor.{NetworkFor, nodeAt}
 use Rattle.network.specs.Value.{lutAt}
 use Rattle.serving.specs.NetworkCore.{has, cellsOf, networkCore}
 use Rattle.serving.specs.Build.{numbers, nodeBuilt, lutsBuilt, built}
@@ -58,7 +58,7 @@ tables-from w n (suc k) i (t ∷ ts) e f g =
     one-more : (i j : ℕ) → suc i + j ≡ i + suc j
     one-more i j = omega arith
 
-pub network-tables : (d : Design) (w : Network) → Wellformed d w → tablesOf (vertexCount (d .bound)) (networkCore w) ≡ w .luts
+pub network-tables : (d : Design) (w : Network) → NetworkFor d w → tablesOf (vertexCount (d .bound)) (networkCore w) ≡ w .luts
 unfolding networkCore
 network-tables d w f =
     tables-from w (vertexCount (d .bound)) (length (w .luts)) 0 (w .luts) refl
@@ -144,7 +144,7 @@ chosen-from w o (suc k) i {u} (rising-more {j = j} {js = js} a b r) e f =
     later n h q p = omega arith
 
 pub network-reads : (d : Design) (w : Network) (o : ℕ)
-    → Wellformed d w
+    → NetworkFor d w
     → o < length (d .outputs)
     → chosen 0 (readsOf o (networkCore w)) ≡ nodeAt (w .nodes) o .reads
 unfolding networkCore

@@ -13,7 +13,7 @@ use Rattle.network.specs.Parts.{freeOf, namesOf}
 use Rattle.network.specs.Reads.{Rising}
 use Rattle.network.specs.Answers.{readCount, Computes}
 use Rattle.serving.specs.Parts.{Parts}
-use Rattle.network.specs.Wellformed.{Wellformed, Named, nodeAt}
+use Rattle.network.specs.NetworkFor.{NetworkFor, Named, nodeAt}
 use Rattle.order.specs.Order.{before, tablesOrder}
 use Rattle.order.specs.OrderLaws.{NotLess, tables-total, then-not-less, before-not-less}
 use Rattle.lineorder.specs.LineOrder.{lineOrder}
@@ -28,7 +28,7 @@ nodeLine d w o = printNode (getD (namesOf d) o []) (freeOf d) (nodeAt (w .nodes)
 
 -- what permitted networks are at least: well formed, and of one number of shared tables
 pub record Uniform (Permits : Network → Type 0) (d : Design) (u : ℕ) : Type 0 where
-  pub wellformed : (v : Network) → Permits v → Wellformed d v
+  pub wellformed : (v : Network) → Permits v → NetworkFor d v
   pub counted : (v : Network) → Permits v → length (v .luts) ≡ u
 
 -- and compute the design, read equally many shared tables in an output, and have 0 in every entry whose code no vertex produces

@@ -16,7 +16,7 @@ use Rattle.sheet.specs.Examine.{Design}
 use Rattle.sheet.specs.Value.{outputOn}
 use Rattle.classes.specs.Columns.{free, joinRow, vertexCount, freeCount}
 use Rattle.network.specs.Network.{Network}
-use Rattle.network.specs.Wellformed.{nodeAt}
+use Rattle.network.specs.NetworkFor.{nodeAt}
 use Rattle.network.specs.Answers.{Computes}
 use Rattle.network.specs.Value.{lutAt, codeAt}
 use Rattle.serving.specs.Parts.{Parts}

@@ -13,7 +13,7 @@ use Rattle.sheet.specs.Examine.{Design}
 use Rattle.network.specs.Network.{Network, Node}
 use Rattle.network.specs.Printer.{printDigits, networkLine, lutHead, printLut, printNode, lutLines, nodeLines, networkLines, printNetwork}
 use Rattle.network.specs.Parts.{freeOf, namesOf, lastLines}
-use Rattle.network.specs.Wellformed.{Wellformed, Named, nodeAt}
+use Rattle.network.specs.NetworkFor.{NetworkFor, Named, nodeAt}
 use Rattle.network.specs.SpellingLaws.{print-lines-spelled, lines-unbroken}
 use Rattle.order.specs.Order.{then, listOrder, byteOrder, bitOrder, tableOrder, tablesOrder}
 use Rattle.order.specs.OrderLaws.{NotLess, compare-total, bytes-total, same-front, front-first, map-order}
@@ -98,7 +98,7 @@ luts-alike (t ∷ ts) (u ∷ us) e h =
     (luts-alike ts us (let g : suc (length ts) ≡ suc (length us) = e in omega arith) (λ j k. h (suc j) (omega arith)))
 
 -- ---- whole networks
-module _ (d : Design) (h : Named d) (v w : Network) (f : Wellformed d v) (g : Wellformed d w)
+module _ (d : Design) (h : Named d) (v w : Network) (f : NetworkFor d v) (g : NetworkFor d w)
     (e : length (v .luts) ≡ length (w .luts)) where
   lines-order : listOrder lineOrder (networkLines d v) (networkLines d w)
       ≡ then (tablesOrder (v .luts) (w .luts)) (nodesOrder d (v .nodes) (w .nodes))

@@ -20,7 +20,7 @@ use Rattle.sheet.specs.WellFormed.{WellFormed}
 use Rattle.classes.specs.ProperLaws.{proper-of}
 use Rattle.classes.specs.Columns.{free, vertexCount, freeCount}
 use Rattle.network.specs.Network.{Network, Node}
-use Rattle.network.specs.Wellformed.{Wellformed, nodeAt}
+use Rattle.network.specs.NetworkFor.{NetworkFor, nodeAt}
 use Rattle.network.specs.Answers.{WithinLimits, Computes}
 use Rattle.network.specs.FirstOfLaws.{fails-none}
 use Rattle.network.specs.Value.{lutAt, codeAt}
@@ -98,7 +98,7 @@ module _ (d : Design) (f : WellFormed d) (u : ℕ) (rows codes : ℕ → ℕ) (s
   pub built-permitted : u ≤ maxCells
       → u ≤ d .limit
       → ZeroFirst (coreOf u rows codes)
-      → ((w : Network) → Wellformed d w → WithinLimits d w → Computes d w → u ≤ length (w .luts))
+      → ((w : Network) → NetworkFor d w → WithinLimits d w → Computes d w → u ≤ length (w .luts))
       → Permitted d (built d u rows codes)
   built-permitted few within z fewest =
       record {

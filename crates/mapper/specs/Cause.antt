@@ -7,7 +7,7 @@ use Rattle.limits.specs.Limits.{maxClasses}
 use Rattle.sheet.specs.Examine.{Design, Examined, refused, valid, examine}
 use Rattle.classes.specs.Classes.{globalCount}
 use Rattle.network.specs.Network.{Network}
-use Rattle.network.specs.Wellformed.{Wellformed}
+use Rattle.network.specs.NetworkFor.{NetworkFor}
 use Rattle.network.specs.Answers.{WithinLimits, Computes}
 use Rattle.subsets.specs.Subset.{size, SomeOf, Earlier}
 use Rattle.selection.specs.Selection.{part}
@@ -16,7 +16,7 @@ use mathlib.Core.List.{List}
 -- some network within the limit and the widths has the design's value on every row
 pub record Served (d : Design) : Type 0 where
   pub network : Network
-  pub wellformed : Wellformed d network
+  pub wellformed : NetworkFor d network
   pub within : WithinLimits d network
   pub computes : Computes d network
 

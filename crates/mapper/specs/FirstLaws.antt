@@ -14,7 +14,7 @@ use Rattle.sheet.specs.WellFormed.{WellFormed}
 use Rattle.classes.specs.Proper.{Proper}
 use Rattle.classes.specs.ProperLaws.{proper-of}
 use Rattle.network.specs.Network.{Network}
-use Rattle.network.specs.Wellformed.{nodeAt}
+use Rattle.network.specs.NetworkFor.{nodeAt}
 use Rattle.network.specs.NamedLaws.{design-named}
 use Rattle.cells.specs.Core.{Cell, Serves, Differ, coreOf}
 use Rattle.cells.specs.Codes.{cells-length}

@@ -10,7 +10,7 @@ use Rattle.order.specs.OrderLaws.{before-neither}
 use Rattle.sheet.specs.Examine.{Design, Examined, refused, valid, examine}
 use Rattle.network.specs.Network.{Network}
 use Rattle.network.specs.Printer.{printNetwork}
-use Rattle.network.specs.Wellformed.{Wellformed}
+use Rattle.network.specs.NetworkFor.{NetworkFor}
 use Rattle.network.specs.Answers.{WithinLimits, Computes}
 use Rattle.mapper.specs.Map.{First, MapAnswer, mapped, OutcomeFor, too-many-classes, no-network, buffer-short, written, OutcomeOf, Outcome}
 use Rattle.mapper.specs.PermittedLaws.{permitted-count}
@@ -27,7 +27,7 @@ first-one d v w f g = (
 
 -- where no network will do, none is first
 none-first : {d : Design}
-    → ((w : Network) → Wellformed d w → WithinLimits d w → Computes d w → ⊥)
+    → ((w : Network) → NetworkFor d w → WithinLimits d w → Computes d w → ⊥)
     → (w : Network)
     → First d w
     → ⊥

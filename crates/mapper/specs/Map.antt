@@ -13,17 +13,17 @@ use Rattle.classes.specs.Columns.{vertexCount, freeCount}
 use Rattle.classes.specs.Classes.{globalCount}
 use Rattle.network.specs.Network.{Network}
 use Rattle.network.specs.Printer.{printNetwork}
-use Rattle.network.specs.Wellformed.{Wellformed, nodeAt}
+use Rattle.network.specs.NetworkFor.{NetworkFor, nodeAt}
 use Rattle.network.specs.Answers.{WithinLimits, Computes}
 use Rattle.network.specs.Value.{lutAt, codeAt}
 
 -- "Map uses the fewest shared tables that serve. Each of its tables is 0 at vertex 0. A composition entry whose code no
 -- vertex produces is 0."
 pub record Permitted (d : Design) (w : Network) : Type 0 where
-  pub wellformed : Wellformed d w
+  pub wellformed : NetworkFor d w
   pub within : WithinLimits d w
   pub computes : Computes d w
-  pub fewest : (v : Network) → Wellformed d v → WithinLimits d v → Computes d v → length (w .luts) ≤ length (v .luts)
+  pub fewest : (v : Network) → NetworkFor d v → WithinLimits d v → Computes d v → length (w .luts) ≤ length (v .luts)
   pub zero-first : (i : ℕ) → i < length (w .luts) → lutAt w i 0 ≡ false
   pub unproduced : (o j : ℕ)
       → o < length (d .outputs)
@@ -44,7 +44,7 @@ pub data MapAnswer : Type 0 where
 pub data OutcomeFor (d : Design) (b : List ℕ) : MapAnswer → List ℕ → Type 0 where
   too-many-classes : maxClasses < globalCount d (d .bound) → OutcomeFor d b (refused-by 7 0) b
   no-network : globalCount d (d .bound) ≤ maxClasses
-      → ((w : Network) → Wellformed d w → WithinLimits d w → Computes d w → ⊥)
+      → ((w : Network) → NetworkFor d w → WithinLimits d w → Computes d w → ⊥)
       → OutcomeFor d b (refused-by 8 0) b
   buffer-short : (w : Network)
       → globalCount d (d .bound) ≤ maxClasses

@@ -14,7 +14,7 @@ use Rattle.classes.specs.ProperLaws.{proper-of}
 use Rattle.classes.specs.Columns.{conflict}
 use Rattle.classes.specs.VertexLaws.{local-no-conflict, no-conflict-local}
 use Rattle.network.specs.Network.{Network}
-use Rattle.network.specs.Wellformed.{Wellformed}
+use Rattle.network.specs.NetworkFor.{NetworkFor}
 use Rattle.network.specs.Answers.{WithinLimits, Computes}
 use Rattle.cells.specs.Core.{Cell, Serves, Differ, coreOf, reading}
 use Rattle.cells.specs.Codes.{cells-length}
@@ -57,7 +57,7 @@ module _ (d : Design) (cl budgets : List ℕ) (v m limit : ℕ) (g : Given d cl 
       → WellFormed d
       → Answered cl budgets v m limit false u rows codes
       → (w : Network)
-      → Wellformed d w
+      → NetworkFor d w
       → WithinLimits d w
       → Computes d w
       → ⊥
@@ -78,7 +78,7 @@ module _ (d : Design) (cl budgets : List ℕ) (v m limit : ℕ) (g : Given d cl 
   few : u ≤ d .limit
   few = subst (λ (n : ℕ). u ≤ n) (g .within) (a .few)
 
-  found-fewest : (w : Network) → Wellformed d w → WithinLimits d w → Computes d w → u ≤ length (w .luts)
+  found-fewest : (w : Network) → NetworkFor d w → WithinLimits d w → Computes d w → u ≤ length (w .luts)
   found-fewest w p l c =
       let s = drawn-serves d w (proper-of d f) p l c in
       let q = a .answer .1 .fewest (networkCore w) (to-labels d cl budgets v m limit g (networkCore w) s) in

@@ -12,7 +12,7 @@ use Rattle.classes.specs.Width.{budget}
 use Rattle.network.specs.Network.{Network}
 use Rattle.network.specs.Examine.{network, readNetwork, offending}
 use Rattle.network.specs.Value.{networkOn}
-use Rattle.network.specs.Wellformed.{nodeAt}
+use Rattle.network.specs.NetworkFor.{nodeAt}
 
 -- how many shared tables output o reads
 abbrev pub readCount : Network → ℕ → ℕ

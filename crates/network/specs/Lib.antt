@@ -7,7 +7,7 @@ pub mod Examine
 pub mod Value
 pub mod Check
 pub mod Reads
-pub mod Wellformed
+pub mod NetworkFor
 pub mod Parts
 pub mod Spelling
 pub mod Answers

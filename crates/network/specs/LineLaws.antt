@@ -21,7 +21,7 @@ use Rattle.network.specs.Printer.{ledAll, lutName, printDigits, lutHead,
 use Rattle.network.specs.Reader.{readDigits, readInputs, readLutHead, readLut, readReads, none-of, readNodeHead, readNodeRest, readNode}
 use Rattle.network.specs.Reads.{restOf, ReadsFront}
 use Rattle.network.specs.Spelling.{LutSpelled, NodeSpelled}
-use Rattle.network.specs.Wellformed.{NodeFits}
+use Rattle.network.specs.NetworkFor.{NodeFits}
 use Rattle.network.specs.GivenLaws.{inputs-read, inputs-found, lut-head-read, lut-head-found, node-head-read, node-head-found}
 use Rattle.network.specs.DigitsLaws.{digits-read-of-print, digits-print-of-read}
 use Rattle.network.specs.ReadsLaws.{reads-print-of-read, reads-read-of-print}

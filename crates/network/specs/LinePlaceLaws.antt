@@ -13,7 +13,7 @@ use Rattle.names.specs.Name.{Name}
 use Rattle.sheet.specs.Examine.{Design}
 use Rattle.network.specs.Network.{Network, Node}
 use Rattle.network.specs.Printer.{networkLine, printCount}
-use Rattle.network.specs.Wellformed.{nodeAt}
+use Rattle.network.specs.NetworkFor.{nodeAt}
 use Rattle.network.specs.Parts.{freeOf, namesOf, lastLines}
 use Rattle.network.specs.Spelling.{LutSpelled, NodeSpelled, LutsSpelled, no-lut, one-lut, NodesSpelled, no-node, one-node, LinesSpelled}
 use Rattle.network.specs.PartLaws.{names-count}

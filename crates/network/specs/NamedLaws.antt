@@ -13,7 +13,7 @@ use Rattle.names.specs.StandLaws.{all-stand-among}
 use Rattle.sheet.specs.Lines.{Output}
 use Rattle.sheet.specs.Examine.{Design, outputNames}
 use Rattle.sheet.specs.WellFormed.{WellFormed, outputAt}
-use Rattle.network.specs.Wellformed.{Named}
+use Rattle.network.specs.NetworkFor.{Named}
 
 outputs-named : (os : List Output)
     → ((o : ℕ) → o < length os → isName (outputAt os o .name) ≡ true)

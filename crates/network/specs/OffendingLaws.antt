@@ -13,7 +13,7 @@ use Rattle.sheet.specs.Examine.{Design}
 use Rattle.classes.specs.Width.{budget}
 use Rattle.network.specs.Network.{Network, Node}
 use Rattle.network.specs.Examine.{wideNode, offending}
-use Rattle.network.specs.Wellformed.{nodeAt}
+use Rattle.network.specs.NetworkFor.{nodeAt}
 use Rattle.network.specs.Answers.{WithinLimits, Offends, lut-over, node-over, FirstOffending}
 use Rattle.network.specs.FirstOfLaws.{some-none, some-is}
 

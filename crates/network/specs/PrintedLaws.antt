@@ -10,20 +10,20 @@ use Rattle.network.specs.Network.{Network}
 use Rattle.network.specs.Printer.{printNetwork}
 use Rattle.network.specs.Check.{same, checkOf}
 use Rattle.network.specs.Spelling.{Spells}
-use Rattle.network.specs.Wellformed.{Wellformed, Named}
+use Rattle.network.specs.NetworkFor.{NetworkFor, Named}
 use Rattle.network.specs.Answers.{WithinLimits, Computes, Drawn}
 use Rattle.network.specs.SheetLaws.{network-read-of-print, network-spelling-of-read}
 use Rattle.network.specs.OffendingLaws.{offending-none, none-offending}
 use Rattle.network.specs.CheckLaws.{same-check}
 
 module _ (d : Design) (w : Network) (named : Named d) where
-  pub printed-drawn : Wellformed d w
+  pub printed-drawn : NetworkFor d w
       → WithinLimits d w
       → length (printNetwork d w) ≤ maxNetwork
       → Drawn d (printNetwork d w) w
   printed-drawn f l k = record { is-read = network-read-of-print d w named f k; passes = none-offending d w l }
 
-  pub printed-same : Wellformed d w
+  pub printed-same : NetworkFor d w
       → WithinLimits d w
       → length (printNetwork d w) ≤ maxNetwork
       → Computes d w
@@ -31,7 +31,7 @@ module _ (d : Design) (w : Network) (named : Named d) where
   printed-same f l k c = same-check d (printNetwork d w) w (printed-drawn f l k) c
 
   -- what is drawn is well formed, within the limits, and its sheet spells it
-  pub drawn-wellformed : (t : List ℕ) → Drawn d t w → Wellformed d w
+  pub drawn-wellformed : (t : List ℕ) → Drawn d t w → NetworkFor d w
   drawn-wellformed t f = network-spelling-of-read d t w (f .is-read) named .0
 
   pub drawn-within : (t : List ℕ) → Drawn d t w → WithinLimits d w

@@ -16,7 +16,7 @@ use Rattle.network.specs.Printer.{printNetwork}
 use Rattle.network.specs.Examine.{Place, at-network, at-luts, at-node, at-count, at-end, over, Step, misspelled, next}
 use Rattle.network.specs.Examine.{askLine, bad-line, network, atEnd, follow, askLines, nothing, readNetwork}
 use Rattle.network.specs.Spelling.{Spells}
-use Rattle.network.specs.Wellformed.{Wellformed, Named}
+use Rattle.network.specs.NetworkFor.{NetworkFor, Named}
 use Rattle.network.specs.StepLaws.{bad-network}
 use Rattle.network.specs.SpellingLaws.{print-spells}
 use Rattle.network.specs.SheetReadLaws.{said-of-spelling}
@@ -24,7 +24,7 @@ use Rattle.network.specs.SheetSpellingLaws.{spelling-of-said}
 
 pub network-read-of-spelling : (d : Design) (t : List ℕ) (w : Network)
     → Named d
-    → Wellformed d w
+    → NetworkFor d w
     → Spells d w t
     → length t ≤ maxNetwork
     → readNetwork d t ≡ network w
@@ -33,18 +33,18 @@ network-read-of-spelling = said-of-spelling
 pub network-spelling-of-read : (d : Design) (t : List ℕ) (w : Network)
     → readNetwork d t ≡ network w
     → Named d
-    → Wellformed d w × Spells d w t × (length t ≤ maxNetwork)
+    → NetworkFor d w × Spells d w t × (length t ≤ maxNetwork)
 network-spelling-of-read d t w e h = spelling-of-said d t w (h .some-output) e
 
 pub network-spelled : (d : Design) (t : List ℕ) (w : Network)
     → Named d
-    → (readNetwork d t ≡ network w) ↔ (Wellformed d w × Spells d w t × (length t ≤ maxNetwork))
+    → (readNetwork d t ≡ network w) ↔ (NetworkFor d w × Spells d w t × (length t ≤ maxNetwork))
 network-spelled d t w h = (λ e. network-spelling-of-read d t w e h, λ (f, s, k). network-read-of-spelling d t w h f s k)
 
 -- the print is one of them
 pub network-read-of-print : (d : Design) (w : Network)
     → Named d
-    → Wellformed d w
+    → NetworkFor d w
     → length (printNetwork d w) ≤ maxNetwork
     → readNetwork d (printNetwork d w) ≡ network w
 network-read-of-print d w h f k = network-read-of-spelling d (printNetwork d w) w h f (print-spells d w (f .node-each)) k

@@ -18,7 +18,7 @@ use Rattle.network.specs.Network.{Network, Node}
 use Rattle.network.specs.Printer.{networkLine}
 use Rattle.network.specs.Reader.{readLut}
 use Rattle.network.specs.Examine.{at-network, at-luts, at-node, misspelled, next, withLut, withNode, askLine, network, askLines, nothing, readNetwork}
-use Rattle.network.specs.Wellformed.{NodeFits, nodeAt, Wellformed, Named}
+use Rattle.network.specs.NetworkFor.{NodeFits, nodeAt, NetworkFor, Named}
 use Rattle.network.specs.Parts.{freeOf, namesOf, nodeRead, nodePlace, lastLines, withNodes, withAll}
 use Rattle.network.specs.Spelling.{NodeSpelled, LutsSpelled, no-lut, one-lut, NodesSpelled, no-node, one-node, LinesSpelled, Spells}
 use Rattle.network.specs.LineLaws.{lut-read-of-spelling, node-read-of-spelling}
@@ -115,7 +115,7 @@ module _ (d : Design) (named : Named d) where
       (λ i j. t (suc i) (omega arith)) k f
       ∙ ap (λ (ys : List (List Bool)). network (record { luts = ys; nodes = v .nodes ++ xs })) (append-assoc (v .luts) (y ∷ []) ts)
 
-  lines-read : (w : Network) (ls : List (List ℕ)) → Wellformed d w → LinesSpelled d w ls → askLines d true at-network nothing 1 ls ≡ network w
+  lines-read : (w : Network) (ls : List (List ℕ)) → NetworkFor d w → LinesSpelled d w ls → askLines d true at-network nothing 1 ls ≡ network w
   unfolding askLine
   lines-read w ls f s =
       ap (askLines d true at-network nothing 1) (s .are-lines)
@@ -135,7 +135,7 @@ read-by-lines d t h k e = rw (le-leb 1 (length t) h, le-leb (length t) maxNetwor
 
 pub said-of-spelling : (d : Design) (t : List ℕ) (w : Network)
     → Named d
-    → Wellformed d w
+    → NetworkFor d w
     → Spells d w t
     → length t ≤ maxNetwork
     → readNetwork d t ≡ network w

@@ -22,7 +22,7 @@ use Rattle.network.specs.Printer.{networkLine}
 use Rattle.network.specs.Reader.{readLut}
 use Rattle.network.specs.Examine.{Place, at-network, at-luts, at-node, Step, misspelled, next, withLut, withNode}
 use Rattle.network.specs.Examine.{askLine, network, bad-line, follow, askLines, nothing, readNetwork}
-use Rattle.network.specs.Wellformed.{NodeFits, nodeAt, Wellformed}
+use Rattle.network.specs.NetworkFor.{NodeFits, nodeAt, NetworkFor}
 use Rattle.network.specs.Parts.{freeOf, namesOf, nodeRead, nodePlace, lastLines, withNodes, withAll}
 use Rattle.network.specs.Spelling.{LutsSpelled, no-lut, one-lut, NodesSpelled, no-node, one-node, LinesSpelled, Spells}
 use Rattle.network.specs.LineLaws.{lut-spelling-of-read, node-spelling-of-read}
@@ -214,12 +214,12 @@ module _ (d : Design) (some-output : 1 ≤ length (d .outputs)) where
       ]
 
   -- ---- all lines
-  all-said : (ls : List (List ℕ)) (w : Network) → LutsSaid nothing 0 ls w → Wellformed d w × LinesSpelled d w (networkLine ∷ ls)
+  all-said : (ls : List (List ℕ)) (w : Network) → LutsSaid nothing 0 ls w → NetworkFor d w × LinesSpelled d w (networkLine ∷ ls)
   all-said ls w s =
       let u = length (s .ts) in
       let q : s .total ≡ u = omega (arith, s .total-is) in
       let said : Network = record { luts = s .ts; nodes = s .xs } in
-      let well : Wellformed d said =
+      let well : NetworkFor d said =
       record { few-luts = omega (arith, s .few); lut-digits = s .digits; node-each = s .counted; node-fits = λ o i. rw (← q) (s .fits o i) } in
       let spelled : LinesSpelled d said (networkLine ∷ ls) =
       record {
@@ -233,7 +233,7 @@ module _ (d : Design) (some-output : 1 ≤ length (d .outputs)) where
       } in
       (rw (s .said) at well, rw (s .said) at spelled)
 
-  lines-said : (ls : List (List ℕ)) (w : Network) → askLines d true at-network nothing 1 ls ≡ network w → Wellformed d w × LinesSpelled d w ls
+  lines-said : (ls : List (List ℕ)) (w : Network) → askLines d true at-network nothing 1 ls ≡ network w → NetworkFor d w × LinesSpelled d w ls
   unfolding askLine askLines
   lines-said [] w e = absurd (bad-network e)
   lines-said (l ∷ ls) w e =
@@ -274,7 +274,7 @@ module _ (d : Design) (some-output : 1 ≤ length (d .outputs)) where
 pub spelling-of-said : (d : Design) (t : List ℕ) (w : Network)
     → 1 ≤ length (d .outputs)
     → readNetwork d t ≡ network w
-    → Wellformed d w × Spells d w t × (length t ≤ maxNetwork)
+    → NetworkFor d w × Spells d w t × (length t ≤ maxNetwork)
 unfolding readNetwork
 spelling-of-said d t w h e =
     let (s, f) = sized-said d h (within 1 maxNetwork (length t)) t w e in

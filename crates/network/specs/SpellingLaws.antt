@@ -19,7 +19,7 @@ use Rattle.network.specs.Network.{Network, Node}
 use Rattle.network.specs.Printer.{networkLine, lutLines, nodeLines, networkLines, printNetwork}
 use Rattle.network.specs.Parts.{freeOf, namesOf, lastLines}
 use Rattle.network.specs.Spelling.{LutsSpelled, no-lut, one-lut, NodesSpelled, no-node, one-node, LinesSpelled, Spells}
-use Rattle.network.specs.Wellformed.{Named}
+use Rattle.network.specs.NetworkFor.{Named}
 use Rattle.network.specs.UnbrokenLaws.{all-append, lut-unbroken, node-unbroken, count-unbroken, fixed-unbroken}
 use Rattle.network.specs.PartLaws.{free-named, names-count}
 

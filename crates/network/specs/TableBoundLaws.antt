@@ -15,7 +15,7 @@ use Rattle.classes.specs.VertexLaws.{width-most}
 use Rattle.classes.specs.FreeLaws.{bound-and-free}
 use Rattle.network.specs.Network.{Network}
 use Rattle.network.specs.Parts.{freeOf}
-use Rattle.network.specs.Wellformed.{Wellformed, nodeAt}
+use Rattle.network.specs.NetworkFor.{NetworkFor, nodeAt}
 use Rattle.network.specs.Answers.{WithinLimits, readCount}
 
 pub node-narrow : (d : Design) (w : Network)
@@ -32,7 +32,7 @@ node-narrow d w p l o h =
     omega (arith, p .few-inputs)
 
 module _ (d : Design) (w : Network) (v : WellFormed d) where
-  pub node-digits-few : Wellformed d w → WithinLimits d w
+  pub node-digits-few : NetworkFor d w → WithinLimits d w
       → (o : ℕ)
       → o < length (w .nodes)
       → length (nodeAt (w .nodes) o .digits) ≤ maxRows
@@ -41,7 +41,7 @@ module _ (d : Design) (w : Network) (v : WellFormed d) where
       let b = f .node-fits o h .counted in
       omega arith
 
-  pub lut-digits-few : Wellformed d w → (i : ℕ) → i < length (w .luts) → length (getD (w .luts) i []) ≤ maxVertices
+  pub lut-digits-few : NetworkFor d w → (i : ℕ) → i < length (w .luts) → length (getD (w .luts) i []) ≤ maxVertices
   lut-digits-few f i h =
       let a : 2 ^ length (d .bound) ≤ maxVertices = pow-mono (v .bound-right .few) in
       let b = f .lut-digits i h in

@@ -15,7 +15,7 @@ use Rattle.design.specs.Tabulate.{tableOf}
 use Rattle.classes.specs.Classes.{globalCount}
 use Rattle.network.specs.Network.{Network}
 use Rattle.network.specs.Printer.{printNetwork}
-use Rattle.network.specs.Wellformed.{Wellformed}
+use Rattle.network.specs.NetworkFor.{NetworkFor}
 use Rattle.network.specs.Answers.{WithinLimits, Computes}
 use Rattle.network.specs.Check.{checkOf}
 use Rattle.mapper.specs.Map.{Permitted, First, MapAnswer, mapped, OutcomeFor, too-many-classes, no-network, buffer-short, written}
@@ -28,7 +28,7 @@ use Rattle.pla.specs.SameCauseLaws.{cause-same}
 
 -- ---- Map on two designs that differ in their formulas alone
 module _ (d : Design) (ps : List Output) (names : outputNames (d .outputs) ≡ outputNames ps) (values : SameValues d ps) where
-  formed-back : (w : Network) → Wellformed (withOutputs d ps) w → Wellformed d w
+  formed-back : (w : Network) → NetworkFor (withOutputs d ps) w → NetworkFor d w
   formed-back w h = formed-same (withOutputs d ps) (d .outputs) (sym names) (values-back d ps names values) w h
 
   within-back : (w : Network) → WithinLimits (withOutputs d ps) w → WithinLimits d w

@@ -9,14 +9,14 @@ use Rattle.sheet.specs.Lines.{Output}
 use Rattle.sheet.specs.Examine.{Design, outputNames}
 use Rattle.sheet.specs.Value.{outputOn}
 use Rattle.network.specs.Network.{Network}
-use Rattle.network.specs.Wellformed.{Wellformed}
+use Rattle.network.specs.NetworkFor.{NetworkFor}
 use Rattle.network.specs.Answers.{WithinLimits, Computes, readCount}
 use Rattle.pla.specs.SameTables.{SameTables}
 use Rattle.pla.specs.SameTablesLaws.{withOutputs, SameValues, count-same, value-same, budget-same, network-same}
 
 -- ---- two designs that differ in their formulas alone: what is asked of a network
 module _ (d : Design) (ps : List Output) (names : outputNames (d .outputs) ≡ outputNames ps) (values : SameValues d ps) where
-  pub formed-same : (w : Network) → Wellformed d w → Wellformed (withOutputs d ps) w
+  pub formed-same : (w : Network) → NetworkFor d w → NetworkFor (withOutputs d ps) w
   formed-same w h =
       record {
         few-luts = h .few-luts;

@@ -53,7 +53,7 @@ pub record Rows (budgets : List ℕ) (m u g done : ℕ) (rows : List ℕ) : Type
 
 -- same has only cells that the outputs of the set done read like the next cell; both may change places: they are open cells,
 -- and none is cell 0 where that may have known digits
-pub record Alike (kn u done : ℕ) (rows : List ℕ) (same : ℕ) : Type 0 where
+pub record ReadAlike (kn u done : ℕ) (rows : List ℕ) (same : ℕ) : Type 0 where
   pub within : (i : ℕ) → on same i ≡ true → suc i < u
   pub unknown : on same 0 ≡ true → kn ≡ 0
   pub alike : (i p : ℕ) → on same i ≡ true → on done p ≡ true → on (item rows p) i ≡ on (item rows p) (suc i)

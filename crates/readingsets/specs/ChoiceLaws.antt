@@ -29,7 +29,7 @@ use Rattle.relation.specs.Relation.{Left}
 use Rattle.subproblems.specs.Subproblem.{openOf, givenOf, Barred, Settled}
 use Rattle.subproblems.specs.SubproblemLaws.{on-open}
 use Rattle.cache.specs.CacheLaws.{barred-among}
-use Rattle.readingsets.specs.Choice.{RowFits, numbered, turned, firstOutputs, Core, Rows, Alike, Agree, Found, Lost, Chosen, disorder, Suits, stillAlike, Next}
+use Rattle.readingsets.specs.Choice.{RowFits, numbered, turned, firstOutputs, Core, Rows, ReadAlike, Agree, Found, Lost, Chosen, disorder, Suits, stillAlike, Next}
 
 -- ======== digits of rows
 on-given : (row i : ℕ) → on row (6 + i) ≡ on (row / 64) i
@@ -133,7 +133,7 @@ first-outputs-low m o e = go (decLt o m)
     go (no h) = absurd (never-both e (on-above m (2 ^ m - 1) o (let p : 0 < 2 ^ m = pow-pos m in omega arith) (omega arith)))
 
 module _ (cl given budgets : List ℕ) (kn val v m u g done : ℕ) (rows : List ℕ) (same n : ℕ) (few : u ≤ 6) (room : m ≤ 8)
-    (alike : Alike kn u done rows same) (R F : ℕ → ℕ) (c : Core cl given budgets kn val v m u g R F) (e : Agree done rows R) where
+    (alike : ReadAlike kn u done rows same) (R F : ℕ → ℕ) (c : Core cl given budgets kn val v m u g R F) (e : Agree done rows R) where
   abbrev Before : ℕ → Type 0
   Before p = on done p ≡ true
 
@@ -287,8 +287,8 @@ module _ (done n : ℕ) where
     agree-more R a e = each-row (λ (o r : ℕ). R o ≡ r) a e
 
     -- the cells that the new row too reads like the next
-    alike-more : (kn u same : ℕ) → u ≤ 6 → Alike kn u done rows same
-        → Alike kn u (bitOr done (2 ^ n)) (set rows n row) (stillAlike same row)
+    alike-more : (kn u same : ℕ) → u ≤ 6 → ReadAlike kn u done rows same
+        → ReadAlike kn u (bitOr done (2 ^ n)) (set rows n row) (stillAlike same row)
     alike-more kn u same few s = record {
       within = λ i e. s .within i (of-same i e);
       unknown = λ e. s .unknown (of-same 0 e);
@@ -372,7 +372,7 @@ module _ (cl given budgets : List ℕ) (kn val v m u g done : ℕ) (rows : List 
         → Lost cl given budgets kn val v m u g (bitOr done (2 ^ n)) (set rows n (numbered u (numberAt i))) → TriedTo i → TriedTo (i + 1)
     tried-lost i long h free s = tried-next i (λ R F c a o z. s .none R F c (agree-more done n rows (numbered u (numberAt i)) long h free R a z))
 
-    pub tried-all : (i : ℕ) → m ≤ 8 → Alike kn u done rows same → 2 ^ (u + g) ≤ i → TriedTo i → Lost cl given budgets kn val v m u g done rows
+    pub tried-all : (i : ℕ) → m ≤ 8 → ReadAlike kn u done rows same → 2 ^ (u + g) ≤ i → TriedTo i → Lost cl given budgets kn val v m u g done rows
     tried-all i room s h t = record {
       none = λ R F c a.
           let b = in-order cl given budgets kn val v m u g done rows same n few room s R F c a in
@@ -406,9 +406,9 @@ module _ (cl given budgets : List ℕ) (kn val v m u g done : ℕ) (rows : List 
   pub step-rows : r < 2 ^ (u + g) → count (on row) 16 ≡ min (item budgets n) (u + g) → Rows budgets m u g with-n (set rows n row)
   step-rows low full = subst (λ (d : ℕ). Rows budgets m u g d (set rows n row)) (sym ew) (rows-more done n rows row (s .long) h free budgets m u g l (step-fits low full) s)
 
-  pub step-alike : (z : ℕ) → z ≡ stillAlike same row → Alike kn u done rows same → Alike kn u with-n (set rows n row) z
-  step-alike z e a = subst (Alike kn u with-n (set rows n row)) (sym e)
-      (subst (λ (d : ℕ). Alike kn u d (set rows n row) (stillAlike same row)) (sym ew) (alike-more done n rows row (s .long) h free kn u same few a))
+  pub step-alike : (z : ℕ) → z ≡ stillAlike same row → ReadAlike kn u done rows same → ReadAlike kn u with-n (set rows n row) z
+  step-alike z e a = subst (ReadAlike kn u with-n (set rows n row)) (sym e)
+      (subst (λ (d : ℕ). ReadAlike kn u d (set rows n row) (stillAlike same row)) (sym ew) (alike-more done n rows row (s .long) h free kn u same few a))
 
   -- that row is tried at place i
   module _ (down : Bool) (i : ℕ) (et : r ≡ turned down (2 ^ (u + g)) i) where

@@ -14,7 +14,7 @@ ghost use Rattle.relation.specs.Relation.{Classes};
 ghost use Rattle.coding.specs.Limit.{Sure};
 ghost use Rattle.subproblems.specs.Subproblem.{Barred, Settled};
 ghost use Rattle.cache.specs.Cache.{Honest};
-ghost use Rattle.readingsets.specs.Choice.{maxGiven, rowDigits, firstOutputs, numbered, turned, Rows, Alike, Chosen, Suits, stillAlike, Next, Served};
+ghost use Rattle.readingsets.specs.Choice.{maxGiven, rowDigits, firstOutputs, numbered, turned, Rows, ReadAlike, Chosen, Suits, stillAlike, Next, Served};
 use limits::MAX_VERTICES;
 use limits::SEARCH_OUTPUTS;
 
@@ -495,7 +495,7 @@ pub fn choose(
     nodes: u64,
 ) -> Choice
     requires { ⌜ Classes (now cl) × (length (now given) ≡ maxVertices) × (p .vertices ≤ maxVertices) × (p .outputs ≤ searchOutputs) × (p .cells ≤ maxCells) × (p .tables ≤ maxGiven)
-        × Rows (p .budgets) (p .outputs) (p .cells) (p .tables) done rows × Alike (p .kn) (p .cells) done rows same × Honest (now cl) (now given) (p .kn) (p .val) (p .vertices) (now mem) ⌝ }
+        × Rows (p .budgets) (p .outputs) (p .cells) (p .tables) done rows × ReadAlike (p .kn) (p .cells) done rows same × Honest (now cl) (now given) (p .kn) (p .val) (p .vertices) (now mem) ⌝ }
     ensures { λ r. ⌜ Sure (p .last) (r .unsure) (Chosen (now (cl .entry)) (now (given .entry)) (p .budgets) (p .kn) (p .val) (p .vertices) (p .outputs)
         (p .cells) (p .tables) done rows (r .ok) (r .rows) (r .codes)) × Honest (now (cl .entry)) (now (given .entry)) (p .kn) (p .val) (p .vertices) (now (mem .exit)) ⌝ }
 {

@@ -15,7 +15,7 @@ use Rattle.network.specs.Network.{Network, Node}
 use Rattle.network.specs.Examine.{network, readNetwork, offending}
 use Rattle.network.specs.Printer.{printLut, printNode, lutHead, nodeHead}
 use Rattle.network.specs.Spelling.{LinesSpelled}
-use Rattle.network.specs.Wellformed.{Named}
+use Rattle.network.specs.NetworkFor.{Named}
 use Rattle.network.specs.Answers.{Offends, lut-over, node-over}
 use Rattle.network.specs.OffendingLaws.{offending-some}
 use Rattle.network.specs.LinePlaceLaws.{lut-line, node-line}

@@ -15,7 +15,7 @@ use Rattle.network.specs.Examine as net
 use Rattle.network.specs.Examine.{readNetwork}
 use Rattle.network.specs.Spelling.{LutSpelled, NodeSpelled}
 use Rattle.network.specs.Parts.{freeOf, namesOf}
-use Rattle.network.specs.Wellformed.{nodeAt}
+use Rattle.network.specs.NetworkFor.{nodeAt}
 use Rattle.network.specs.Answers.{FirstOffending}
 use Rattle.locate.specs.Located.{Part}
 use Rattle.locate.specs.IsLine.{IsLine}

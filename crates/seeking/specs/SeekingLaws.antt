@@ -28,7 +28,7 @@ use Rattle.problem.specs.Problem.{item, Fixed}
 use Rattle.relation.specs.Relation.{Conflict}
 use Rattle.coding.specs.Limit.{noLimit, Sure}
 use Rattle.subproblems.specs.Subproblem.{openOf, givenOf}
-use Rattle.readingsets.specs.Choice.{RowFits, numbered, firstOutputs, Core, Rows, Alike, Found, Lost, Chosen}
+use Rattle.readingsets.specs.Choice.{RowFits, numbered, firstOutputs, Core, Rows, ReadAlike, Found, Lost, Chosen}
 use Rattle.readingsets.specs.ChoiceLaws.{count-sum, count-row, numberOf, number-row, number-low, numbered-open, numbered-given, given-low, first-outputs-low}
 use Rattle.seeking.specs.Seeking.{Tables, Known, Begins, Lacks, openCells, givenCells, Has, Sought, AllFit, SoughtWhere, roundCount, Places}
 
@@ -253,7 +253,7 @@ chosen-sought cl given budgets kn val v m u g none false rows codes few room out
 pub rows-start : (budgets : List ℕ) (m u g : ℕ) (rows : List ℕ) → length rows ≡ 8 → Rows budgets m u g 0 rows
 rows-start budgets m u g rows e = record { long = e; few = λ o h. absurd (never-both h (on-zero o)); fit = λ o h. absurd (never-both h (on-zero o)) }
 
-pub alike-start : (kn u : ℕ) (rows : List ℕ) (same : ℕ) → Places kn u same → Alike kn u 0 rows same
+pub alike-start : (kn u : ℕ) (rows : List ℕ) (same : ℕ) → Places kn u same → ReadAlike kn u 0 rows same
 alike-start kn u rows same p = record { within = p .within; unknown = p .unknown; alike = λ i q h e. absurd (never-both e (on-zero q)) }
 
 pub places-none : (kn : ℕ) → Places kn 0 0

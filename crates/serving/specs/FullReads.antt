@@ -19,7 +19,7 @@ use Rattle.classes.specs.ColumnLaws.{conflict-differ, no-conflict-agree, agree-
 use Rattle.classes.specs.WidthLaws.{width-least}
 use Rattle.network.specs.Network.{Network}
 use Rattle.network.specs.Value.{lutAt}
-use Rattle.network.specs.Wellformed.{Wellformed}
+use Rattle.network.specs.NetworkFor.{NetworkFor}
 use Rattle.network.specs.Answers.{WithinLimits, Computes, readCount}
 use Rattle.serving.specs.NetworkCore.{nodeOf}
 use Rattle.serving.specs.Tells.{one-column}
@@ -59,6 +59,6 @@ module _ (d : Design) (w : Network) (proper : Proper d) (c : Computes d w) where
   unfolding budget width
   width-read o h = width-least (localCount d (d .bound) o) (readCount w o) (classes-coded o h)
 
-module _ (d : Design) (w : Network) (proper : Proper d) (f : Wellformed d w) (l : WithinLimits d w) (c : Computes d w) where
+module _ (d : Design) (w : Network) (proper : Proper d) (f : NetworkFor d w) (l : WithinLimits d w) (c : Computes d w) where
   pub reads-width : (o : ℕ) → o < length (d .outputs) → readCount w o ≡ budget d (d .bound) o
   reads-width o h = le-antisymm (l .reads-within o (subst (λ (n : ℕ). o < n) (sym (f .node-each)) h)) (width-read d w proper c o h)

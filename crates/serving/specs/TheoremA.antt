@@ -24,7 +24,7 @@ use Rattle.classes.specs.JoinLaws.{join-lt, join-parts, vertex-of-join, free-ro
 use Rattle.classes.specs.ColumnLaws.{conflict-differ, no-conflict-agree}
 use Rattle.network.specs.Network.{Network, Node}
 use Rattle.network.specs.Reads.{Rising, rising-none, rising-more}
-use Rattle.network.specs.Wellformed.{Wellformed, NodeFits, nodeAt}
+use Rattle.network.specs.NetworkFor.{NetworkFor, NodeFits, nodeAt}
 use Rattle.network.specs.Answers.{WithinLimits, Computes, readCount}
 use Rattle.serving.specs.NetworkCore.{has, networkCore, ServesDesign}
 use Rattle.serving.specs.Parts.{Parts, Columns}
@@ -68,7 +68,7 @@ rising-has i rising-none e = absurd (has-none i e)
 rising-has {u = u} i (rising-more {j = k} {js = js} a b r) e =
     ⊎-elim (λ q. subst (λ (n : ℕ). n < u) q b) (rising-has i r) (has-cases i k js e)
 
-pub drawn-serves : (d : Design) (w : Network) → Proper d → Wellformed d w → WithinLimits d w → Computes d w → ServesDesign d (networkCore w)
+pub drawn-serves : (d : Design) (w : Network) → Proper d → NetworkFor d w → WithinLimits d w → Computes d w → ServesDesign d (networkCore w)
 drawn-serves d w p f l c =
     network-serves d w (parts-of (d .inputs) (d .bound) (p .parted)) (columns-of d) (c .agrees)
     (λ o i h e. rising-has i (f .node-fits o (subst (λ (n : ℕ). o < n) (sym (f .node-each)) h) .rises) e)
@@ -136,7 +136,7 @@ module _ (d : Design) (u : ℕ) (rows codes : ℕ → ℕ) where
         counted = values-length (entry d codes o (numbers u 0 (rows o))) (2 ^ (length (numbers u 0 (rows o)) + length (free (d .inputs) (d .bound))));
       }
 
-  pub built-wellformed : u ≤ maxCells → Wellformed d (built d u rows codes)
+  pub built-wellformed : u ≤ maxCells → NetworkFor d (built d u rows codes)
   unfolding built
   built-wellformed h =
       record {

@@ -1,4 +1,4 @@
-use Rattle.joint.specs.Merge.{Alike, alike-more}
+use Rattle.joint.specs.Merge.{SameLabels, alike-more}
 use borrow.Author.Tests.{eqb-true}
 use Rattle.bits.specs.LogicLaws.{true-false}
 use native.Mathlib.Omega.{arith}
@@ -13,7 +13,7 @@ use Rattle.joint.proofs.known_at.Reads as known-at-reads
 use Rattle.problem.proofs.label.Reads as label-reads
 
 abbrev Inv-loop : tie.InvT-loop
-Inv-loop cl j kn val x y o₀ o = (o ≤ j) × Alike cl o (x .0) (y .0)
+Inv-loop cl j kn val x y o₀ o = (o ≤ j) × SameLabels cl o (x .0) (y .0)
 
 abbrev μ-loop : tie.MeasureT-loop
 μ-loop cl j kn val x y o₀ o = j - o

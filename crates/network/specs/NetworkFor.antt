@@ -24,7 +24,7 @@ abbrev pub nodeAt : List Node → ℕ → Node
 nodeAt xs o = getD xs o (record { reads = []; digits = [] })
 
 -- a network that can be written beside the design d
-pub record Wellformed (d : Design) (w : Network) : Type 0 where
+pub record NetworkFor (d : Design) (w : Network) : Type 0 where
   pub few-luts : length (w .luts) ≤ maxCells
   pub lut-digits : (i : ℕ) → i < length (w .luts) → length (getD (w .luts) i []) ≡ 2 ^ length (d .bound)
   pub node-each : length (w .nodes) ≡ length (d .outputs)
