@@ -6,7 +6,7 @@ use mathlib.Core.List.{List, [], _∷_, _++_, map}
 use Prim.Native.Nat.{ℕ, suc, _+_, _^_, _≤_, _<_}
 use native.Mathlib.Omega.{arith}
 use lib.ListN.{length, getD, length-append}
-use Rattle.order.specs.Tables.{Alike, alike-none, alike-more}
+use Rattle.order.specs.Tables.{SameLengths, alike-none, alike-more}
 use Rattle.text.specs.Bytes.{bytes, newline, closeBracket}
 use Rattle.text.specs.Line.{endedLines}
 use Rattle.text.specs.FigureLaws.{print-digit}
@@ -26,11 +26,11 @@ use Rattle.mapper.specs.Map.{Permitted}
 use Rattle.mapper.specs.PermittedLaws.{permitted-count, permitted-reads}
 
 -- ---- as many items, each as long
-alike-self : (ps : List (List ℕ)) → Alike ps ps
+alike-self : (ps : List (List ℕ)) → SameLengths ps ps
 alike-self [] = alike-none
 alike-self (a ∷ ps) = alike-more {a = a} {b = a} refl (alike-self ps)
 
-alike-append : {ps qs rs ss : List (List ℕ)} → Alike ps qs → Alike rs ss → Alike (ps ++ rs) (qs ++ ss)
+alike-append : {ps qs rs ss : List (List ℕ)} → SameLengths ps qs → SameLengths rs ss → SameLengths (ps ++ rs) (qs ++ ss)
 alike-append alike-none t = t
 alike-append (alike-more {a = a} {b = b} e s) t = alike-more {a = a} {b = b} e (alike-append s t)
 
@@ -41,13 +41,13 @@ led-one : (first : Bool) (a b : List ℕ) → length a ≡ length b → length (
 led-one true a b e = e
 led-one false a b e = ap suc e
 
-led-alike : (first : Bool) {ps qs : List (List ℕ)} → Alike ps qs → length (ledAll first ps) ≡ length (ledAll first qs)
+led-alike : (first : Bool) {ps qs : List (List ℕ)} → SameLengths ps qs → length (ledAll first ps) ≡ length (ledAll first qs)
 unfolding ledAll
 led-alike first alike-none = refl
 led-alike first (alike-more {a = a} {b = b} {ps = ps} {qs = qs} e s) =
     append-alike (led first a) (led first b) (ledAll false ps) (ledAll false qs) (led-one first a b e) (led-alike false s)
 
-ended-alike : {ps qs : List (List ℕ)} → Alike ps qs → length (endedLines ps) ≡ length (endedLines qs)
+ended-alike : {ps qs : List (List ℕ)} → SameLengths ps qs → length (endedLines ps) ≡ length (endedLines qs)
 unfolding endedLines
 ended-alike alike-none = refl
 ended-alike (alike-more {a = a} {b = b} {ps = ps} {qs = qs} e s) =
@@ -58,7 +58,7 @@ lut-name : (i : ℕ) → i < 10 → length (lutName i) ≡ 2
 unfolding lutName
 lut-name i h = ap (λ (s : List ℕ). suc (length s)) (print-digit i h)
 
-reads-alike : {i j u v : ℕ} {is js : List ℕ} → Rising i u is → Rising j v js → u ≤ 10 → v ≤ 10 → length is ≡ length js → Alike (map lutName is) (map lutName js)
+reads-alike : {i j u v : ℕ} {is js : List ℕ} → Rising i u is → Rising j v js → u ≤ 10 → v ≤ 10 → length is ≡ length js → SameLengths (map lutName is) (map lutName js)
 reads-alike rising-none rising-none a b e = alike-none
 reads-alike rising-none (rising-more {j = j} k l s) a b e = absurd (omega (arith, e))
 reads-alike (rising-more {j = i} m n r) rising-none a b e = absurd (omega (arith, e))
@@ -76,7 +76,7 @@ lut-alike bs i ds es e =
 lut-lines-alike : (bs : List Name) (i : ℕ) (ts us : List (List Bool))
     → length ts ≡ length us
     → ((j : ℕ) → j < length ts → length (getD ts j []) ≡ length (getD us j []))
-    → Alike (lutLines bs i ts) (lutLines bs i us)
+    → SameLengths (lutLines bs i ts) (lutLines bs i us)
 unfolding lutLines
 lut-lines-alike bs i [] [] e h = alike-none
 lut-lines-alike bs i [] (u ∷ us) e h = absurd (omega (arith, e))
@@ -86,7 +86,7 @@ lut-lines-alike bs i (t ∷ ts) (u ∷ us) e h =
     (lut-lines-alike bs (suc i) ts us (let g : suc (length ts) ≡ suc (length us) = e in omega arith) (λ j k. h (suc j) (omega arith)))
 
 node-alike : (n : Name) (fs : List Name) (x y : Node)
-    → Alike (map lutName (x .reads)) (map lutName (y .reads))
+    → SameLengths (map lutName (x .reads)) (map lutName (y .reads))
     → length (x .digits) ≡ length (y .digits)
     → length (printNode n fs x) ≡ length (printNode n fs y)
 unfolding printNode
@@ -101,13 +101,13 @@ node-alike n fs x y r e =
     (append-alike (printDigits (x .digits)) (printDigits (y .digits)) (closeBracket ∷ []) (closeBracket ∷ []) (digits-alike (x .digits) (y .digits) e) refl)))
 
 record NodesAlike (x y : Node) : Type 0 where
-  pub names : Alike (map lutName (x .reads)) (map lutName (y .reads))
+  pub names : SameLengths (map lutName (x .reads)) (map lutName (y .reads))
   pub digits : length (x .digits) ≡ length (y .digits)
 
 node-lines-alike : (fs ns : List Name) (xs ys : List Node)
     → length xs ≡ length ys
     → ((o : ℕ) → o < length xs → NodesAlike (nodeAt xs o) (nodeAt ys o))
-    → Alike (nodeLines fs ns xs) (nodeLines fs ns ys)
+    → SameLengths (nodeLines fs ns xs) (nodeLines fs ns ys)
 unfolding nodeLines
 node-lines-alike fs [] xs ys e h = alike-none
 node-lines-alike fs (n ∷ ns) [] [] e h = alike-none

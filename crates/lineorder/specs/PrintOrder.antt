@@ -18,7 +18,7 @@ use Rattle.network.specs.SpellingLaws.{print-lines-spelled, lines-unbroken}
 use Rattle.order.specs.Order.{then, listOrder, byteOrder, bitOrder, tableOrder, tablesOrder}
 use Rattle.order.specs.OrderLaws.{NotLess, compare-total, bytes-total, same-front, front-first, map-order}
 use Rattle.order.specs.OrderLaws.{then-eq, then-not-less, not-less-eq}
-use Rattle.order.specs.Tables.{Alike, alike-none, alike-more}
+use Rattle.order.specs.Tables.{SameLengths, alike-none, alike-more}
 use Rattle.lineorder.specs.LineOrder.{lineOrder, line-self, lines-self, ended-order}
 
 -- ======== definitions
@@ -66,7 +66,7 @@ lut-order bs i a b e =
     ap₂ byteOrder (ended-lut bs i a) (ended-lut bs i b) ∙ digits-between (lutHead bs i) (closeBracket ∷ newline ∷ []) a b e
 
 pub luts-order : (bs : List Name) (i : ℕ) {ts us : List (List Bool)}
-    → Alike ts us
+    → SameLengths ts us
     → listOrder lineOrder (lutLines bs i ts) (lutLines bs i us) ≡ tablesOrder ts us
 unfolding listOrder lutLines
 luts-order bs i alike-none = refl
@@ -89,7 +89,7 @@ nodes-count fs (n ∷ ns) (x ∷ xs) (y ∷ ys) e =
 luts-alike : (ts us : List (List Bool))
     → length ts ≡ length us
     → ((j : ℕ) → j < length ts → length (getD ts j []) ≡ length (getD us j []))
-    → Alike ts us
+    → SameLengths ts us
 luts-alike [] [] e h = alike-none
 luts-alike [] (u ∷ us) e h = absurd (omega (arith, e))
 luts-alike (t ∷ ts) [] e h = absurd (omega (arith, e))
