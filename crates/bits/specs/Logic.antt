@@ -1,4 +1,4 @@
--- Truth values: the connectives, and a choice between two values of any type. Assumes nothing.
+-- Truth values (clause 1.6): the connectives, and a choice between two values of any type. Assumes nothing.
 use mathlib.Core.Bool.{Bool, true, false, not}
 
 abbrev pub andb : Bool → Bool → Bool
