@@ -1,5 +1,5 @@
-// The sheets to try A to K (docs/SPECIFICATION.md, section 16), names in either case, texts in BLIF, PLA texts, every refusal, the lines that refusals name and
-// the causes of refusal 8, by hand: what each call must answer stands beside it.
+// The sheets to try A to K (docs/SPECIFICATION.md, section 16), names in either case, texts in BLIF, PLA texts, every refusal, the
+// lines that refusals name and the causes of refusal 8, by hand: what each call must answer stands beside it.
 // Buffers are exactly long enough and one byte short; slices of length 0 have null pointers too (calls.cpp). Then the stack
 // that the header promises to be enough.
 #include "worked.h"
