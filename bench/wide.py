@@ -3,7 +3,7 @@
 Times are processor time, the best of several batches taken in turns: of Map, and of putting the network sheet down once, which
 is what Map takes longer than with a buffer of no bytes. Instructions are counted by callgrind, in one call of Map and, of it, in
 writer::put_network, which puts the network sheet down twice, first without a buffer. Networks that are not the same byte for
-byte end the run, as they may be beside a commit before request 2026-03, whose networks need not be the first."""
+byte end the run, as they may be beside a commit before landing 2026-03, whose networks need not be the first."""
 import pathlib
 import re
 import shutil

@@ -1,5 +1,6 @@
 /* The Cell Mapper for a program in C: Table, Map, Check and Export on design sheets and network sheets, the line that a refusal of
  * theirs names, the outputs that cause a refusal by 8, and Table, Map, Check and such a cause on panels that arrive as PLA.
+ * docs/SPECIFICATION.md says what the texts are and what is answered: section 11 has the operations, section 9 the questions.
  *
  * Link target/staticlib/libcellmapper.a, which `rt staticlib cellmapper` proves and builds for x86-64 Linux. The archive
  * needs nothing but memcpy and memset, keeps no state, allocates nothing, and may be called from several threads at once.
@@ -49,7 +50,7 @@ uint32_t cellmapper_table(const uint8_t *sheet, size_t sheet_len, size_t output,
  *
  * Result 0: the buffer's first *length bytes are a network sheet with *cells lut lines, which is within the limit and the
  * widths and computes every output on every row; no network that does so has fewer lut lines. Each of its shared tables is
- * 0 at vertex 0, and each composition entry whose code no vertex produces is 0. Of all network sheets in this spelling of
+ * 0 at vertex 0, and so is each entry of a node for a code that no vertex has. Of all network sheets in this spelling of
  * which this is true it is the first in byte order, so that a design sheet has one network.
  * Refusals: 1 to 5 for the sheet, 7 for more than 16 global classes, 8 where no network within limit and widths computes
  * every output, 9 where buffer_len is less than the network's length. */
@@ -78,8 +79,8 @@ uint32_t cellmapper_check(const uint8_t *sheet, size_t sheet_len, const uint8_t 
  *
  * Result 0: the buffer's first *length bytes are the model `panel` with the sheet's inputs and outputs in its order and a
  * `.names` block for each lut line and each node, with names as Map spells them; the lut line of _0 is the block of CC_0, and so
- * on. Read by BLIF's rules it has the network's value in every output on every row, and so the design's wherever Check says
- * "same". A table of zeros is a block without rows.
+ * on. Read by BLIF's rules it has the network's value in every output on every row; where Check says "same" this is the
+ * design's. A table of zeros is a block without rows.
  * Refusals: those of Check, 1 to 5, 10 and 11, with the same lines; then 9 where buffer_len is less than the text's length. */
 uint32_t cellmapper_export(const uint8_t *sheet, size_t sheet_len, const uint8_t *network, size_t network_len, uint8_t *buffer,
                            size_t buffer_len, size_t *line, size_t *length);
@@ -91,7 +92,7 @@ uint32_t cellmapper_export(const uint8_t *sheet, size_t sheet_len, const uint8_t
  * - 2 to 5: line `line` of the design sheet, with *second 0;
  * - 10 and 11: line `line` of the network sheet, with *second 1;
  * - line 0, and a line past the end: the empty part at the end of that same sheet;
- * - any other number: the empty part at the design sheet's end, with *second 0.
+ * - any other number: the empty part at the end of the design sheet, with *second 0.
  * The part is the *length bytes of that sheet from *start on, counted from 0; *start + *length is at most the sheet's length. The
  * line's 0x0A is left off, and a last line without 0x0A is handed back whole. For a refusal's own number and line, where the sheet
  * has this line, it is the one for which the examination asked the question that was answered "no". */
@@ -99,8 +100,8 @@ uint32_t cellmapper_line(const uint8_t *sheet, size_t sheet_len, const uint8_t *
                          size_t line, size_t *second, size_t *start, size_t *length);
 
 /* A panel that arrives as PLA is two texts. `pla` has the lines `.i N`, `.o N`, `.ilb names`, `.ob names`, `.p N`, then N cubes,
- * then `.e`; `board` has the lines `(bound ..)` and `(limit N)` as a design sheet spells them. Both may hold any bytes. A cube
- * with a 1 for an output is in that output's on-set; a row in no such cube is 0. The functions below answer as those above
+ * then `.e`; `board` has the lines `(bound ..)` and `(limit N)` as a design sheet spells them. Both may hold any bytes. An
+ * output is 1 on each row that a cube with a 1 for it covers, and 0 on all others. The functions below answer as those above
  * do on a design sheet with the same names, tables, bound inputs and limit. Where the texts are at fault they refuse by these
  * numbers, asked in this order, with a line of the text at fault:
  * - 12: `pla` has no bytes or more than CELLMAPPER_MAX_PLA (line 0), or else a line is bad, and the first one is named: one that is

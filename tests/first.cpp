@@ -1,4 +1,4 @@
-// The first network in byte order of designs on standard input, by printing every network that the section on cells permits and
+// The first network in byte order of designs on standard input, by printing every network that clause 7.10 permits and
 // comparing the texts. g++ -O2 -std=c++17. A design is words: the numbers of bound inputs, free inputs and outputs, and the most
 // tables to try; the bound names; the free names; and for each output its name and its columns in the order of the vertices.
 // The answer is a line: U or none, how many networks are permitted, in how many of them a table varies inside a global class, and
@@ -93,7 +93,7 @@ static std::string print(const Design &design, const Names &tables, const std::v
     return text + "(count " + std::to_string(tables.size()) + ")\n(end)\n";
 }
 
-// The digits of a node; an entry whose code no vertex produces is 0.
+// The digits of a node; the entries of codes that no vertex has are 0.
 static std::string digits_of(const Design &design, const Output &output, const Names &tables, const std::vector<size_t> &reads)
 {
     std::string digits(design.rows() << reads.size(), '0');

@@ -1,6 +1,6 @@
 #!/usr/bin/env python3
-"""Runs Map's program on the sheets to try of document 01, A, C to I and K, and on A with capitals, and compares what it prints byte
-for byte. Sheet B, with buffers of its own, is executed by the program `worked`."""
+"""Runs Map's program on the sheets to try (docs/SPECIFICATION.md, section 16), A, C to I and K, and on A with capitals, and compares
+what it prints byte for byte. Sheet B, with buffers of its own, is executed by the program `worked`."""
 import pathlib
 import subprocess
 import sys

@@ -15,7 +15,7 @@ extern CauseTally causes_of_sheets, causes_of_plas;
 extern unsigned long causes_settled, causes_left_out;
 
 // All sets but the empty one of so many outputs, bit o for output o, in the order in which a cause is looked for: those with fewer
-// outputs first, and of as many the one whose lowest output comes first, then the next.
+// outputs first, and of as many the earlier one first (clause 11.7).
 std::vector<size_t> sets_in_order(size_t outputs);
 
 // A valid panel with some of its outputs alone.

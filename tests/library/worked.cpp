@@ -1,5 +1,5 @@
-// The specification's sheets A to K, names in either case, texts in BLIF, PLA texts, every refusal, the lines that refusals name and
-// the causes of refusal 8, by hand: what each call must answer stands beside it.
+// The sheets to try A to K (docs/SPECIFICATION.md, section 16), names in either case, texts in BLIF, PLA texts, every refusal, the
+// lines that refusals name and the causes of refusal 8, by hand: what each call must answer stands beside it.
 // Buffers are exactly long enough and one byte short; slices of length 0 have null pointers too (calls.cpp). Then the stack
 // that the header promises to be enough.
 #include "worked.h"
@@ -196,7 +196,7 @@ void sheets_to_try()
     same(A, text({"(network 1)", "(lut _0 (a b c) 10010110)", "(node f (_0 d) 1001)", "(node g (_0 d) 0100)", "(count 1)", "(end)"}));
 }
 
-// Of as many outputs the set whose lowest output comes first, then the next.
+// Of as many outputs the earlier set (clause 11.7).
 void causes_to_try()
 {
     const std::string a = "(xor a c)", b = "(xor b c)", both = "(xor a b c)";

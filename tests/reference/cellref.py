@@ -1,5 +1,5 @@
 #!/usr/bin/env python3
-"""A second implementation of the sheets, written from the paper's words and sharing nothing with the library.
+"""A second implementation of the sheets, written from the specification's words and sharing nothing with the library.
 
 It is slow and plain on purpose: a formula is read to a list in postfix order and evaluated anew on every row, columns
 are lists of values, and the fewest cells and the first network are found by trying. The tests compare the library with it.
@@ -355,7 +355,7 @@ class Classes:
 
 
 def width(classes):
-    """The smallest w with 2^w at least the number of classes."""
+    """The least w for which there are no more than 2^w classes (clause 6.10)."""
     w = 0
     while 2**w < classes:
         w += 1
@@ -473,7 +473,7 @@ def examine_both(design_text, network_text):
 
 
 def check(design_text, network_text):
-    """Check: None where the network computes the design, else the lowest output that differs and its lowest row."""
+    """Check (clause 11.4): None where the network computes the design, else the lowest output that does not agree, and its row."""
     return check_of(examine(design_text), network_text)
 
 
@@ -665,7 +665,7 @@ def first_tables(classes, tables):
 def node_lines(design, classes, output, tables):
     """Every line of a node within the width that computes the output by these tables.
 
-    An entry whose code no vertex produces is 0.
+    The entries of codes that no vertex has are 0.
     """
     lines = []
     for reads in itertools.chain(*(itertools.combinations(range(len(tables)), w) for w in range(classes.widths[output] + 1))):

@@ -688,7 +688,7 @@ def wide_values():
 
 
 def sheets_to_try():
-    """The papers' own sheets A to K, by their tables."""
+    """Sheets A to K (section 16 of docs/SPECIFICATION.md), by their tables."""
     a = "(design 1)/(in a b c d)/(bound a b c)/(limit 2)/(out f (xor a b c d))/(out g (and (xor a b c) d))/(end)/"
     case("sheet-a-f", a, yes("0110100110010110"))
     case("sheet-a-g", a, yes("0001010001000001"), output=1)

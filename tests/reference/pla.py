@@ -1,5 +1,5 @@
 #!/usr/bin/env python3
-"""Panels that arrive as PLA, from the words of request 2026-04: the examination of a pair, which is a PLA text and a second text
+"""Panels that arrive as PLA, from section 13 of docs/SPECIFICATION.md: the examination of a pair, which is a PLA text and a second text
 with the `bound` line and the `limit` line. Table, Map, Check and the cause of refusal 8 are cellref's, on the design that the pair
 gives.
 
@@ -191,7 +191,7 @@ def map_pair(pla_text, board_text, buffer=cellref.ENDLESS):
 
 
 def check(pla_text, board_text, network_text):
-    """Check: None where the network computes the design, else the lowest output that differs and its lowest row."""
+    """Check (clause 11.4): None where the network computes the design, else the lowest output that does not agree, and its row."""
     return cellref.check_of(examine(pla_text, board_text), network_text)
 
 

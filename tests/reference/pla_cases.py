@@ -1,8 +1,8 @@
 """Pairs of a PLA text and a second text at every boundary of questions 12, 13 and 14 and of what is asked after them, each with
-what Map must answer by request 2026-04: the network, or `refused N line L`. Worked by hand; CASES has (name, PLA text, second
-text, answer)."""
+what Map must answer by section 13 of docs/SPECIFICATION.md: the network or a refusal. Worked by hand; CASES has (name, PLA text,
+second text, answer)."""
 
-# Sheet A of document 01 as PLA: f = a xor b xor c xor d, and g = d where a xor b xor c is 1.
+# Sheet A (clause 16.1) as PLA: f = a xor b xor c xor d, and g = d where a xor b xor c is 1.
 HEAD = b".i 4\n.o 2\n.ilb a b c d\n.ob f g\n"
 F = [b"0001", b"0010", b"0100", b"0111", b"1000", b"1011", b"1101", b"1110"]
 G = [b"0011", b"0101", b"1001", b"1111"]

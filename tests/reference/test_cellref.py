@@ -1,7 +1,7 @@
 #!/usr/bin/env python3
-"""The reference on the papers' own sheets A to K, on names in either case, its two searches for the fewest cells compared with each
-other, its first network with all permitted ones and with those of bench/first/, the lines that refusals name, and the causes of
-refusal 8."""
+"""The reference on the specification's sheets A to K (section 16), on names in either case, its two searches for the fewest cells
+compared with each other, its first network with all permitted ones and with those of bench/first/, the lines that refusals name,
+and the causes of refusal 8."""
 
 import itertools
 import pathlib
@@ -425,7 +425,7 @@ class Causes(unittest.TestCase):
     TWO = ("(xor a c)", "(xor b c)")
     THREE = TWO + ("(xor a b c)",)
 
-    def test_sheets_of_the_paper(self):
+    def test_sheets_to_try(self):
         self.assertEqual(cellref.cause(sheet("a b c", "a b", 1, *self.TWO)), {0, 1})
         self.assertEqual(cellref.cause(sheet("a b c", "a b", 2, *self.THREE)), {0, 1, 2})
         self.assertEqual(cellref.cause(sheet("a b c d", "a b", 1, "(or (and a b c) (and (xor a b) d))")), {0})

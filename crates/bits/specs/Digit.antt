@@ -1,4 +1,4 @@
--- The binary digits of a number: digit k is worth 2 ^ k. Assumes nothing.
+-- The binary digits of a number: digit k is worth 2 ^ k (clause 5.5). Assumes nothing.
 use mathlib.Core.Bool.{Bool}
 use Prim.Native.Nat.{ℕ, _/_, _%_, _^_}
 use lib.Dec.{eqb}

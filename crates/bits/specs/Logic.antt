@@ -1,5 +1,5 @@
--- Truth values: the connectives before their arguments, a choice between two values of any type, and a truth value as a
--- number. Assumes nothing.
+-- Truth values (clause 1.6): the connectives before their arguments, a choice between two values of any type, and a truth
+-- value as a number. Assumes nothing.
 use mathlib.Core.Bool.{Bool, true, false, not, _&&_, _||_}
 use Prim.Native.Nat.{ℕ}
 

@@ -1,4 +1,4 @@
--- The values of a test as a list: a column, a table, digits put down one after the other. Assumes nothing.
+-- The values of a test as a list: a column, a table, digits put down one after the other (clause 1.6). Assumes nothing.
 use mathlib.Core.Bool.{Bool}
 use mathlib.Core.List.{List, [], _∷_, _++_}
 use Prim.Native.Nat.{ℕ, zero, suc}

@@ -1,8 +1,8 @@
--- The answers of Export, by the definitions. Assumes nothing.
+-- The answers of Export (clause 11.5), by the definitions. Assumes nothing.
 use Rattle.blif.specs.Export.{ExportAnswer, refused-by, written}
 use Rattle.blif.specs.declared.Exported.{Exported}
 
--- document 01's number and line, or the text's length, for each case of the code's answer
+-- the refusal's number and line, or the text's length, for each case of the code's answer
 abbrev pub exportAnswer : Exported → ExportAnswer
 exportAnswer (Exported.Refused q l) = refused-by q l
 exportAnswer (Exported.Written n) = written n

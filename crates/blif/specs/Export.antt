@@ -1,5 +1,5 @@
--- "The export takes a design and a network sheet, examined as Check examines them, then question 9 for this text." "Export
--- returns the length and leaves later bytes unchanged." Whether the two compute the same is not asked. Assumes nothing.
+-- Export (clause 11.5): Check's examination of the two sheets, then question 9 for the text in BLIF; the answer is the text's
+-- length. Whether the two compute the same is not asked. Assumes nothing.
 use mathlib.Core.List.{List}
 use Prim.Native.Nat.{ℕ}
 use lib.Dec.{leb}

@@ -1,5 +1,5 @@
--- BLIF: what a text says. A model has inputs, outputs and blocks; a block has a cover, whose lines mark for each of the
--- block's inputs whether it must be 0, must be 1, or does not matter. Assumes nothing.
+-- BLIF: what a text says (clause 12.5). A model has inputs, outputs and blocks; a block has a cover, whose lines mark
+-- for each of the block's inputs whether it must be 0, must be 1, or does not matter. Assumes nothing.
 use mathlib.Core.Bool.{Bool}
 use mathlib.Core.List.{List, map}
 use Prim.Native.Nat.{ℕ}

@@ -1,5 +1,5 @@
--- A network as a text in BLIF: "Directives stand one a line with single spaces, inputs and outputs in sheet order, blocks in
--- network order, rows rising; the model is `panel`." Assumes nothing.
+-- A network as a text in BLIF (clauses 12.1 to 12.4): the model `panel`, the inputs and outputs of the design, and a block of rows
+-- for each shared table and each node. Assumes nothing.
 use mathlib.Core.Bool.{Bool}
 use mathlib.Core.List.{List, [], _∷_, _++_, map}
 use Prim.Native.Nat.{ℕ, suc}

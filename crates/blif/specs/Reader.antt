@@ -1,7 +1,7 @@
 -- BLIF: how a text is read, by the rules of the format and not by what Printer writes. They stand in "Berkeley Logic
 -- Interchange Format (BLIF)", University of California, Berkeley, 1992. The directives `.model`, `.inputs`, `.outputs`,
 -- `.names` and `.end` and covers with 1 in the output plane are understood, and everything else is refused, comments and
--- continued lines too. Assumes nothing.
+-- continued lines too (clause 12.5). Assumes nothing.
 use mathlib.Core.Bool.{Bool, true, false, not, _&&_}
 use mathlib.Core.List.{List, [], _∷_, _++_, map}
 use mathlib.Core.Option.{Option, some, none}

@@ -1,4 +1,5 @@
--- What Export is for: whoever reads its text by BLIF's rules computes what the network computes. Assumes nothing.
+-- What Export is for: whoever reads its text by BLIF's rules computes what the network computes (clause 14.8).
+-- Assumes nothing.
 use mathlib.Core.Path.{_≡_}
 use mathlib.Core.Bool.{Bool}
 use mathlib.Core.List.{List, []}

@@ -1,4 +1,4 @@
--- BLIF: the value of a signal of a model under values of its inputs. Assumes nothing.
+-- BLIF: the value of a signal of a model under values of its inputs (clause 12.6). Assumes nothing.
 use mathlib.Core.Bool.{Bool, true, false, _&&_, _||_, Bool·beq}
 use mathlib.Core.List.{List, [], _∷_, map}
 use mathlib.Core.Option.{Option, some, none}

@@ -1,4 +1,4 @@
--- BLIF: the bytes of a line, and the line's words, which blanks part. Assumes nothing.
+-- BLIF: the bytes of a line, and the line's words, which blanks part (clause 12.5). Assumes nothing.
 use mathlib.Core.Bool.{Bool, true, false, not, _&&_, _||_}
 use mathlib.Core.List.{List, [], _∷_}
 use Prim.Native.Nat.{ℕ}

@@ -1,4 +1,4 @@
-// Reads a design sheet, a byte 0x00 and a network sheet from standard input, and prints the network as a text in BLIF, or
+// Takes a design sheet, a byte 0x00 and a network sheet on standard input, and prints the network as a text in BLIF, or
 // `refused N line L`. Everything that matters is in blif. The buffer holds every text, so question 9 is always answered yes.
 ghost use Prim.Native.Nat.{_≤_};
 ghost use lib.ListN.{length};

@@ -1,5 +1,5 @@
-// Reads one design sheet from standard input and prints its network, or `refused N line L`. Everything that matters is in
-// mapper. One byte more than a sheet may have is kept, so that a longer sheet is seen to be too long; the rest is read and
+// Takes a design sheet on standard input and prints its network, or `refused N line L` (clause 15.3). Everything that matters
+// is in mapper. One byte more than a sheet may have is kept, so that a longer sheet is seen to be too long; the rest is read and
 // dropped. The buffer holds every network sheet, so question 9 is always answered yes.
 use mapper::Mapped;
 

@@ -1,5 +1,5 @@
--- Classes of numbers under a relation: they are numbered in the order in which their first members come. A vertex
--- number, a local class number and a global class number are separate counts. Assumes nothing.
+-- Classes of numbers under a relation: they are numbered in the order in which their first members come. The numbers of
+-- vertices, of local classes and of global classes are counts of three kinds (clause 6.9). Assumes nothing.
 use mathlib.Core.Bool.{Bool}
 use Prim.Native.Nat.{ℕ, zero, suc, _+_}
 use lib.Dec.{eqb}
@@ -29,14 +29,14 @@ classCount same (suc v) = classCount same v + pick (eqb (firstLike same v) v) 1 
 unfoldable pub classOf : (ℕ → ℕ → Bool) → ℕ → ℕ
 classOf same x = classCount same (firstLike same x)
 
--- "Local classes of an output: vertices with equal columns."
+-- the local classes of an output (clause 6.7)
 unfoldable pub localCount : Design → List Name → ℕ → ℕ
 localCount d bs o = classCount (alike d bs o) (vertexCount bs)
 
 unfoldable pub localClass : Design → List Name → ℕ → ℕ → ℕ
 localClass d bs o x = classOf (alike d bs o) x
 
--- "Global classes: vertices whose columns are equal in every output."
+-- the global classes (clause 6.8)
 unfoldable pub globalCount : Design → List Name → ℕ
 globalCount d bs = classCount (alikeInAll d bs) (vertexCount bs)
 

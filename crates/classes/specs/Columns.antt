@@ -1,7 +1,5 @@
--- "Columns, classes, width": columns, when two of them are equal and when they conflict, for a list of bound inputs that is
--- given.
--- "Rows of bound inputs (vertices) take the order of the `bound` line, free rows the order of the `in` line."
--- Assumes nothing.
+-- Columns, when two of them are equal and when they conflict (clauses 6.1 to 6.8), for a list of bound inputs that is given.
+-- A vertex has its digits in the order of this list, a free row in that of the inputs (clauses 6.2 and 6.3). Assumes nothing.
 use mathlib.Core.Bool.{Bool, true, false, _&&_, _||_, Bool·beq}
 use mathlib.Core.List.{List, [], _∷_, map}
 use Prim.Native.Nat.{ℕ, zero, suc, _^_}
@@ -47,7 +45,7 @@ freeCount ns bs = 2 ^ length (free ns bs)
 unfoldable pub valueAt : Design → List Name → ℕ → ℕ → ℕ → Bool
 valueAt d bs o x y = outputOn d o (joinRow (d .inputs) bs x y)
 
--- "The column of an output at a vertex is its list of values over all free rows."
+-- output o's column at vertex x: its value at each free row (clause 6.5)
 unfoldable pub column : Design → List Name → ℕ → ℕ → List Bool
 column d bs o x = valuesUpto (valueAt d bs o x) (freeCount (d .inputs) bs)
 
@@ -58,7 +56,7 @@ sameValues [] (v ∷ vs) = false
 sameValues (u ∷ us) [] = false
 sameValues (u ∷ us) (v ∷ vs) = Bool·beq u v && sameValues us vs
 
--- whether two columns have 0 in one and 1 in the other at some place
+-- whether at some place one of two columns has 0 and the other 1 (clause 6.6)
 unfoldable pub apart : List Bool → List Bool → Bool
 apart [] vs = false
 apart (u ∷ us) [] = false

@@ -1,4 +1,4 @@
--- Columns, classes and widths of document 01, and laws about these.
+-- Columns, classes and widths (section 6 of docs/SPECIFICATION.md), and laws about these.
 pub mod Columns
 pub mod Classes
 pub mod Width

@@ -1,4 +1,4 @@
--- "Width of an output: the smallest w with 2^w at least its number of local classes. One class gives width 0."
+-- The width of an output: the least w with room for its local classes among 2 ^ w codes; and its budget (clauses 6.10, 6.11).
 -- Assumes nothing.
 use mathlib.Core.List.{List}
 use Prim.Native.Nat.{ℕ, zero, suc, _^_}

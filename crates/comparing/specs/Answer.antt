@@ -1,4 +1,4 @@
--- The answers of Check, by the definitions. Assumes nothing.
+-- The answers of Check (clause 11.4), by the definitions. Assumes nothing.
 use Rattle.network.specs.Check as spec
 use Rattle.comparing.specs.declared.Checked.{Checked}
 

@@ -111,7 +111,7 @@ fn differs(words: &[u64; limits::TABLE_WORDS], digits: &[u8; limits::MAX_ROWS], 
     bits::has(words[r / limits::WORD_ROWS], (r % limits::WORD_ROWS) as u32) != (digits[r] == b'1')
 }
 
-// The comparison: the lowest output that differs, and its lowest row.
+// The comparison: the lowest output with a wrong value, and the lowest row that shows it.
 pub fn compare(t: &[u8], k: Sheet, n: NetworkSheet, shape: Shape) -> Checked
     requires { ⌜ SomeDrawing (now t) k (placesOf n) shape ⌝ }
     ensures { λ r. ⌜ ((d : Design) (w : Network) → Drawing d w (now (t .entry)) k (placesOf n) shape → checkedOf r ≡ compared d w) ⌝ }

@@ -1,5 +1,5 @@
--- What cubes say of rows, in a PLA's own words: "a cube with a 1 for an output is in that output's on-set; a row in no such
--- cube is 0". Assumes nothing.
+-- What cubes say of rows, in a PLA's own words (clause 13.5): an output is 1 on the rows that its cubes cover, and 0 on all others.
+-- Assumes nothing.
 use mathlib.Core.Path.{_≡_}
 use mathlib.Core.Bool.{Bool, true, false, not, _&&_, _||_}
 use mathlib.Core.List.{List, [], _∷_}

@@ -1,5 +1,5 @@
--- A cube of a PLA text: "as many of `0`, `1`, `-` as `.i` says, a space, and an output part as long as `.o` says". What it says,
--- how it is written and how it is read. Assumes nothing.
+-- A cube of a PLA text (clause 13.4): a literal for each input, a space, and a byte for each output. What it says, how it is
+-- written and how it is read. Assumes nothing.
 use mathlib.Core.List.{List, [], _∷_, _++_, map}
 use mathlib.Core.Option.{Option, some, none}
 use Prim.Native.Nat.{ℕ, zero, suc}

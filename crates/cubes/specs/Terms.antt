@@ -1,4 +1,5 @@
--- The same as formulas: a cube is the conjunction of its literals, an output the disjunction of its on-set. Assumes nothing.
+-- The same as formulas: a cube is the conjunction of its literals, an output the disjunction of its on-set
+-- (clause 13.7). Assumes nothing.
 use mathlib.Core.Bool.{Bool, true, false}
 use mathlib.Core.List.{List, [], _∷_, map}
 use Prim.Native.Nat.{ℕ}

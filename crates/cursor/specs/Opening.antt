@@ -1,4 +1,4 @@
--- "An operator word, a digit, a letter and a bracket each open an item of their own kind." Assumes nothing.
+-- What opens a formula: the first byte tells whether a name, a constant or an operator follows (clause 5.3). Assumes nothing.
 use mathlib.Core.Bool.{Bool, true, false}
 use mathlib.Core.List.{List, [], _∷_}
 use Prim.Native.Nat.{ℕ}

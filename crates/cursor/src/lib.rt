@@ -1,4 +1,4 @@
-// A place in a text: each method reads the item at the place, and returns the moved cursor with the item's answer.
+// A place in a text: each method reads the item at the place, and answers with it and with the cursor that stands after it.
 // Rests on text and names.
 ghost use mathlib.Core.Path.{_≡_};
 ghost use mathlib.Core.Bool.{true};

@@ -1,5 +1,5 @@
--- What the cause of a refusal by 8 promises, in bytes: the sheet that has only the `out` lines of the cause is refused by 8, and the
--- sheet of every smaller set of outputs but the empty one, and of every earlier set of the same number, maps. Assumes nothing.
+-- What the cause of a refusal by 8 promises, in bytes (clause 14.6): the sheet that has only the `out` lines of the cause is refused
+-- by 8, and the sheet of every smaller set that has an output, and of every earlier set of the same number, maps. Assumes nothing.
 use mathlib.Core.Path.{_≡_}
 use mathlib.Core.List.{List}
 use Prim.Native.Nat.{ℕ, _≤_, _<_}

@@ -1,6 +1,5 @@
--- Demand 1, about Table, Map and Check together: "A "no" gives the number. On any refusal the result is that number and line,
--- and the buffer is untouched. Table uses 1 to 6, then 9. Map uses 1 to 5, then 7 to 9. Check uses 1 to 5, then 10 and 11."
--- For each operation: its refusals, each with its number, its line and the question that is answered "no" after all
+-- Demand 1, about Table, Map and Check together (clause 14.1): when each refuses, by which number and on which line, and that
+-- the buffer is then as it was. For each operation: its refusals, each with its number, its line and the question that is answered "no" after all
 -- questions before it were answered "yes"; the operation refuses by just these. The demand is said for what an examination
 -- answers, and then for a sheet, whose examination is questions 1 to 5. Assumes nothing.
 use mathlib.Core.Path.{_≡_}
@@ -71,7 +70,7 @@ pub record Demand1 (x : Examined) (t : List ℕ) (o : ℕ) (b : List ℕ) (a : M
   pub check-because : (q l : ℕ) → checkOf x t ≡ checks.refused-by q l → CheckRefuses x t q l
 
 -- ======== on a sheet
--- "Table uses 1 to 6, then 9. Map uses 1 to 5, then 7 to 9. Check uses 1 to 5, then 10 and 11."
+-- the numbers by which each operation may refuse (clause 11.1)
 abbrev pub TableNumber : ℕ → Type 0
 TableNumber q = ((1 ≤ q) × (q ≤ 6)) ⊎ (q ≡ 9)
 

@@ -1,6 +1,5 @@
--- Demand 2, about Table, Map and Check, in its three sentences: "Table gives each output's value on every row as the operators
--- define it. A network from Map, read by its own tables, has that value on every row. Check says "same" exactly when a
--- well-formed network within limit and widths agrees on all rows." Assumes nothing.
+-- Demand 2, about Table, Map and Check (clause 14.2): Table's digits are the outputs' values; Map's network has these values,
+-- looked up in its own tables; and Check says "same" to the network sheets that have them and to no others. Assumes nothing.
 use mathlib.Core.Path.{_≡_}
 use mathlib.Core.List.{List}
 use Prim.Native.Nat.{ℕ, _≤_, _<_}

@@ -1,6 +1,6 @@
--- Demand 3, one statement about Map, Check and all network sheets: "For every valid sheet with at most 16 global classes: Map
--- refuses by 8 exactly when Check says "differs" to every network a rival can draw; otherwise Map's network is "same" and no
--- rival network that is "same" has fewer cells." Assumes nothing.
+-- Demand 3, about Map, Check and every rival network (clauses 14.3 and 14.4): on a design with at most 16 global classes a
+-- refusal by 8 means that Check says "differs" to each of them, and the other way round; if 8 does not refuse, Map's network is
+-- "same" and none of those that are "same" has fewer cells. Assumes nothing.
 use mathlib.Core.Path.{_≡_}
 use mathlib.Core.List.{List}
 use Prim.Native.Nat.{ℕ, _+_, _≤_}
@@ -29,14 +29,14 @@ pub record Cells (d : Design) (t : List ℕ) (u : ℕ) : Type 0 where
   pub count-line : lineAt (lines t) (firstLut + u + length (d .outputs)) ≡ printCount u
 
 -- x is an examination's answer, the well-formed design d with at most 16 global classes; Map answers a on x and the buffer b,
--- and leaves the buffer b'. A network the rival can draw is a network sheet t that passes 10 and 11 (Drawn d t w: it says the
--- network w, whose cells are its lut lines).
+-- and leaves the buffer b'. A rival's network is a network sheet t that passes 10 and 11 (Drawn d t w: it says the network w,
+-- whose cells are its lut lines).
 pub record Demand3 (x : Examined) (d : Design) (b : List ℕ) (a : MapAnswer) (b' : List ℕ) : Type 0 where
-  -- Map refuses by 8 exactly when Check says "differs" to every network a rival can draw
+  -- Map refuses by 8 exactly when Check says "differs" to every rival's network
   pub refusal-is-true : a ≡ refused-by 8 0 → (t : List ℕ) (w : Network) → Drawn d t w → Differs (checkOf x t)
   pub true-refusal : ((t : List ℕ) (w : Network) → Drawn d t w → Differs (checkOf x t)) → a ≡ refused-by 8 0
-  -- otherwise, the buffer long enough, Map's network is the bytes at the buffer's start, as many as the length it returned; "the U
-  -- it returned, the number on its count line and the number of its lut lines are equal"
+  -- otherwise, the buffer long enough, Map's network is what it wrote, the first bytes of the buffer; U is the number of its lut
+  -- lines and the one on its count line (clause 8.10)
   pub otherwise-mapped : (a ≡ refused-by 8 0 → ⊥) → (a ≡ refused-by 9 0 → ⊥) → (u : ℕ) × (n : ℕ) × (a ≡ mapped u n)
   pub counted : (u n : ℕ) → a ≡ mapped u n → Cells d (take n b') u
   -- it is "same", and no rival network that is "same" has fewer cells

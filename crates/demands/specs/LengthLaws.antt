@@ -1,4 +1,4 @@
--- "Its length depends on the design and U only": two networks with as many shared tables, whose nodes read as many of them,
+-- The length of a print follows from the design and U (clause 7.13): two networks with as many shared tables, whose nodes read as many of them,
 -- have sheets of one length. So all permitted networks of a design have. Assumes nothing.
 use mathlib.Core.Path.{_≡_, refl, sym, ap, ap₂, _∙_, subst}
 use mathlib.Core.Bool.{Bool, true, false}

@@ -1,4 +1,4 @@
--- The demands as theorems on Map, Table and Check, more of Map's laws, and document 01's sheets to try.
+-- The demands (section 14 of docs/SPECIFICATION.md) as theorems on Map, Table and Check, more of Map's laws, and the sheets to try.
 pub mod SizeLaws
 pub mod LengthLaws
 pub mod OutcomeLaws

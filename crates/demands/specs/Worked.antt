@@ -1,5 +1,6 @@
--- Document 01, "Sheets to try", those marked P, about the definitions: what every outcome of Map is on sheets A to H, what
--- Check answers on J, and what Table, Map and Check answer on K. To be held beside document 01. Assumes nothing.
+-- The sheets to try that are marked P (section 16 of docs/SPECIFICATION.md), about the definitions: what every outcome of Map is
+-- on sheets A to H, what Check answers on J, and what Table, Map and Check answer on K. To be held beside that section.
+-- Assumes nothing.
 use mathlib.Core.Path.{_≡_}
 use mathlib.Core.List.{List, [], _++_}
 use Prim.Native.Nat.{ℕ, _≤_, _<_}
@@ -108,40 +109,40 @@ complementJ =
 abbrev pub sheetK : List ℕ
 sheetK = bytes "(design 1)\n(in a b)\n(bound a)\n(limit 7)\n(out f (and a b))\n(end)\n"
 
--- ======== what document 01 says of them
+-- ======== what section 16 says of them
 pub record Worked : Type 0 where
-  -- A. "The program prints exactly 96 bytes"
+  -- A (clause 16.1)
   pub sheet-a : Prints sheetA 1 networkA
   pub bytes-a : length networkA ≡ 96
-  -- B. "A with a buffer of 95 bytes: 9. With 96: mapped."
+  -- B (clause 16.2)
   pub buffer-95 : (b : List ℕ) (a : MapAnswer) (b' : List ℕ) → length b ≡ 95 → Outcome sheetA b a b' → a ≡ refused-by 9 0
   pub untouched-95 : (b : List ℕ) (a : MapAnswer) (b' : List ℕ) → length b ≡ 95 → Outcome sheetA b a b' → b' ≡ b
   pub buffer-96 : (b : List ℕ) (a : MapAnswer) (b' : List ℕ) → length b ≡ 96 → Outcome sheetA b a b' → a ≡ mapped 1 96
-  -- C. "limit 1 gives 8, limit 2 maps, U = 2"
+  -- C (clause 16.3)
   pub sheet-c-1 : Refuses (sheetC "1") 8 0
   pub sheet-c-2 : Prints (sheetC "2") 2 networkC
   pub bytes-c : length networkC ≡ 110
-  -- D. "limit 2 gives 8, limit 3 maps, although there are only four global classes"
+  -- D (clause 16.4)
   pub sheet-d-2 : Refuses (sheetD "2") 8 0
   pub sheet-d-3 : Prints (sheetD "3") 3 networkD
   pub bytes-d : length networkD ≡ 151
   pub classes-d : (d : Design) → examine (sheetD "3") ≡ valid d → globalCount d (d .bound) ≡ 4
-  -- E. "U = 2"
+  -- E (clause 16.5)
   pub sheet-e : Prints sheetE 2 networkE
   pub bytes-e : length networkE ≡ 133
-  -- F. "U = 0, `(node f (c d) 0111)`"
+  -- F (clause 16.6)
   pub sheet-f : Prints sheetF 0 networkF
-  -- G. "three classes, width 2; limit 1 gives 8"
+  -- G (clause 16.7)
   pub classes-g : (d : Design) → examine (sheetG "1") ≡ valid d → localCount d (d .bound) 0 ≡ 3
   pub width-g : (d : Design) → examine (sheetG "1") ≡ valid d → width d (d .bound) 0 ≡ 2
   pub sheet-g-1 : Refuses (sheetG "1") 8 0
-  -- H. "table 0001, `(node f (_0) 01)`"
+  -- H (clause 16.8)
   pub sheet-h : Prints sheetH 1 networkH
   pub bytes-h : length networkH ≡ 65
-  -- J. "Check A with g's digits 0011: differs, output 1, row 2. With the lut 10010110, f 1001, g 0100: same."
+  -- J (clause 16.10)
   pub sheet-j : check sheetA networkJ ≡ checks.differs 1 2
   pub sheet-j-complement : check sheetA complementJ ≡ checks.same
-  -- K. "Empty text: 1, line 0. `(limit 7)`: 3, line 4."
+  -- K (clause 16.11)
   pub empty-table : (o : ℕ) (b : List ℕ) → tabulate [] o b ≡ untouched 1 0 b
   pub empty-map : Refuses [] 1 0
   pub empty-check : (t : List ℕ) → check [] t ≡ checks.refused-by 1 0

@@ -1,5 +1,5 @@
 -- Sheet A with capitals: what Map writes, what Check answers to its network in other spellings, and sheets that are refused for
--- the case of a letter alone or in spite of it. To be held beside the specification. Assumes nothing.
+-- the case of a letter alone or in spite of it. To be held beside clauses 4.9 and 8.9. Assumes nothing.
 use mathlib.Core.Path.{_≡_}
 use mathlib.Core.List.{List, _++_}
 use Prim.Native.Nat.{ℕ}

@@ -1,5 +1,5 @@
--- The causes of the refusals by 8 that document 01 names among its sheets to try: C at limit 1, D at limit 2, G at limit 1 and I at
--- limit 3, about the definition. Sets are numbers, output o being in the set whose digit o is 1. Assumes nothing.
+-- The causes of the refusals by 8 among the sheets to try (clauses 16.3, 16.4, 16.7 and 16.9): C at limit 1, D at limit 2, G at
+-- limit 1 and I at limit 3, about the definition. Sets are numbers, output o being in the set whose digit o is 1. Assumes nothing.
 use mathlib.Core.List.{List, _++_}
 use Prim.Native.Nat.{ℕ}
 use Prim.Native.String.{String}
@@ -20,6 +20,6 @@ pub record WorkedCauses : Type 0 where
   pub cause-d : CauseIs (sheetD "2") (outputs-of 7)
   -- G. its one output
   pub cause-g : CauseIs (sheetG "1") (outputs-of 1)
-  -- I. "limit 3 gives 8": f, g and h together; any two of them map at limit 3
+  -- I: f, g and h together; any two of them map at limit 3
   pub sheet-i-3 : Refuses (sheetI "3") 8 0
   pub cause-i : CauseIs (sheetI "3") (outputs-of 7)

@@ -1,4 +1,4 @@
--- Sheet I of document 01 with its fourth output: "32 classes, 7 even at limit 0", about the definitions. Assumes nothing.
+-- Sheet I with a fourth output (clause 16.9): 32 classes, and so a refusal by 7 at limit 0 too, about the definitions. Assumes nothing.
 use mathlib.Core.Path.{_≡_, refl}
 use mathlib.Core.List.{List, _++_}
 use Prim.Native.Nat.{ℕ, _<_}

@@ -158,7 +158,7 @@ module _ (s t : List ℕ) (d : Design) (w : Network) (x : Fewest s t d w) where
         untouched = λ b a b' k o. says-short k (outcome-for d e o) .1;
       }
 
-  -- ---- a network whose tables are 0 at vertex 0, with 0 in every entry whose code no vertex produces, is permitted
+  -- ---- a network whose tables are 0 at vertex 0, with 0 in the entries of codes that no vertex has, is permitted
   pub plain-permitted : Plain d w → Permitted d w
   plain-permitted p =
       record {

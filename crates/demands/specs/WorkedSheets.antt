@@ -1,4 +1,4 @@
--- What document 01 says of its sheets marked P holds of the definitions. Assumes nothing.
+-- What section 16 says of its sheets marked P holds of the definitions. Assumes nothing.
 use mathlib.Core.Path.{_≡_, refl, sym, _∙_, subst}
 use mathlib.Core.List.{[]}
 use native.Mathlib.Omega.{arith}

@@ -1,4 +1,4 @@
--- "A composition entry whose code no vertex produces is 0", for Map's own network and for no rival's: sheet G at limit 2 has
+-- The entries of a code that no vertex has are 0 in Map's own network (clause 7.10) and free in a rival's: sheet G at limit 2 has
 -- three classes and four codes; with two outputs more the tables are forced, and one code is never produced. Assumes nothing.
 use mathlib.Core.Path.{_≡_}
 use mathlib.Core.Bool.{false}
@@ -45,11 +45,11 @@ networkForced s =
     ++ (bytes s ++ bytes ")\n(node g (_1 c d) 00111100)\n(node h (_0 c d) 00111100)\n(count 2)\n(end)\n")
 
 pub record WorkedUnproduced : Type 0 where
-  -- sheet G at limit 2: "three classes, width 2"
+  -- sheet G at limit 2 has three classes and width 2
   pub said-g : examine (sheetG "2") ≡ valid (designG 2)
   pub prints-g : Prints (sheetG "2") 2 (networkG "0000")
   pub bytes-g : length (networkG "0000") ≡ 106
-  -- each entry whose code no vertex produces is 0, whichever network is permitted
+  -- the entries of codes that no vertex has are 0, whichever network is permitted
   pub zero-g : (w : Network)
       → Permitted (designG 2) w
       → (code y : ℕ)

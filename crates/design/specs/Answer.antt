@@ -1,4 +1,4 @@
--- What the code's answers say, by the definitions. Assumes nothing.
+-- What the code's answers say, by the definitions (clause 11.2). Assumes nothing.
 use mathlib.Core.Path.{_≡_}
 use mathlib.Core.Bool.{true, false}
 use Prim.Native.Nat.{ℕ}
@@ -33,7 +33,7 @@ pub record Examination (e : Examined) : Type 0 where
   pub is : ExaminedIs found e
   pub right : Right found
 
--- document 01's number and line, or its count of digits, for each case of the code's answer
+-- the refusal's number and line, or the count of digits, for each case of the code's answer
 abbrev pub tableAnswer : Tabled → TableAnswer
 tableAnswer (Tabled.Refused q l) = refused-by q l
 tableAnswer (Tabled.Written n) = written n

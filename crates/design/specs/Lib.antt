@@ -1,4 +1,4 @@
--- Table of document 01, and laws about it and the examination.
+-- Table (clause 11.2), and laws about it and the examination.
 pub mod Tabulate
 pub mod Sheets
 pub mod Computing

@@ -1,4 +1,4 @@
--- Sheets to try: those of document 01, and texts that put one thing to the test. Assumes nothing.
+-- Sheets to try: those of the specification (section 16), and texts that put one thing to the test. Assumes nothing.
 use mathlib.Core.List.{List, [], _∷_, _++_}
 use Prim.Native.Nat.{ℕ, zero, suc}
 use Prim.Native.String.{String}
@@ -7,7 +7,7 @@ use Rattle.cursor.specs.Opening.{and-gate, xor-gate}
 use Rattle.formula.specs.Tree.{Formula, input, negation, gate, none, more}
 use Rattle.sheet.specs.Examine.{Design}
 
--- sheet A of document 01, and what it says
+-- sheet A (clause 16.1), and what it says
 abbrev pub sheetA : List ℕ
 sheetA = bytes "(design 1)\n(in a b c d)\n(bound a b c)\n(limit 2)\n(out f (xor a b c d))\n(out g (and (xor a b c) d))\n(end)\n"
 

@@ -1,5 +1,5 @@
--- Table: questions 1 to 6, then 9; "writes its 2^n digits in row order from the buffer's start, leaves later bytes
--- unchanged and returns 2^n". Assumes nothing.
+-- Table (clause 11.2): questions 1 to 6, then 9; a digit for each row is put down at the front of the buffer, and how many
+-- there are is the answer. Assumes nothing.
 use mathlib.Core.List.{List}
 use Prim.Native.Nat.{ℕ, _^_}
 use lib.Dec.{leb, ltb}

@@ -1,5 +1,6 @@
--- Document 01's sheets that concern reading and Table, and the points of its text that want an example, as theorems about the
--- definitions: each holds by computation. To be read beside document 01 and docs/DECISIONS.md. Assumes nothing.
+-- The sheets to try (section 16) that concern reading and Table, and the points of the specification that want an example, as
+-- theorems about the definitions: each holds by computation. To be read beside docs/SPECIFICATION.md and docs/DECISIONS.md.
+-- Assumes nothing.
 use mathlib.Core.Path.{_≡_, refl}
 use mathlib.Core.Bool.{Bool, true}
 use mathlib.Core.List.{List, [], _∷_}
@@ -67,7 +68,7 @@ capitals-asked : (examine (afterDesign "(in a A)\n") ≡ refused 4 2)
 unfolding computing
 capitals-asked = (refl, refl, refl, refl, refl, refl)
 
--- an operator word in any case is no name, operators keep small letters, and so do the words that begin lines
+-- an operator word is no name, whatever its case; operators have small letters, and so have the words that begin lines
 capitals-spelled : (readIn (bytes "(in Xor)") ≡ none)
     × (readIn (bytes "(IN a)") ≡ none)
     × (readOut (bytes "(out NOT a)") ≡ none)
@@ -92,7 +93,7 @@ k-table : (o : ℕ) (b : List ℕ) → tabulate (withLimit "7") o b ≡ untouche
 unfolding computing
 k-table o b = refl
 
--- ---- "treating `xor` as "just one true"" is a wrong turn: three true operands make it true
+-- ---- `xor` does not ask for just one operand: three that are true make it true
 xor-of-three : (v : Name → Bool) (e f g : Formula) → value v e ≡ true → value v f ≡ true → value v g ≡ true
     → value v (gate xor-gate e f (more g tree.none)) ≡ true
 unfolding value combine
@@ -107,7 +108,7 @@ not-plain : examine (afterDesign "(in\ta)\n") ≡ refused 1 0
 unfolding computing
 not-plain = refl
 
--- ---- how document 01 is read, by the number of the decision
+-- ---- how the specification is read, by the number of the decision
 -- 1: one 0x0A alone is an empty line
 one-newline : examine (bytes "\n") ≡ refused 2 1
 unfolding computing
@@ -141,7 +142,7 @@ limit-spelling : (examine (withLimit "07") ≡ refused 2 4)
 unfolding computing
 limit-spelling = (refl, refl, refl)
 
--- 5: counts are question 3's; "`(in)` passes, `(and a)` doesn't"
+-- 5: counts are question 3's: `(in)` is spelled right, `(and a)` is not
 counts : (examine (afterDesign "(in)\n") ≡ refused 3 2)
     × (examine (afterDesign "(in a b c d e f g h i j k)\n") ≡ refused 3 2)
     × (examine (afterDesign "(in a)\n(bound)\n") ≡ refused 3 3)
@@ -193,7 +194,7 @@ first-line : examine (afterDesign "(in a a)\n(bound)\n") ≡ refused 4 2
 unfolding computing
 first-line = refl
 
--- "Single spaces separate items; none stands after "(" or before ")"": what is no formula and no line
+-- spaces and brackets (clause 3.2): what is no formula and no line
 no-items : (readOut (bytes "(out f (nota b))") ≡ none)
     × (readOut (bytes "(out f (a))") ≡ none)
     × (readOut (bytes "(out f ())") ≡ none)

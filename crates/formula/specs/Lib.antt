@@ -1,4 +1,4 @@
--- Formulas of document 01: trees, their print, their reader, their values, and laws about these.
+-- Formulas (section 5 of docs/SPECIFICATION.md): trees, their print, their reader, their values, and laws about these.
 pub mod Tree
 pub mod Printer
 pub mod Reader

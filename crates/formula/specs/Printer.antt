@@ -1,4 +1,4 @@
--- How a formula is written: single spaces separate items; none stands after "(" or before ")". Assumes nothing.
+-- How a formula is written (clauses 3.2 and 5.1). Assumes nothing.
 use mathlib.Core.Bool.{Bool, true, false, _&&_}
 use mathlib.Core.List.{List, [], _∷_, _++_}
 use Prim.Native.Nat.{ℕ}

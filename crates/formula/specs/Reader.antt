@@ -1,5 +1,4 @@
--- How a formula is read. "A formula's operands are formulas again." "The position after an item is where the next one
--- is read." Assumes nothing.
+-- How a formula is read: what opens it, its operands, which are formulas too, and its bracket (clauses 5.2 and 5.3). Assumes nothing.
 use mathlib.Core.Bool.{Bool, false}
 use mathlib.Core.List.{List, [], _∷_}
 use Prim.Native.Nat.{ℕ, zero, suc}

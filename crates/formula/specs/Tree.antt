@@ -1,5 +1,4 @@
--- "F is an input name, the digit 0 or 1, `(not F)`, or `and`, `or`, `xor` with two or more operands."
--- Assumes nothing.
+-- Formulas: names of inputs, constants, negations, and gates of at least two operands (clauses 5.1 and 5.2). Assumes nothing.
 use mathlib.Core.Bool.{Bool, true, _&&_}
 use mathlib.Core.List.{List}
 use Prim.Native.Nat.{ℕ, suc, max}
@@ -18,7 +17,7 @@ mutual
     none : Operands
     more : Formula → Operands → Operands
 
--- how deep brackets are nested: "an atom has depth 0"
+-- how deep brackets are nested (clause 5.4)
 unfoldable mutual
   pub depth : Formula → ℕ
   depth (input n) = 0

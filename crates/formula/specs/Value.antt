@@ -1,5 +1,5 @@
--- The value of a formula on a row. "`xor` is true when an odd number of operands is." "Row r of n inputs runs from 0 to
--- 2^n − 1; the first `in` name is its highest bit." Assumes nothing.
+-- The value of a formula (clause 5.1) on a row, whose highest digit is the value of the first input (clauses 5.5 and 5.6).
+-- Assumes nothing.
 use mathlib.Core.Bool.{Bool, true, false, not, _&&_, _||_}
 use mathlib.Core.List.{List, [], _∷_}
 use Prim.Native.Nat.{ℕ, suc, _%_}

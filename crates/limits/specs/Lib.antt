@@ -1,2 +1,2 @@
--- The limits of document 01 and what follows from them.
+-- The limits (section 2 of docs/SPECIFICATION.md) and what follows from them.
 pub mod Limits

@@ -1,7 +1,7 @@
--- The limits of document 01 and what follows from them, each named once. Assumes nothing.
+-- The limits (clause 2.1) and what follows from them (clauses 2.2 and 2.3), each named once. Assumes nothing.
 use Prim.Native.Nat.{ℕ, _*_, _/_, _^_}
 
--- "The design sheet": names of the `in` line, names of the `bound` line, N, `out` lines, brackets
+-- the design sheet: names of the `in` line, names of the `bound` line, N, `out` lines, brackets
 abbrev pub maxInputs : ℕ
 maxInputs = 10
 
@@ -28,7 +28,7 @@ maxDigits = 3
 abbrev pub maxSheet : ℕ
 maxSheet = 4096
 
--- "Cells and the network sheet": lut lines; question 7: global classes; question 10: bytes of a network sheet
+-- the network sheet: lut lines; question 7: global classes; question 10: bytes of a network sheet
 abbrev pub maxCells : ℕ
 maxCells = 6
 

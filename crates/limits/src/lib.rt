@@ -1,4 +1,4 @@
-// Every limit of document 01 and what follows from them, named once, and the number of a vertex, which the classes and the
+// Every limit (clause 2.1) and what follows from them, named once, and the number of a vertex, which the classes and the
 // search share. The definitions name the same limits in specs/; the proofs of the crates above hold the two
 // together. Rests on nothing.
 

@@ -1,4 +1,4 @@
--- A part that is a line of a text. Assumes nothing.
+-- A part that is a line of a text (clause 11.8). Assumes nothing.
 use mathlib.Core.Path.{_≡_}
 use mathlib.Core.List.{List, _∷_, _++_}
 use Prim.Native.Nat.{ℕ, _+_}

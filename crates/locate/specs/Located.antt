@@ -1,6 +1,6 @@
--- "Given a refusal by 2 to 5, 10 or 11, the tool hands back that line itself, out of whichever of the two sheets it stands in; line 0
--- or a line past the end is an empty part at the end, and 0x0A is left off. Any other number gives the empty part at the design
--- sheet's end." Assumes nothing.
+-- The line that a refusal names, as a part of one of the two sheets (clause 11.8): by 2 to 5 of the design sheet, by 10 and 11 of
+-- the network sheet, without its 0x0A. Where there is no such line it is the empty part at that sheet's end, and for all other
+-- numbers the one at the end of the design sheet. Assumes nothing.
 use mathlib.Core.Bool.{Bool, true, false, _&&_, _||_}
 use mathlib.Core.List.{List, []}
 use Prim.Native.Nat.{ℕ, _-_}

@@ -1,4 +1,4 @@
--- What the code answers: a part by its start and its length. Assumes nothing.
+-- What the code answers: a part by its start and its length (clause 11.8). Assumes nothing.
 use mathlib.Core.Path.{_≡_}
 use mathlib.Core.Bool.{Bool}
 use mathlib.Core.List.{List}

@@ -1,10 +1,10 @@
--- What the code's answers say, by the definitions. Assumes nothing.
+-- What the code's answers say, by the definitions (clauses 11.3 and 11.6). Assumes nothing.
 use Rattle.mapper.specs.Map.{MapAnswer, refused-by, mapped}
 use Rattle.mapper.specs.Cause.{CauseAnswer, no-cause, outputs-of}
 use Rattle.mapper.specs.declared.Mapped.{Mapped}
 use Rattle.mapper.specs.declared.Caused.{Caused}
 
--- document 01's number and line, or U and the length, for each case of the code's answer
+-- the refusal's number and line, or U and the length, for each case of the code's answer
 abbrev pub mapAnswer : Mapped → MapAnswer
 mapAnswer (Mapped.Refused q l) = refused-by q l
 mapAnswer (Mapped.Written u n) = mapped u n

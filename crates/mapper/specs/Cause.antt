@@ -1,5 +1,5 @@
--- The cause of a refusal by 8: "a set of outputs, as small as possible, that would be refused by 8 on their own at the same limit".
--- Sets are numbers, output o being in the set whose digit o is 1. Assumes nothing.
+-- The cause of a refusal by 8 (clause 11.6): the fewest outputs that 8 refuses by themselves, the limit being the same. Sets are
+-- numbers, output o being in the set whose digit o is 1. Assumes nothing.
 use mathlib.Core.Path.{_≡_}
 use Prim.Native.Nat.{ℕ, _≤_, _<_}
 use lib.ListN.{length}

@@ -1,4 +1,4 @@
--- Map of document 01, that it is a function of the sheet, and the laws by which the code is proved.
+-- Map (clause 11.3), that it is a function of the sheet, and the laws by which the code is proved.
 pub mod Map
 pub mod PermittedLaws
 pub mod FunctionLaws

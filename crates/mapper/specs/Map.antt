@@ -1,4 +1,4 @@
--- Map: what the section on cells permits its network to be, and questions 7, 8 and 9 on a design; before them stands an
+-- Map (clause 11.3): what its network is permitted to be, and questions 7, 8 and 9 on a design; before them stands an
 -- examination, for a sheet questions 1 to 5. Of the permitted networks Map's is the first in byte order. Assumes nothing.
 use mathlib.Core.Path.{_≡_}
 use mathlib.Core.Bool.{false}
@@ -17,8 +17,8 @@ use Rattle.network.specs.NetworkFor.{NetworkFor, nodeAt}
 use Rattle.network.specs.Answers.{WithinLimits, Computes}
 use Rattle.network.specs.Value.{lutAt, codeAt}
 
--- "Map uses the fewest shared tables that serve. Each of its tables is 0 at vertex 0. A composition entry whose code no
--- vertex produces is 0."
+-- the permitted networks (clause 7.10): with as few shared tables as any network that serves, tables that begin with 0, and 0
+-- in the entries of codes that occur at no vertex
 pub record Permitted (d : Design) (w : Network) : Type 0 where
   pub wellformed : NetworkFor d w
   pub within : WithinLimits d w
@@ -30,7 +30,7 @@ pub record Permitted (d : Design) (w : Network) : Type 0 where
       → ((x : ℕ) → x < vertexCount (d .bound) → codeAt w (nodeAt (w .nodes) o .reads) x ≡ j / freeCount (d .inputs) (d .bound) → ⊥)
       → getD (nodeAt (w .nodes) o .digits) j false ≡ false
 
--- "Map shall return the first network in byte order among all that the section on cells permits with the fewest shared tables"
+-- the first of the permitted networks (clause 7.12): no other's print stands before its own in byte order
 pub record First (d : Design) (w : Network) : Type 0 where
   pub permitted : Permitted d w
   pub none-before : (v : Network) → Permitted d v → before (printNetwork d v) (printNetwork d w) ≡ false

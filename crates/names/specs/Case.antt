@@ -1,4 +1,4 @@
--- The case of letters: A to Z and a to z are the same letters, and no other byte has a case. Assumes nothing.
+-- The case of letters: A to Z and a to z are the same letters, and no other byte has a case (clause 3.4). Assumes nothing.
 use mathlib.Core.Bool.{Bool, _&&_}
 use mathlib.Core.List.{List, map}
 use Prim.Native.Nat.{ℕ, _+_}

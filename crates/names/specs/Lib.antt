@@ -1,4 +1,4 @@
--- What document 01 says of names and lists of names, and laws about it.
+-- Names and lists of names (section 3 of docs/SPECIFICATION.md), and laws about them.
 pub mod Case
 pub mod Name
 pub mod Names

@@ -1,5 +1,5 @@
--- A name is 1 to 8 characters, first a letter, then letters or digits; an operator word in any case is no name. Two names
--- are the same where they match with case ignored. Assumes nothing.
+-- Names: a letter and up to seven letters or digits, but no operator word, whatever its case (clauses 3.3, 3.5 and 3.6). Two
+-- names are the same if only the case of letters tells them apart (clause 3.4). Assumes nothing.
 use mathlib.Core.Bool.{Bool, true, false, not, _&&_, _||_}
 use mathlib.Core.List.{List, [], _∷_}
 use Prim.Native.Nat.{ℕ}

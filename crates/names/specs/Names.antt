@@ -1,4 +1,4 @@
--- Lists of names: "Single spaces separate items; none stands after "(" or before ")"." Assumes nothing.
+-- Lists of names, as they are written and read: one space before each name, none before the bracket (clause 3.2). Assumes nothing.
 use mathlib.Core.Bool.{Bool, true, _&&_}
 use mathlib.Core.List.{List, [], _∷_, _++_}
 use Prim.Native.Nat.{ℕ, zero, suc}

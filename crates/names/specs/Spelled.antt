@@ -1,5 +1,5 @@
 -- Names in more than one spelling: lists that name the same, how some names spell one, and names that stand in a list letter
--- for letter. Assumes nothing.
+-- for letter (clause 4.9). Assumes nothing.
 use mathlib.Core.Bool.{Bool, true, false, _&&_, _||_}
 use mathlib.Core.List.{List, [], _∷_}
 use Rattle.bits.specs.Logic.{pick}

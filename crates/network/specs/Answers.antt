@@ -1,5 +1,5 @@
--- What the answers of Check say, in plain statements: question 11, "same", and "differs" with the lowest output that differs
--- and its lowest row. Assumes nothing.
+-- What the answers of Check say, in plain statements: question 11 (clause 7.6), "same" (clause 7.7), and "differs" with the
+-- lowest output and row (clause 11.4); and what a rival draws (clause 14.3). Assumes nothing.
 use mathlib.Core.Path.{_≡_}
 use mathlib.Core.List.{List}
 use mathlib.Core.Option.{none}
@@ -18,7 +18,7 @@ use Rattle.network.specs.NetworkFor.{nodeAt}
 abbrev pub readCount : Network → ℕ → ℕ
 readCount w o = length (nodeAt (w .nodes) o .reads)
 
--- "Are lut lines within N and does each node read at most its width?"
+-- question 11: no more lut lines than the limit, and no node reads more tables than its budget
 pub record WithinLimits (d : Design) (w : Network) : Type 0 where
   pub luts-within : length (w .luts) ≤ d .limit
   pub reads-within : (o : ℕ) → o < length (w .nodes) → readCount w o ≤ budget d (d .bound) o

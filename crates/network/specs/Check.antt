@@ -1,5 +1,5 @@
--- Check: what the examination of a design answers, then questions 10 and 11; then "same", or "differs" with the lowest
--- output that differs and its lowest row. Assumes nothing.
+-- Check (clause 11.4): what the examination of a design answers, then questions 10 and 11; then "same", or "differs" with an
+-- output and a row, the lowest of which this is true. Assumes nothing.
 use mathlib.Core.Bool.{Bool}
 use mathlib.Core.List.{List}
 use mathlib.Core.Option.{Option, some, none}

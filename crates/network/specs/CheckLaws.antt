@@ -1,5 +1,5 @@
 -- What each answer of Check says beside a design: "same" exactly where the network sheet is read, no line offends and the
--- network has the design's value in every output on every row; "differs" exactly at the lowest output that differs and its
+-- network has the design's value in every output on every row; "differs" exactly at the lowest output that does and its
 -- lowest row. Assumes nothing.
 use mathlib.Core.Path.{_≡_, refl, sym, ap, _∙_}
 use mathlib.Core.Logic.{⊎-elim}

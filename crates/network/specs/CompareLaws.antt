@@ -1,5 +1,5 @@
 -- The comparison of a network with a design: "same" exactly where they agree in every output on every row, else the lowest
--- output that differs, and its lowest row. Assumes nothing.
+-- output that does not agree, and its lowest row. Assumes nothing.
 use mathlib.Core.Path.{_≡_, refl, sym, ap, _∙_}
 use mathlib.Core.Logic.{_⊎_, inl, inr}
 use mathlib.Core.Bool.{Bool, true, false, not}

@@ -1,5 +1,5 @@
--- "The examination", questions 10 and 11: the lines of a network sheet in their order, beside a design, and then the
--- limit and the widths. Assumes nothing.
+-- Questions 10 and 11 (clauses 9.10, 9.11, 10.7 and 10.8): the lines of a network sheet in their order, beside a design, and
+-- then the limit and the widths. Assumes nothing.
 use mathlib.Core.Bool.{Bool, not, _||_}
 use mathlib.Core.List.{List, [], _∷_, _++_}
 use mathlib.Core.Option.{Option, some, none}
@@ -82,7 +82,7 @@ abbrev pub follow : Step → ℕ → (Place → Network → Answer) → Answer
 follow misspelled n onward = bad-line n
 follow (next p w) n onward = onward p w
 
--- the lines from number n on; `ended` says whether 0x0A ends the last one: "A last line without 0x0A is bad"
+-- the lines from number n on; `ended` says whether 0x0A ends the last one, which is bad if not
 unfoldable pub askLines : Design → Bool → Place → Network → ℕ → List (List ℕ) → Answer
 askLines d ended p w n [] = atEnd p w n
 askLines d ended p w n (l ∷ ls) =

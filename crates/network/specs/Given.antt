@@ -1,5 +1,5 @@
 -- A name that is given, where a network sheet repeats it: any name may stand there that is the same by the one comparison
--- of names. Assumes nothing.
+-- of names (clause 8.9). Assumes nothing.
 use mathlib.Core.Bool.{Bool, true, false}
 use mathlib.Core.List.{List, [], _∷_}
 use Prim.Native.Nat.{ℕ}

@@ -1,4 +1,4 @@
--- The network sheet of document 01, its examination, Check, and laws about these.
+-- The network sheet (section 8 of docs/SPECIFICATION.md), its examination, Check, and laws about these.
 pub mod Network
 pub mod Printer
 pub mod Given

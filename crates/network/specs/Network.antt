@@ -1,5 +1,5 @@
--- "A network has at most N shared tables over all bound inputs. Each output reads at most width of them, then all free
--- inputs, and looks its value up." What a network sheet says. Assumes nothing.
+-- What a network sheet says: shared tables over the bound inputs, and for each output which of them it reads and the table in
+-- which it finds its value (clauses 7.1 and 7.2). Assumes nothing.
 use mathlib.Core.Bool.{Bool}
 use mathlib.Core.List.{List}
 use Prim.Native.Nat.{ℕ}

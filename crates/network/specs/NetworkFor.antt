@@ -1,5 +1,5 @@
--- What document 01 asks of the networks that can be written beside a design: "Any digits 0 and 1 and any rising choice of
--- the sheet's own lut names will do". Assumes nothing.
+-- The networks that can be written beside a design (clause 7.5): whatever their digits are, and whichever of their own shared
+-- tables a node reads. Assumes nothing.
 use mathlib.Core.Path.{_≡_}
 use mathlib.Core.Bool.{true}
 use mathlib.Core.List.{List, []}

@@ -1,5 +1,5 @@
--- The parts of a network sheet beside a design: the names that it repeats, the places of its nodes, and its last lines.
--- Assumes nothing.
+-- The parts of a network sheet beside a design: the names that it repeats, the places of its nodes, and its last lines
+-- (section 8 of docs/SPECIFICATION.md). Assumes nothing.
 use mathlib.Core.Bool.{Bool}
 use mathlib.Core.List.{List, [], _∷_, _++_}
 use mathlib.Core.Option.{Option}

@@ -1,4 +1,4 @@
--- "The network sheet": how each kind of line is written. Assumes nothing.
+-- The network sheet (clauses 8.1 to 8.8): how each kind of line is written. Assumes nothing.
 use mathlib.Core.Bool.{Bool, true, false}
 use mathlib.Core.List.{List, [], _∷_, _++_, map}
 use Prim.Native.Nat.{ℕ, suc}

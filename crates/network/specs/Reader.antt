@@ -1,4 +1,4 @@
--- "The network sheet": how each kind of line is read, beside a design. Assumes nothing.
+-- The network sheet (clauses 8.2 to 8.7): how each kind of line is read, beside a design. Assumes nothing.
 use mathlib.Core.Bool.{Bool, true, false}
 use mathlib.Core.List.{List, [], _∷_}
 use mathlib.Core.Option.{Option}

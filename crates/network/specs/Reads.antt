@@ -1,5 +1,5 @@
--- "A node lists shared tables by rising number": rising numbers, and when they are the shared tables at the front of a text.
--- Assumes nothing.
+-- Rising numbers, as a node has those of the tables that it reads (clause 7.2), and when they are the shared tables at the front
+-- of a text. Assumes nothing.
 use mathlib.Core.Path.{_≡_}
 use mathlib.Core.Bool.{Bool, false}
 use mathlib.Core.List.{List, [], _∷_, _++_, map}

@@ -1,5 +1,4 @@
--- "A network for Check may use either case": the texts that say a network beside a design. Each place where a name stands may
--- have a spelling of its own; all else is as it is printed. Assumes nothing.
+-- The texts that say a network beside a design (clause 8.9). Each place where a name stands may have a spelling of its own; all else is as it is printed. Assumes nothing.
 use mathlib.Core.Path.{_≡_}
 use mathlib.Core.Bool.{Bool, true}
 use mathlib.Core.List.{List, [], _∷_, _++_}

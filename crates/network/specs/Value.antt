@@ -1,5 +1,5 @@
 -- The value of a network on a row, from its own tables: the shared tables are read at the row's vertex, and each node at
--- the row of what it reads and the free inputs. Assumes nothing.
+-- the row of what it reads and the free inputs (clauses 7.3 and 7.4). Assumes nothing.
 use mathlib.Core.Bool.{Bool, false}
 use mathlib.Core.List.{List, [], _++_, map}
 use Prim.Native.Nat.{ℕ}

@@ -1,4 +1,4 @@
--- Sheet J of document 01, and network sheets that questions 10 and 11 refuse beside sheet A, each computed by the
+-- Sheet J (clause 16.10), and network sheets that questions 10 and 11 refuse beside sheet A, each computed by the
 -- definitions. Assumes nothing.
 use mathlib.Core.Path.{_≡_, refl}
 use mathlib.Core.List.{List, [], _++_}

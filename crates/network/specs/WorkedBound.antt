@@ -1,5 +1,5 @@
--- "Rows of bound inputs (vertices) take the order of the `bound` line, free rows the order of the `in` line": a sheet whose
--- `bound` line is not in the order of its `in` line, with its vertices, columns, rows of tables and answers of Check, each
+-- Vertices go by the `bound` line and free rows by the `in` line (clauses 6.2 and 6.3): a sheet whose `bound` line is not in
+-- the order of its `in` line, with its vertices, columns, rows of tables and answers of Check, each
 -- computed by the definitions. With vertices in the order of the `in` line every one of these would be another. Assumes nothing.
 use mathlib.Core.Path.{_≡_, refl}
 use mathlib.Core.Bool.{true, false}

@@ -262,7 +262,7 @@ map-order c d f h [] (y ∷ b) = refl
 map-order c d f h (x ∷ a) [] = refl
 map-order c d f h (x ∷ a) (y ∷ b) = ap₂ then (h x y) (map-order c d f h a b)
 
--- ---- `before`, in the words of the request
+-- ---- `before`, in the words of clause 7.11
 pub bytes-total : Total byteOrder
 bytes-total = list-total compare compare-total
 

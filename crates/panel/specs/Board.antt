@@ -1,4 +1,4 @@
--- The second text: "the `bound` line and the `limit` line in house spelling (exactly these two lines, each ended by 0x0A)", and
+-- The second text (clauses 13.6 and 13.10): the `bound` line and the `limit` line as a sheet has them, no more and no less, and
 -- question 2 on it. Assumes nothing.
 use mathlib.Core.List.{List, [], _∷_}
 use mathlib.Core.Option.{Option, some, none}
@@ -27,7 +27,7 @@ afterBound none ls = misspelled boundLine
 afterBound (some bs) [] = misspelled limitLine
 afterBound (some bs) (l ∷ ls) = afterLimit bs (readLimit l) ls
 
--- "A missing line counts as misspelled, one past the last."
+-- a line that is missing is refused as a misspelled one, after the last
 unfoldable pub readBoard : List (List ℕ) → Board
 readBoard [] = misspelled boundLine
 readBoard (l ∷ ls) = afterBound (readBound l) ls

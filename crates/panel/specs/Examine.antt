@@ -1,5 +1,5 @@
--- The examination of a pair, a PLA text and a second text: 12 to 14 on the first, 1 and 2 on the second, then "3 to 5, line by
--- line, on the PLA names and after them on the second text". The answer is that of a sheet's examination: a refusal, its line
+-- The examination of a pair, a PLA text and a second text (clause 13.8): 12 to 14 on the first, 1 and 2 on the second, then what 3
+-- to 5 ask of a sheet's names, first of the names in the PLA text and then of the lines of the second. The answer is that of a sheet's examination: a refusal, its line
 -- counted in the text at fault, or a design. Assumes nothing.
 use mathlib.Core.List.{List, [], _∷_}
 use mathlib.Core.Option.{some}

@@ -1,5 +1,5 @@
--- What a pair's examination answers: a panel, where a design and a PLA text say the same, or a refusal by its number and line.
--- Assumes nothing.
+-- What a pair's examination answers (clauses 13.7 and 13.8): a panel, where a design and a PLA text say the same, or a refusal by its
+-- number and line. Assumes nothing.
 use mathlib.Core.Path.{_≡_}
 use mathlib.Core.Bool.{true}
 use mathlib.Core.List.{List, map}

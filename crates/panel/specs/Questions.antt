@@ -1,4 +1,4 @@
--- Questions 12 to 14: "the whole text passes 12, then 13, then 14". Assumes nothing.
+-- Questions 12 to 14, each of the whole PLA text before the next is asked (clauses 9.12 to 9.14, 13.8). Assumes nothing.
 use mathlib.Core.Bool.{Bool, true, _&&_, _||_}
 use mathlib.Core.List.{List, [], _∷_}
 use mathlib.Core.Option.{Option, some, none}
@@ -11,14 +11,14 @@ use Rattle.cubes.specs.Cube.{Cube}
 use Rattle.platext.specs.Lines.{inputsLine, outputsLine, firstCube}
 use Rattle.platext.specs.Text.{Pla, Answer, bad-line, pla, readPla}
 
--- question 13: "at most as many inputs (line of `.i`) and outputs (line of `.o`) as a sheet allows"
+-- question 13: no more inputs than a sheet may have, else the line of `.i`; and no more outputs, else the line of `.o`
 unfoldable pub tooMany : Pla → Option ℕ
 tooMany x =
     pick (leb (length (x .inputs)) maxInputs)
     (pick (leb (length (x .outputs)) maxOutputs) none (some outputsLine))
     (some inputsLine)
 
--- question 14: "every character of every output part is 0 or 1"; the cubes stand from line n on
+-- question 14: the output parts have no bytes but 0 and 1; the cubes stand from line n on
 unfoldable pub zerosAndOnes : List ℕ → Bool
 zerosAndOnes [] = true
 zerosAndOnes (b ∷ bs) = (eqb b 0x30 || eqb b 0x31) && zerosAndOnes bs

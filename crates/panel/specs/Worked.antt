@@ -1,4 +1,4 @@
--- Pairs to try, each computed by the definitions: a panel for sheet A of document 01, small panels, and a pair for each "no" in
+-- Pairs to try, each computed by the definitions: a panel for sheet A (clause 16.1), small panels, and a pair for each "no" in
 -- the order of the questions, with the number and the line that it must get. Assumes nothing.
 use mathlib.Core.Path.{_≡_, refl, ap}
 use mathlib.Core.Bool.{Bool, true, false, _&&_}
@@ -31,7 +31,7 @@ abbrev lined : List String → List ℕ
 lined [] = []
 lined (l ∷ ls) = bytes l ++ (newline ∷ lined ls)
 
--- ======== sheet A of document 01 as a panel: eight cubes for f, four for g
+-- ======== sheet A as a panel: eight cubes for f, four for g
 abbrev pub plaA : List ℕ
 plaA =
     lined

@@ -1,4 +1,5 @@
--- Demand 1 on a PLA panel: the refusals are those of what its examination answers, which uses 12 to 14 and 1 to 5. Assumes nothing.
+-- Demand 1 on a PLA panel (clause 14.1): the refusals are those of what its examination answers, which uses 12 to 14 and 1 to 5.
+-- Assumes nothing.
 use mathlib.Core.Path.{_≡_}
 use mathlib.Core.List.{List}
 use mathlib.Core.Logic.{_⊎_}

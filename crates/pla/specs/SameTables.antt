@@ -1,5 +1,5 @@
--- Two designs with the same tables, whatever their formulas: "From there Table, Map and Check treat it as a sheet with the same
--- tables", and the cause of a refusal by 8 is that sheet's. Assumes nothing.
+-- Two designs with the same tables, whatever their formulas (clause 14.9): they get the same answers of Table, Map and Check, and
+-- a refusal by 8 has the same cause. Assumes nothing.
 use mathlib.Core.Path.{_≡_}
 use mathlib.Core.List.{List}
 use Prim.Native.Nat.{ℕ, _^_, _<_}

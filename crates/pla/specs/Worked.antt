@@ -1,5 +1,5 @@
--- A PLA panel of sheet A of document 01: what Table and Check answer on it, and that every outcome of Map is document 01's network
--- for A, 96 bytes. To be held beside document 01. Assumes nothing.
+-- A PLA panel of sheet A: what Table and Check answer on it, and that every outcome of Map is the network of sheet A, 96 bytes. To
+-- be held beside clause 16.1. Assumes nothing.
 use mathlib.Core.Path.{_≡_}
 use mathlib.Core.List.{List, []}
 use Prim.Native.Nat.{ℕ, _≤_, _<_}
@@ -27,7 +27,7 @@ pub record WorkedPla : Type 0 where
   pub table-f : tableOf pairA 0 (bytes "................") ≡ record { answer = tables.written 16; buffer = bytes "0110100110010110" }
   pub table-g : tableOf pairA 1 (bytes "................") ≡ record { answer = tables.written 16; buffer = bytes "0001010001000001" }
   pub no-third-output : (b : List ℕ) → tableOf pairA 2 b ≡ untouched 6 0 b
-  -- Check: document 01's network, with g's digits 0011, and with the complement of its table
+  -- Check: the network of sheet A, with g's digits 0011, and with the complement of its table
   pub check-same : checkOf pairA networkA ≡ checks.same
   pub check-differs : checkOf pairA networkJ ≡ checks.differs 1 2
   pub check-complement : checkOf pairA complementJ ≡ checks.same

@@ -1,4 +1,4 @@
-// Reads a PLA text, a byte 0x00 and a second text with the `bound` and the `limit` line from standard input, and prints the network,
+// Takes a PLA text, a byte 0x00 and a second text with the `bound` and the `limit` line on standard input, and prints the network,
 // or `refused N line L`. Everything that matters is in pla. The first 0x00 parts the two texts: a PLA text that has one in an output
 // part is refused on that line either way. The buffer holds every network sheet, so question 9 is always answered yes.
 use mapper::Mapped;

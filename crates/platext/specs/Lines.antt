@@ -1,5 +1,5 @@
--- The lines of a PLA text but its cubes: "lines `.i N`, `.o N`, `.ilb names`, `.ob names`, `.p N` in this order, then the cubes,
--- then `.e`": how each is written, and how it is read. Assumes nothing.
+-- The lines of a PLA text but its cubes (clauses 13.2 and 13.3): `.i`, `.o`, `.ilb`, `.ob`, `.p`, and after the cubes `.e`: how each
+-- is written, and how it is read. Assumes nothing.
 use mathlib.Core.List.{List, [], _∷_, _++_}
 use mathlib.Core.Option.{Option, some, none}
 use Prim.Native.Nat.{ℕ, zero, suc}

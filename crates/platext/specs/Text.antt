@@ -1,4 +1,5 @@
--- A PLA text as a whole: what it says, how it is written, and question 12, which reads it line by line. Assumes nothing.
+-- A PLA text as a whole: what it says, how it is written, and question 12, which reads it line by line
+-- (clauses 9.12 and 13.9). Assumes nothing.
 use mathlib.Core.Bool.{Bool, not, _||_}
 use mathlib.Core.List.{List, [], _∷_, _++_, map}
 use mathlib.Core.Option.{Option, some, none}
@@ -44,8 +45,8 @@ abbrev pub orBad : {A : Type 0} → ℕ → Option A → (A → Answer) → Answ
 orBad n none onward = bad-line n
 orBad n (some a) onward = onward a
 
--- line n, the next of some lines, and then the others: "a missing line is one past the last"; `ended` says whether 0x0A ends the
--- last one: a last line without 0x0A is bad
+-- line n, the next of some lines, and then the others; where it is missing, n is one more than there are; `ended` says whether 0x0A
+-- ends the last one, which is bad if not
 abbrev pub nextLine : {A : Type 0} → Bool → ℕ → (List ℕ → Option A) → (A → List (List ℕ) → Answer) → List (List ℕ) → Answer
 nextLine ended n read onward [] = bad-line n
 nextLine ended n read onward (l ∷ ls) = pick (ended || not (isLast ls)) (orBad n (read l) (λ a. onward a ls)) (bad-line n)
@@ -75,7 +76,7 @@ abbrev pub nothingMore : ℕ → Pla → List (List ℕ) → Answer
 nothingMore n x [] = pla x
 nothingMore n x (l ∷ ls) = bad-line (suc n)
 
--- `.e`, which is line n: "the number of cubes is the one `.p` gives"
+-- `.e`, which is line n: there are as many cubes as `.p` says
 unfoldable pub atLast : Head → List Cube → ℕ → List (List ℕ) → Answer
 atLast h cs n ls =
     let answer = nothingMore n (record { inputs = h .inputs; outputs = h .outputs; cubes = cs }) ls in

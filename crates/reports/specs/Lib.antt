@@ -1,4 +1,4 @@
--- What a caller in C is told, that the numbers are document 01's, and that the line of a refusal is where the examination stopped.
+-- What a caller in C is told, by which numbers each operation refuses, and that the line of a refusal is where the examination stopped.
 pub mod Report
 pub mod Numbers
 pub mod Stopped

@@ -1,5 +1,5 @@
--- What a caller in C is told of each answer: document 01's number, 0 where no question was answered "no", and beside it a
--- value for each out-parameter, 0 where it does not apply. Assumes nothing.
+-- What a caller in C is told of each answer (clause 15.2): the refusal's number, 0 where no question was answered "no", and beside
+-- it a value for each out-parameter, 0 where it does not apply. Assumes nothing.
 use mathlib.Core.Path.{_≡_}
 use mathlib.Core.List.{List}
 use Prim.Native.Nat.{ℕ}

@@ -1,5 +1,5 @@
--- The line at which an examination stopped: the lines before it were passed, and for this one the refusal's question was asked and
--- answered "no". It is a line of the design sheet for questions 2 to 5, and of the network sheet for 10 and 11. Assumes nothing.
+-- The line at which an examination stopped (clause 14.7): the lines before it were passed, and for this one the refusal's question
+-- was asked and answered "no". It is a line of the design sheet for questions 2 to 5, and of the network sheet for 10 and 11. Assumes nothing.
 use mathlib.Core.Path.{_≡_}
 use mathlib.Core.Bool.{true, false}
 use mathlib.Core.Logic.{_⊎_}

@@ -1,4 +1,4 @@
-// What a caller in C is told of each answer of Table, Map, Check and Export: document 01's number, 0 where no question was answered
+// What a caller in C is told of each answer of Table, Map, Check and Export: the refusal's number, 0 where no question was answered
 // "no", and a value for each out-parameter. Rests on design, mapper, checker and blif for what the answers say, and calls none of
 // them.
 ghost use mathlib.Core.Path.{_≡_};

@@ -1,4 +1,4 @@
--- The digits that a table is written with, as definitions: one byte for each row, in row order. Assumes nothing.
+-- The digits that a table is written with, as definitions: one byte for each row, in row order (clause 5.6). Assumes nothing.
 use mathlib.Core.Bool.{Bool, true, false}
 use mathlib.Core.List.{List, [], _∷_, _++_}
 use Prim.Native.Nat.{ℕ, zero, suc}

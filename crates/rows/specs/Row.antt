@@ -1,5 +1,5 @@
--- Rows of a table over n inputs, as definitions: a row is a number from 0 to 2 ^ n - 1, and the first input is its highest
--- digit. Assumes nothing.
+-- Rows of a table over n inputs (clause 5.5), as definitions: a row is a number from 0 to 2 ^ n - 1, and the first input is its
+-- highest digit. Assumes nothing.
 use mathlib.Core.Bool.{Bool}
 use mathlib.Core.List.{List, [], _∷_}
 use Prim.Native.Nat.{ℕ, zero, suc, _+_, _-_, _*_, _^_}

@@ -1,4 +1,4 @@
--- The design with some of its outputs, in order, and its sheet: the sheet that has only the `out` lines of the set. Assumes nothing.
+-- The design with some of its outputs, in order, and its sheet, which has only the `out` lines of the set (clause 14.6). Assumes nothing.
 use mathlib.Core.List.{List, _++_}
 use Prim.Native.Nat.{ℕ, _+_}
 use lib.ListN.{take, drop}

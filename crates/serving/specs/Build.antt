@@ -1,5 +1,5 @@
 -- The network of a core: its tables written out, and for each output the composition table that the columns ask for.
--- "A composition entry whose code no vertex produces is 0." Assumes nothing.
+-- Entries of codes that occur at no vertex are 0 (clause 7.10). Assumes nothing.
 use mathlib.Core.Bool.{Bool, false}
 use mathlib.Core.List.{List, [], _∷_, map}
 use mathlib.Core.Option.{Option, some, none}

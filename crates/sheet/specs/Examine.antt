@@ -1,5 +1,6 @@
--- "The examination, question by question", questions 1 to 5: the lines in their order, on each line questions 2 to 5 in
--- turn, with what is known so far. The answer is the refusal, a number and a line, or the design. Assumes nothing.
+-- The examination of a design sheet by questions 1 to 5 (clauses 9.1 to 9.5, 10.1 to 10.6): the lines in their order, on each
+-- line questions 2 to 5 in turn, with what is known so far. The answer is the refusal, a number and a line, or the design.
+-- Assumes nothing.
 use mathlib.Core.Bool.{Bool, false, not, _&&_, _||_}
 use mathlib.Core.List.{List, [], _∷_, _++_, map}
 use mathlib.Core.Option.{Option, some, none}
@@ -65,7 +66,7 @@ askLimit d (some n) =
 abbrev pub outputNames : List Output → List Name
 outputNames os = map (λ (o : Output). o .name) os
 
--- "An output may equal no input or earlier output"
+-- whether the name of an `out` line is neither an input nor an output so far
 abbrev pub newName : Design → Name → Bool
 newName d n = not (among n (d .inputs)) && not (among n (outputNames (d .outputs)))
 
@@ -82,7 +83,7 @@ askOut d (some o) =
     ∷ [])
     (next at-out (withOutput d o))
 
--- `(end)` before any output is spelled right, and refused by 3
+-- `(end)` is refused by 3 where there is no output yet (clause 10.4)
 unfoldable pub askEnd : Design → Step
 askEnd d = ask ((3, leb 1 (length (d .outputs))) ∷ []) (next over d)
 
@@ -113,7 +114,7 @@ askLines p d n [] = atEnd p d n
 askLines p d n (l ∷ ls) = follow (askLine p d l) n (λ p′ d′. askLines p′ d′ (suc n) ls)
 
 -- ---- question 1
--- "all 0x20 to 0x7E or 0x0A"
+-- the bytes that a sheet may have
 unfoldable pub plain : ℕ → Bool
 plain b = within 0x20 0x7E b || eqb b newline
 

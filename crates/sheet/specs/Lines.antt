@@ -1,4 +1,4 @@
--- "The design sheet": what a line of each kind says, how it is written, and how it is read. Assumes nothing.
+-- The lines of a design sheet (clauses 4.2 to 4.7): what each kind says, how it is written, and how it is read. Assumes nothing.
 use mathlib.Core.List.{List, [], _∷_, _++_}
 use mathlib.Core.Option.{Option}
 use Prim.Native.Nat.{ℕ}

@@ -1,4 +1,4 @@
--- "The lines in order": how a whole design sheet is written. Assumes nothing.
+-- How a whole design sheet is written, line after line (clause 4.1). Assumes nothing.
 use mathlib.Core.List.{List, [], _∷_, _++_, map}
 use Prim.Native.Nat.{ℕ}
 use Rattle.text.specs.Line.{endedLines}

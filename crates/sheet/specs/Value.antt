@@ -1,4 +1,4 @@
--- An output's value on a row, as its formula's operators define it. Assumes nothing.
+-- An output's value on a row, as its formula's operators define it (clause 5.6). Assumes nothing.
 use mathlib.Core.Bool.{Bool, false}
 use mathlib.Core.List.{[]}
 use Prim.Native.Nat.{ℕ}

@@ -1,4 +1,4 @@
--- The rules of "The design sheet" as properties of a design: what questions 2 to 5 make sure of, line by line, and what a
+-- The rules of a design sheet (clauses 4.3 to 4.8) as properties of a design: what questions 2 to 5 make sure of, line by line, and what a
 -- valid sheet says therefore. Assumes nothing.
 use mathlib.Core.Path.{_≡_}
 use mathlib.Core.Bool.{true, false}

@@ -1,5 +1,5 @@
 -- How a sheet writes a design: as its print, but that the `bound` line may have its names in another spelling than the `in`
--- line. Assumes nothing.
+-- line (clauses 4.9 and 14.10). Assumes nothing.
 use mathlib.Core.Path.{_≡_}
 use mathlib.Core.Bool.{true}
 use mathlib.Core.List.{List}

@@ -1,5 +1,5 @@
 -- Sets of outputs as numbers: output o is in the set whose digit o is 1. The members in order, how many there are, and which of two
--- sets comes first: "among sets of equal number the one whose lowest output comes first, then the next". Assumes nothing.
+-- sets of equally many outputs comes first (clause 11.7). Assumes nothing.
 use mathlib.Core.Path.{_≡_}
 use mathlib.Core.Bool.{true, false}
 use mathlib.Core.List.{List, [], _∷_}

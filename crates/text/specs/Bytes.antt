@@ -1,4 +1,4 @@
--- Texts as lists of bytes, and what reading at the front of a text finds. Assumes nothing.
+-- Texts as lists of bytes (clauses 3.1 and 3.2), and what reading at the front of a text finds. Assumes nothing.
 use mathlib.Core.Bool.{Bool, true, false, _&&_}
 use mathlib.Core.List.{List, [], _∷_}
 use mathlib.Core.Option.{Option, some, none}
@@ -13,7 +13,7 @@ abbrev pub bytes : String → List ℕ
 bytes empty = []
 bytes (_followed_ c s) = code c ∷ bytes s
 
--- "each line ended by byte 0x0A", "Single spaces separate items", and the brackets
+-- what ends a line, what parts its items, and the brackets
 abbrev pub newline : ℕ
 newline = 0x0A
 
@@ -38,7 +38,7 @@ pub data Read (A : Type 0) : Type 0 where
   found : A → List ℕ → Read A
   bad : Read A
 
--- the position after an item is where the next one is read
+-- what is read next begins right after the item that was found
 abbrev pub after : {A B : Type 0} → Read A → (A → List ℕ → Read B) → Read B
 after (found a s) f = f a s
 after bad f = bad

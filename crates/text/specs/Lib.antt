@@ -1,4 +1,4 @@
--- What document 01 says of bytes, lines and numbers, and laws about it.
+-- Bytes, lines and numbers (section 3 of docs/SPECIFICATION.md), and laws about them.
 pub mod Bytes
 pub mod After
 pub mod Line

@@ -1,4 +1,4 @@
--- "One form a line, each line ended by byte 0x0A". Assumes nothing.
+-- The lines of a text, each ended by 0x0A (clause 3.1). Assumes nothing.
 use mathlib.Core.Bool.{Bool, true, false}
 use mathlib.Core.List.{List, [], _∷_, _++_}
 use Prim.Native.Nat.{ℕ, _-_}
@@ -35,6 +35,6 @@ abbrev pub isLast : List (List ℕ) → Bool
 isLast [] = true
 isLast (l ∷ ls) = false
 
--- line l of some lines: "Lines count from 1"
+-- line l of some lines, the first being line 1
 abbrev pub lineAt : List (List ℕ) → ℕ → List ℕ
 lineAt ls l = getD ls (l - 1) []

@@ -1,5 +1,4 @@
--- "N is one to three digits, without a leading zero unless it is the single digit 0", and the same for k digits.
--- Assumes nothing.
+-- Numbers in decimal, with at most k digits and no needless zero in front (clause 3.7). Assumes nothing.
 use mathlib.Core.Bool.{Bool, true, false, not, _&&_}
 use mathlib.Core.List.{List, [], _∷_, _++_}
 use Prim.Native.Nat.{ℕ, zero, suc, _+_, _-_, _*_, _/_, _%_}

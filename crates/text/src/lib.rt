@@ -1,4 +1,4 @@
-// Texts as slices of bytes: whether two are the same, and where a line ends. What document 01 says of bytes, lines and
+// Texts as slices of bytes: whether two are the same, and where a line ends. What the specification says of bytes, lines and
 // numbers stands in specs/.
 ghost use mathlib.Core.Path.{_≡_};
 ghost use Prim.Native.Nat.{_≤_};
