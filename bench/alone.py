@@ -30,8 +30,9 @@ def compared(programs, path):
 
 def table(root, programs, say):
     """the rows for programs linked to the archives of before and now"""
+    paths = [path for kind in ("border", "slow") for path in sorted((pathlib.Path(root) / "bench" / kind).glob("*.sheet"))]
     rows = []
-    for path in (p for kind in ("border", "slow") for p in sorted((pathlib.Path(root) / "bench" / kind).glob("*.sheet"))):
-        say(f"alone: {path.stem}")
+    for at, path in enumerate(paths):
+        say(f"{path.stem}: sheet {at + 1} of {len(paths)}" + (", up to a minute or two" if path.parent.name == "slow" else ""))
         rows.append(compared(programs, path))
     return rows

@@ -4,11 +4,11 @@
  * processor time, the best of five batches. */
 #define _POSIX_C_SOURCE 200809L
 #include "cellmapper.h"
+#include "batches.h"
 
 #include <stdio.h>
 #include <stdlib.h>
 #include <string.h>
-#include <time.h>
 
 enum { OUTPUTS = 4 };
 
@@ -72,29 +72,6 @@ static void plain(void)
                         tables[o][r] = '1';
     }
     memcpy(plain_digits, tables[0], rows);
-}
-
-static double now(void)
-{
-    struct timespec t;
-    clock_gettime(CLOCK_PROCESS_CPUTIME_ID, &t);
-    return (double)t.tv_sec * 1e9 + (double)t.tv_nsec;
-}
-
-static double time_of(void (*f)(void))
-{
-    double best = 0;
-    for (int batch = 0; batch < 5; batch++) {
-        double start = now(), spent;
-        long calls = 0;
-        do {
-            f();
-            calls++;
-        } while ((spent = now() - start) < 20e6);
-        if (batch == 0 || spent / (double)calls < best)
-            best = spent / (double)calls;
-    }
-    return best;
 }
 
 int main(void)

@@ -1,14 +1,23 @@
 #!/usr/bin/env python3
-"""problems.py [--prototype FILE] [--border PROGRAM] [--seconds N] FILES..: the search on problem files, beside the prototype.
+"""problems.py [--prototype FILE] [--border PROGRAM] [--seconds N] FILES..: the search on problem files, question by question.
 
-A file of FILES has problems as the head of the prototype says (FILE, a search in C++ that is not proved; by default
-../shared/bench/general_search.cpp beside the repository); one with conflicts that are no labels (`out BUDGET C`) is left out.
 The program border (`rt check border` builds it) is asked for the fewest cells, and then, digit by digit, for the first tables:
-is there a core with these tables fixed and these digits of the next one? The answers and the tables must be those of the
-prototype, and of the file beside the problems with the name NAME.answers where there is one. Nodes are codes given to a vertex;
-of a question about digits those with all cells count, since fewer are known not to do. A problem on which either takes over N
-seconds (60) for a question is left out of the sums, and a line says so. The worst ratio of a single problem counts at least
-1,000 nodes for either. Times are processor time of border and elapsed time of the prototype."""
+is there a core with these tables fixed and these digits of the next one? Each core is looked at. A file NAME.labels has
+problems as bench/border/ has them, and a file ANSWERS beside it the fewest cells of NAME. Any other file has lines:
+
+    sets 1 LIMIT
+    set VERTICES OUTPUTS WIRES      wire i is digit i of the vertex number, the highest first
+    out BUDGET L LABELS..           for each output; lines of other words are passed over
+
+and a file NAME.answers beside it, where there is one, for each problem `answer CELLS` or `answer inf` and then the lines
+`lut DIGITS` of the first tables. A file with several sets or with conflicts that are no labels is left out.
+
+FILE is another search for such files, in C++, if there is one to compare with: called with -2, SECS=N and a file it prints for
+each problem the cells, nodes and milliseconds, or `cap`, and then `first CELLS nodes NODES MS` and the lut lines, or `capped`.
+
+Nodes are codes given to a vertex; of a question about digits those with all cells count, since fewer are known not to do. A
+problem on which a question takes over N seconds (60) is left out of the sums, and a line says so. The worst ratio of a single
+problem counts at least 1,000 nodes for either. Times are processor time of border and what FILE says."""
 import argparse
 import dataclasses
 import pathlib
@@ -33,8 +42,20 @@ class Result:
     ms: list
 
 
+def read_labels(path):
+    """the problems of a file of labels"""
+    numbers, problems = [int(word) for word in path.read_text().split()], []
+    while numbers:
+        (v, m, limit), numbers = numbers[:3], numbers[3:]
+        rows, numbers = [border.numbered(numbers[o * v:(o + 1) * v]) for o in range(m)], numbers[v * m:]
+        problems.append(border.Problem(v, limit, rows, [border.width(row) for row in rows]))
+    return problems
+
+
 def read_problems(path):
-    """the problems of a file, or None where a conflict is no labels"""
+    """the problems of a file, or None where it has several sets or a conflict that is no labels"""
+    if path.suffix == ".labels":
+        return read_labels(path)
     problems = []
     for line in path.read_text().splitlines():
         match line.split():
@@ -54,10 +75,18 @@ def read_problems(path):
     return problems
 
 
-def read_results(path):
-    """for each problem of a file of answers the answer and the first tables"""
+def read_results(path, count):
+    """for each problem of a file the answer and the first tables, or None where they are not told; None for what is not known"""
+    if path.suffix == ".labels":
+        known = path.parent / "ANSWERS"
+        lines = known.read_text().splitlines() if known.exists() else []
+        told = [words[1] for words in map(str.split, lines) if words[0] == path.stem]
+        return [(None if cells == "inf" else int(cells), None) for cells in told] or [None] * count
+    beside = path.with_suffix(".answers")
+    if not beside.exists():
+        return [None] * count
     results = []
-    for line in path.read_text().splitlines():
+    for line in beside.read_text().splitlines():
         match line.split():
             case ["answer", cells, *_]:
                 results.append((None if cells == "inf" else int(cells), []))
@@ -162,27 +191,30 @@ def compare(name, ours, theirs, of):
 
 
 class Sums:
-    """of one question on one file"""
+    """of one question on one file: ours, and beside it another search's"""
 
     def __init__(self):
         self.problems, self.nodes, self.ms, self.worst, self.left = 0, [0, 0], [0, 0], 0, []
 
-    def add(self, name, question, ours, theirs):
-        if ours is None or theirs is None or question and (ours.tables is None or theirs.tables is None):
+    def add(self, name, question, results):
+        if any(result is None or question and result.tables is None for result in results):
             self.left.append(name)
             return
-        if len(ours.nodes) <= question:
+        if len(results[0].nodes) <= question:
             return
         self.problems += 1
-        for i, result in enumerate((ours, theirs)):
+        for i, result in enumerate(results):
             self.nodes[i] += result.nodes[question]
             self.ms[i] += result.ms[question]
-        self.worst = max(self.worst, max(LEAST, ours.nodes[question]) / max(LEAST, theirs.nodes[question]))
+        ours, theirs = (max(LEAST, result.nodes[question]) for result in (results[0], results[-1]))
+        self.worst = max(self.worst, ours / theirs)
 
-    def cells(self):
+    def cells(self, beside):
         def ratio(pair):
             return f"{pair[0] / pair[1]:.2f}" if pair[1] else "-"
 
+        if not beside:
+            return [str(self.problems), str(self.nodes[0]), f"{self.ms[0]:.1f}"]
         return [str(self.problems), *map(str, self.nodes), ratio(self.nodes), f"{self.worst:.2f}", *(f"{ms:.1f}" for ms in self.ms), ratio(self.ms)]
 
 
@@ -190,25 +222,23 @@ def measure(path, running, prototype, seconds):
     """the rows of a file for the two tables"""
     problems = read_problems(path)
     if problems is None:
-        print(f"{path.stem} is left out: conflicts that are no labels", file=sys.stderr)
+        print(f"{path.stem} is left out: several sets, or conflicts that are no labels", file=sys.stderr)
         return None
-    theirs = prototype_results(prototype, path, seconds)
-    beside = path.with_suffix(".answers")
-    wanted = read_results(beside) if beside.exists() else [None] * len(problems)
+    theirs = prototype_results(prototype, path, seconds) if prototype else [None] * len(problems)
     sums, digits, zeros = [Sums(), Sums()], 0, 0
-    for i, (p, their, want) in enumerate(zip(problems, theirs, wanted, strict=True)):
-        name = f"{path.stem} {i}"
+    for i, (p, their, want) in enumerate(zip(problems, theirs, read_results(path, len(problems)), strict=True)):
+        name = f"{path.stem} {i + 1} of {len(problems)}"
         our, count, yes = border_result(p, running, seconds)
         if our and their:
-            compare(name, our, their, "the prototype")
+            compare(name, our, their, "the other search")
         if our and want:
-            compare(name, our, Result(want[0], want[1], [], []), beside.name)
+            compare(name, our, Result(*want, [], []), "the stored answer")
         for question in range(2):
-            sums[question].add(name, question, our, their)
+            sums[question].add(name, question, [our, their] if prototype else [our])
         digits, zeros = digits + count, zeros + yes
         print(name, "over the time" if our is None else f"{our.cells} {our.nodes}", file=sys.stderr, flush=True)
     left = [f"question {question + 1}: {name}" for question in range(2) for name in sums[question].left]
-    return [path.stem, *sums[0].cells()], [path.stem, *sums[1].cells(), str(digits), str(zeros)], left
+    return [path.stem, *sums[0].cells(prototype)], [path.stem, *sums[1].cells(prototype), str(digits), str(zeros)], left
 
 
 def show(head, rows):
@@ -221,17 +251,26 @@ def show(head, rows):
 
 def main():
     parser = argparse.ArgumentParser(description=__doc__, formatter_class=argparse.RawDescriptionHelpFormatter)
-    parser.add_argument("--prototype", type=pathlib.Path, default=ROOT.parent / "shared" / "bench" / "general_search.cpp", metavar="FILE")
+    parser.add_argument("--prototype", type=pathlib.Path, metavar="FILE")
     parser.add_argument("--border", type=pathlib.Path, default=border.PROGRAM, metavar="PROGRAM")
     parser.add_argument("--seconds", type=int, default=60, metavar="N")
     parser.add_argument("files", nargs="+", type=pathlib.Path)
     args = parser.parse_args()
-    OUT.mkdir(parents=True, exist_ok=True)
-    subprocess.run(["g++", "-O2", "-std=c++17", "-w", "-o", OUT / "prototype", args.prototype], check=True)
+    if args.prototype and any(path.suffix == ".labels" for path in args.files):
+        parser.error("another search is asked about files of the second form alone")
+    if not args.border.exists():
+        sys.exit(f"{args.border} is not there: `rt check border` builds it")
+    prototype = None
+    if args.prototype:
+        OUT.mkdir(parents=True, exist_ok=True)
+        prototype = OUT / "prototype"
+        subprocess.run(["g++", "-O2", "-std=c++17", "-w", "-o", prototype, args.prototype], check=True)
     running = border.Running(args.border)
-    rows = [row for path in args.files if (row := measure(path, running, OUT / "prototype", args.seconds))]
+    rows = [row for path in args.files if (row := measure(path, running, prototype, args.seconds))]
     running.close()
-    head = ["file", "problems", "nodes", "prototype", "ratio", "worst", "ms", "prototype", "ratio"]
+    head = ["file", "problems", "nodes", "ms"]
+    if prototype:
+        head = ["file", "problems", "nodes", "prototype", "ratio", "worst", "ms", "prototype", "ratio"]
     print("Question 1, the fewest cells\n")
     show(head, [fewest for fewest, _, _ in rows])
     print("Question 2, the first tables\n")

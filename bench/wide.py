@@ -66,8 +66,9 @@ def compared(programs, path, out):
 
 def table(root, programs, out, say):
     """the rows for programs linked to the archives of before and after"""
+    paths = [path for pattern in SHEETS for path in sorted(pathlib.Path(root).glob(pattern))]
     rows = []
-    for path in (p for pattern in SHEETS for p in sorted(pathlib.Path(root).glob(pattern))):
-        say(f"wide: {path.stem}")
+    for at, path in enumerate(paths):
+        say(f"{path.stem}: sheet {at + 1} of {len(paths)}")
         rows.append(compared(programs, path, out))
     return rows

@@ -2,9 +2,8 @@
 """search.py [--reference FILE] [COUNT [SEED]]: the search against the reference search on random problems.
 
 COUNT problems (10,000) of up to 8 outputs, 32 vertices and 16 joint classes are drawn from SEED (1) and given to the program
-border (`rt check border` builds it) and to FILE, a search in C++ that is not proved (by default
-../shared/bench/reference_search.cpp beside the repository). The fewest cells must agree. A problem on which the reference
-takes over 5 million nodes is left out."""
+border (`rt check border` builds it) and to FILE, a search in C++ that is not proved (by default bench/reference.cpp). The fewest
+cells must agree. A problem on which the reference takes over 5 million nodes is left out."""
 import argparse
 import pathlib
 import random
@@ -37,7 +36,7 @@ def reference_text(p):
 
 def main():
     parser = argparse.ArgumentParser(description=__doc__, formatter_class=argparse.RawDescriptionHelpFormatter)
-    parser.add_argument("--reference", type=pathlib.Path, default=border.ROOT.parent / "shared" / "bench" / "reference_search.cpp")
+    parser.add_argument("--reference", type=pathlib.Path, default=border.ROOT / "bench" / "reference.cpp")
     parser.add_argument("count", nargs="?", type=int, default=10000)
     parser.add_argument("seed", nargs="?", type=int, default=1)
     args = parser.parse_args()
