@@ -7,22 +7,24 @@ networks must be answered as the reference says.
 Of every case Export must print the reference's text, or the refusal that Check prints. Shows progress; the last line counts."""
 import pathlib
 import random
-import subprocess
 import sys
 
-root = pathlib.Path(__file__).resolve().parent.parent
-sys.path.insert(0, str(root / "tests/reference"))
+import programs
+from progress import Progress
+
+sys.path.insert(0, str(pathlib.Path(__file__).resolve().parent / "reference"))
 import cellref  # noqa: E402
 import random_sheets  # noqa: E402
+import sheets_to_try  # noqa: E402
 
-A = b"(design 1)\n(in a b c d)\n(bound a b c)\n(limit 2)\n(out f (xor a b c d))\n(out g (and (xor a b c) d))\n(end)\n"
-NET = b"(network 1)\n(lut _0 (a b c) 01101001)\n(node f (_0 d) 0110)\n(node g (_0 d) 0001)\n(count 1)\n(end)\n"
+A = sheets_to_try.sheet("a")
+NET = sheets_to_try.network("a")
 LUT = b"(lut _%d (a b c) 01101001)\n"
 WIDE = A.replace(b"(limit 2)", b"(limit 6)")
 OPEN = b"(design 1)\n(in c d)\n(bound c)\n(limit 1)\n(out f d)\n(end)\n"  # width 0, a free input
 SHUT = b"(design 1)\n(in a b)\n(bound a b)\n(limit 1)\n(out f (and a b))\n(end)\n"  # no free inputs
 FLAT = b"(design 1)\n(in a)\n(bound a)\n(limit 0)\n(out f 1)\n(end)\n"  # width 0, no free inputs
-MIXED = b"(design 1)\n(in A B C d)\n(bound a B c)\n(limit 2)\n(out f (xor a b C D))\n(out G (and (xor A b c) d))\n(end)\n"
+MIXED = sheets_to_try.sheet("capitals")
 
 
 def luts(count, tail):
@@ -35,9 +37,7 @@ def tail(count):
 
 LINES = NET.splitlines(keepends=True)
 CASES = [
-    ("sheet J: g's digits", A, NET.replace(b"0001", b"0011"), "differs output 1 row 2"),
-    ("sheet J: complemented", A, NET.replace(b"d) 0110", b"d) 1001").replace(b"01101001", b"10010110").replace(b"0001", b"0100"), "same"),
-    ("own network", A, NET, "same"),
+    *((f"{network} beside {sheet}", sheets_to_try.sheet(sheet), sheets_to_try.network(network), answer) for sheet, network, answer in sheets_to_try.checks()),
     ("six luts", WIDE, luts(6, tail(6)), "same"),
     ("seven luts", WIDE, luts(7, tail(7)), "refused 10 line 8"),
     ("no luts, tables named", A, luts(0, tail(0)), "refused 10 line 2"),
@@ -77,11 +77,7 @@ CASES = [
     ("a surplus line", A, NET + b"(end)\n", "refused 10 line 7"),
     ("a surplus empty line", A, NET + b"\n", "refused 10 line 7"),
     ("byte 0x80", A, NET.replace(b"(end)", b"(end\x80"), "refused 10 line 6"),
-    ("a bad design sheet", A.replace(b"(limit 2)", b"(limit 7)"), NET, "refused 3 line 4"),
-    ("names as the sheet gives them first", MIXED, NET.replace(b"a b c", b"A B C").replace(b"node g", b"node G"), "same"),
     ("names as the sheet gives them elsewhere", MIXED, NET.replace(b"a b c", b"a B c").replace(b"d) 0110", b"D) 0110"), "same"),
-    ("names in small letters", MIXED, NET, "same"),
-    ("names in small letters, g's digits", MIXED, NET.replace(b"0001", b"0011"), "differs output 1 row 2"),
     ("capitals, another order", A, NET.replace(b"(a b c)", b"(A C B)"), "refused 10 line 2"),
     ("capitals, another output", A, NET.replace(b"node f", b"node G"), "refused 10 line 3"),
     ("an input in two cases", A.replace(b"(in a b c d)", b"(in a b c d A)"), NET, "refused 4 line 2"),
@@ -98,10 +94,6 @@ for place, byte in enumerate(NET):
         *before, line = NET[:place].split(b"\n")
         wanted = "same" if b" " in line else f"refused 10 line {len(before) + 1}"
         CASES.append((f"byte {place} in the other case", A, NET[:place] + bytes([byte ^ 0x20]) + NET[place + 1 :], wanted))
-
-
-def program(name, text):
-    return subprocess.run([root / "target/bin" / name], input=text, capture_output=True, check=False).stdout
 
 
 def reference(design, network):
@@ -148,11 +140,12 @@ def expect(name, got, wanted):
 
 
 def compare(name, design, network, wanted):
-    expect(name, program("cellcheck", design + b"\0" + network).decode(), wanted + "\n")
+    expect(name, programs.said("cellcheck", design + b"\0" + network).decode(), wanted + "\n")
     text = wanted + "\n" if wanted.startswith("refused") else cellref.export(design, network)
-    expect(name + ", exported", program("cellblif", design + b"\0" + network).decode(), text)
+    expect(name + ", exported", programs.said("cellblif", design + b"\0" + network).decode(), text)
 
 
+programs.need("cellmap", "cellcheck", "cellblif")
 for name, design, network, wanted in CASES:
     if reference(design, network) != wanted:
         print(f"the reference says {reference(design, network)} of {name}, the list {wanted}")
@@ -162,9 +155,11 @@ print(f"{ran} answers to cases by hand", flush=True)
 dice = random.Random(20261115)
 count = int(sys.argv[1]) if len(sys.argv) > 1 else 300
 mapped = 0
+progress = Progress("random sheets", count)
 for turn in range(count):
+    progress.step()
     design = random_sheets.mixed(dice) if turn % 2 else random_sheets.text_of(random_sheets.valid(dice))
-    network = program("cellmap", design)
+    network = programs.said("cellmap", design)
     expect("Map's answer", network.decode(), reference_map(design))
     if network.startswith(b"refused"):
         continue
@@ -176,7 +171,7 @@ for turn in range(count):
         other = damage(dice, network)
         if b"\0" not in other:
             compare("damaged", design, other, reference(design, other))
-    if turn % 50 == 49:
-        print(f"{turn + 1} random sheets, {mapped} mapped", flush=True)
+progress.end()
+print(f"{count} random sheets, {mapped} mapped")
 print(f"{ran - wrong} passed, {wrong} failed")
 sys.exit(wrong != 0)

@@ -24,8 +24,9 @@ FOLDER = ROOT / "target/blif"
 sys.path.insert(0, str(ROOT / "tests/reference"))
 import cellref  # noqa: E402
 import random_sheets  # noqa: E402
+import sheets_to_try  # noqa: E402
 
-A = b"(design 1)\n(in a b c d)\n(bound a b c)\n(limit 2)\n(out f (xor a b c d))\n(out g (and (xor a b c) d))\n(end)\n"
+A = sheets_to_try.sheet("a")
 TOOLS = {"ABC": tools.abc, "Yosys": tools.yosys}
 
 

@@ -1,15 +1,17 @@
-// The specification's sheets A to K, names in either case, texts in BLIF, PLA texts, every refusal, the lines that refusals name and
-// the causes of refusal 8, by hand: what each call must answer stands beside it.
+// The specification's sheets in tests/sheets/; names in either case, texts in BLIF, PLA texts, every refusal, the lines that refusals
+// name and the causes of refusal 8, by hand: what each call must answer stands beside it.
 // Buffers are exactly long enough and one byte short; slices of length 0 have null pointers too (calls.cpp). Then the stack
 // that the header promises to be enough.
 #include "worked.h"
 
 #include "calls.h"
 #include "cellmapper.h"
+#include "files.h"
 
 #include <algorithm>
 #include <cstdint>
 #include <pthread.h>
+#include <sstream>
 #include <vector>
 
 namespace {
@@ -35,22 +37,22 @@ std::string sheet(const std::string &inputs, const std::string &bound, const std
     return text(lines);
 }
 
-const std::string A = sheet("a b c d", "a b c", "2", {"(xor a b c d)", "(and (xor a b c) d)"});
-const Lines NETWORK_LINES = {"(network 1)", "(lut _0 (a b c) 01101001)", "(node f (_0 d) 0110)", "(node g (_0 d) 0001)", "(count 1)", "(end)"};
-const std::string NETWORK = text(NETWORK_LINES);
-
-// The network of tables over the bound inputs, and a node's list and digits for each output.
-std::string network(const std::string &bound, const Lines &luts, const Lines &nodes)
+std::string file(const std::string &name)
 {
-    Lines lines = {"(network 1)"};
-    for (size_t i = 0; i < luts.size(); i++)
-        lines.push_back("(lut _" + std::to_string(i) + " (" + bound + ") " + luts[i] + ")");
-    for (size_t i = 0; i < nodes.size(); i++)
-        lines.push_back(std::string("(node ") + "fghijk"[i] + " " + nodes[i] + ")");
-    lines.push_back("(count " + std::to_string(luts.size()) + ")");
-    lines.push_back("(end)");
-    return text(lines);
+    return contents("tests/sheets/" + name);
 }
+
+Lines lines_of(const std::string &all)
+{
+    std::istringstream stream(all);
+    Lines lines;
+    for (std::string line; std::getline(stream, line);)
+        lines.push_back(line);
+    return lines;
+}
+
+const std::string A = file("a.sheet"), NETWORK = file("a.network");
+const Lines NETWORK_LINES = lines_of(NETWORK);
 
 // A's network with one line for another; an empty line takes it out.
 std::string with(size_t line, const std::string &other)
@@ -165,35 +167,73 @@ void all_refuse(const std::string &s, unsigned number, size_t line)
     expect(call_cause(s) == 0, "a sheet that is refused by another number than 8 has no cause", s);
 }
 
+// The first word of a stream, and the numbers after it, between which words may stand.
+struct Answer {
+    std::string word;
+    std::vector<size_t> numbers;
+};
+
+Answer answer_of(std::istream &stream)
+{
+    Answer answer;
+    stream >> answer.word;
+    for (std::string word; stream >> word;)
+        if (word.find_first_not_of("0123456789") == std::string::npos)
+            answer.numbers.push_back(std::stoul(word));
+    return answer;
+}
+
+// A line of tests/sheets/ANSWERS: a number of cells; inf and the outputs that are the cause; or refused N line L.
+void map_answers(const std::string &name, const Answer &wanted)
+{
+    const std::string s = file(name + ".sheet");
+    size_t cause = 0;
+    if (wanted.word == "inf") {
+        for (size_t output : wanted.numbers)
+            cause |= size_t(1) << output;
+        lacks_cells(s, cause);
+    } else if (wanted.word != "refused") {
+        maps_to(s, std::stoul(wanted.word), file(name + ".network"));
+    } else if (wanted.numbers.at(0) <= 5) {
+        all_refuse(s, unsigned(wanted.numbers.at(0)), wanted.numbers.at(1));
+    } else {
+        map_refuses(s, unsigned(wanted.numbers.at(0)), wanted.numbers.at(1));
+        expect(call_cause(s) == 0, "another refusal than 8 has no cause", s);
+    }
+}
+
+// A line of tests/sheets/CHECKS: same; differs output O row R; or refused N line L.
+void check_answers(const std::string &s, const std::string &n, const Answer &wanted)
+{
+    if (wanted.word == "same")
+        same(s, n);
+    else if (wanted.word == "differs")
+        differs_at(s, n, wanted.numbers.at(0), wanted.numbers.at(1));
+    else
+        both_refuse(s, n, unsigned(wanted.numbers.at(0)), wanted.numbers.at(1));
+}
+
 void sheets_to_try()
 {
-    maps_to(A, 1, NETWORK);
+    size_t answers = 0;
+    for (const std::string &line : lines_of(file("ANSWERS"))) {
+        std::istringstream stream(line);
+        std::string name;
+        stream >> name;
+        map_answers(name, answer_of(stream));
+        answers++;
+    }
+    for (const std::string &line : lines_of(file("CHECKS"))) {
+        std::istringstream stream(line);
+        std::string name, network;
+        stream >> name >> network;
+        check_answers(file(name + ".sheet"), file(network + ".network"), answer_of(stream));
+        answers++;
+    }
+    expect(answers >= 29, "there are 29 answers in tests/sheets", "");
     expect(call_map(A, 96).number == 0 && call_map(A, 95).number == 9, "sheet B", A);
     tables_to(A, 0, "0110100110010110");
     tables_to(A, 1, "0001010001000001");
-    const Lines c = {"(xor a c)", "(xor b c)"}, d = {"(xor a c)", "(xor b c)", "(xor a b c)"};
-    lacks_cells(sheet("a b c", "a b", "1", c), 0b11);
-    maps_to(sheet("a b c", "a b", "2", c), 2, network("a b", {"0011", "0101"}, {"(_0 c) 0110", "(_1 c) 0110"}));
-    lacks_cells(sheet("a b c", "a b", "2", d), 0b111);
-    maps_to(sheet("a b c", "a b", "3", d), 3, network("a b", {"0011", "0101", "0110"}, {"(_0 c) 0110", "(_1 c) 0110", "(_2 c) 0110"}));
-    const Lines e = {"(or (and a c) (and b d))", "(xor a b c)"};
-    maps_to(sheet("a b c d", "a b", "2", e), 2, network("a b", {"0011", "0110"}, {"(_0 _1 c d) 0000010101110011", "(_1 c d) 00111100"}));
-    maps_to(sheet("a b c d", "a b", "0", {"(or c d)"}), 0, network("a b", {}, {"(c d) 0111"}));
-    const Lines g = {"(or (and a b c) (and (xor a b) d))"};
-    lacks_cells(sheet("a b c d", "a b", "1", g), 0b1);
-    maps_to(sheet("a b c d", "a b", "2", g), 2, network("a b", {"0001", "0110"}, {"(_0 _1 c d) 0000010100110000"}));
-    maps_to(sheet("a b", "a b", "1", {"(and a b)"}), 1, network("a b", {"0001"}, {"(_0) 01"}));
-    const Lines i = {"(or (and a x) (and e y))", "(xor b x)", "(xor c x)"};
-    const Lines i_tables = {"00000000000000001111111111111111", "00000000111111110000000011111111", "00001111000011110000111100001111",
-        "01010101010101010101010101010101"};
-    const Lines i_nodes = {"(_0 _3 x y) 0000010100110111", "(_1 x y) 00111100", "(_2 x y) 00111100"};
-    maps_to(sheet("a b c d e x y", "a b c d e", "4", i), 4, network("a b c d e", i_tables, i_nodes));
-    lacks_cells(sheet("a b c d e x y", "a b c d e", "3", i), 0b111);
-    const std::string many = sheet("a b c d e x y", "a b c d e", "0", {i[0], i[1], i[2], "(xor d x)"});
-    map_refuses(many, 7, 0);
-    expect(call_cause(many) == 0, "refusal 7 has no cause", many);
-    differs_at(A, with(4, "(node g (_0 d) 0011)"), 1, 2);
-    same(A, text({"(network 1)", "(lut _0 (a b c) 10010110)", "(node f (_0 d) 1001)", "(node g (_0 d) 0100)", "(count 1)", "(end)"}));
 }
 
 // Of as many outputs the set whose lowest output comes first, then the next.
@@ -224,7 +264,7 @@ void part_is(const std::string &s, const std::string &n, Named named, size_t sec
 
 void lines_to_try()
 {
-    const Lines of_a = {"(design 1)", "(in a b c d)", "(bound a b c)", "(limit 2)", "(out f (xor a b c d))", "(out g (and (xor a b c) d))", "(end)"};
+    const Lines of_a = lines_of(A);
     const size_t starts[] = {0, 11, 24, 38, 48, 70, 98}, network_starts[] = {0, 12, 38, 59, 80, 90};
     for (size_t number : {2, 3, 4, 5}) {
         for (size_t line = 1; line <= 7; line++)
@@ -390,8 +430,7 @@ void longest_text_in_blif()
 // ---- names in either case
 
 // Sheet A with capitals, and Map's network of it, which has each name as the sheet gives it first.
-const std::string MIXED = text({"(design 1)", "(in A B C d)", "(bound a B c)", "(limit 2)", "(out f (xor a b C D))", "(out G (and (xor A b c) d))", "(end)"});
-const std::string MIXED_NETWORK = text({"(network 1)", "(lut _0 (A B C) 01101001)", "(node f (_0 d) 0110)", "(node G (_0 d) 0001)", "(count 1)", "(end)"});
+const std::string MIXED = file("capitals.sheet"), MIXED_NETWORK = file("capitals.network");
 
 void names_in_either_case()
 {
@@ -432,7 +471,7 @@ void names_in_either_case()
 
 // ---- PLA texts
 
-const std::string BOARD = "(bound a b c)\n(limit 2)\n";
+const std::string BOARD = file("a.board");
 
 // A PLA text with a second text: the lines before `.p`, the cubes, and a number of cubes where it is not theirs.
 Source pla(const Lines &head, const Lines &cubes, const std::string &board = BOARD, const std::string &count = "")
@@ -440,19 +479,16 @@ Source pla(const Lines &head, const Lines &cubes, const std::string &board = BOA
     return Source(text(head) + text({".p " + (count.empty() ? std::to_string(cubes.size()) : count)}) + text(cubes) + ".e\n", board);
 }
 
-// Sheet A as PLA.
-const Lines A_HEAD = {".i 4", ".o 2", ".ilb a b c d", ".ob f g"};
-const Lines A_CUBES = {"0001 10", "0010 10", "0100 10", "0111 10", "1000 10", "1011 10", "1101 10", "1110 10", "0011 01", "0101 01", "1001 01", "1111 01"};
-const Source A_PLA = pla(A_HEAD, A_CUBES);
-const size_t A_END = 18;
+// Sheet A as PLA: the four lines before `.p`, the cubes from line 6 on, and the line of `.e`.
+const Source A_PLA(file("a.pla"), BOARD);
+const Lines A_LINES = lines_of(A_PLA.text);
+const Lines A_HEAD(A_LINES.begin(), A_LINES.begin() + 4), A_CUBES(A_LINES.begin() + 5, A_LINES.end() - 1);
+const size_t A_END = A_LINES.size();
 
 // A with one line for another.
 Source pla_with(size_t line, const std::string &other, const std::string &board = BOARD)
 {
-    Lines lines = A_HEAD;
-    lines.push_back(".p 12");
-    lines.insert(lines.end(), A_CUBES.begin(), A_CUBES.end());
-    lines.push_back(".e");
+    Lines lines = A_LINES;
     lines[line - 1] = other;
     return Source(text(lines), board);
 }

@@ -2,22 +2,19 @@
 what Map must answer by request 2026-04: the network, or `refused N line L`. Worked by hand; CASES has (name, PLA text, second
 text, answer)."""
 
-# Sheet A of document 01 as PLA: f = a xor b xor c xor d, and g = d where a xor b xor c is 1.
-HEAD = b".i 4\n.o 2\n.ilb a b c d\n.ob f g\n"
-F = [b"0001", b"0010", b"0100", b"0111", b"1000", b"1011", b"1101", b"1110"]
-G = [b"0011", b"0101", b"1001", b"1111"]
-CUBES = [cube + b" 10" for cube in F] + [cube + b" 01" for cube in G]
-BOARD = b"(bound a b c)\n(limit 2)\n"
-NETWORK = "(network 1)\n(lut _0 (a b c) 01101001)\n(node f (_0 d) 0110)\n(node g (_0 d) 0001)\n(count 1)\n(end)\n"
+import sheets_to_try
+
+# Sheet A as PLA: f = a xor b xor c xor d, and g = d where a xor b xor c is 1.
+A, BOARD = sheets_to_try.pla("a")
+NETWORK = sheets_to_try.network("a").decode("ascii")
+FIRST = 6  # the line of the first cube
+HEAD = b"".join(A.splitlines(keepends=True)[:4])
+CUBES = A.splitlines()[FIRST - 1:-1]
+END = FIRST + len(CUBES)  # the line of .e
 
 
 def text(head, cubes, count=None, end=b".e\n"):
     return head + b".p %d\n" % (len(cubes) if count is None else count) + b"".join(cube + b"\n" for cube in cubes) + end
-
-
-A = text(HEAD, CUBES)
-FIRST = 6  # the line of the first cube
-END = FIRST + len(CUBES)  # the line of .e
 
 
 def refused(number, line):
