@@ -15,8 +15,11 @@ import random
 import subprocess
 import sys
 
-ROOT = pathlib.Path(__file__).resolve().parent.parent
-PROGRAM = ROOT / "target" / "bin" / "cellmap"
+import programs
+from progress import Progress
+
+ROOT = programs.ROOT
+PROGRAM = programs.BIN / "cellmap"
 OUT = ROOT / "target" / "first"
 MOST = {2: 6, 3: 3}
 BATCH = 100
@@ -122,14 +125,18 @@ def main():
     parser.add_argument("count", nargs="?", type=int, default=2000)
     parser.add_argument("seed", nargs="?", type=int, default=1)
     args = parser.parse_args()
+    programs.need(args.program.name, folder=args.program.resolve().parent)
+    programs.need_tools("g++")
     OUT.mkdir(parents=True, exist_ok=True)
     subprocess.run(["g++", "-O2", "-std=c++17", "-Wall", "-Wextra", "-o", OUT / "first", ROOT / "tests" / "first.cpp"], check=True)
     draw = random.Random(args.seed)
     kinds = collections.Counter()
     left = 0
+    progress = Progress("first", args.count)
     for start in range(0, args.count, BATCH):
         designs = [Design(draw) for _ in range(min(BATCH, args.count - start))]
         for design, answer in zip(designs, answers(designs), strict=True):
+            progress.step()
             if answer[0] == "none" and design.most() < design.limit:
                 left += 1
                 continue
@@ -138,7 +145,7 @@ def main():
             if done.stdout != wanted:
                 sys.exit(f"Map says\n{done.stdout}and the first of {answer[1]} networks is\n{wanted}of the sheet\n{design.sheet}")
             count_kinds(design, answer, kinds)
-        print(f"{start + len(designs)} of {args.count}", file=sys.stderr, flush=True)
+    progress.end()
     for kind, count in sorted(kinds.items()):
         print(f"{count} {kind}")
     print(f"first: {args.count - left} designs from seed {args.seed} agree, {left} left out")
