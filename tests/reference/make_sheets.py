@@ -751,7 +751,8 @@ def blocks():
     return names, b"".join(made)
 
 
-def main():
+def make():
+    """Makes all cases, and answers how many of them are by hand."""
     for part in (
         question_1,
         length_of_text,
@@ -775,6 +776,11 @@ def main():
         part()
     by_hand = len(CASES)
     random_cases(300)
+    return by_hand
+
+
+def main():
+    by_hand = make()
     names, given = blocks()
     wanted = "".join(f"{name} ok\n" for name in names) + f"{len(names)} sheets, 0 wrong\n"
     if len(given) > MAX_TEXT:

@@ -9,6 +9,7 @@ import random
 import unittest
 
 import cellref
+import network_cases
 import random_sheets
 import sheets_to_try
 
@@ -29,6 +30,15 @@ def refusal(function, *words):
     except cellref.Refusal as refused:
         return refused.number, refused.line
     return None
+
+
+def check_answer(design, network):
+    """Check's answer in the words of the program cellcheck"""
+    refused = refusal(cellref.check, design, network)
+    if refused:
+        return "refused {} line {}".format(*refused)
+    found = cellref.check(design, network)
+    return "same" if found is None else "differs output {} row {}".format(*found)
 
 
 def permitted(design, count):
@@ -56,15 +66,6 @@ class Sheets(unittest.TestCase):
                     self.assertIsNone(cellref.check(text, wanted.encode("ascii")))
                 self.assertEqual(sorted(cellref.cause(text) or []), outputs)
 
-    def test_check(self):
-        for sheet_name, network_name, wanted in sheets_to_try.checks():
-            with self.subTest(sheet_name, network=network_name):
-                texts = sheets_to_try.sheet(sheet_name), sheets_to_try.network(network_name)
-                refused = refusal(cellref.check, *texts)
-                found = None if refused else cellref.check(*texts)
-                said = "refused {} line {}".format(*refused) if refused else "differs output {} row {}".format(*found) if found else "same"
-                self.assertEqual(said, wanted)
-
     def test_b(self):
         self.assertEqual(len(A_NETWORK), 96)
         self.assertEqual(refusal(cellref.map_sheet, A, 95), (9, 0))
@@ -78,59 +79,10 @@ class Sheets(unittest.TestCase):
 
 
 class Networks(unittest.TestCase):
-    """Questions 10 and 11, each by a change of sheet A's network."""
-
-    def refused(self, old, new):
-        self.assertIn(old, A_NETWORK)
-        return refusal(cellref.check, A, A_NETWORK.replace(old, new, 1).encode("latin-1"))
-
-    def test_size(self):
-        self.assertEqual(refusal(cellref.check, A, b""), (10, 0))
-        self.assertEqual(refusal(cellref.check, A, A_NETWORK.encode("ascii") + b"\n" * 8192), (10, 0))
-        self.assertEqual(refusal(cellref.check, A, b"\n" * 8192), (10, 1))
-
-    def test_lines_in_order(self):
-        lines = A_NETWORK.split("\n")[:-1]
-        for n in range(1, len(lines) + 1):
-            part = "".join(line + "\n" for line in lines[:n])
-            self.assertEqual(refusal(cellref.check, A, part[:-1].encode("ascii")), (10, n))
-            if n < len(lines):
-                self.assertEqual(refusal(cellref.check, A, part.encode("ascii")), (10, n + 1))
-        for more in ("\n", "x", "(end)\n"):
-            self.assertEqual(refusal(cellref.check, A, (A_NETWORK + more).encode("ascii")), (10, 7))
-
-    def test_spelling(self):
-        self.assertEqual(self.refused("(network 1)", "(network 2)"), (10, 1))
-        self.assertEqual(self.refused("_0 (a b c)", "_1 (a b c)"), (10, 2))
-        self.assertEqual(self.refused("(a b c)", "(b a c)"), (10, 2))
-        self.assertEqual(self.refused("01101001", "0110100"), (10, 2))
-        self.assertEqual(self.refused("01101001", "01101002"), (10, 2))
-        self.assertEqual(self.refused("node f", "node g"), (10, 3))
-        self.assertEqual(self.refused("f (_0 d)", "f (_1 d)"), (10, 3))
-        self.assertEqual(self.refused("f (_0 d)", "f (d _0)"), (10, 3))
-        self.assertEqual(self.refused("f (_0 d)", "f (_0 _0 d)"), (10, 3))
-        self.assertEqual(self.refused("(_0 d) 0110", "(_0) 01"), (10, 3))
-        self.assertEqual(self.refused("(count 1)", "(count 2)"), (10, 5))
-        self.assertEqual(self.refused("(count 1)", "(count 01)"), (10, 5))
-        self.assertEqual(self.refused("(end)", "(end) "), (10, 6))
-        self.assertEqual(self.refused("(node g", "\x80(node g"), (10, 4))
-
-    def test_cells(self):
-        lut = "(lut _0 (a b c) 01101001)\n"
-        three = lut + lut.replace("_0", "_1") + lut.replace("_0", "_2")
-        network = A_NETWORK.replace(lut, three).replace("(count 1)", "(count 3)")
-        self.assertEqual(refusal(cellref.check, A, network.encode("ascii")), (11, 4))
-        self.assertIsNone(cellref.check(A.replace(b"limit 2", b"limit 3"), network.encode("ascii")))
-        seven = "".join(lut.replace("_0", f"_{k}") for k in range(7))
-        network = A_NETWORK.replace(lut, seven).replace("(count 1)", "(count 7)")
-        self.assertEqual(refusal(cellref.check, A, network.encode("ascii")), (10, 8))
-
-    def test_widths(self):
-        two = "(lut _0 (a b c) 01101001)\n(lut _1 (a b c) 00001111)\n"
-        network = A_NETWORK.replace("(lut _0 (a b c) 01101001)\n", two).replace("(count 1)", "(count 2)")
-        self.assertIsNone(cellref.check(A, network.encode("ascii")))
-        network = network.replace("g (_0 d) 0001", "g (_0 _1 d) 00010001")
-        self.assertEqual(refusal(cellref.check, A, network.encode("ascii")), (11, 5))
+    def test_cases_by_hand(self):
+        for name, design, network, wanted in network_cases.CASES:
+            with self.subTest(name):
+                self.assertEqual(check_answer(design, network), wanted)
 
 
 A_BLIF = """.model panel
@@ -224,22 +176,6 @@ class Capitals(unittest.TestCase):
         blif = A_BLIF.replace("a b c", "A B C").replace("f g", "f G").replace("d g", "d G")
         for network in (self.NETWORK, A_NETWORK):
             self.assertEqual(cellref.export(self.MIXED, network.encode("ascii")), blif)
-
-    def test_a_network_in_any_spelling(self):
-        for network in (self.NETWORK, A_NETWORK, A_NETWORK.replace("a b c", "A b C").replace("f (_0 d)", "F (_0 D)")):
-            for text in (A, self.MIXED):
-                self.assertIsNone(cellref.check(text, network.encode("ascii")))
-                self.assertEqual(cellref.check(text, network.replace("0001", "0011").encode("ascii")), (1, 2))
-
-    def test_each_letter_of_a_network(self):
-        """The first word of a line has small letters."""
-        for line, text in enumerate(A_NETWORK.splitlines(), 1):
-            for place, byte in enumerate(text):
-                if byte.isalpha():
-                    turned = A_NETWORK.splitlines()
-                    turned[line - 1] = text[:place] + byte.swapcase() + text[place + 1 :]
-                    said = refusal(cellref.check, A, "".join(part + "\n" for part in turned).encode("ascii"))
-                    self.assertEqual(said, (10, line) if place < len(text.split(" ")[0]) else None)
 
     def test_refusals(self):
         refused = {
