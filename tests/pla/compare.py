@@ -1,5 +1,6 @@
 #!/usr/bin/env python3
-"""compare.py [PANELS [SEED]], called by run: PLA texts through target/bin/plamap and through the archive.
+"""compare.py [PANELS [SEED]], called by run: PLA texts through target/bin/plamap and through the archive. compare.py --cases: only the
+cases worked by hand, which need neither ABC nor the archive.
 
 - Cases worked by hand (tests/reference/pla_cases.py) at every boundary of questions 12, 13 and 14, and of what is asked after
   them: plamap must print what stands beside each.
@@ -25,6 +26,7 @@ sys.path[:0] = [str(ROOT / folder) for folder in ("tests/reference", "tests/blif
 import cellref  # noqa: E402
 import pla  # noqa: E402
 import pla_cases  # noqa: E402
+import programs  # noqa: E402
 import random_pairs  # noqa: E402
 import random_sheets  # noqa: E402
 import tools  # noqa: E402
@@ -194,6 +196,9 @@ def show_shapes(panels):
 
 
 def main():
+    programs.need("plamap")
+    if sys.argv[1:] == ["--cases"]:
+        return run_cases()
     count, seed = [int(word) for word in sys.argv[1:]] + [300, 1][len(sys.argv) - 1 :]
     start = time.monotonic()
     print(tools.run(["berkeley-abc", "-q", "version"], FOLDER)[1].strip())

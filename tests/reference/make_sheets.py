@@ -17,7 +17,7 @@ import cellref
 import random_sheets
 import sheets_to_try
 
-CRATE = pathlib.Path(__file__).resolve().parents[2] / "crates" / "sheets"
+CRATE = pathlib.Path(__file__).resolve().parents[2] / "crates/sheets"
 MAX_TEXT = 600 * 1024
 LARGEST = 2**64 - 1
 SEED = 1
