@@ -1,4 +1,4 @@
-// The first network in byte order of designs on standard input, by printing every network that the section on cells permits and
+// The first network in byte order of designs on standard input, by printing every network that the specification permits and
 // comparing the texts. g++ -O2 -std=c++17. A design is words: the numbers of bound inputs, free inputs and outputs, and the most
 // tables to try; the bound names; the free names; and for each output its name and its columns in the order of the vertices.
 // The answer is a line: U or none, how many networks are permitted, in how many of them a table varies inside a global class, and

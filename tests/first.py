@@ -3,7 +3,7 @@
 
 COUNT designs (2,000) of 2 or 3 bound inputs, 0 to 2 free inputs and 1 to 3 outputs are drawn from SEED (1). PROGRAM (by default
 target/bin/cellmap) maps each as a sheet, with names in any case wherever they stand, and first.cpp (needs g++) prints every network
-that the section on cells permits with the fewest tables, names as the sheet gives them first, and takes the least text; the two must
+that the specification permits with the fewest tables, names as the sheet gives them first, and takes the least text; the two must
 be equal byte for byte, or both refuse by 8. It tries up to 3 tables over 3 bound inputs and 6 over 2; a design of a higher limit that
 needs more is left out. Takes about 0.1 seconds a design. The last
 lines count what came. No first network has a table that varies inside a global class: all vertices of the class could take the

@@ -4,8 +4,8 @@ checkout do, whose target/bin/ has them built (cellblif is left out where it has
 COUNT random valid ones, as many of many free inputs, as many damaged, and as many of the first and the last kind in any case (3,000
 unless given); beside each sheet that maps Check and Export are asked of the network, of it with its names in any case, with a table's
 digit turned, with any one byte changed, with a line lost, and cut off. With --small only texts without capitals are asked, and the
-cells in OTHER's BLIF may be C0, C1 and so on, as before request 2026-06. The last line counts the answers by kind, and those that
-differ."""
+cells in OTHER's BLIF may be C0, C1 and so on, as where names have small letters alone. The last line counts the answers by kind,
+and those that differ."""
 import argparse
 import collections
 import pathlib

@@ -40,7 +40,7 @@ size_t too_short(size_t enough, size_t more)
     return enough - 1 - more % enough;
 }
 
-// What the section on cells asks of Map's network beside Check's "same".
+// What the specification asks of Map's network beside Check's "same".
 void examine_network(const Panel &panel, const Mapped &m)
 {
     const oracle::Design &design = panel.design;

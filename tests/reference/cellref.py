@@ -1,5 +1,5 @@
 #!/usr/bin/env python3
-"""A second implementation of the sheets, written from the paper's words and sharing nothing with the library.
+"""A second implementation of the sheets, written from the specification's words and sharing nothing with the library.
 
 It is slow and plain on purpose: a formula is read to a list in postfix order and evaluated anew on every row, columns
 are lists of values, and the fewest cells and the first network are found by trying. The tests compare the library with it.

@@ -1,5 +1,5 @@
 """Pairs of a PLA text and a second text at every boundary of questions 12, 13 and 14 and of what is asked after them, each with
-what Map must answer by request 2026-04: the network, or `refused N line L`. Worked by hand; CASES has (name, PLA text, second
+what Map must answer: the network, or `refused N line L`. Worked by hand; CASES has (name, PLA text, second
 text, answer)."""
 
 import sheets_to_try
