@@ -7,7 +7,7 @@
  *
  * What holds of every function, proved for all bytes, lengths and numbers handed in (crates/cellmapper/src/lib.rt):
  * - They end, and read and write nothing outside of what they are lent.
- * - The result is 0, or the number of the question that was answered "no", 1 to 14 (README.md, "Refusals"). On a refusal
+ * - The result is 0, or the number of the question that was answered "no", 1 to 14 (enum cellmapper_refusal below). On a refusal
  *   *line is the line at fault, counted from 1, or 0 where the question concerns no line, and the buffer is untouched.
  * - Every out-parameter is set on every call; one that does not apply is set to 0.
  * - Bytes of a buffer past what was written are unchanged.
@@ -30,6 +30,11 @@
 extern "C" {
 #endif
 
+/* The version of this header and of the archive: a request that adds to what is here raises the second number. */
+#define CELLMAPPER_VERSION "1.6"
+#define CELLMAPPER_VERSION_MAJOR 1
+#define CELLMAPPER_VERSION_MINOR 6
+
 /* The most bytes of a design sheet, of a network sheet and of a PLA text, the most digits of a table, and a number of bytes that
  * no text of Export exceeds: buffers of these lengths are long enough for every sheet, every panel and every network. */
 #define CELLMAPPER_MAX_SHEET 4096
@@ -37,6 +42,27 @@ extern "C" {
 #define CELLMAPPER_MAX_PLA 32768
 #define CELLMAPPER_MAX_TABLE 1024
 #define CELLMAPPER_MAX_BLIF 55735
+
+/* What the functions answer: nothing was refused, or the question that was answered "no", and which line *line is then. Which
+ * functions refuse by a number, and of which text its line is, stands at each function; of a panel that arrives as PLA, where 1 to 5
+ * are asked of two texts, above the functions for it. */
+enum cellmapper_refusal {
+    CELLMAPPER_OK = 0,                  /* every question was answered "yes" */
+    CELLMAPPER_BAD_BYTES = 1,           /* has the text 1 to CELLMAPPER_MAX_SHEET bytes, printable or 0x0A, the last 0x0A? line 0 */
+    CELLMAPPER_MISSPELLED = 2,          /* is each line spelled as its place demands? that line, one past the last if one is missing */
+    CELLMAPPER_OUT_OF_RANGE = 3,        /* are the numbers of names and outputs, the limit and the depth in range? the line */
+    CELLMAPPER_NAME_TWICE = 4,          /* is each newly given name new, case ignored? the line that gives it again */
+    CELLMAPPER_NO_SUCH_INPUT = 5,       /* is each name in `bound` or a formula an input, case ignored? the line */
+    CELLMAPPER_NO_SUCH_OUTPUT = 6,      /* is there an output of this number? line 0 */
+    CELLMAPPER_TOO_MANY_CLASSES = 7,    /* are there at most 16 global classes? line 0 */
+    CELLMAPPER_NO_NETWORK = 8,          /* does some network within limit and widths compute every output? line 0 */
+    CELLMAPPER_SHORT_BUFFER = 9,        /* is the buffer long enough? line 0 */
+    CELLMAPPER_NETWORK_MISSPELLED = 10, /* is the network sheet spelled for this design? its first bad line, 0 for its size */
+    CELLMAPPER_NETWORK_TOO_LARGE = 11,  /* are its lut lines within the limit and its nodes within their widths? the first line */
+    CELLMAPPER_PLA_MISSPELLED = 12,     /* is the PLA text spelled, with as many cubes as it says? its first bad line, 0 for its size */
+    CELLMAPPER_PLA_TOO_LARGE = 13,      /* has it at most 10 inputs and 4 outputs? line 1 for the inputs, 2 for the outputs */
+    CELLMAPPER_PLA_BAD_DIGIT = 14       /* is each character of an output part 0 or 1? the line of the first such cube */
+};
 
 /* Table: the truth table of one output of a design sheet, outputs counted from 0.
  *

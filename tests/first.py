@@ -3,9 +3,10 @@
 
 COUNT designs (2,000) of 2 or 3 bound inputs, 0 to 2 free inputs and 1 to 3 outputs are drawn from SEED (1). PROGRAM (by default
 target/bin/cellmap) maps each as a sheet, with names in any case wherever they stand, and first.cpp (needs g++) prints every network
-that is permitted (clause 7.10), names as the sheet gives them first, and takes the least text; the two must be equal byte for byte,
-or both refuse by 8. It tries up to 3 tables over 3 bound inputs and 6 over 2; a design of a higher limit that needs more is left
-out. Takes about 0.1 seconds a design. The last lines count what came. No first network has a table that varies inside a global class: all vertices of the class could take the
+that the specification permits with the fewest tables, names as the sheet gives them first, and takes the least text; the two must
+be equal byte for byte, or both refuse by 8. It tries up to 3 tables over 3 bound inputs and 6 over 2; a design of a higher limit that
+needs more is left out. Takes about 0.1 seconds a design. The last
+lines count what came. No first network has a table that varies inside a global class: all vertices of the class could take the
 least of their codes, and the text would come before it. Many designs have other permitted networks that do."""
 import argparse
 import collections
@@ -14,8 +15,11 @@ import random
 import subprocess
 import sys
 
-ROOT = pathlib.Path(__file__).resolve().parent.parent
-PROGRAM = ROOT / "target" / "bin" / "cellmap"
+import programs
+from progress import Progress
+
+ROOT = programs.ROOT
+PROGRAM = programs.BIN / "cellmap"
 OUT = ROOT / "target" / "first"
 MOST = {2: 6, 3: 3}
 BATCH = 100
@@ -121,14 +125,18 @@ def main():
     parser.add_argument("count", nargs="?", type=int, default=2000)
     parser.add_argument("seed", nargs="?", type=int, default=1)
     args = parser.parse_args()
+    programs.need(args.program.name, folder=args.program.resolve().parent)
+    programs.need_tools("g++")
     OUT.mkdir(parents=True, exist_ok=True)
     subprocess.run(["g++", "-O2", "-std=c++17", "-Wall", "-Wextra", "-o", OUT / "first", ROOT / "tests" / "first.cpp"], check=True)
     draw = random.Random(args.seed)
     kinds = collections.Counter()
     left = 0
+    progress = Progress("first", args.count)
     for start in range(0, args.count, BATCH):
         designs = [Design(draw) for _ in range(min(BATCH, args.count - start))]
         for design, answer in zip(designs, answers(designs), strict=True):
+            progress.step()
             if answer[0] == "none" and design.most() < design.limit:
                 left += 1
                 continue
@@ -137,7 +145,7 @@ def main():
             if done.stdout != wanted:
                 sys.exit(f"Map says\n{done.stdout}and the first of {answer[1]} networks is\n{wanted}of the sheet\n{design.sheet}")
             count_kinds(design, answer, kinds)
-        print(f"{start + len(designs)} of {args.count}", file=sys.stderr, flush=True)
+    progress.end()
     for kind, count in sorted(kinds.items()):
         print(f"{count} {kind}")
     print(f"first: {args.count - left} designs from seed {args.seed} agree, {left} left out")

@@ -4,8 +4,8 @@ checkout do, whose target/bin/ has them built (cellblif is left out where it has
 COUNT random valid ones, as many of many free inputs, as many damaged, and as many of the first and the last kind in any case (3,000
 unless given); beside each sheet that maps Check and Export are asked of the network, of it with its names in any case, with a table's
 digit turned, with any one byte changed, with a line lost, and cut off. With --small only texts without capitals are asked, and the
-cells in OTHER's BLIF may be C0, C1 and so on, as before names had capitals. The last line counts the answers by kind, and those that
-differ."""
+cells in OTHER's BLIF may be C0, C1 and so on, as where names have small letters alone. The last line counts the answers by kind,
+and those that differ."""
 import argparse
 import collections
 import pathlib
@@ -14,7 +14,10 @@ import re
 import subprocess
 import sys
 
-ROOT = pathlib.Path(__file__).resolve().parent.parent
+import programs
+from progress import Progress
+
+ROOT = programs.ROOT
 sys.path.insert(0, str(ROOT / "tests/reference"))
 import random_sheets  # noqa: E402
 
@@ -61,6 +64,8 @@ def main():
     parser.add_argument("count", nargs="?", type=int, default=3000)
     parser.add_argument("seed", nargs="?", type=int, default=1)
     args = parser.parse_args()
+    programs.need("cellmap", "cellcheck", "cellblif")
+    programs.need("cellmap", folder=args.other.resolve() / "target/bin")
     other, dice = args.other.resolve(), random.Random(args.seed)
     sheets = [p.read_bytes() for d in ("bench/border", "bench/large", "bench/wide", "examples") for p in sorted((ROOT / d).glob("*.sheet"))]
     for _ in range(args.count):
@@ -68,7 +73,9 @@ def main():
         sheets += [*map(random_sheets.text_of, drawn), random_sheets.damaged(dice), random_sheets.mixed(dice), random_sheets.mixed_damaged(dice)]
     of_pairs = [name for name in ("cellcheck", "cellblif") if (other / "target/bin" / name).exists()]
     kinds, differ = collections.Counter(), 0
+    progress = Progress("sheets", len(sheets))
     for sheet in sheets:
+        progress.step()
         asked = [("cellmap", sheet)]
         network = run(ROOT, "cellmap", sheet)
         if network.startswith(b"(network"):
@@ -85,6 +92,7 @@ def main():
             if mine != others:
                 differ += 1
                 print("differs:", program, text[:60])
+    progress.end()
     print("; ".join(f"{k} {n}" for k, n in sorted(kinds.items())))
     print(f"{len(sheets)} sheets, {sum(kinds.values())} answers, {differ} differ")
     return 1 if differ else 0

@@ -11,6 +11,8 @@ import subprocess
 import sys
 
 import border
+import programs
+from progress import Progress
 
 OUT = border.ROOT / "target" / "search"
 BATCH = 1000
@@ -40,10 +42,15 @@ def main():
     parser.add_argument("count", nargs="?", type=int, default=10000)
     parser.add_argument("seed", nargs="?", type=int, default=1)
     args = parser.parse_args()
+    programs.need("border")
+    if not args.reference.is_file():
+        sys.exit(f"search.py needs the source of the reference search, and {args.reference} is not there: --reference FILE")
+    programs.need_tools("g++")
     OUT.mkdir(parents=True, exist_ok=True)
     subprocess.run(["g++", "-O2", "-w", "-o", OUT / "reference", args.reference], check=True)
     draw = random.Random(args.seed)
     passed = left = 0
+    progress = Progress("search", args.count)
     for start in range(0, args.count, BATCH):
         problems = [problem(draw) for _ in range(min(BATCH, args.count - start))]
         done = subprocess.run([OUT / "reference", "CAP=5000000"], input="".join(map(reference_text, problems)), capture_output=True, text=True, check=True)
@@ -55,7 +62,8 @@ def main():
                 sys.exit(f"the reference says {wanted}, the search {cells}:\n{reference_text(p)}")
             else:
                 passed += 1
-        print(f"{start + len(problems)} of {args.count}", file=sys.stderr, flush=True)
+        progress.step(len(problems))
+    progress.end()
     print(f"search: {passed} problems from seed {args.seed} agree, {left} left out")
 
 

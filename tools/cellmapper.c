@@ -223,7 +223,7 @@ static struct mapped search(const struct job *job)
     int shown = start_seconds(&thread);
 
     mapped.number = map_panel(job, &mapped.line, &mapped.cells, &mapped.length);
-    mapped.cause = mapped.number == 8 ? cause_of_panel(job) : 0;
+    mapped.cause = mapped.number == CELLMAPPER_NO_NETWORK ? cause_of_panel(job) : 0;
     if (shown)
         stop_seconds(thread);
     return mapped;
@@ -231,13 +231,13 @@ static struct mapped search(const struct job *job)
 
 /* ---- lines, words and names */
 
-/* A line of a text, counted from 1; empty where there is none. The library finds it as the line of a refusal by 2. */
+/* A line of a text, counted from 1; empty where there is none. The library finds it as the line of a misspelled sheet. */
 static struct part line_of(const struct text *text, size_t line)
 {
     struct part part;
     size_t second, start;
 
-    cellmapper_line(text->bytes, text->length, NULL, 0, 2, line, &second, &start, &part.length);
+    cellmapper_line(text->bytes, text->length, NULL, 0, CELLMAPPER_MISSPELLED, line, &second, &start, &part.length);
     part.bytes = text->bytes + start;
     return part;
 }
@@ -349,13 +349,13 @@ static const char *const pla_spelling[] = {
  * text; the lines of 12 to 14 are those of the PLA text, and are found as lines of a sheet are. */
 static struct place place_of(const struct job *job, uint32_t number, size_t line)
 {
-    int on_board = is_pla(job) && number <= 5 && (number != 4 || line == 1);
+    int on_board = is_pla(job) && number <= CELLMAPPER_NO_SUCH_INPUT && (number != CELLMAPPER_NAME_TWICE || line == 1);
+    size_t as = number >= CELLMAPPER_PLA_MISSPELLED ? CELLMAPPER_MISSPELLED : number;
     const struct text *text = on_board ? &job->board : &job->sheet, *network = &job->network;
     size_t second, start;
     struct place place;
 
-    cellmapper_line(text->bytes, text->length, network->bytes, network->length, number >= 12 ? 2 : number, line, &second, &start,
-                    &place.part.length);
+    cellmapper_line(text->bytes, text->length, network->bytes, network->length, as, line, &second, &start, &place.part.length);
     place.text = second ? network : text;
     place.part.bytes = place.text->bytes + start;
     place.missing = line > 0 && start == place.text->length;
@@ -378,35 +378,35 @@ static const char *reason(const struct job *job, const struct place *place, uint
     if (place->unended)
         return "expected 0x0A at the end of the last line";
     switch (number) {
-    case 1:
+    case CELLMAPPER_BAD_BYTES:
         return "expected 1 to " DIGITS(CELLMAPPER_MAX_SHEET) " bytes, all printable or 0x0A, the last 0x0A";
-    case 2:
+    case CELLMAPPER_MISSPELLED:
         return kinds[kind_of(job, place, line)].misspelled;
-    case 3:
+    case CELLMAPPER_OUT_OF_RANGE:
         if (is_word(place->part, "(end)"))
             return "a panel has at least one output";
         return line == 5 + MAX_OUTPUTS ? "a panel has at most 4 outputs" : kinds[kind_of(job, place, line)].out_of_range;
-    case 4:
+    case CELLMAPPER_NAME_TWICE:
         return kinds[kind_of(job, place, line)].repeated;
-    case 5:
+    case CELLMAPPER_NO_SUCH_INPUT:
         return "a name on this line is not an input";
-    case 7:
+    case CELLMAPPER_TOO_MANY_CLASSES:
         return "a panel has at most 16 global classes";
-    case 9:
+    case CELLMAPPER_SHORT_BUFFER:
         return "the buffer is too short";
-    case 10:
+    case CELLMAPPER_NETWORK_MISSPELLED:
         return line == 0 ? "a network sheet has 1 to " DIGITS(CELLMAPPER_MAX_NETWORK) " bytes"
                          : "expected the lines of a network for this panel, and nothing after (end)";
-    case 11:
+    case CELLMAPPER_NETWORK_TOO_LARGE:
         return is_word(word_of(place->text, line, 0), "lut") ? "more lut lines than the limit"
                                                              : "the node reads more lut lines than its output's width";
-    case 12:
+    case CELLMAPPER_PLA_MISSPELLED:
         return pla_spelling[line < 6 ? line : 6];
-    case 13:
+    case CELLMAPPER_PLA_TOO_LARGE:
         return line == 1 ? "a panel has at most 10 inputs" : "a panel has at most 4 outputs";
-    case 14:
+    case CELLMAPPER_PLA_BAD_DIGIT:
         return "a cube has 0 or 1 for each output";
-    default:
+    default: /* of the other two refuse writes the words */
         return "README.md says what is asked";
     }
 }
@@ -457,9 +457,9 @@ static int refuse(const struct job *job, uint32_t number, size_t line, size_t ca
     fprintf(stderr, ": refused by %u: ", (unsigned)number);
     if (place.missing)
         fputs("the line is missing; ", stderr);
-    if (number == 6)
+    if (number == CELLMAPPER_NO_SUCH_OUTPUT)
         fprintf(stderr, "there is no output %s", job->words[1]);
-    else if (number == 8)
+    else if (number == CELLMAPPER_NO_NETWORK)
         tell_cause(job, cause);
     else
         fputs(reason(job, &place, number, line), stderr);
@@ -475,7 +475,7 @@ static int run_map(const struct job *job)
 {
     struct mapped mapped = search(job);
 
-    if (mapped.number != 0)
+    if (mapped.number != CELLMAPPER_OK)
         return refuse(job, mapped.number, mapped.line, mapped.cause);
     fwrite(network_buffer, 1, mapped.length, stdout);
     return DONE;
@@ -502,7 +502,7 @@ static int run_check(const struct job *job)
     uint32_t number = check_panel(job, &line, &differs, &output, &row);
     int wanted;
 
-    if (number != 0)
+    if (number != CELLMAPPER_OK)
         return refuse(job, number, line, 0);
     if (!differs) {
         puts("same");
@@ -523,7 +523,7 @@ static int run_table(const struct job *job)
     size_t line, written;
     uint32_t number = table_of_panel(job, output_number(job, job->words[1]), &line, &written);
 
-    if (number != 0)
+    if (number != CELLMAPPER_OK)
         return refuse(job, number, line, 0);
     fwrite(table_buffer, 1, written, stdout);
     putchar('\n');
@@ -559,7 +559,7 @@ static int run_export(const struct job *job)
     uint32_t number = cellmapper_export(sheet->bytes, sheet->length, network->bytes, network->length, blif_buffer,
                                         sizeof blif_buffer, &line, &length);
 
-    if (number != 0)
+    if (number != CELLMAPPER_OK)
         return refuse(job, number, line, 0);
     if (job->abc)
         print_for_abc(length);
@@ -575,7 +575,7 @@ static int run_why(const struct job *job)
     if (job->network.name != NULL)
         return run_check(job);
     mapped = search(job);
-    if (mapped.number != 0)
+    if (mapped.number != CELLMAPPER_OK)
         return refuse(job, mapped.number, mapped.line, mapped.cause);
     printf("%s: maps with %zu cell%s; the limit is ", job->sheet.name, mapped.cells, mapped.cells == 1 ? "" : "s");
     print_part(stdout, limit_of(job));

@@ -15,7 +15,7 @@ static void print_tables(size_t sheet_len)
 {
     size_t output, line, written;
 
-    for (output = 0; cellmapper_table(sheet, sheet_len, output, table, sizeof table, &line, &written) == 0; output++)
+    for (output = 0; cellmapper_table(sheet, sheet_len, output, table, sizeof table, &line, &written) == CELLMAPPER_OK; output++)
         printf("output %zu: %.*s\n", output, (int)written, (const char *)table);
 }
 
@@ -25,7 +25,7 @@ static int print_blif(size_t sheet_len, size_t network_len)
     uint32_t number = cellmapper_export(sheet, sheet_len, network, network_len, blif, sizeof blif, &line, &length);
 
     printf("%zu bytes in BLIF:\n%.*s", length, (int)length, (const char *)blif);
-    return number == 0;
+    return number == CELLMAPPER_OK;
 }
 
 static int print_check(const char *what, size_t sheet_len, size_t network_len)
@@ -33,13 +33,13 @@ static int print_check(const char *what, size_t sheet_len, size_t network_len)
     size_t line, differs, output, row;
     uint32_t number = cellmapper_check(sheet, sheet_len, network, network_len, &line, &differs, &output, &row);
 
-    if (number != 0)
+    if (number != CELLMAPPER_OK)
         printf("%s: refused %u line %zu\n", what, (unsigned)number, line);
     else if (differs)
         printf("%s: differs, output %zu row %zu\n", what, output, row);
     else
         printf("%s: same\n", what);
-    return number == 0 && !differs;
+    return number == CELLMAPPER_OK && !differs;
 }
 
 static void print_refusal(size_t sheet_len, uint32_t number, size_t line)
@@ -72,7 +72,7 @@ int main(int argc, char **argv)
 
     print_tables(sheet_len);
     number = cellmapper_map(sheet, sheet_len, network, sizeof network, &line, &cells, &length);
-    if (number != 0) {
+    if (number != CELLMAPPER_OK) {
         print_refusal(sheet_len, number, line);
         return 0;
     }

@@ -21,11 +21,13 @@ import tools
 
 ROOT = pathlib.Path(__file__).resolve().parents[2]
 FOLDER = ROOT / "target/blif"
-sys.path.insert(0, str(ROOT / "tests/reference"))
+sys.path[:0] = [str(ROOT / folder) for folder in ("tests/reference", "tests")]
 import cellref  # noqa: E402
 import random_sheets  # noqa: E402
+import sheets_to_try  # noqa: E402
+from progress import Progress  # noqa: E402
 
-A = b"(design 1)\n(in a b c d)\n(bound a b c)\n(limit 2)\n(out f (xor a b c d))\n(out g (and (xor a b c) d))\n(end)\n"
+A = sheets_to_try.sheet("a")
 TOOLS = {"ABC": tools.abc, "Yosys": tools.yosys}
 
 
@@ -91,6 +93,7 @@ def ask(questions, wanted):
     for name, tool in TOOLS.items():
         folder = FOLDER / name
         folder.mkdir(exist_ok=True)
+        print(f"blif: {name} on {len(questions)} texts", file=sys.stderr, flush=True)
         start = time.monotonic()
         try:
             answers = tool(questions, folder)
@@ -153,6 +156,7 @@ def mapped_cases(dice, count):
     examples = len(cases)
     if not examples:
         fail("no example sheet maps")
+    progress = Progress("blif: random sheets mapped", count)
     while len(cases) < examples + count:
         sheet = random_sheets.mixed(dice)
         network = program("bin/cellmap", sheet)
@@ -160,6 +164,8 @@ def mapped_cases(dice, count):
             refusals[network.split()[1].decode()] += 1
         else:
             cases.append(Case(f"mapped-{len(cases) - examples}", sheet, network))
+            progress.step()
+    progress.end()
     by = ", ".join(f"{n} by {number}" for number, n in sorted(refusals.items()))
     print(f"Map: networks of {examples} examples and {count} random sheets; refused {by}", flush=True)
     return cases
@@ -215,12 +221,16 @@ def longest_case():
 def other_cases(dice, mapped, count):
     """Networks that are not Map's"""
     cases = [longest_case()]
+    progress = Progress("blif: other networks", count + count // 2)
     for number in range(count):
         sheet = random_sheets.mixed(dice)
         cases.append(Case(f"drawn-{number}", sheet, drawn_network(dice, cellref.examine(sheet))))
+        progress.step()
     for number in range(count // 2):
         case = dice.choice(mapped)
         cases.append(Case(f"complemented-{number}", case.sheet, complemented_network(dice, case)))
+        progress.step()
+    progress.end()
     same = sum(case.same for case in cases)
     print(f"others: {len(cases)} networks, {same} the same as their sheet and {len(cases) - same} that differ", flush=True)
     if same in (0, len(cases)):

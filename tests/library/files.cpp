@@ -15,16 +15,18 @@
 #include <fstream>
 #include <sstream>
 
+std::string contents(const std::string &path)
+{
+    std::ifstream file(path, std::ios::binary);
+    expect(file.is_open(), "the file " + path + " is there", "");
+    std::ostringstream all;
+    all << file.rdbuf();
+    return all.str();
+}
+
 namespace {
 
 const size_t AMPLE = 8192;
-
-std::string contents(const std::filesystem::path &path)
-{
-    std::ostringstream all;
-    all << std::ifstream(path, std::ios::binary).rdbuf();
-    return all.str();
-}
 
 // Map's answer, refusal 8 or a network to which Check must say "same".
 Mapped mapped(const std::string &sheet)
@@ -70,10 +72,10 @@ size_t networks(const char *folder)
         if (path.extension() != ".sheet")
             continue;
         sheets++;
-        std::string sheet = contents(path);
+        std::string sheet = contents(path.string());
         Mapped m = mapped(sheet);
         if (std::filesystem::exists(path.replace_extension(".network"))) {
-            expect(m.number == 0 && m.network == contents(path), "Map's network is that of " + path.string(), sheet, m.network);
+            expect(m.number == 0 && m.network == contents(path.string()), "Map's network is that of " + path.string(), sheet, m.network);
             letters_in_the_other_case(sheet, m.network);
         } else {
             expect(m.number == 8, "a sheet without a network is refused by 8", sheet, m.network);
@@ -91,11 +93,11 @@ size_t plas(const char *folder)
         if (path.extension() != ".pla")
             continue;
         panels++;
-        std::string pla = contents(path), board = contents(path.replace_extension(".board"));
-        Panel as_pla(Source(pla, board)), sheet(contents(path.replace_extension(".sheet")));
+        std::string pla = contents(path.string()), board = contents(path.replace_extension(".board").string());
+        Panel as_pla(Source(pla, board)), sheet(contents(path.replace_extension(".sheet").string()));
         expect(as_pla.refusal.number == 0 && sheet.refusal.number == 0, "the panel of " + path.string() + " is valid", as_pla.source);
         std::string network = compare_both_ways(sheet, as_pla, 0);
-        expect(network == contents(path.replace_extension(".network")), "Map's network is that of " + path.string(), as_pla.source, network);
+        expect(network == contents(path.replace_extension(".network").string()), "Map's network is that of " + path.string(), as_pla.source, network);
         check_both_ways(sheet, as_pla, network);
         cause_both_ways(sheet, 0, as_pla);
     }

@@ -10,9 +10,11 @@
 #include "lines.h"
 #include "worked.h"
 
+#include <chrono>
 #include <cstdio>
 #include <cstdlib>
 #include <set>
+#include <unistd.h>
 
 namespace {
 
@@ -117,13 +119,21 @@ void one_pair_of_texts(Generator &random)
     compare_lines(sheet, network, all_named(sheet, network));
 }
 
+// How many cases are done: on a terminal a counter that is written over, elsewhere a line every few seconds.
 void all_cases(const char *what, unsigned long cases, Generator &random, void (*one)(Generator &))
 {
+    typedef std::chrono::steady_clock Clock;
+    const bool terminal = isatty(STDERR_FILENO);
+    const auto pause = std::chrono::milliseconds(terminal ? 100 : 5000);
+    Clock::time_point next = Clock::now() + pause;
     for (unsigned long i = 0; i < cases; i++) {
-        if (i % 10000 == 0)
-            fprintf(stderr, "library: %lu of %lu %s\n", i, cases, what);
         one(random);
+        if (Clock::now() < next)
+            continue;
+        next = Clock::now() + pause;
+        fprintf(stderr, "%slibrary: %lu of %lu %s, %lu %%%s", terminal ? "\r" : "", i + 1, cases, what, 100 * (i + 1) / cases, terminal ? " " : "\n");
     }
+    fprintf(stderr, "%slibrary: %lu %s done%s\n", terminal ? "\r" : "", cases, what, terminal ? "                    " : "");
 }
 
 // Prints how often each answer came, and of networks that Check compares how many were the same; each must have come.

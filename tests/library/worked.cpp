@@ -6,10 +6,12 @@
 
 #include "calls.h"
 #include "cellmapper.h"
+#include "files.h"
 
 #include <algorithm>
 #include <cstdint>
 #include <pthread.h>
+#include <sstream>
 #include <vector>
 
 namespace {
@@ -35,22 +37,22 @@ std::string sheet(const std::string &inputs, const std::string &bound, const std
     return text(lines);
 }
 
-const std::string A = sheet("a b c d", "a b c", "2", {"(xor a b c d)", "(and (xor a b c) d)"});
-const Lines NETWORK_LINES = {"(network 1)", "(lut _0 (a b c) 01101001)", "(node f (_0 d) 0110)", "(node g (_0 d) 0001)", "(count 1)", "(end)"};
-const std::string NETWORK = text(NETWORK_LINES);
-
-// The network of tables over the bound inputs, and a node's list and digits for each output.
-std::string network(const std::string &bound, const Lines &luts, const Lines &nodes)
+std::string file(const std::string &name)
 {
-    Lines lines = {"(network 1)"};
-    for (size_t i = 0; i < luts.size(); i++)
-        lines.push_back("(lut _" + std::to_string(i) + " (" + bound + ") " + luts[i] + ")");
-    for (size_t i = 0; i < nodes.size(); i++)
-        lines.push_back(std::string("(node ") + "fghijk"[i] + " " + nodes[i] + ")");
-    lines.push_back("(count " + std::to_string(luts.size()) + ")");
-    lines.push_back("(end)");
-    return text(lines);
+    return contents("tests/sheets/" + name);
 }
+
+Lines lines_of(const std::string &all)
+{
+    std::istringstream stream(all);
+    Lines lines;
+    for (std::string line; std::getline(stream, line);)
+        lines.push_back(line);
+    return lines;
+}
+
+const std::string A = file("a.sheet"), NETWORK = file("a.network");
+const Lines NETWORK_LINES = lines_of(NETWORK);
 
 // A's network with one line for another; an empty line takes it out.
 std::string with(size_t line, const std::string &other)
@@ -165,35 +167,70 @@ void all_refuse(const std::string &s, unsigned number, size_t line)
     expect(call_cause(s) == 0, "a sheet that is refused by another number than 8 has no cause", s);
 }
 
+Lines words_of(std::istream &stream)
+{
+    Lines words;
+    for (std::string word; stream >> word;)
+        words.push_back(word);
+    return words;
+}
+
+size_t number_at(const Lines &words, size_t place)
+{
+    return std::stoull(words.at(place));
+}
+
+// A line of tests/sheets/ANSWERS: a number of cells; inf and the outputs that are the cause; or refused N line L.
+void map_answers(const std::string &name, const Lines &wanted)
+{
+    const std::string s = file(name + ".sheet");
+    size_t cause = 0;
+    if (wanted.at(0) == "inf") {
+        for (size_t i = 1; i < wanted.size(); i++)
+            cause |= size_t(1) << number_at(wanted, i);
+        lacks_cells(s, cause);
+    } else if (wanted[0] != "refused") {
+        maps_to(s, number_at(wanted, 0), file(name + ".network"));
+    } else if (number_at(wanted, 1) <= 5) {
+        all_refuse(s, unsigned(number_at(wanted, 1)), number_at(wanted, 3));
+    } else {
+        map_refuses(s, unsigned(number_at(wanted, 1)), number_at(wanted, 3));
+        expect(call_cause(s) == 0, "another refusal than 8 has no cause", s);
+    }
+}
+
+// Check's answer: same; differs output O row R; or refused N line L.
+void check_answers(const std::string &s, const std::string &n, const Lines &wanted)
+{
+    if (wanted.at(0) == "same")
+        same(s, n);
+    else if (wanted[0] == "differs")
+        differs_at(s, n, number_at(wanted, 2), number_at(wanted, 4));
+    else
+        both_refuse(s, n, unsigned(number_at(wanted, 1)), number_at(wanted, 3));
+}
+
 void sheets_to_try()
 {
-    maps_to(A, 1, NETWORK);
+    size_t answers = 0;
+    for (const std::string &line : lines_of(file("ANSWERS"))) {
+        std::istringstream stream(line);
+        std::string name;
+        stream >> name;
+        map_answers(name, words_of(stream));
+        answers++;
+    }
+    for (const std::string &line : lines_of(file("CHECKS"))) {
+        std::istringstream stream(line);
+        std::string name, network;
+        stream >> name >> network;
+        check_answers(file(name + ".sheet"), file(network + ".network"), words_of(stream));
+        answers++;
+    }
+    expect(answers >= 29, "there are 29 answers in tests/sheets", "");
     expect(call_map(A, 96).number == 0 && call_map(A, 95).number == 9, "sheet B", A);
     tables_to(A, 0, "0110100110010110");
     tables_to(A, 1, "0001010001000001");
-    const Lines c = {"(xor a c)", "(xor b c)"}, d = {"(xor a c)", "(xor b c)", "(xor a b c)"};
-    lacks_cells(sheet("a b c", "a b", "1", c), 0b11);
-    maps_to(sheet("a b c", "a b", "2", c), 2, network("a b", {"0011", "0101"}, {"(_0 c) 0110", "(_1 c) 0110"}));
-    lacks_cells(sheet("a b c", "a b", "2", d), 0b111);
-    maps_to(sheet("a b c", "a b", "3", d), 3, network("a b", {"0011", "0101", "0110"}, {"(_0 c) 0110", "(_1 c) 0110", "(_2 c) 0110"}));
-    const Lines e = {"(or (and a c) (and b d))", "(xor a b c)"};
-    maps_to(sheet("a b c d", "a b", "2", e), 2, network("a b", {"0011", "0110"}, {"(_0 _1 c d) 0000010101110011", "(_1 c d) 00111100"}));
-    maps_to(sheet("a b c d", "a b", "0", {"(or c d)"}), 0, network("a b", {}, {"(c d) 0111"}));
-    const Lines g = {"(or (and a b c) (and (xor a b) d))"};
-    lacks_cells(sheet("a b c d", "a b", "1", g), 0b1);
-    maps_to(sheet("a b c d", "a b", "2", g), 2, network("a b", {"0001", "0110"}, {"(_0 _1 c d) 0000010100110000"}));
-    maps_to(sheet("a b", "a b", "1", {"(and a b)"}), 1, network("a b", {"0001"}, {"(_0) 01"}));
-    const Lines i = {"(or (and a x) (and e y))", "(xor b x)", "(xor c x)"};
-    const Lines i_tables = {"00000000000000001111111111111111", "00000000111111110000000011111111", "00001111000011110000111100001111",
-        "01010101010101010101010101010101"};
-    const Lines i_nodes = {"(_0 _3 x y) 0000010100110111", "(_1 x y) 00111100", "(_2 x y) 00111100"};
-    maps_to(sheet("a b c d e x y", "a b c d e", "4", i), 4, network("a b c d e", i_tables, i_nodes));
-    lacks_cells(sheet("a b c d e x y", "a b c d e", "3", i), 0b111);
-    const std::string many = sheet("a b c d e x y", "a b c d e", "0", {i[0], i[1], i[2], "(xor d x)"});
-    map_refuses(many, 7, 0);
-    expect(call_cause(many) == 0, "refusal 7 has no cause", many);
-    differs_at(A, with(4, "(node g (_0 d) 0011)"), 1, 2);
-    same(A, text({"(network 1)", "(lut _0 (a b c) 10010110)", "(node f (_0 d) 1001)", "(node g (_0 d) 0100)", "(count 1)", "(end)"}));
 }
 
 // Of as many outputs the earlier set (clause 11.7).
@@ -224,7 +261,7 @@ void part_is(const std::string &s, const std::string &n, Named named, size_t sec
 
 void lines_to_try()
 {
-    const Lines of_a = {"(design 1)", "(in a b c d)", "(bound a b c)", "(limit 2)", "(out f (xor a b c d))", "(out g (and (xor a b c) d))", "(end)"};
+    const Lines of_a = lines_of(A);
     const size_t starts[] = {0, 11, 24, 38, 48, 70, 98}, network_starts[] = {0, 12, 38, 59, 80, 90};
     for (size_t number : {2, 3, 4, 5}) {
         for (size_t line = 1; line <= 7; line++)
@@ -260,90 +297,58 @@ void lines_to_try()
     part_is(std::string(4096, '\n') + "z", "", {2, 4097}, 0, 4096, "z");
 }
 
-std::string nested(size_t depth, const std::string &inside)
+// ---- the cases of tests/reference/
+
+// The texts of a case, and the words of the answer.
+struct Case {
+    Lines texts;
+    Lines answer;
+};
+
+// A case is a line with the lengths of its texts and the answer, the texts one after another, and 0x0A.
+std::vector<Case> cases(const std::string &kind, size_t texts)
 {
-    std::string f = inside;
-    for (size_t i = 0; i < depth; i++)
-        f = "(not " + f + ")";
-    return f;
+    const std::string all = contents("target/tests/library/cases/" + kind);
+    std::vector<Case> found;
+    for (size_t at = 0; at < all.size(); at++) {
+        const size_t end = all.find('\n', at);
+        std::istringstream head(all.substr(at, end - at));
+        Case one;
+        at = end + 1;
+        for (size_t count = 0; count < texts; count++) {
+            size_t length;
+            head >> length;
+            one.texts.push_back(all.substr(at, length));
+            at += length;
+        }
+        one.answer = words_of(head);
+        found.push_back(one);
+    }
+    return found;
 }
 
-void refusals_by_the_sheet()
+// Table's cases: the output, the room, and refused N line L or written K DIGITS.
+void cases_of_sheets()
 {
-    all_refuse("", 1, 0);
-    all_refuse(A.substr(0, A.size() - 1), 1, 0);
-    all_refuse(A + std::string(1, '\0') + "\n", 1, 0);
-    all_refuse(std::string(4096, ' ') + "\n", 1, 0);
-    all_refuse(std::string(4095, ' ') + "\n", 2, 1);
-    all_refuse("\n", 2, 1);
-    all_refuse("(design 1)\n", 2, 2);
-    all_refuse("(design 2)\n", 2, 1);
-    all_refuse(A + "(end)\n", 2, 8);
-    all_refuse(A + "\n", 2, 8);
-    all_refuse(sheet("a  b", "a", "1", {"a"}), 2, 2);
-    all_refuse(sheet("a and", "a", "1", {"a"}), 2, 2);
-    all_refuse(sheet("a", "a", "07", {"a"}), 2, 4);
-    all_refuse(sheet("a b", "a", "1", {"(and a)"}), 2, 5);
-    all_refuse(sheet("a b", "a", "1", {"(and(not a) b)"}), 2, 5);
-    all_refuse(sheet("a", "a", "1", {nested(600, "2")}), 2, 5);
-    all_refuse(text({"(design 1)", "(in)", "(bound a)", "(limit 1)", "(out f a)", "(end)"}), 3, 2);
-    all_refuse(sheet("a b c d e f0 g0 h0 i0 j0 k0", "a", "1", {"a"}), 3, 2);
-    all_refuse(sheet("a b c d e x", "a b c d e x", "1", {"a"}), 3, 3);
-    all_refuse(sheet("a b", "a b", "7", {"(xor a b)"}), 3, 4);
-    all_refuse(sheet("a", "a", "999", {"a"}), 3, 4);
-    all_refuse(sheet("a", "a", "1", {nested(33, "a")}), 3, 5);
-    all_refuse(sheet("a", "a", "1", {nested(600, "a")}), 3, 5);
-    tables_to(sheet("a", "a", "1", {nested(32, "a")}), 0, "01");
-    all_refuse(sheet("a", "a", "1", {}), 3, 5);
-    all_refuse(sheet("a", "a", "1", {"a", "a", "a", "a", "a"}), 3, 9);
-    all_refuse(sheet("a b a", "a", "1", {"a"}), 4, 2);
-    all_refuse(sheet("a b", "b b", "1", {"a"}), 4, 3);
-    all_refuse(sheet("f", "f", "1", {"f"}), 4, 5);
-    all_refuse(text({"(design 1)", "(in a)", "(bound a)", "(limit 1)", "(out f a)", "(out f a)", "(end)"}), 4, 6);
-    all_refuse(sheet("a b", "c", "1", {"a"}), 5, 3);
-    all_refuse(sheet("a b", "a", "1", {"(or a c)"}), 5, 5);
-    all_refuse(sheet("a b", "a", "1", {"a", "f"}), 5, 6);
-    table_refuses(A, 2, 6, 0);
-    table_refuses(A, SIZE_MAX, 6, 0);
+    for (const Case &one : cases("sheets", 1)) {
+        const std::string &s = one.texts[0];
+        const size_t output = number_at(one.answer, 0);
+        Tabled t = call_table(s, output, number_at(one.answer, 1));
+        if (one.answer.at(2) == "written") {
+            expect(t.number == 0 && t.digits == one.answer.at(4), "Table's digits of a case", s);
+            tables_to(s, output, t.digits);
+        } else {
+            expect(t.number == number_at(one.answer, 3) && t.line == number_at(one.answer, 5), "Table refuses a case by another number or line", s);
+            if (t.number <= 5)
+                all_refuse(s, t.number, t.line);
+        }
+    }
 }
 
-void refusals_by_the_network()
+void cases_of_networks()
 {
-    same(A, NETWORK);
-    both_refuse(A, "", 10, 0);
-    both_refuse(A, std::string(8193, '0'), 10, 0);
-    both_refuse(A, std::string(8192, '0'), 10, 1);
-    both_refuse(A, "\n", 10, 1);
-    both_refuse(A, NETWORK.substr(0, NETWORK.size() - 1), 10, 6);
-    both_refuse(A, NETWORK + "(end)\n", 10, 7);
-    both_refuse(A, NETWORK + "\n", 10, 7);
-    both_refuse(A, with(6, ""), 10, 6);
-    both_refuse(A, with(1, "(network 2)"), 10, 1);
-    both_refuse(A, with(2, ""), 10, 2);
-    both_refuse(A, with(2, "(lut _1 (a b c) 01101001)"), 10, 2);
-    both_refuse(A, with(2, "(lut _0 (a c b) 01101001)"), 10, 2);
-    both_refuse(A, with(2, "(lut _0 (a b c) 0110100)"), 10, 2);
-    both_refuse(A, with(3, "(node f (d _0) 0110)"), 10, 3);
-    both_refuse(A, with(3, "(node f (_1 d) 0110)"), 10, 3);
-    both_refuse(A, with(3, "(node f (_0 d) 0120)"), 10, 3);
-    both_refuse(A, with(3, "(node g (_0 d) 0110)"), 10, 3);
-    both_refuse(A, with(5, "(count 2)"), 10, 5);
-    both_refuse(A, with(5, "(count 01)"), 10, 5);
-    const Lines luts = {"(lut _1 (a b c) 00000000)", "(lut _2 (a b c) 11111111)"};
-    const Lines three = {NETWORK_LINES[0], NETWORK_LINES[1], luts[0], luts[1], NETWORK_LINES[2], NETWORK_LINES[3], "(count 3)", "(end)"};
-    both_refuse(A, text(three), 11, 4);
-    const Lines wide = {NETWORK_LINES[0], NETWORK_LINES[1], luts[0], NETWORK_LINES[2], "(node g (_0 _1 d) 00000001)", "(count 2)", "(end)"};
-    both_refuse(A, text(wide), 11, 5);
-    const Lines spare = {NETWORK_LINES[0], NETWORK_LINES[1], luts[0], NETWORK_LINES[2], NETWORK_LINES[3], "(count 2)", "(end)"};
-    same(A, text(spare));
-    same(sheet("c d", "c", "1", {"d"}), text({"(network 1)", "(node f (d) 01)", "(count 0)", "(end)"}));
-    same(sheet("a", "a", "0", {"1"}), text({"(network 1)", "(node f () 1)", "(count 0)", "(end)"}));
-    differs_at(sheet("a", "a", "0", {"1"}), text({"(network 1)", "(node f () 0)", "(count 0)", "(end)"}), 0, 0);
-    const std::string ten = sheet("a b c d e v w x y z", "e a", "2", {"(and a b c d e v w x y z)"});
-    std::string digits(1024, '0');
-    digits.back() = '1';
-    tables_to(ten, 0, digits);
-    differs_at(ten, text({"(network 1)", "(node f (b c d v w x y z) " + std::string(256, '0') + ")", "(count 0)", "(end)"}), 0, 1023);
+    for (const Case &one : cases("networks", 2))
+        check_answers(one.texts[0], one.texts[1], one.answer);
 }
 
 void texts_in_blif()
@@ -390,72 +395,31 @@ void longest_text_in_blif()
 // ---- names in either case
 
 // Sheet A with capitals, and Map's network of it, which has each name as the sheet gives it first.
-const std::string MIXED = text({"(design 1)", "(in A B C d)", "(bound a B c)", "(limit 2)", "(out f (xor a b C D))", "(out G (and (xor A b c) d))", "(end)"});
-const std::string MIXED_NETWORK = text({"(network 1)", "(lut _0 (A B C) 01101001)", "(node f (_0 d) 0110)", "(node G (_0 d) 0001)", "(count 1)", "(end)"});
+const std::string MIXED = file("capitals.sheet"), MIXED_NETWORK = file("capitals.network");
 
 void names_in_either_case()
 {
-    maps_to(MIXED, 1, MIXED_NETWORK);
     tables_to(MIXED, 1, "0001010001000001");
-    const std::string other = text({"(network 1)", "(lut _0 (A b C) 01101001)", "(node F (_0 D) 0110)", "(node g (_0 d) 0011)", "(count 1)", "(end)"});
-    for (const std::string &s : {A, MIXED}) {
-        same(s, NETWORK);
-        same(s, MIXED_NETWORK);
-        differs_at(s, other, 1, 2);
-    }
     const Lines head = {".model panel", ".inputs A B C d", ".outputs f G"}, cell = {".names A B C CC_0", "001 1", "010 1", "100 1", "111 1"};
     for (const std::string &n : {NETWORK, MIXED_NETWORK})
         exports_to(MIXED, n, {head, cell, {".names CC_0 d f", "01 1", "10 1", ".names CC_0 d G", "11 1", ".end"}});
-    for (const char *keyword : {"network", "lut", "node", "count", "end"}) {
-        std::string n = NETWORK;
-        const size_t at = n.find(keyword);
-        n[at] = char(n[at] - 'a' + 'A');
-        both_refuse(A, n, 10, 1 + size_t(std::count(n.begin(), n.begin() + long(at), '\n')));
-    }
     tables_to(sheet("And1 NOTE xOrs", "note aNd1", "2", {"(or AND1 (and NOTe XORS))"}), 0, "00011111");
-    all_refuse(sheet("a A", "a", "1", {"a"}), 4, 2);
-    all_refuse(sheet("abcDEFgh b ABCdefGH", "b", "1", {"b"}), 4, 2);
-    all_refuse(sheet("a b", "a A", "1", {"a"}), 4, 3);
-    all_refuse(sheet("F a", "a", "1", {"a"}), 4, 5);
-    all_refuse(text({"(design 1)", "(in a)", "(bound A)", "(limit 1)", "(out f a)", "(out F A)", "(end)"}), 4, 6);
-    all_refuse(sheet("a b", "A C", "1", {"a"}), 5, 3);
-    all_refuse(sheet("a b", "a", "1", {"(or A C)"}), 5, 5);
-    for (const char *word : {"Not", "AND", "oR", "Xor"}) {
-        const std::string w = word;
-        all_refuse(sheet("a " + w, "a", "1", {"a"}), 2, 2);
-        all_refuse(sheet("a", w, "1", {"a"}), 2, 3);
-        all_refuse(sheet("a b", "a", "1", {w}), 2, 5);
-        all_refuse(sheet("a b", "a", "1", {"(" + w + (w == "Not" ? " a)" : " a b)")}), 2, 5);
-        all_refuse(text({"(design 1)", "(in a)", "(bound a)", "(limit 1)", "(out " + w + " a)", "(end)"}), 2, 5);
-    }
 }
 
 // ---- PLA texts
 
-const std::string BOARD = "(bound a b c)\n(limit 2)\n";
+const std::string BOARD = file("a.board");
 
-// A PLA text with a second text: the lines before `.p`, the cubes, and a number of cubes where it is not theirs.
-Source pla(const Lines &head, const Lines &cubes, const std::string &board = BOARD, const std::string &count = "")
+// A PLA text with a second text: the lines before `.p`, and the cubes.
+Source pla(const Lines &head, const Lines &cubes, const std::string &board = BOARD)
 {
-    return Source(text(head) + text({".p " + (count.empty() ? std::to_string(cubes.size()) : count)}) + text(cubes) + ".e\n", board);
+    return Source(text(head) + text({".p " + std::to_string(cubes.size())}) + text(cubes) + ".e\n", board);
 }
 
-// Sheet A as PLA.
-const Lines A_HEAD = {".i 4", ".o 2", ".ilb a b c d", ".ob f g"};
-const Lines A_CUBES = {"0001 10", "0010 10", "0100 10", "0111 10", "1000 10", "1011 10", "1101 10", "1110 10", "0011 01", "0101 01", "1001 01", "1111 01"};
-const Source A_PLA = pla(A_HEAD, A_CUBES);
-const size_t A_END = 18;
-
-// A with one line for another.
-Source pla_with(size_t line, const std::string &other, const std::string &board = BOARD)
-{
-    Lines lines = A_HEAD;
-    lines.push_back(".p 12");
-    lines.insert(lines.end(), A_CUBES.begin(), A_CUBES.end());
-    lines.push_back(".e");
-    lines[line - 1] = other;
-    return Source(text(lines), board);
-}
+// Sheet A as PLA: the four lines before `.p`, and the cubes from line 6 on.
+const Source A_PLA(file("a.pla"), BOARD);
+const Lines A_LINES = lines_of(A_PLA.text);
+const Lines A_HEAD(A_LINES.begin(), A_LINES.begin() + 4), A_CUBES(A_LINES.begin() + 5, A_LINES.end() - 1);
 
 // A refusal of the two texts, by all three.
 void pla_refuses(const Source &source, unsigned number, size_t line)
@@ -474,18 +438,25 @@ void pla_refuses(const Source &source, unsigned number, size_t line)
     }
 }
 
-// A with cubes for no output and a first name so long that it has so many bytes.
-Source sized_pla(size_t size)
+// Map's cases of PLA texts: refused N line L, or the network.
+void cases_of_plas()
 {
-    for (size_t more = 0;; more++) {
-        Lines head = A_HEAD, cubes = A_CUBES;
-        const std::string name = "a" + std::string(more, 'x');
-        head[2] = ".ilb " + name + " b c d";
-        const std::string board = "(bound " + name + " b c)\n(limit 2)\n";
-        cubes.resize((size - pla(head, {}, board, "1000").text.size()) / 8, "---- 00");
-        Source source = pla(head, cubes, board);
-        if (source.text.size() == size)
-            return source;
+    for (const Case &one : cases("plas", 3)) {
+        const Source source(one.texts[0], one.texts[1]);
+        const std::string &network = one.texts[2];
+        const size_t number = one.answer.at(0) == "refused" ? number_at(one.answer, 1) : 0;
+        if (number == 7 || number == 8) {
+            expect(call_map(source, 0).number == number && call_map(source, AMPLE).number == number, "Map refuses a case by another number", source);
+            expect((call_cause(source) != 0) == (number == 8), "there is a cause where Map refuses by 8", source);
+        } else if (number != 0) {
+            pla_refuses(source, unsigned(number), number_at(one.answer, 3));
+        } else {
+            for (size_t room : {network.size(), AMPLE})
+                expect(call_map(source, room).network == network, "Map's network of a case\n" + network, source);
+            expect(call_map(source, network.size() - 1).number == 9, "Map of a case in a buffer one byte short", source);
+            Checked c = call_check(source, network);
+            expect(c.number == 0 && c.differs == 0, "Check on the network of a case", source, network);
+        }
     }
 }
 
@@ -505,15 +476,14 @@ void plas_to_try()
     expect(c.number == 0 && c.differs == 1 && c.output == 1 && c.row == 2, "Check of sheet A as PLA, sheet J", A_PLA);
     c = call_check(A_PLA, with(5, "(count 2)"));
     expect(c.number == 10 && c.line == 5, "Check of sheet A as PLA, a bad network", A_PLA);
-    c = call_check(pla_with(1, ".i 4", "(bound a b c)\n(limit 0)\n"), NETWORK);
-    expect(c.number == 11 && c.line == 2, "Check of sheet A as PLA, no cells", A_PLA);
-    const Source no_cells = pla_with(1, ".i 4", "(bound a b c)\n(limit 0)\n");
+    const Source no_cells(A_PLA.text, "(bound a b c)\n(limit 0)\n");
+    c = call_check(no_cells, NETWORK);
+    expect(c.number == 11 && c.line == 2, "Check of sheet A as PLA, no cells", no_cells);
     expect(call_map(no_cells, 0).number == 8 && call_cause(no_cells) == 1, "Map of sheet A as PLA, no cells", no_cells);
     expect(call_cause(A_PLA) == 0, "sheet A as PLA has no cause", A_PLA);
     const Source none = pla(A_HEAD, {}), ones = pla(A_HEAD, {"---- 11"});
     expect(call_table(none, 0, 16).digits == std::string(16, '0'), "Table without cubes", none);
     expect(call_table(ones, 1, 16).digits == std::string(16, '1'), "Table of a cube without literals", ones);
-    expect(call_map(sized_pla(32768), AMPLE).cells == 1, "Map of 32,768 bytes", sized_pla(32768));
     const Lines ten = {".i 10", ".o 4", ".ilb a b c d e v w x y z", ".ob f g h i"};
     const Source wide = pla(ten, {"1-1111111- 1001", "---------1 0010"}, "(bound e a)\n(limit 2)\n");
     std::string digits(1024, '0');
@@ -533,16 +503,6 @@ void names_of_pla_in_either_case()
         Checked c = call_check(mixed, n);
         expect(c.number == 0 && c.differs == 0, "Check of sheet A as PLA with capitals", mixed, n);
     }
-    for (const char *names : {".ilb a b c Xor", ".ilb a NOT c d", ".ILB a b c d"})
-        pla_refuses(pla_with(3, names), 12, 3);
-    for (const char *names : {".ob f And", ".ob oR g", ".Ob f g"})
-        pla_refuses(pla_with(4, names), 12, 4);
-    pla_refuses(Source(A_PLA.text, "(bound a b And)\n(limit 2)\n"), 2, 1);
-    pla_refuses(pla_with(3, ".ilb a b c A"), 4, 3);
-    pla_refuses(pla_with(4, ".ob f D"), 4, 4);
-    pla_refuses(pla_with(4, ".ob f F"), 4, 4);
-    pla_refuses(Source(A_PLA.text, "(bound a b A)\n(limit 2)\n"), 4, 1);
-    pla_refuses(Source(A_PLA.text, "(bound A E)\n(limit 2)\n"), 5, 1);
 }
 
 void causes_of_pla()
@@ -559,55 +519,6 @@ void causes_of_pla()
     }
     const Source last = pla(head, {"--1 100", "-01 010", "-10 010", "0-1 001", "1-0 001"}, "(bound a b)\n(limit 1)\n");
     expect(call_cause(last) == 0b110, "the cause of the last two outputs as PLA", last);
-}
-
-void refusals_of_pla()
-{
-    pla_refuses(Source("", BOARD), 12, 0);
-    pla_refuses(Source("", ""), 12, 0);
-    pla_refuses(sized_pla(32769), 12, 0);
-    pla_refuses(Source(std::string(32769, '\n'), BOARD), 12, 0);
-    pla_refuses(Source(std::string(32768, '\n'), BOARD), 12, 1);
-    pla_refuses(Source(A_PLA.text.substr(0, A_PLA.text.size() - 1), BOARD), 12, A_END);
-    pla_refuses(Source(A_PLA.text.substr(0, A_PLA.text.size() - 3), BOARD), 12, A_END);
-    pla_refuses(Source(A_PLA.text + "\n", BOARD), 12, A_END + 1);
-    pla_refuses(Source(A_PLA.text + "x", BOARD), 12, A_END + 1);
-    pla_refuses(Source(".i 4", BOARD), 12, 1);
-    pla_refuses(Source(".i 4\n", BOARD), 12, 2);
-    for (const char *first : {".i 0", ".i 01", ".i 100000", ".i", ".i ", ".i 4 ", ".i  4", ".o 4", "# a", ""})
-        pla_refuses(pla_with(1, first), 12, 1);
-    for (const char *second : {".o 0", ".o 02", ".o 100000"})
-        pla_refuses(pla_with(2, second), 12, 2);
-    pla_refuses(pla_with(1, ".i 99999"), 12, 3);
-    for (const char *names : {".ilb", ".ilb a b c", ".ilb a b c d e", ".ilb a b c xor", ".ilb a b c abcdefghi", ".ilb a  b c d", ".ilb a b c d "})
-        pla_refuses(pla_with(3, names), 12, 3);
-    for (const char *names : {".ob", ".ob f", ".ob f g h", ".ob f not", ".ilb f g"})
-        pla_refuses(pla_with(4, names), 12, 4);
-    for (const char *count : {".p 00", ".p 012", ".p 100000", ".p"})
-        pla_refuses(pla_with(5, count), 12, 5);
-    for (const char *count : {"0", "11", "13", "99999"})
-        pla_refuses(pla(A_HEAD, A_CUBES, BOARD, count), 12, A_END);
-    for (const char *cube : {"0201 10", "001 10", "00001 10", "000110", "0001  10", "0001 100", "0001 1", "0001 ", "", ".e "})
-        pla_refuses(pla_with(7, cube), 12, 7);
-    pla_refuses(pla({".i 11", ".o 5", ".ilb a b c d e v w x y z q", ".ob f g h i j"}, {}), 13, 1);
-    pla_refuses(pla({".i 1", ".o 5", ".ilb a", ".ob f g h i j"}, {"1 0000~"}), 13, 2);
-    for (char mark : {'~', '2', '-', ' ', '/', '\0', '\r', '\x80', '\xFF'})
-        pla_refuses(pla_with(8, std::string("0100 1") + mark), 14, 8);
-    pla_refuses(pla(A_HEAD, {"0001 1~"}, BOARD, "2"), 12, 7);
-    for (const std::string &board : {std::string(), BOARD.substr(0, BOARD.size() - 1), BOARD + "\x7F\n", std::string(4096, ' ') + "\n"})
-        pla_refuses(Source(A_PLA.text, board), 1, 0);
-    pla_refuses(Source(A_PLA.text, "(limit 2)\n"), 2, 1);
-    pla_refuses(Source(A_PLA.text, "(bound a b c d e x)\n"), 2, 2);
-    pla_refuses(Source(A_PLA.text, "(bound a b c d e x)\n(limit 02)\n"), 2, 2);
-    pla_refuses(Source(A_PLA.text, BOARD + "\n"), 2, 3);
-    pla_refuses(pla_with(3, ".ilb a b c a", "(bound a)\n"), 2, 2);
-    pla_refuses(pla_with(3, ".ilb a b c a", "(bound)\n(limit 7)\n"), 4, 3);
-    pla_refuses(pla_with(4, ".ob f a", "(bound)\n(limit 7)\n"), 4, 4);
-    pla_refuses(pla_with(4, ".ob f f"), 4, 4);
-    pla_refuses(Source(A_PLA.text, "(bound)\n(limit 7)\n"), 3, 1);
-    pla_refuses(Source(A_PLA.text, "(bound a zz a)\n(limit 7)\n"), 4, 1);
-    pla_refuses(Source(A_PLA.text, "(bound zz)\n(limit 7)\n"), 5, 1);
-    pla_refuses(Source(A_PLA.text, "(bound a)\n(limit 7)\n"), 3, 2);
 }
 
 // ---- the stack
@@ -654,15 +565,15 @@ void worked_sheets()
         sheets_to_try();
         causes_to_try();
         lines_to_try();
-        refusals_by_the_sheet();
-        refusals_by_the_network();
+        cases_of_sheets();
+        cases_of_networks();
+        cases_of_plas();
         texts_in_blif();
         longest_text_in_blif();
         names_in_either_case();
         plas_to_try();
         names_of_pla_in_either_case();
         causes_of_pla();
-        refusals_of_pla();
     }
     in_one_mebibyte_of_stack();
 }

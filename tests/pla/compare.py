@@ -1,5 +1,6 @@
 #!/usr/bin/env python3
-"""compare.py [PANELS [SEED]], called by run: PLA texts through target/bin/plamap and through the archive.
+"""compare.py [PANELS [SEED]], called by run: PLA texts through target/bin/plamap and through the archive. compare.py --cases: only the
+cases worked by hand, which need neither ABC nor the archive.
 
 - Cases worked by hand (tests/reference/pla_cases.py) at every boundary of questions 12, 13 and 14, and of what is asked after
   them: plamap must print what stands beside each.
@@ -21,14 +22,15 @@ import time
 
 ROOT = pathlib.Path(__file__).resolve().parents[2]
 FOLDER = ROOT / "target/pla"
-sys.path.insert(0, str(ROOT / "tests/reference"))
-sys.path.insert(0, str(ROOT / "tests/blif"))
+sys.path[:0] = [str(ROOT / folder) for folder in ("tests/reference", "tests/blif", "tests")]
 import cellref  # noqa: E402
 import pla  # noqa: E402
 import pla_cases  # noqa: E402
+import programs  # noqa: E402
 import random_pairs  # noqa: E402
 import random_sheets  # noqa: E402
 import tools  # noqa: E402
+from progress import Progress  # noqa: E402
 
 COMMENT = re.compile(rb"# [^\n]*\n")
 HEAD = [rb"\.i [0-9]+", rb"\.o [0-9]+", rb"\.ilb( [A-Za-z0-9]+)+", rb"\.ob( [A-Za-z0-9]+)+", rb"\.p [0-9]+"]
@@ -136,12 +138,15 @@ def mapped_panels(dice, count):
     examples = len(panels)
     if examples < 3:
         fail("no example sheet maps")
+    progress = Progress("pla: random sheets mapped", count)
     while len(panels) < examples + count:
         lines = (random_sheets.wide if dice.random() < 0.1 else random_sheets.valid)(dice)
         sheet = random_sheets.in_any_case(dice, random_sheets.text_of(lines))
         network = program("cellmap", sheet)
         if not network.startswith(b"refused"):
             panels.append(Panel(f"panel-{len(panels) - examples}", sheet, network))
+            progress.step()
+    progress.end()
     print(f"{examples} examples, parities among them, and {count} random sheets, mapped and exported", flush=True)
     return panels
 
@@ -165,10 +170,11 @@ def compare(panel, kind, text):
 def compare_all(panels, kind, text_of):
     """Answers how many texts were too long."""
     came = collections.Counter()
-    for number, panel in enumerate(panels):
+    progress = Progress(f"pla: {kind}", len(panels))
+    for panel in panels:
         came[compare(panel, kind, text_of(panel))] += 1
-        if number % 100 == 99:
-            print(f"{kind}: {number + 1} of {len(panels)}", flush=True)
+        progress.step()
+    progress.end()
     print(f"{kind}: {came['same']} panels with the sheet's digits and network, {came['too long']} refused for their size", flush=True)
     return came["too long"]
 
@@ -190,6 +196,9 @@ def show_shapes(panels):
 
 
 def main():
+    programs.need("plamap")
+    if sys.argv[1:] == ["--cases"]:
+        return run_cases()
     count, seed = [int(word) for word in sys.argv[1:]] + [300, 1][len(sys.argv) - 1 :]
     start = time.monotonic()
     print(tools.run(["berkeley-abc", "-q", "version"], FOLDER)[1].strip())

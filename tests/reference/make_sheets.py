@@ -15,8 +15,9 @@ import sys
 
 import cellref
 import random_sheets
+import sheets_to_try
 
-CRATE = pathlib.Path(__file__).resolve().parents[2] / "crates" / "sheets"
+CRATE = pathlib.Path(__file__).resolve().parents[2] / "crates/tablecases"
 MAX_TEXT = 600 * 1024
 LARGEST = 2**64 - 1
 SEED = 1
@@ -687,28 +688,23 @@ def wide_values():
         case(f"place-{k}", sheet, rows(10, lambda r: r >> (9 - k) & 1), buffer=1024)
 
 
-def sheets_to_try():
-    """Sheets A to K (section 16 of docs/SPECIFICATION.md), by their tables."""
-    a = "(design 1)/(in a b c d)/(bound a b c)/(limit 2)/(out f (xor a b c d))/(out g (and (xor a b c) d))/(end)/"
+def specification():
+    """The specification's own sheets, by their tables."""
+    a, d, e, i = (sheets_to_try.sheet(name) for name in ("a", "d-limit-3", "e", "i-four-outputs"))
     case("sheet-a-f", a, yes("0110100110010110"))
     case("sheet-a-g", a, yes("0001010001000001"), output=1)
-    c = "(design 1)/(in a b c)/(bound a b)/(limit 2)/(out f (xor a c))/(out g (xor b c))/(out h (xor a b c))/(end)/"
-    case("sheet-d-f", c, yes("01011010"))
-    case("sheet-d-g", c, yes("01100110"), output=1)
-    case("sheet-d-h", c, yes("01101001"), output=2)
-    e = "(design 1)/(in a b c d)/(bound a b)/(limit 2)/(out f (or (and a c) (and b d)))/(out g (xor a b c))/(end)/"
+    case("sheet-d-f", d, yes("01011010"))
+    case("sheet-d-g", d, yes("01100110"), output=1)
+    case("sheet-d-h", d, yes("01101001"), output=2)
     case("sheet-e-f", e, yes("0000010100110111"))
     case("sheet-e-g", e, yes("0011110011000011"), output=1)
-    case("sheet-f", sheet_of("a b c d", "a b", "(or c d)"), yes("0111011101110111"))
-    g = "(design 1)/(in a b c d)/(bound a b)/(limit 2)/(out f (or (and a b c) (and (xor a b) d)))/(end)/"
-    case("sheet-g", g, yes("0000010101010011"))
-    case("sheet-h", "(design 1)/(in a b)/(bound a b)/(limit 1)/(out f (and a b))/(end)/", yes("0001"))
-    i = "(design 1)/(in a b c d e x y)/(bound a b c d e)/(limit 4)/"
-    i += "(out f (or (and a x) (and e y)))/(out g (xor b x))/(out h (xor c x))/(out k (xor d x))/(end)/"
+    case("sheet-f", sheets_to_try.sheet("f"), yes("0111011101110111"))
+    case("sheet-g", sheets_to_try.sheet("g-limit-2"), yes("0000010101010011"))
+    case("sheet-h", sheets_to_try.sheet("h"), yes("0001"))
     case("sheet-i-f", i, rows(7, lambda r: r & 64 and r & 2 or r & 4 and r & 1), buffer=128)
-    case("sheet-i-k", i, rows(7, lambda r: bool(r & 8) != bool(r & 2)), output=3, buffer=128)
-    case("sheet-k-empty", b"", no(1, 0))
-    case("sheet-k-limit", a.replace("(limit 2)", "(limit 7)"), no(3, 4))
+    case("sheet-i-i", i, rows(7, lambda r: bool(r & 8) != bool(r & 2)), output=3, buffer=128)
+    case("sheet-k-empty", sheets_to_try.sheet("k-empty"), no(1, 0))
+    case("sheet-k-limit", sheets_to_try.sheet("k-limit-7"), no(3, 4))
 
 
 # ---- random sheets
@@ -755,7 +751,8 @@ def blocks():
     return names, b"".join(made)
 
 
-def main():
+def make():
+    """Makes all cases, and answers how many of them are by hand."""
     for part in (
         question_1,
         length_of_text,
@@ -774,11 +771,16 @@ def main():
         output_and_buffer,
         values,
         wide_values,
-        sheets_to_try,
+        specification,
     ):
         part()
     by_hand = len(CASES)
     random_cases(300)
+    return by_hand
+
+
+def main():
+    by_hand = make()
     names, given = blocks()
     wanted = "".join(f"{name} ok\n" for name in names) + f"{len(names)} sheets, 0 wrong\n"
     if len(given) > MAX_TEXT:

@@ -1,5 +1,5 @@
 #!/usr/bin/env python3
-"""Panels that arrive as PLA, from section 13 of docs/SPECIFICATION.md: the examination of a pair, which is a PLA text and a second text
+"""Panels that arrive as PLA, from the words of the specification: the examination of a pair, which is a PLA text and a second text
 with the `bound` line and the `limit` line. Table, Map, Check and the cause of refusal 8 are cellref's, on the design that the pair
 gives.
 

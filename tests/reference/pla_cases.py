@@ -1,23 +1,20 @@
 """Pairs of a PLA text and a second text at every boundary of questions 12, 13 and 14 and of what is asked after them, each with
-what Map must answer by section 13 of docs/SPECIFICATION.md: the network or a refusal. Worked by hand; CASES has (name, PLA text,
-second text, answer)."""
+what Map must answer: the network, or `refused N line L`. Worked by hand; CASES has (name, PLA text, second
+text, answer)."""
 
-# Sheet A (clause 16.1) as PLA: f = a xor b xor c xor d, and g = d where a xor b xor c is 1.
-HEAD = b".i 4\n.o 2\n.ilb a b c d\n.ob f g\n"
-F = [b"0001", b"0010", b"0100", b"0111", b"1000", b"1011", b"1101", b"1110"]
-G = [b"0011", b"0101", b"1001", b"1111"]
-CUBES = [cube + b" 10" for cube in F] + [cube + b" 01" for cube in G]
-BOARD = b"(bound a b c)\n(limit 2)\n"
-NETWORK = "(network 1)\n(lut _0 (a b c) 01101001)\n(node f (_0 d) 0110)\n(node g (_0 d) 0001)\n(count 1)\n(end)\n"
+import sheets_to_try
+
+# Sheet A as PLA: f = a xor b xor c xor d, and g = d where a xor b xor c is 1.
+A, BOARD = sheets_to_try.pla("a")
+NETWORK = sheets_to_try.network("a").decode("ascii")
+FIRST = 6  # the line of the first cube
+HEAD = b"".join(A.splitlines(keepends=True)[:4])
+CUBES = A.splitlines()[FIRST - 1:-1]
+END = FIRST + len(CUBES)  # the line of .e
 
 
 def text(head, cubes, count=None, end=b".e\n"):
     return head + b".p %d\n" % (len(cubes) if count is None else count) + b"".join(cube + b"\n" for cube in cubes) + end
-
-
-A = text(HEAD, CUBES)
-FIRST = 6  # the line of the first cube
-END = FIRST + len(CUBES)  # the line of .e
 
 
 def refused(number, line):
@@ -81,6 +78,7 @@ CASES = [
     ("32,769 bytes, the first line bad", b"." + sized(32768)[0], BOARD, refused(12, 0)),
     ("32,768 bytes without an end", b"x" * 32768, BOARD, refused(12, 1)),
     ("nothing but 32,768 ends", b"\n" * 32768, BOARD, refused(12, 1)),
+    ("nothing but 32,769 ends", b"\n" * 32769, BOARD, refused(12, 0)),
     # ---- 12: the numbers
     ("`.i 0`", line(1, b".i 0"), BOARD, refused(12, 1)),
     ("`.i 04`", line(1, b".i 04"), BOARD, refused(12, 1)),
@@ -102,6 +100,7 @@ CASES = [
     ("`.p 00`", line(5, b".p 00"), BOARD, refused(12, 5)),
     ("`.p 012`", line(5, b".p 012"), BOARD, refused(12, 5)),
     ("`.p 100000`", line(5, b".p 100000"), BOARD, refused(12, 5)),
+    ("`.p` without a number", line(5, b".p"), BOARD, refused(12, 5)),
     ("`.p` missing", line(5, b"0000 00"), BOARD, refused(12, 5)),
     # ---- 12: the names
     ("a name too many", line(3, b".ilb a b c d e"), BOARD, refused(12, 3)),
@@ -115,6 +114,9 @@ CASES = [
     ("an operator word in another case", line(3, b".ilb a b c Xor"), BOARD, refused(12, 3)),
     ("`.ILB`", line(3, b".ILB a b c d"), BOARD, refused(12, 3)),
     ("a digit first", line(3, b".ilb a b c 0d"), BOARD, refused(12, 3)),
+    ("no outputs", line(4, b".ob"), BOARD, refused(12, 4)),
+    ("`.Ob`", line(4, b".Ob f g"), BOARD, refused(12, 4)),
+    ("`.ilb` in the place of `.ob`", line(4, b".ilb f g"), BOARD, refused(12, 4)),
     ("an output too many", line(4, b".ob f g h"), BOARD, refused(12, 4)),
     ("an output too few", line(4, b".ob f"), BOARD, refused(12, 4)),
     ("an operator word as an output", line(4, b".ob f not"), BOARD, refused(12, 4)),
@@ -132,6 +134,8 @@ CASES = [
     ("an output part too short", line(FIRST, b"0001 1"), BOARD, refused(12, FIRST)),
     ("no output part", line(FIRST, b"0001 "), BOARD, refused(12, FIRST)),
     ("an empty line among the cubes", line(FIRST, b""), BOARD, refused(12, FIRST)),
+    *((f"a second cube {cube.decode()}", line(FIRST + 1, cube), BOARD, refused(12, FIRST + 1)) for cube in (b"02-1 10", b"0010 1", b"", b".e ", b".e")),
+    ("`.p 99999`", text(HEAD, CUBES, 99999), BOARD, refused(12, END)),
     ("`.p` one too many", text(HEAD, CUBES, len(CUBES) + 1), BOARD, refused(12, END)),
     ("`.p` one too few", text(HEAD, CUBES, len(CUBES) - 1), BOARD, refused(12, END)),
     ("`.p 0` before cubes", text(HEAD, CUBES, 0), BOARD, refused(12, END)),
@@ -220,6 +224,9 @@ CASES = [
     ("`(limit 7)`", A, b"(bound a b c)\n(limit 7)\n", refused(3, 2)),
     ("`(limit 999)`", A, b"(bound a b c)\n(limit 999)\n", refused(3, 2)),
     ("an unknown bound input, and `(limit 7)`", A, b"(bound zz)\n(limit 7)\n", refused(5, 1)),
+    ("an unknown bound input after one in another case", A, b"(bound A E)\n(limit 2)\n", refused(5, 1)),
+    ("no bound inputs, and `(limit 7)`", A, b"(bound)\n(limit 7)\n", refused(3, 1)),
+    ("a bound input twice, and `(limit 7)`", A, b"(bound a zz a)\n(limit 7)\n", refused(4, 1)),
     # ---- the PLA's names: 4
     ("an input twice", line(3, b".ilb a b c a"), BOARD, refused(4, 3)),
     ("an input twice, in two cases", line(3, b".ilb a b c A"), BOARD, refused(4, 3)),
@@ -229,6 +236,7 @@ CASES = [
     ("an output twice, in two cases", line(4, b".ob f F"), BOARD, refused(4, 4)),
     ("an input twice and an output twice", line(3, b".ilb a b c a").replace(b".ob f g", b".ob f f"), BOARD, refused(4, 3)),
     # ---- the two texts in turn
+    ("both texts empty", b"", b"", refused(12, 0)),
     ("12, and the second text empty", A[:-1], b"", refused(12, END)),
     ("13, and the second text empty", panel(11, 1, []), b"", refused(13, 1)),
     ("14, and the second text empty", line(FIRST, b"0001 1~"), b"", refused(14, FIRST)),

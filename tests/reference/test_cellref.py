@@ -1,7 +1,7 @@
 #!/usr/bin/env python3
-"""The reference on the specification's sheets A to K (section 16), on names in either case, its two searches for the fewest cells
-compared with each other, its first network with all permitted ones and with those of bench/first/, the lines that refusals name,
-and the causes of refusal 8."""
+"""The reference on the specification's sheets in tests/sheets/, on names in either case, its two searches for the fewest cells compared with each
+other, its first network with all permitted ones and with those of bench/first/, the lines that refusals name, and the causes of
+refusal 8."""
 
 import itertools
 import pathlib
@@ -9,7 +9,9 @@ import random
 import unittest
 
 import cellref
+import network_cases
 import random_sheets
+import sheets_to_try
 
 
 def sheet(inputs, bound, limit, *outputs):
@@ -18,14 +20,8 @@ def sheet(inputs, bound, limit, *outputs):
     return "".join(line + "\n" for line in lines + ["(end)"]).encode("ascii")
 
 
-A = sheet("a b c d", "a b c", 2, "(xor a b c d)", "(and (xor a b c) d)")
-A_NETWORK = """(network 1)
-(lut _0 (a b c) 01101001)
-(node f (_0 d) 0110)
-(node g (_0 d) 0001)
-(count 1)
-(end)
-"""
+A = sheets_to_try.sheet("a")
+A_NETWORK = sheets_to_try.network("a").decode("ascii")
 
 
 def refusal(function, *words):
@@ -36,12 +32,13 @@ def refusal(function, *words):
     return None
 
 
-def cells(text):
-    """The number of cells, where Check agrees that the network is the design's."""
-    count, network = cellref.map_sheet(text)
-    assert cellref.check(text, network.encode("ascii")) is None
-    assert network.count("(lut ") == count and f"(count {count})" in network
-    return count
+def check_answer(design, network):
+    """Check's answer in the words of the program cellcheck"""
+    refused = refusal(cellref.check, design, network)
+    if refused:
+        return "refused {} line {}".format(*refused)
+    found = cellref.check(design, network)
+    return "same" if found is None else "differs output {} row {}".format(*found)
 
 
 def permitted(design, count):
@@ -56,119 +53,36 @@ def permitted(design, count):
 
 
 class Sheets(unittest.TestCase):
-    def test_a_and_b(self):
-        self.assertEqual(cellref.map_sheet(A), (1, A_NETWORK))
+    """The sheets of tests/sheets/."""
+
+    def test_map(self):
+        for name, wanted, outputs in sheets_to_try.maps():
+            with self.subTest(name):
+                text = sheets_to_try.sheet(name)
+                if wanted.startswith("refused"):
+                    self.assertEqual("refused {} line {}\n".format(*refusal(cellref.map_sheet, text)), wanted)
+                else:
+                    self.assertEqual(cellref.map_sheet(text), (wanted.count("(lut "), wanted))
+                    self.assertIsNone(cellref.check(text, wanted.encode("ascii")))
+                self.assertEqual(sorted(cellref.cause(text) or []), outputs)
+
+    def test_b(self):
         self.assertEqual(len(A_NETWORK), 96)
         self.assertEqual(refusal(cellref.map_sheet, A, 95), (9, 0))
         self.assertEqual(cellref.map_sheet(A, 96), (1, A_NETWORK))
 
-    def test_c_and_d(self):
-        two = ("(xor a c)", "(xor b c)")
-        three = two + ("(xor a b c)",)
-        self.assertEqual(refusal(cellref.map_sheet, sheet("a b c", "a b", 1, *two)), (8, 0))
-        self.assertEqual(cells(sheet("a b c", "a b", 2, *two)), 2)
-        self.assertEqual(
-            cellref.map_sheet(sheet("a b c", "a b", 2, *two))[1],
-            "(network 1)\n(lut _0 (a b) 0011)\n(lut _1 (a b) 0101)\n(node f (_0 c) 0110)\n(node g (_1 c) 0110)\n(count 2)\n(end)\n",
-        )
-        self.assertEqual(refusal(cellref.map_sheet, sheet("a b c", "a b", 2, *three)), (8, 0))
-        self.assertEqual(cells(sheet("a b c", "a b", 3, *three)), 3)
-        self.assertEqual(cellref.Classes(cellref.examine(sheet("a b c", "a b", 3, *three))).global_count(), 4)
-
-    def test_e(self):
-        text = sheet("a b c d", "a b", 2, "(or (and a c) (and b d))", "(xor a b c)")
-        self.assertEqual(cells(text), 2)
-        nodes = "(node f (_0 _1 c d) 0000010101110011)\n(node g (_1 c d) 00111100)\n"
-        wanted = f"(network 1)\n(lut _0 (a b) 0011)\n(lut _1 (a b) 0110)\n{nodes}(count 2)\n(end)\n"
-        self.assertEqual(cellref.map_sheet(text)[1], wanted)
-
-    def test_f(self):
-        count, network = cellref.map_sheet(sheet("a b c d", "a b", 0, "(or c d)"))
-        self.assertEqual(count, 0)
-        self.assertIn("(node f (c d) 0111)\n", network)
-
-    def test_g(self):
-        three_classes = "(or (and a b c) (and (xor a b) d))"
-        classes = cellref.Classes(cellref.examine(sheet("a b c d", "a b", 2, three_classes)))
-        self.assertEqual((max(classes.local[0]) + 1, classes.widths), (3, [2]))
-        self.assertEqual(refusal(cellref.map_sheet, sheet("a b c d", "a b", 1, three_classes)), (8, 0))
-
-    def test_h(self):
-        network = cellref.map_sheet(sheet("a b", "a b", 1, "(and a b)"))[1]
-        self.assertIn("(lut _0 (a b) 0001)\n(node f (_0) 01)\n", network)
-
-    def test_i(self):
-        three = ("(or (and a x) (and e y))", "(xor b x)", "(xor c x)")
-        inputs, bound = "a b c d e x y", "a b c d e"
-        self.assertEqual(cells(sheet(inputs, bound, 4, *three)), 4)
-        self.assertEqual(refusal(cellref.map_sheet, sheet(inputs, bound, 3, *three)), (8, 0))
-        self.assertEqual(refusal(cellref.map_sheet, sheet(inputs, bound, 0, *three, "(xor d x)")), (7, 0))
-
-    def test_j(self):
-        other = A_NETWORK.replace("0001)", "0011)")
-        self.assertEqual(cellref.check(A, other.encode("ascii")), (1, 2))
-        turned = A_NETWORK.replace("01101001", "10010110").replace(" 0110)", " 1001)").replace(" 0001)", " 0100)")
-        self.assertIsNone(cellref.check(A, turned.encode("ascii")))
-
-    def test_k(self):
-        self.assertEqual(refusal(cellref.map_sheet, b""), (1, 0))
-        self.assertEqual(refusal(cellref.map_sheet, A.replace(b"(limit 2)", b"(limit 7)")), (3, 4))
+    def test_classes(self):
+        three = cellref.Classes(cellref.examine(sheets_to_try.sheet("g-limit-2")))
+        self.assertEqual((max(three.local[0]) + 1, three.widths), (3, [2]))
+        self.assertEqual(cellref.Classes(cellref.examine(sheets_to_try.sheet("d-limit-3"))).global_count(), 4)
+        self.assertEqual(cellref.Classes(cellref.examine(sheets_to_try.sheet("i-limit-4"))).global_count(), 16)
 
 
 class Networks(unittest.TestCase):
-    """Questions 10 and 11, each by a change of sheet A's network."""
-
-    def refused(self, old, new):
-        self.assertIn(old, A_NETWORK)
-        return refusal(cellref.check, A, A_NETWORK.replace(old, new, 1).encode("latin-1"))
-
-    def test_size(self):
-        self.assertEqual(refusal(cellref.check, A, b""), (10, 0))
-        self.assertEqual(refusal(cellref.check, A, A_NETWORK.encode("ascii") + b"\n" * 8192), (10, 0))
-        self.assertEqual(refusal(cellref.check, A, b"\n" * 8192), (10, 1))
-
-    def test_lines_in_order(self):
-        lines = A_NETWORK.split("\n")[:-1]
-        for n in range(1, len(lines) + 1):
-            part = "".join(line + "\n" for line in lines[:n])
-            self.assertEqual(refusal(cellref.check, A, part[:-1].encode("ascii")), (10, n))
-            if n < len(lines):
-                self.assertEqual(refusal(cellref.check, A, part.encode("ascii")), (10, n + 1))
-        for more in ("\n", "x", "(end)\n"):
-            self.assertEqual(refusal(cellref.check, A, (A_NETWORK + more).encode("ascii")), (10, 7))
-
-    def test_spelling(self):
-        self.assertEqual(self.refused("(network 1)", "(network 2)"), (10, 1))
-        self.assertEqual(self.refused("_0 (a b c)", "_1 (a b c)"), (10, 2))
-        self.assertEqual(self.refused("(a b c)", "(b a c)"), (10, 2))
-        self.assertEqual(self.refused("01101001", "0110100"), (10, 2))
-        self.assertEqual(self.refused("01101001", "01101002"), (10, 2))
-        self.assertEqual(self.refused("node f", "node g"), (10, 3))
-        self.assertEqual(self.refused("f (_0 d)", "f (_1 d)"), (10, 3))
-        self.assertEqual(self.refused("f (_0 d)", "f (d _0)"), (10, 3))
-        self.assertEqual(self.refused("f (_0 d)", "f (_0 _0 d)"), (10, 3))
-        self.assertEqual(self.refused("(_0 d) 0110", "(_0) 01"), (10, 3))
-        self.assertEqual(self.refused("(count 1)", "(count 2)"), (10, 5))
-        self.assertEqual(self.refused("(count 1)", "(count 01)"), (10, 5))
-        self.assertEqual(self.refused("(end)", "(end) "), (10, 6))
-        self.assertEqual(self.refused("(node g", "\x80(node g"), (10, 4))
-
-    def test_cells(self):
-        lut = "(lut _0 (a b c) 01101001)\n"
-        three = lut + lut.replace("_0", "_1") + lut.replace("_0", "_2")
-        network = A_NETWORK.replace(lut, three).replace("(count 1)", "(count 3)")
-        self.assertEqual(refusal(cellref.check, A, network.encode("ascii")), (11, 4))
-        self.assertIsNone(cellref.check(A.replace(b"limit 2", b"limit 3"), network.encode("ascii")))
-        seven = "".join(lut.replace("_0", f"_{k}") for k in range(7))
-        network = A_NETWORK.replace(lut, seven).replace("(count 1)", "(count 7)")
-        self.assertEqual(refusal(cellref.check, A, network.encode("ascii")), (10, 8))
-
-    def test_widths(self):
-        two = "(lut _0 (a b c) 01101001)\n(lut _1 (a b c) 00001111)\n"
-        network = A_NETWORK.replace("(lut _0 (a b c) 01101001)\n", two).replace("(count 1)", "(count 2)")
-        self.assertIsNone(cellref.check(A, network.encode("ascii")))
-        network = network.replace("g (_0 d) 0001", "g (_0 _1 d) 00010001")
-        self.assertEqual(refusal(cellref.check, A, network.encode("ascii")), (11, 5))
+    def test_cases_by_hand(self):
+        for name, design, network, wanted in network_cases.CASES:
+            with self.subTest(name):
+                self.assertEqual(check_answer(design, network), wanted)
 
 
 A_BLIF = """.model panel
@@ -253,8 +167,8 @@ class Exports(unittest.TestCase):
 class Capitals(unittest.TestCase):
     """Names in either case."""
 
-    MIXED = sheet("A B C d", "a B c", 2, "(xor a b C D)", "(and (xor A b c) d)").replace(b"(out g", b"(out G")
-    NETWORK = A_NETWORK.replace("a b c", "A B C").replace("node g", "node G")
+    MIXED = sheets_to_try.sheet("capitals")
+    NETWORK = sheets_to_try.network("capitals").decode("ascii")
 
     def test_spelled_as_first_given(self):
         self.assertEqual(cellref.map_sheet(self.MIXED), (1, self.NETWORK))
@@ -262,22 +176,6 @@ class Capitals(unittest.TestCase):
         blif = A_BLIF.replace("a b c", "A B C").replace("f g", "f G").replace("d g", "d G")
         for network in (self.NETWORK, A_NETWORK):
             self.assertEqual(cellref.export(self.MIXED, network.encode("ascii")), blif)
-
-    def test_a_network_in_any_spelling(self):
-        for network in (self.NETWORK, A_NETWORK, A_NETWORK.replace("a b c", "A b C").replace("f (_0 d)", "F (_0 D)")):
-            for text in (A, self.MIXED):
-                self.assertIsNone(cellref.check(text, network.encode("ascii")))
-                self.assertEqual(cellref.check(text, network.replace("0001", "0011").encode("ascii")), (1, 2))
-
-    def test_each_letter_of_a_network(self):
-        """The first word of a line has small letters."""
-        for line, text in enumerate(A_NETWORK.splitlines(), 1):
-            for place, byte in enumerate(text):
-                if byte.isalpha():
-                    turned = A_NETWORK.splitlines()
-                    turned[line - 1] = text[:place] + byte.swapcase() + text[place + 1 :]
-                    said = refusal(cellref.check, A, "".join(part + "\n" for part in turned).encode("ascii"))
-                    self.assertEqual(said, (10, line) if place < len(text.split(" ")[0]) else None)
 
     def test_refusals(self):
         refused = {
@@ -425,20 +323,13 @@ class Causes(unittest.TestCase):
     TWO = ("(xor a c)", "(xor b c)")
     THREE = TWO + ("(xor a b c)",)
 
-    def test_sheets_to_try(self):
-        self.assertEqual(cellref.cause(sheet("a b c", "a b", 1, *self.TWO)), {0, 1})
-        self.assertEqual(cellref.cause(sheet("a b c", "a b", 2, *self.THREE)), {0, 1, 2})
-        self.assertEqual(cellref.cause(sheet("a b c d", "a b", 1, "(or (and a b c) (and (xor a b) d))")), {0})
-        three = ("(or (and a x) (and e y))", "(xor b x)", "(xor c x)")
-        self.assertEqual(cellref.cause(sheet("a b c d e x y", "a b c d e", 3, *three)), {0, 1, 2})
-
     def test_one_limit_lower(self):
         """The lower the limit, the fewer outputs."""
         self.assertEqual(cellref.cause(sheet("a b c", "a b", 1, *self.THREE)), {0, 1})
         self.assertEqual(cellref.cause(sheet("a b c", "a b", 0, *self.THREE)), {0})
-        three = ("(or (and a x) (and e y))", "(xor b x)", "(xor c x)")
-        self.assertEqual(cellref.cause(sheet("a b c d e x y", "a b c d e", 2, *three)), {0, 1})
-        self.assertEqual(cellref.cause(sheet("a b c d e x y", "a b c d e", 1, *three)), {0})
+        three = sheets_to_try.sheet("i-limit-3")
+        self.assertEqual(cellref.cause(three.replace(b"(limit 3)", b"(limit 2)")), {0, 1})
+        self.assertEqual(cellref.cause(three.replace(b"(limit 3)", b"(limit 1)")), {0})
 
     def test_first_of_as_many(self):
         a, b = self.TWO
@@ -455,10 +346,6 @@ class Causes(unittest.TestCase):
         for path in sorted(folder.glob("*.sheet")):
             self.assertEqual(cellref.cause(path.read_bytes()), {0, 1, 2} if path.stem == "axles" else None, path.name)
 
-    def test_sheets_that_map(self):
-        for text in (A, sheet("a b c", "a b", 2, *self.TWO), sheet("a b c", "a b", 3, *self.THREE), sheet("a b c d", "a b", 0, "(or c d)")):
-            self.assertIsNone(cellref.cause(text))
-
     def test_refused_by_another_number(self):
         valid = sheet("a b c", "a b", 1, *self.TWO)
         self.assertEqual(cellref.cause(valid), {0, 1})
@@ -468,10 +355,6 @@ class Causes(unittest.TestCase):
             text = valid.replace(old, new)
             self.assertEqual(refusal(cellref.map_sheet, text)[0], number)
             self.assertIsNone(cellref.cause(text))
-        many = ("(or (and a x) (and e y))", "(xor b x)", "(xor c x)", "(xor d x)")
-        text = sheet("a b c d e x y", "a b c d e", 0, *many)
-        self.assertEqual(refusal(cellref.map_sheet, text), (7, 0))
-        self.assertIsNone(cellref.cause(text))
 
     def test_definition_on_random_sheets(self):
         """One cell fewer than the fewest: what is found is the cause by its definition. With as many it maps."""

@@ -26,14 +26,14 @@ ROOT = pathlib.Path(__file__).resolve().parents[2]
 FOLDER = ROOT / "target/tests/tool"
 TOOL = FOLDER / "cellmapper"
 EXAMPLES = ROOT / "examples"
-sys.path.insert(0, str(ROOT / "tests/reference"))
-sys.path.insert(0, str(ROOT / "tests/blif"))
+sys.path[:0] = [str(ROOT / folder) for folder in ("tests/reference", "tests/blif", "tests")]
 import cellref  # noqa: E402
 import pla  # noqa: E402
 import random_pairs  # noqa: E402
 import random_sheets  # noqa: E402
 import refusals  # noqa: E402
 import tools  # noqa: E402
+from progress import Progress  # noqa: E402
 
 HINT = " (see cellmapper --help)\n"
 ran = 0
@@ -63,8 +63,17 @@ def expect(words, out="", err="", status=0, **how):
         differs(words, got, (out, err, status))
 
 
-def progress(what):
+def passed(what):
     print(f"{ran} cases: {what}", flush=True)
+
+
+def turns(what, count):
+    """So many turns, with a counter"""
+    shown = Progress(f"tool: {what}", count)
+    for turn in range(count):
+        yield turn
+        shown.step()
+    shown.end()
 
 
 # ---- what the reference says, in the tool's words
@@ -118,7 +127,7 @@ def run_examples():
             for command in ("map", "why"):
                 expect([command, name], err=f"{name}: {cause_words(design)}", status=1, folder=ROOT)
     run_pla_example()
-    progress("the examples")
+    passed("the examples")
 
 
 def run_mapped(path, text, design):
@@ -174,7 +183,7 @@ def run_refusals():
         put("a.pla", text)
         put("a.board", board)
         expect([command[0], "--pla", "a.board", "a.pla", *command[1:]], err=err, status=1)
-    progress("every kind of refusal")
+    passed("every kind of refusal")
 
 
 def shown(text, line):
@@ -207,7 +216,7 @@ def answer(question, *texts):
 
 
 def run_random_sheets(dice, count):
-    for turn in range(count):
+    for turn in turns("random sheets", count):
         sheet = random_sheets.mixed_damaged(dice) if turn % 2 else random_sheets.damaged(dice)
         put("a.sheet", sheet)
         digits, refusal = answer(cellref.table, sheet, 0)
@@ -215,11 +224,11 @@ def run_random_sheets(dice, count):
             expect(["table", "a.sheet", "0"], digits + "\n")
         else:
             expect_refusal(["map", "a.sheet"], refusal, "a.sheet", sheet)
-    progress("random sheets")
+    passed("random sheets")
 
 
 def run_random_panels(dice, count):
-    for _ in range(count):
+    for _ in turns("random panels as PLA", count):
         text, board = random_pairs.damaged(dice)
         words = ["map", "--pla", put("a.board", board), put("a.pla", text)]
         mapped, refusal = answer(pla.map_pair, text, board)
@@ -230,12 +239,12 @@ def run_random_panels(dice, count):
         else:
             on_board = refusal.number in (1, 2, 3, 5) or (refusal.number, refusal.line) == (4, 1)
             expect_refusal(words, refusal, *(("a.board", board) if on_board else ("a.pla", text)))
-    progress("random panels as PLA")
+    passed("random panels as PLA")
 
 
 def run_random_networks(dice, count):
     examples = [path for path in sorted(EXAMPLES.glob("*.sheet")) if path.with_suffix(".network").exists()]
-    for _ in range(count):
+    for _ in turns("random networks", count):
         path = dice.choice(examples)
         sheet, network = path.read_bytes(), path.with_suffix(".network").read_bytes()
         network = random_pairs.byte_damaged(dice, random_sheets.in_any_case(dice, network, random_sheets.NETWORK_NAMES))
@@ -247,21 +256,25 @@ def run_random_networks(dice, count):
             expect(["check", *words], "same\n")
         else:
             expect(["check", *words], row_words(cellref.examine(sheet), *found), status=1)
-    progress("random networks")
+    passed("random networks")
 
 
-def run_random_causes(dice, count):
-    """Sheets of few bound inputs, at a limit that refuses them"""
-    while count > 0:
+def refused_sheet(dice):
+    """A sheet of few bound inputs, at a limit that refuses it"""
+    while True:
         lines = random_sheets.sheet(dice, dice.randrange(2, 6), 4, (1, 2, 2, 3))
         lines[3] = f"(limit {dice.randrange(4)})"
         sheet = random_sheets.in_any_case(dice, random_sheets.text_of(lines))
-        design = cellref.examine(sheet)
-        if is_refused(design):
-            put("a.sheet", sheet)
-            expect(["map", "a.sheet"], err=f"a.sheet: {cause_words(design)}", status=1)
-            count -= 1
-    progress("random sheets that are refused by 8")
+        if is_refused(cellref.examine(sheet)):
+            return sheet
+
+
+def run_random_causes(dice, count):
+    for _ in turns("random sheets that are refused by 8", count):
+        sheet = refused_sheet(dice)
+        put("a.sheet", sheet)
+        expect(["map", "a.sheet"], err=f"a.sheet: {cause_words(cellref.examine(sheet))}", status=1)
+    passed("random sheets that are refused by 8")
 
 
 # ---- files, and wrong use
@@ -292,7 +305,7 @@ def run_files():
         expect(["table", sheet, "h"], err=None, status=2, stderr=stderr)
     for words, closed, name in ((["map", "-"], "<&-", "<stdin>"), (["map", sheet], ">&-", "<stdout>")):
         run_closed(words, closed, name)
-    progress("files and streams")
+    passed("files and streams")
 
 
 def run_closed(words, closed, name):
@@ -329,7 +342,7 @@ def run_wrong_use():
         expect(words, err=f"cellmapper: {err}{HINT}", status=2)
     for words in (["--help"], ["map", "--help"], ["check", "--help", "a.sheet"]):
         expect_help(words)
-    progress("wrong use and help")
+    passed("wrong use and help")
 
 
 def expect_help(words):
@@ -379,10 +392,10 @@ def run_abc():
     if ".names CC_0\n" not in questions[0].path.read_text() or ".names f\n" not in questions[0].path.read_text():
         sys.exit("FAILED: the inputs are not left off")
     if shutil.which("berkeley-abc") is None:
-        return progress("texts for ABC; berkeley-abc is not installed, so it did not read them")
+        return passed("texts for ABC; berkeley-abc is not installed, so it did not read them")
     if not all(abc_reads(questions)):
         sys.exit("FAILED: ABC reads other digits")
-    return progress("texts for ABC, which reads them")
+    return passed("texts for ABC, which reads them")
 
 
 # ---- a terminal
@@ -426,7 +439,7 @@ def run_terminal():
     if end or blanks != " " * (len(seconds[-1]) + 1) or status != 0:
         differs(words, (told, status), "blanks at the end, and status 0")
     expect(["check", ROOT / words[1], "-"], "same\n", stdin=network.encode())
-    progress("a terminal")
+    passed("a terminal")
 
 
 def main():

@@ -2,11 +2,10 @@
 NETWORKS (network sheet, standard error) beside the sheet SHEET, PANELS (command, PLA text, second text, standard error). The files
 are a.sheet, a.network, a.pla and a.board."""
 
-SHEET = b"(design 1)\n(in a b c d)\n(bound a b c)\n(limit 2)\n(out f (xor a b c d))\n(out g (and (xor a b c) d))\n(end)\n"
-NETWORK = b"(network 1)\n(lut _0 (a b c) 01101001)\n(node f (_0 d) 0110)\n(node g (_0 d) 0001)\n(count 1)\n(end)\n"
-CUBES = b"0001 10\n0010 10\n0100 10\n0111 10\n1000 10\n1011 10\n1101 10\n1110 10\n0011 01\n0101 01\n1001 01\n1111 01\n"
-PLA = b".i 4\n.o 2\n.ilb a b c d\n.ob f g\n.p 12\n" + CUBES + b".e\n"
-BOARD = b"(bound a b c)\n(limit 2)\n"
+import sheets_to_try
+
+SHEET, NETWORK = sheets_to_try.sheet("a"), sheets_to_try.network("a")
+PLA, BOARD = sheets_to_try.pla("a")
 SIZE = "refused by 1: expected 1 to 4096 bytes, all printable or 0x0A, the last 0x0A\n"
 AFTER = "expected (out NAME FORMULA) or (end), and nothing after (end)"
 

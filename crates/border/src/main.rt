@@ -206,12 +206,12 @@ fn asked(line: &[u8]) -> seeking::Problem
     }
 }
 
-// Writes the name of a line to a file.
-fn put_name(line: &[u8], fd: i32)
+// Writes the name of a line to a file, and answers whether it could.
+fn put_name(line: &[u8], fd: i32) -> bool
     requires { ⌜ length (now line) ≡ lineLength ⌝ }
 {
     let name = [line[0], line[1], line[2], b' '];
-    io::write_all(fd, &name);
+    io::write_all(fd, &name)
 }
 
 // Writes the nodes and the time of the search with some number of cells.
@@ -379,19 +379,25 @@ fn solve(
     }
 }
 
+// Writes the fewest cells.
+fn put_cells(found: bool, cells: u8) -> bool {
+    if found {
+        io::print_decimal(STDOUT_FILENO, cells as u64)
+    } else {
+        io::write_all(STDOUT_FILENO, b"inf")
+    }
+}
+
 // Writes a line's name and the answer to its problem.
 fn put_answer(line: &[u8], a: Answer)
     requires { ⌜ length (now line) ≡ lineLength ⌝ }
 {
-    put_name(line, STDOUT_FILENO);
-    if a.found {
-        io::print_decimal(STDOUT_FILENO, a.cells as u64);
-    } else {
-        io::write_all(STDOUT_FILENO, b"inf");
-    }
-    io::write_all(STDOUT_FILENO, b" ");
-    io::print_decimal(STDOUT_FILENO, a.nodes);
-    io::write_all(STDOUT_FILENO, b"\n");
+    let is_written = put_name(line, STDOUT_FILENO)
+        && put_cells(a.found, a.cells)
+        && io::write_all(STDOUT_FILENO, b" ")
+        && io::print_decimal(STDOUT_FILENO, a.nodes)
+        && io::write_all(STDOUT_FILENO, b"\n");
+    console::tell(b"border", is_written);
     put_name(line, STDERR_FILENO);
     io::print_decimal(STDERR_FILENO, a.time);
     io::write_all(STDERR_FILENO, b" us\n");

@@ -5,8 +5,8 @@ ghost use lib.ListN.{length};
 ghost use Rattle.limits.specs.Limits.{maxBlif};
 use blif::Exported;
 
-// Exports a network, with a buffer for its text.
-fn answer(sheet: &[u8], network: &[u8], buffer: &mut [u8])
+// Exports a network, with a buffer for its text. Answers whether the answer was written.
+fn answer(sheet: &[u8], network: &[u8], buffer: &mut [u8]) -> bool
     requires { ⌜ maxBlif ≤ length (now buffer) ⌝ }
 {
     let r = blif::export(sheet, network, buffer);
@@ -16,19 +16,20 @@ fn answer(sheet: &[u8], network: &[u8], buffer: &mut [u8])
     }
 }
 
-// The two sheets of a text.
-fn both(s: &[u8], buffer: &mut [u8])
+// The two sheets of a text, as answer has it.
+fn both(s: &[u8], buffer: &mut [u8]) -> bool
     requires { ⌜ maxBlif ≤ length (now buffer) ⌝ }
 {
     let p = console::two_sheets(s);
     let end = p.end;
     let start = p.start;
-    answer(&s[..end], &s[start..], buffer);
+    answer(&s[..end], &s[start..], buffer)
 }
 
 fn main() {
     let mut text = [0u8; console::BOTH_SHEETS];
     let n = console::read_text(&mut text);
     let mut buffer = [0u8; limits::MAX_BLIF];
-    both(&text[..n], &mut buffer);
+    let is_written = both(&text[..n], &mut buffer);
+    console::tell(b"cellblif", is_written);
 }

@@ -3,27 +3,27 @@
 use comparing::Checked;
 use libc::STDOUT_FILENO;
 
-fn answer(sheet: &[u8], network: &[u8]) {
+// Compares two sheets. Answers whether the answer was written.
+fn answer(sheet: &[u8], network: &[u8]) -> bool {
     let r = checker::check(sheet, network);
     match r {
         Checked::Refused { number, line } => console::two(b"refused ", number, b" line ", line),
         Checked::Differs { output, row } => console::two(b"differs output ", output, b" row ", row),
-        Checked::Same => {
-            io::write_all(STDOUT_FILENO, b"same\n");
-        }
+        Checked::Same => io::write_all(STDOUT_FILENO, b"same\n"),
     }
 }
 
-// The two sheets of a text.
-fn both(s: &[u8]) {
+// The two sheets of a text, as answer has it.
+fn both(s: &[u8]) -> bool {
     let p = console::two_sheets(s);
     let end = p.end;
     let start = p.start;
-    answer(&s[..end], &s[start..]);
+    answer(&s[..end], &s[start..])
 }
 
 fn main() {
     let mut text = [0u8; console::BOTH_SHEETS];
     let n = console::read_text(&mut text);
-    both(&text[..n]);
+    let is_written = both(&text[..n]);
+    console::tell(b"cellcheck", is_written);
 }

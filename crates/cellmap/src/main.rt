@@ -3,8 +3,8 @@
 // dropped. The buffer holds every network sheet, so question 9 is always answered yes.
 use mapper::Mapped;
 
-// Maps a sheet, with a buffer for its network.
-fn answer(sheet: &[u8], buffer: &mut [u8]) {
+// Maps a sheet, with a buffer for its network. Answers whether the answer was written.
+fn answer(sheet: &[u8], buffer: &mut [u8]) -> bool {
     let r = mapper::map(sheet, buffer);
     match r {
         Mapped::Refused { number, line } => console::two(b"refused ", number, b" line ", line),
@@ -16,5 +16,6 @@ fn main() {
     let mut sheet = [0u8; limits::MAX_SHEET + 1];
     let n = console::read_text(&mut sheet);
     let mut network = [0u8; limits::MAX_NETWORK];
-    answer(&sheet[..n], &mut network);
+    let is_written = answer(&sheet[..n], &mut network);
+    console::tell(b"cellmap", is_written);
 }

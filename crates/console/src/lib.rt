@@ -1,8 +1,10 @@
 // What the programs do with standard input and output: a text is read to its end, two sheets in one text are told apart, and
-// texts and answers with two numbers are printed. Rests on the kit's io, and on limits for how long sheets are.
+// texts and answers with two numbers are printed. Each function that writes answers whether it could, and tell says so on standard
+// error where it could not. Rests on the kit's io, and on limits for how long sheets are.
 ghost use Prim.Native.Nat.{_≤_};
 ghost use lib.ListN.{length};
 ghost use Rattle.io.specs.Counts.{Counts};
+use libc::STDERR_FILENO;
 use libc::STDIN_FILENO;
 use libc::STDOUT_FILENO;
 
@@ -64,18 +66,27 @@ pub fn two_sheets(s: &[u8]) -> Sheets
     Sheets { end: i, start: i }
 }
 
-// Prints the first bytes of a text, where it has so many.
-pub fn show(text: &[u8], length: usize) {
+// Prints the first bytes of a text, where it has so many. Answers whether they were written.
+pub fn show(text: &[u8], length: usize) -> bool {
     if length <= text.len() {
-        io::write_all(STDOUT_FILENO, &text[..length]);
+        return io::write_all(STDOUT_FILENO, &text[..length]);
     }
+    false
 }
 
-// A line of two numbers, each after a text.
-pub fn two(first: &[u8], a: usize, second: &[u8], b: usize) {
-    io::write_all(STDOUT_FILENO, first);
-    io::print_decimal(STDOUT_FILENO, a as u64);
-    io::write_all(STDOUT_FILENO, second);
-    io::print_decimal(STDOUT_FILENO, b as u64);
-    io::write_all(STDOUT_FILENO, b"\n");
+// Prints a line of two numbers, each after a text. Answers whether all of it was written.
+pub fn two(first: &[u8], a: usize, second: &[u8], b: usize) -> bool {
+    io::write_all(STDOUT_FILENO, first)
+        && io::print_decimal(STDOUT_FILENO, a as u64)
+        && io::write_all(STDOUT_FILENO, second)
+        && io::print_decimal(STDOUT_FILENO, b as u64)
+        && io::write_all(STDOUT_FILENO, b"\n")
+}
+
+// Tells on standard error where a program's answer was not written in full: a program here has no exit status that could say so.
+pub fn tell(program: &[u8], is_written: bool) {
+    if !is_written {
+        io::write_all(STDERR_FILENO, program);
+        io::write_all(STDERR_FILENO, b": the answer could not be written\n");
+    }
 }

@@ -7,8 +7,8 @@ use mapper::Mapped;
 // long.
 const BOTH_TEXTS: usize = limits::MAX_PLA + 1 + limits::MAX_SHEET + 1;
 
-// Maps a panel, with a buffer for its network.
-fn answer(pla: &[u8], board: &[u8], buffer: &mut [u8]) {
+// Maps a panel, with a buffer for its network. Answers whether the answer was written.
+fn answer(pla: &[u8], board: &[u8], buffer: &mut [u8]) -> bool {
     let r = pla::map(pla, board, buffer);
     match r {
         Mapped::Refused { number, line } => console::two(b"refused ", number, b" line ", line),
@@ -16,17 +16,18 @@ fn answer(pla: &[u8], board: &[u8], buffer: &mut [u8]) {
     }
 }
 
-// The two texts of a text.
-fn both(s: &[u8]) {
+// The two texts of a text, as answer has it.
+fn both(s: &[u8]) -> bool {
     let p = console::two_sheets(s);
     let end = p.end;
     let start = p.start;
     let mut network = [0u8; limits::MAX_NETWORK];
-    answer(&s[..end], &s[start..], &mut network);
+    answer(&s[..end], &s[start..], &mut network)
 }
 
 fn main() {
     let mut text = [0u8; BOTH_TEXTS];
     let n = console::read_text(&mut text);
-    both(&text[..n]);
+    let is_written = both(&text[..n]);
+    console::tell(b"plamap", is_written);
 }

@@ -7,6 +7,8 @@ ghost use mathlib.Core.Path.{_≡_};
 ghost use Prim.Native.Nat.{_≤_, _<_};
 ghost use lib.ListN.{length};
 use design::Tabled;
+use libc::STDIN_FILENO;
+use libc::STDOUT_FILENO;
 
 // The most bytes of standard input.
 const MAX_TEXT: usize = 655360;
@@ -20,9 +22,10 @@ const MAX_LINE: usize = 4096;
 // What stands in the buffer before the call.
 const MARK: u8 = b'.';
 
-// How a block went, and where the next one begins.
+// How a block went, whether that was written, and where the next one begins.
 struct Ran {
     ok: bool,
+    is_written: bool,
     next: usize,
 }
 
@@ -165,15 +168,15 @@ fn put_remark(line: &mut [u8], at: usize, fine: bool) -> usize {
     }
 }
 
-// Says how a block with this name went.
-fn report(name: &[u8], ok: bool, came: &[u8]) {
-    io::write_all(1, name);
+// Says how a block with this name went. Answers whether it was written.
+fn report(name: &[u8], ok: bool, came: &[u8]) -> bool {
     if ok {
-        io::write_all(1, b" ok\n");
+        io::write_all(STDOUT_FILENO, name) && io::write_all(STDOUT_FILENO, b" ok\n")
     } else {
-        io::write_all(1, b" WRONG ");
-        io::write_all(1, came);
-        io::write_all(1, b"\n");
+        io::write_all(STDOUT_FILENO, name)
+            && io::write_all(STDOUT_FILENO, b" WRONG ")
+            && io::write_all(STDOUT_FILENO, came)
+            && io::write_all(STDOUT_FILENO, b"\n")
     }
 }
 
@@ -184,12 +187,17 @@ fn ask(sheet: &[u8], output: usize, space: &mut [u8], n: usize) -> Tabled
     design::table(sheet, output, &mut space[..n])
 }
 
-// Executes a sheet by the words of its block's first line.
-fn execute(head: &[u8], sheet: &[u8]) -> bool {
+// Executes a sheet by the words of its block's first line; the next block begins at a given place.
+fn execute(head: &[u8], sheet: &[u8], next: usize) -> Ran
+    ensures { λ r. ⌜ r .next ≡ next ⌝ }
+{
     let n = number(word(head, 2));
     if MAX_BUFFER < n {
-        report(head, false, b"the buffer is too long");
-        return false;
+        return Ran {
+            ok: false,
+            is_written: report(head, false, b"the buffer is too long"),
+            next,
+        };
     }
     let mut buffer = [MARK; MAX_BUFFER];
     let answer = ask(sheet, number(word(head, 1)), &mut buffer, n);
@@ -197,17 +205,20 @@ fn execute(head: &[u8], sheet: &[u8]) -> bool {
     let k = put_answer(&mut line, answer, &buffer);
     let came = part(&line, 0, k);
     let ok = check::same(came, past(head, 3));
-    report(part(head, 0, word_end(head, 0)), ok, came);
-    ok
+    Ran {
+        ok,
+        is_written: report(part(head, 0, word_end(head, 0)), ok, came),
+        next,
+    }
 }
 
 // What becomes of a block whose sheet is not there in full: it is the last one.
 fn broken_off(t: &[u8], head: &[u8]) -> Ran
     ensures { λ r. ⌜ r .next ≡ length (now (t .entry)) ⌝ }
 {
-    report(head, false, b"the sheet breaks off");
     Ran {
         ok: false,
+        is_written: report(head, false, b"the sheet breaks off"),
         next: t.len(),
     }
 }
@@ -229,35 +240,39 @@ fn block(t: &[u8], at: usize) -> Ran
     }
     let sheet = e + 1;
     let end = sheet + n;
-    let ok = execute(head, part(t, sheet, end));
-    Ran { ok, next: end + 1 }
+    execute(head, part(t, sheet, end), end + 1)
 }
 
-// Executes all blocks, and says how many there were and how many went wrong.
-fn execute_all(t: &[u8]) {
+// Executes all blocks, and says how many there were and how many went wrong. Answers whether all of it was written.
+fn execute_all(t: &[u8]) -> bool {
     let mut at = 0;
     let mut done = 0;
     let mut wrong = 0;
+    let mut is_written = true;
     while at < t.len() {
         let r = block(t, at);
         if !r.ok {
             wrong += 1;
         }
+        if !r.is_written {
+            is_written = false;
+        }
         done += 1;
         at = r.next;
     }
-    report_all(done, wrong);
+    is_written && report_all(done, wrong)
 }
 
-fn report_all(done: u64, wrong: u64) {
-    io::print_decimal(1, done);
-    io::write_all(1, b" sheets, ");
-    io::print_decimal(1, wrong);
-    io::write_all(1, b" wrong\n");
+fn report_all(done: u64, wrong: u64) -> bool {
+    io::print_decimal(STDOUT_FILENO, done)
+        && io::write_all(STDOUT_FILENO, b" sheets, ")
+        && io::print_decimal(STDOUT_FILENO, wrong)
+        && io::write_all(STDOUT_FILENO, b" wrong\n")
 }
 
 fn main() {
     let mut text = [0u8; MAX_TEXT];
-    let n = io::read_full(0, &mut text);
-    execute_all(part(&text, 0, n));
+    let n = io::read_full(STDIN_FILENO, &mut text);
+    let is_written = execute_all(part(&text, 0, n));
+    console::tell(b"tablecases", is_written);
 }

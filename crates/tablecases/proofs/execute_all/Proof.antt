@@ -9,10 +9,10 @@ use Rattle.tablecases.proofs.execute_all.Statement.{statement}
 use Rattle.tablecases.proofs.execute_all.Tie as tie
 
 abbrev Inv-loop : tie.InvT-loop
-Inv-loop t at₀ done₀ wrong₀ at done wrong = (at ≤ length t) × (done ≤ at) × (wrong ≤ done)
+Inv-loop t at₀ done₀ wrong₀ is-written₀ at done wrong is-written = (at ≤ length t) × (done ≤ at) × (wrong ≤ done)
 
 abbrev μ-loop : tie.MeasureT-loop
-μ-loop t at₀ done₀ wrong₀ at done wrong = length t - at
+μ-loop t at₀ done₀ wrong₀ is-written₀ at done wrong is-written = length t - at
 
 loop-holds : tie.Need-loop-holds Inv-loop μ-loop
 loop-holds c = search needs
@@ -30,13 +30,16 @@ loop-less : tie.Need-loop-less Inv-loop μ-loop
 loop-less c = search needs
 
 loop-again : tie.Need-loop-again Inv-loop μ-loop
-loop-again c = (search needs, search needs, ⊎-elim (λ w. omega arith) (λ w. omega arith) (c .if1 .came))
+loop-again c = (search needs, search needs, ⊎-elim (λ w. omega arith) (λ w. omega arith) (c .before .before .if1 .came))
 
 report-all-requires : tie.Need-report-all-requires Inv-loop μ-loop
 report-all-requires c κs = search needs
 
 returns : tie.Need-returns Inv-loop μ-loop
 returns c = search needs
+
+returns-2 : tie.Need-returns-2 Inv-loop μ-loop
+returns-2 c = search needs
 
 pub execute-all-spec : {M : Type 1} → statement M
 execute-all-spec =
@@ -51,4 +54,5 @@ execute-all-spec =
     loop-less
     loop-again
     report-all-requires
-    returns)
+    returns
+    returns-2)
