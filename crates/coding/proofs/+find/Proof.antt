@@ -1,9 +1,11 @@
-use Rattle.coding.specs.Tried.{Trying, covers-more, trying-start, trying-more, trying-end}
-use Rattle.coding.specs.Values.{valued-more, knows-more}
-use Rattle.holding.specs.Search.{uncoded, uncoded-less, told-found, told-lost}
-use Rattle.holding.specs.Narrow.{kept-start}
+use Rattle.coding.specs.Tried.{Trying}
+use Rattle.holding.specs.Search.{uncoded}
 use Rattle.problem.specs.Problem.{item}
 use Rattle.bits.specs.LogicLaws.{true-false}
+use Rattle.coding.specs.TriedLaws.{covers-more, trying-start, trying-more, trying-end}
+use Rattle.coding.specs.ValuesLaws.{valued-more, knows-more}
+use Rattle.holding.specs.SearchLaws.{uncoded-less, told-found, told-lost}
+use Rattle.holding.specs.NarrowLaws.{kept-start}
 use lib.ListN.{length, set, length-set}
 use native.Mathlib.Omega.{arith}
 use Prim.Native.Nat.{ℕ, _<_, _≤_}
