@@ -1,5 +1,5 @@
 // What the classes of one output hold while vertices take codes, and the sets of codes of the others narrowed by it. A rule
-// that prunes is one law of specs/Rules, specs/Full or specs/Reach: what it takes away is in no solution.
+// that prunes is one law of specs/NarrowLaws, specs/FullLaws or specs/ReachLaws: what it takes away is in no solution.
 ghost use mathlib.Core.Path.{_≡_};
 ghost use mathlib.Core.Bool.{true, false, not};
 ghost use Prim.Native.Nat.{ℕ, _+_, _-_, _*_, _^_, _<_, _≤_, max};
@@ -10,7 +10,7 @@ ghost use Rattle.limits.specs.Limits.{searchOutputs, maxVertices, labelCount, b
 ghost use Rattle.bits.specs.Digit.{on};
 ghost use Rattle.problem.specs.Problem.{noCode, labelAt, partAt, partOf, item, Block, Labels, Blocks, Kept, Hopeless};
 ghost use Rattle.holding.specs.Held.{Held};
-ghost use Rattle.holding.specs.Wants.{Wanted, Totals, Filled, Tight, needed};
+ghost use Rattle.holding.specs.Wants.{Wanted, Totals, TightBelow, Tight, needed};
 ghost use Rattle.holding.specs.Blocks.{Table, Minus, Spans};
 ghost use Rattle.holding.specs.Joined.{Joined};
 ghost use Rattle.holding.specs.Narrow.{Narrowed, Keeps, Stays};
@@ -372,7 +372,7 @@ fn tight_part(p: u8, t: usize, spot: usize) -> u64
 // The parts whose number is spot.
 fn tight_parts(ts: &[usize], spot: usize) -> u64
     requires { ⌜ length (now ts) ≡ maxVertices ⌝ }
-    ensures { λ r. ⌜ Filled (now (ts .entry)) spot maxVertices r ⌝ }
+    ensures { λ r. ⌜ TightBelow (now (ts .entry)) spot maxVertices r ⌝ }
 {
     let mut r: u64 = 0;
     let mut p: u8 = 0;

@@ -1,2 +1,3 @@
--- Number has the laws.
+-- Number has the definitions that contracts cite, NumberLaws their laws.
 pub mod Number
+pub mod NumberLaws

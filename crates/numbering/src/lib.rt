@@ -1,5 +1,5 @@
 // Private cells written out: given codes over the shared cells, each output's classes are numbered inside its blocks and
-// the numbers are spread over the digits of its private cells. It rests on the laws of specs/Number. From here up to readers
+// the numbers are spread over the digits of its private cells. It rests on the laws of specs/NumberLaws. From here up to readers
 // vertices are plain numbers, whatever they stand for: the crate joint hands in joint classes.
 ghost use mathlib.Core.Path.{_≡_};
 ghost use mathlib.Core.Bool.{true, false};

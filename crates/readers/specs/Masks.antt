@@ -18,6 +18,7 @@ use Rattle.bits.specs.Digit.{on}
 use Rattle.bits.specs.DigitLaws.{on-and, on-or, on-ones, on-above, on-complement}
 use Rattle.bits.specs.Count.{count}
 use Rattle.bits.specs.CountLaws.{less-or-equal}
+use Rattle.holding.specs.BlocksLaws.{copies-are}
 use Rattle.cells.specs.Cut.{Within}
 use Rattle.cells.specs.Pigeon.{agree-and, and-agree}
 use Rattle.cells.specs.Codes.{Coded}
@@ -26,7 +27,7 @@ use Rattle.problem.specs.Problem.{noCode, labelAt, partAt, item, Block, Blocks,
 use Rattle.coding.specs.Known.{Fitting}
 use Rattle.coding.specs.Values.{Agrees}
 use Rattle.coding.specs.Tried.{Covers}
-use Rattle.holding.specs.Blocks.{Table, copies, copies-are}
+use Rattle.holding.specs.Blocks.{Table, copies}
 
 -- ======== definitions
 -- each output reads cells below 6

@@ -1,15 +1,17 @@
-use Rattle.coding.specs.Tried.{Trying, covers-more, trying-start, trying-more, trying-end}
-use Rattle.coding.specs.Values.{valued-more, knows-more}
-use Rattle.holding.specs.Search.{uncoded, uncoded-less, told-found, told-lost}
-use Rattle.holding.specs.Narrow.{kept-start}
+use Rattle.coding.specs.Tried.{Trying}
+use Rattle.holding.specs.Search.{uncoded}
 use Rattle.problem.specs.Problem.{item}
 use Rattle.bits.specs.LogicLaws.{true-false}
+use Rattle.coding.specs.TriedLaws.{covers-more, trying-start, trying-more, trying-end}
+use Rattle.coding.specs.ValuesLaws.{valued-more, knows-more}
+use Rattle.holding.specs.SearchLaws.{uncoded-less, told-found, told-lost}
+use Rattle.holding.specs.NarrowLaws.{kept-start}
 use lib.ListN.{length, set, length-set}
 use native.Mathlib.Omega.{arith}
 use Prim.Native.Nat.{ℕ, _<_, _≤_}
 use mathlib.Core.Path.{_≡_, refl, sym, _∙_}
 use borrow.Author.Needs.{needs}
-use borrow.Fn.Kinds.{In}
+use borrow.Fn.Kinds.{In, Out}
 use borrow.Fn.PlainCycle.{Measures, is, falls, and}
 use Rattle.coding.proofs.find.Reads as find
 use Rattle.coding.proofs.find.Kinds as find-kinds
@@ -77,19 +79,23 @@ abbrev find-μ-loop : find-lts.MeasureT-loop
 find-μ-loop cl base bs gb all p used limit nodes codes dom met can known x fit total₀ left₀ total left =
     left
 
-find-allowed-requires : (t : ℕ) → find-lts.Need-allowed-requires (find-claims t) (find-at t) find.Post find-Inv-loop find-μ-loop
+-- a need, whatever the measure is
+abbrev Need : (find-lts.Claims → In 4 find-kinds.ps → Out 4 find-kinds.ps find-kinds.r → find-lts.InvT-loop → find-lts.MeasureT-loop → Type 0) → Type 0
+Need N = (t : ℕ) → N (find-claims t) (find-at t) find.Post find-Inv-loop find-μ-loop
+
+find-allowed-requires : Need find-lts.Need-allowed-requires
 find-allowed-requires t c κs = c .before .before .before .before .pre .1 .6 .blocks .long
 
-find-slice-aggregate-pick : (t : ℕ) → find-lts.Need-slice-aggregate-pick (find-claims t) (find-at t) find.Post find-Inv-loop find-μ-loop
+find-slice-aggregate-pick : Need find-lts.Need-slice-aggregate-pick
 find-slice-aggregate-pick t c = search needs
 
-find-slice-aggregate-pick-2 : (t : ℕ) → find-lts.Need-slice-aggregate-pick-2 (find-claims t) (find-at t) find.Post find-Inv-loop find-μ-loop
+find-slice-aggregate-pick-2 : Need find-lts.Need-slice-aggregate-pick-2
 find-slice-aggregate-pick-2 t c = search needs
 
-find-slice-aggregate-pick-3 : (t : ℕ) → find-lts.Need-slice-aggregate-pick-3 (find-claims t) (find-at t) find.Post find-Inv-loop find-μ-loop
+find-slice-aggregate-pick-3 : Need find-lts.Need-slice-aggregate-pick-3
 find-slice-aggregate-pick-3 t c = search needs
 
-find-pick-requires : (t : ℕ) → find-lts.Need-pick-requires (find-claims t) (find-at t) find.Post find-Inv-loop find-μ-loop
+find-pick-requires : Need find-lts.Need-pick-requires
 find-pick-requires t c κs =
     let start = c .before .before .before .before .before .before .before .before .before in
     let pre = start .pre .1 in
@@ -98,12 +104,12 @@ find-pick-requires t c κs =
     let m = start .good .1 .1 .1 .1 .1 .1 .1 .1 .1 .0 in
     (pre .0, pre .4, pre .3, search needs, search needs, search needs)
 
-find-finish-requires : (t : ℕ) → find-lts.Need-finish-requires (find-claims t) (find-at t) find.Post find-Inv-loop find-μ-loop
+find-finish-requires : Need find-lts.Need-finish-requires
 find-finish-requires t c κs =
     let pre = c .before .before .before .before .before .before .before .before .before .before .before .pre .1 in
     (pre .0, pre .4, pre .3, pre .5, λ x h. c .before .pick .ensures .none (c .if1 .taken) x h)
 
-find-returns : (t : ℕ) → find-lts.Need-returns (find-claims t) (find-at t) find.Post find-Inv-loop find-μ-loop
+find-returns : Need find-lts.Need-returns
 find-returns t c =
     let start = c .before .before .before .before .before .before .before .before .before .before .before .before .before in
     let a = start .args in
@@ -111,25 +117,25 @@ find-returns t c =
     let pre = start .pre .1 in
     record { sure = λ e. c .before .finish .ensures (a .base .now) (p .spots) (a .t8) (p .kn) (p .val) (pre .8); never = λ e. refl }
 
-find-fitting-requires : (t : ℕ) → find-lts.Need-fitting-requires (find-claims t) (find-at t) find.Post find-Inv-loop find-μ-loop
+find-fitting-requires : Need find-lts.Need-fitting-requires
 find-fitting-requires t c κs =
     let p = c .before .pick .ensures .some (c .if1 .left) .0 in
     let b = c .before .before .before .before .before .before .before .before .before .before .before .pre .1 .3 in
     omega arith
 
-find-mul-left : (t : ℕ) → find-lts.Need-mul-left (find-claims t) (find-at t) find.Post find-Inv-loop find-μ-loop
+find-mul-left : Need find-lts.Need-mul-left
 find-mul-left t c =
     let a = c .before .before .pick .ensures .some (c .before .if1 .left) .0 in
     let b = c .before .before .before .before .before .before .before .before .before .before .before .before .pre .1 .3 in
     search needs
 
-find-array-read-left : (t : ℕ) → find-lts.Need-array-read-left (find-claims t) (find-at t) find.Post find-Inv-loop find-μ-loop
+find-array-read-left : Need find-lts.Need-array-read-left
 find-array-read-left t c =
     let a = c .before .before .pick .ensures .some (c .before .if1 .left) .0 in
     let b = c .before .before .before .before .before .before .before .before .before .before .before .before .pre .1 .3 in
     search needs
 
-find-loop-holds : (t : ℕ) → find-lts.Need-loop-holds (find-claims t) (find-at t) find.Post find-Inv-loop find-μ-loop
+find-loop-holds : Need find-lts.Need-loop-holds
 find-loop-holds t c =
     let some = c .before .before .pick .ensures .some (c .before .if1 .left) in
     let a = c .before .before .before .before .before .before .before .before .before .before .before .before .args in
@@ -139,37 +145,37 @@ find-loop-holds t c =
     let can = c .before .before .before .before .before .before .before .allowed .result in
     (search needs, some .0, some .1, start (c .before .before .pick .result) can (some .0) (c .fitting .result) (c .fitting .ensures))
 
-find-spent-requires : (t : ℕ) → find-lts.Need-spent-requires (find-claims t) (find-at t) find.Post find-Inv-loop find-μ-loop
+find-spent-requires : Need find-lts.Need-spent-requires
 find-spent-requires t c κs = search needs
 
-find-returns-2 : (t : ℕ) → find-lts.Need-returns-2 (find-claims t) (find-at t) find.Post find-Inv-loop find-μ-loop
+find-returns-2 : Need find-lts.Need-returns-2
 find-returns-2 t c = record { sure = λ e. absurd (true-false e); never = λ e. sym (c .if2 .taken) ∙ c .before .spent .ensures e }
 
-find-lowest-requires : (t : ℕ) → find-lts.Need-lowest-requires (find-claims t) (find-at t) find.Post find-Inv-loop find-μ-loop
+find-lowest-requires : Need find-lts.Need-lowest-requires
 find-lowest-requires t c κs = c .before .before .loop-test .taken
 
-find-without-requires : (t : ℕ) → find-lts.Need-without-requires (find-claims t) (find-at t) find.Post find-Inv-loop find-μ-loop
+find-without-requires : Need find-lts.Need-without-requires
 find-without-requires t c κs = c .lowest .ensures .0
 
-find-wrapping-add-u64-requires : (t : ℕ) → find-lts.Need-wrapping-add-u64-requires (find-claims t) (find-at t) find.Post find-Inv-loop find-μ-loop
+find-wrapping-add-u64-requires : Need find-lts.Need-wrapping-add-u64-requires
 find-wrapping-add-u64-requires t c κs = search needs
 
-find-array-write-next : (t : ℕ) → find-lts.Need-array-write-next (find-claims t) (find-at t) find.Post find-Inv-loop find-μ-loop
+find-array-write-next : Need find-lts.Need-array-write-next
 find-array-write-next t c =
     let a = c .before .before .before .before .before .before .loop .inv .1 in
     let b = c .before .before .before .before .before .before .before .before .before .before .before .before .before .before .before .before .before .before .before .pre .1 .3 in
     search needs
 
-find-slice-aggregate-settle-all : (t : ℕ) → find-lts.Need-slice-aggregate-settle-all (find-claims t) (find-at t) find.Post find-Inv-loop find-μ-loop
+find-slice-aggregate-settle-all : Need find-lts.Need-slice-aggregate-settle-all
 find-slice-aggregate-settle-all t c = search needs
 
-find-slice-aggregate-settle-all-2 : (t : ℕ) → find-lts.Need-slice-aggregate-settle-all-2 (find-claims t) (find-at t) find.Post find-Inv-loop find-μ-loop
+find-slice-aggregate-settle-all-2 : Need find-lts.Need-slice-aggregate-settle-all-2
 find-slice-aggregate-settle-all-2 t c =
     let far = c .before .before .before .before .before .before .before .before .before .before .before .before in
     let d = far .before .before .before .before .before .before .before .before .before .good .1 .1 .1 .1 .1 .1 .1 .0 in
     search needs
 
-find-settle-all-requires : (t : ℕ) → find-lts.Need-settle-all-requires (find-claims t) (find-at t) find.Post find-Inv-loop find-μ-loop
+find-settle-all-requires : Need find-lts.Need-settle-all-requires
 find-settle-all-requires t c κs =
     let far = c .before .before .before .before .before .before .before .before .before .before .before .before in
     let start = far .before .before .before .before .before .before .before .before .before in
@@ -182,12 +188,12 @@ find-settle-all-requires t c κs =
     ∙ c .before .before .before .before .before .before .before .before .loop .inv .0 in
     (pre .0, pre .1, pre .2, pre .3, pre .4, c .before .before .before .before .lowest .ensures .0, omega arith, long, search needs)
 
-find-mark-requires : (t : ℕ) → find-lts.Need-mark-requires (find-claims t) (find-at t) find.Post find-Inv-loop find-μ-loop
+find-mark-requires : Need find-lts.Need-mark-requires
 find-mark-requires t c κs =
     let far = c .before .before .before .before .before .before .before .before .before .before .before .before .before .before .before .before .before .before .before .before .before .before in
     (far .before .before .pre .1 .6 .blocks .long, c .before .before .before .before .before .before .before .lowest .ensures .0)
 
-find-meet-requires : (t : ℕ) → find-lts.Need-meet-requires (find-claims t) (find-at t) find.Post find-Inv-loop find-μ-loop
+find-meet-requires : Need find-lts.Need-meet-requires
 find-meet-requires t c κs =
     let far = c .before .before .before .before .before .before .before .before .before .before .before .before in
     let pre = far .before .before .before .before .before .before .before .before .before .before .before .before .before .pre .1 in
@@ -195,7 +201,7 @@ find-meet-requires t c κs =
     let b = pre .3 in
     (pre .0, pre .4, omega arith)
 
-find-find-requires : (t : ℕ) → find-lts.Need-find-requires (find-claims t) (find-at t) find.Post find-Inv-loop find-μ-loop
+find-find-requires : Need find-lts.Need-find-requires
 find-find-requires t c κs =
     let far = c .before .before .before .before .before .before .before .before .before .before .before .before in
     let start = far .before .before .before .before .before .before .before .before .before .before .before .before .before .before in
@@ -216,7 +222,7 @@ find-find-requires t c κs =
     let d = knows-more (a .t7) (p .vertices) x n (i .0) (pre .3) (i .1) (p .kn) (p .val) (p .ps) (p .outputs) (i .3 .digit n l y) (pre .8) in
     (omega arith, (pre .0, pre .1, pre .2, pre .3, pre .4, pre .5, q, k, d))
 
-find-returns-3 : (t : ℕ) → find-lts.Need-returns-3 (find-claims t) (find-at t) find.Post find-Inv-loop find-μ-loop
+find-returns-3 : Need find-lts.Need-returns-3
 find-returns-3 t c =
     let far = c .before .before .before .before .before .before .before .before .before .before .before .before in
     let a = far .before .before .before .before .before .before .before .before .before .before .before .before .before .before .before .before .args in
@@ -229,15 +235,15 @@ find-returns-3 t c =
       never = r .never;
     }
 
-find-returns-4 : (t : ℕ) → find-lts.Need-returns-4 (find-claims t) (find-at t) find.Post find-Inv-loop find-μ-loop
+find-returns-4 : Need find-lts.Need-returns-4
 find-returns-4 t c = record { sure = λ e. absurd (true-false (sym (c .if5 .taken) ∙ e)); never = c .before .before .find .ensures .never }
 
-find-loop-less : (t : ℕ) → find-lts.Need-loop-less (find-claims t) (find-at t) find.Post find-Inv-loop find-μ-loop
+find-loop-less : Need find-lts.Need-loop-less
 find-loop-less t c =
     let far = c .before .before .before .before .before .before .before .before .before .before .before .before in
     c .before .before .before .before .before .before .before .before .before .before .before .without .ensures .less (far .lowest .ensures .1)
 
-find-loop-again : (t : ℕ) → find-lts.Need-loop-again (find-claims t) (find-at t) find.Post find-Inv-loop find-μ-loop
+find-loop-again : Need find-lts.Need-loop-again
 find-loop-again t c =
     let far = c .before .before .before .before .before .before .before .before .before .before .before .before in
     let i = far .before .before .before .before .loop .inv in
@@ -262,10 +268,10 @@ find-loop-again t c =
           left n (w .result) _ (i .0) (pre .3) (w .ensures) y (s .ensures .0) lost (i .3),
     )
 
-find-loop-less-2 : (t : ℕ) → find-lts.Need-loop-less-2 (find-claims t) (find-at t) find.Post find-Inv-loop find-μ-loop
+find-loop-less-2 : Need find-lts.Need-loop-less-2
 find-loop-less-2 t c = c .before .before .before .before .before .before .without .ensures .less (c .before .before .before .before .before .before .before .lowest .ensures .1)
 
-find-loop-again-2 : (t : ℕ) → find-lts.Need-loop-again-2 (find-claims t) (find-at t) find.Post find-Inv-loop find-μ-loop
+find-loop-again-2 : Need find-lts.Need-loop-again-2
 find-loop-again-2 t c =
     let far = c .before .before .before .before .before .before .before .before .before .before .before .before in
     let i = c .before .before .before .before .before .before .before .before .before .before .before .loop .inv in
@@ -289,7 +295,7 @@ find-loop-again-2 t c =
           left n (w .result) (a .t8) (i .0) (pre .3) (w .ensures) y kept lost (i .3),
     )
 
-find-returns-5 : (t : ℕ) → find-lts.Need-returns-5 (find-claims t) (find-at t) find.Post find-Inv-loop find-μ-loop
+find-returns-5 : Need find-lts.Need-returns-5
 find-returns-5 t c =
     let start = c .before .before .before .before .before .before .before .before .before .before .before .before .before .before in
     let pre = start .pre .1 in

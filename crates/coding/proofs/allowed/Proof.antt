@@ -3,8 +3,9 @@ use mathlib.Core.List.{List}
 use Prim.Native.Nat.{ℕ, _≤_, _-_}
 use native.Mathlib.Omega.{arith}
 use Rattle.problem.specs.Problem.{Blocks}
-use Rattle.coding.specs.Values.{Groups, Marks, Over, Canon, canon-start, canon-more}
+use Rattle.coding.specs.Values.{Groups, Marks, Over, Canon}
 use borrow.Author.Needs.{needs}
+use Rattle.coding.specs.ValuesLaws.{canon-start, canon-more}
 use Rattle.coding.proofs.allowed.Statement.{statement}
 use Rattle.coding.proofs.allowed.Tie as tie
 use Rattle.coding.proofs.allowed.Reads as reads

@@ -5,9 +5,9 @@ use mathlib.Core.Logic.{⊎-elim}
 use mathlib.Core.List.{List}
 use lib.ListN.{length}
 use Rattle.problem.specs.Problem.{partOf, Kept, Blocks}
-use Rattle.holding.specs.Full.{settled-full}
-use Rattle.holding.specs.Narrow.{kept-start, kept-more}
 use borrow.Author.Needs.{needs}
+use Rattle.holding.specs.FullLaws.{settled-full}
+use Rattle.holding.specs.NarrowLaws.{kept-start, kept-more}
 use Rattle.coding.proofs.bar_all.Statement.{statement}
 use Rattle.coding.proofs.bar_all.Tie as tie
 use Rattle.coding.proofs.bar_all.Reads as reads

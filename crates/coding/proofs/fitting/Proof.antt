@@ -1,7 +1,7 @@
 use mathlib.Core.Path.{sym, _∙_}
 use borrow.Author.Tests.{not-true, not-false}
-use Rattle.coding.specs.Known.{fitting-any, fitting-one, fitting-zero}
 use borrow.Author.Needs.{needs}
+use Rattle.coding.specs.KnownLaws.{fitting-any, fitting-one, fitting-zero}
 use Rattle.coding.proofs.fitting.Statement.{statement}
 use Rattle.coding.proofs.fitting.Tie as tie
 use Rattle.coding.proofs.fitting.Reads as reads

@@ -1,7 +1,7 @@
 use mathlib.Core.Path.{refl}
 use Rattle.problem.specs.Problem.{item}
-use Rattle.coding.specs.Values.{fresh-some, fresh-none}
 use borrow.Author.Needs.{needs}
+use Rattle.coding.specs.ValuesLaws.{fresh-some, fresh-none}
 use Rattle.coding.proofs.fresh.Statement.{statement}
 use Rattle.coding.proofs.fresh.Tie as tie
 use Rattle.coding.proofs.fresh.Reads as reads

@@ -3,8 +3,9 @@ use mathlib.Core.List.{List}
 use Prim.Native.Nat.{ℕ, _≤_, _-_}
 use native.Mathlib.Omega.{arith}
 use Rattle.problem.specs.Problem.{Blocks}
-use Rattle.coding.specs.Values.{Marked, marked-start, marked-more}
+use Rattle.coding.specs.Values.{Marked}
 use borrow.Author.Needs.{needs}
+use Rattle.coding.specs.ValuesLaws.{marked-start, marked-more}
 use Rattle.coding.proofs.mark.Statement.{statement}
 use Rattle.coding.proofs.mark.Tie as tie
 use Rattle.coding.proofs.mark.Reads as reads

@@ -1,9 +1,10 @@
-use Rattle.holding.specs.Search.{Seeking, seeking-start, seeking-coded, seeking-better, seeking-worse}
+use Rattle.holding.specs.Search.{Seeking}
 use native.Mathlib.Omega.{arith}
 use Prim.Native.Nat.{ℕ, _≤_, _-_}
 use mathlib.Core.Logic.{⊎-elim}
 use mathlib.Core.Path.{subst}
 use borrow.Author.Needs.{needs}
+use Rattle.holding.specs.SearchLaws.{seeking-start, seeking-coded, seeking-better, seeking-worse}
 use Rattle.coding.proofs.pick.Statement.{statement}
 use Rattle.coding.proofs.pick.Tie as tie
 use Rattle.coding.proofs.pick.Reads as reads

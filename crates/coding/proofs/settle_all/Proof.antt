@@ -1,12 +1,12 @@
 use Prim.Native.Nat.{_≤_, _-_}
 use native.Mathlib.Omega.{arith}
 use Rattle.problem.specs.Problem.{Kept}
-use Rattle.holding.specs.Narrow.{kept-start, kept-more, hopeless-before}
-use Rattle.holding.specs.Search.{empty-hopeless}
 use borrow.Author.Tests.{not-true, not-false}
 use mathlib.Core.Path.{_≡_, sym, _∙_}
 use lib.ListN.{length}
 use borrow.Author.Needs.{needs}
+use Rattle.holding.specs.SearchLaws.{empty-hopeless}
+use Rattle.holding.specs.NarrowLaws.{kept-start, kept-more, hopeless-before}
 use Rattle.coding.proofs.settle_all.Statement.{statement}
 use Rattle.coding.proofs.settle_all.Tie as tie
 use Rattle.coding.proofs.settle_all.Reads as reads

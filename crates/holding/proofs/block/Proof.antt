@@ -1,5 +1,5 @@
-use Rattle.holding.specs.Blocks.{spans-block}
 use borrow.Author.Needs.{needs}
+use Rattle.holding.specs.BlocksLaws.{spans-block}
 use Rattle.holding.proofs.block.Statement.{statement}
 use Rattle.holding.proofs.block.Tie as tie
 use Rattle.holding.proofs.block.Reads as reads

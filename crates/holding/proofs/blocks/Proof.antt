@@ -5,8 +5,9 @@ use Prim.Native.Nat.{ℕ, _≤_, _+_, _-_, _*_, _/_, _%_}
 use native.Mathlib.Omega.{arith}
 use lib.Bits.{and-le-l}
 use Rattle.problem.specs.Problem.{item}
-use Rattle.holding.specs.Blocks.{Table, table-more, entry-again}
+use Rattle.holding.specs.Blocks.{Table}
 use borrow.Author.Needs.{needs}
+use Rattle.holding.specs.BlocksLaws.{table-more, entry-again}
 use Rattle.holding.proofs.blocks.Statement.{statement}
 use Rattle.holding.proofs.blocks.Tie as tie
 use Rattle.holding.proofs.blocks.Reads as reads

@@ -1,7 +1,7 @@
-use Rattle.holding.specs.Reach.{tight-one}
-use Rattle.holding.specs.Wants.{filled-tight}
 use native.Mathlib.Omega.{arith}
 use borrow.Author.Needs.{needs}
+use Rattle.holding.specs.ReachLaws.{tight-one}
+use Rattle.holding.specs.WantsLaws.{tight-end}
 use Rattle.holding.proofs.busiest.Statement.{statement}
 use Rattle.holding.proofs.busiest.Tie as tie
 
@@ -62,7 +62,7 @@ returns-2 c =
     let t = c .before .before .before .before .before .before .before .totals in
     let f = c .before .before .tight-parts in
     let s = c .before .before .before .before .lacks2 .ensures in
-    (s, filled-tight (a .cl .now) (a .wants .now) (a .base .now) (a .o) (a .spot) (t .result) (f .result) (t .ensures) (f .ensures))
+    (s, tight-end (a .cl .now) (a .wants .now) (a .base .now) (a .o) (a .spot) (t .result) (f .result) (t .ensures) (f .ensures))
 
 pub busiest-spec : {M : Type 1} → statement M
 busiest-spec =

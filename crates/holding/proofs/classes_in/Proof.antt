@@ -3,8 +3,9 @@ use Prim.Native.Nat.{ℕ, _≤_, _+_, _-_, _*_}
 use native.Mathlib.Omega.{arith}
 use mathlib.Core.Logic.{⊎-elim}
 use borrow.Author.Tests.{not-true}
-use Rattle.holding.specs.Full.{Crowd, crowd-start, crowd-same, crowd-more}
+use Rattle.holding.specs.Full.{Crowd}
 use borrow.Author.Needs.{needs}
+use Rattle.holding.specs.FullLaws.{crowd-start, crowd-same, crowd-more}
 use Rattle.holding.proofs.classes_in.Statement.{statement}
 use Rattle.holding.proofs.classes_in.Tie as tie
 use Rattle.holding.proofs.classes_in.Reads as reads

@@ -1,8 +1,9 @@
 use mathlib.Core.Path.{sym, subst}
 use Prim.Native.Nat.{ℕ, _+_, _*_}
 use native.Mathlib.Omega.{arith}
-use Rattle.holding.specs.Full.{Crowd, crowd-one}
+use Rattle.holding.specs.Full.{Crowd}
 use borrow.Author.Needs.{needs}
+use Rattle.holding.specs.FullLaws.{crowd-one}
 use Rattle.holding.proofs.crowd.Statement.{statement}
 use Rattle.holding.proofs.crowd.Tie as tie
 use Rattle.holding.proofs.crowd.Reads as reads

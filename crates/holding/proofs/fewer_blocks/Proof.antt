@@ -1,5 +1,6 @@
-use Rattle.holding.specs.Reach.{Left, left-start, left-more, left-end}
+use Rattle.holding.specs.Reach.{Left}
 use Rattle.bits.specs.LogicLaws.{true-false}
+use Rattle.holding.specs.ReachLaws.{left-start, left-more, left-end}
 use Rattle.problem.specs.Problem.{Block}
 use borrow.Author.Tests.{ltb-true}
 use lib.ListN.{getD}

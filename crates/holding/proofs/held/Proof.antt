@@ -1,4 +1,4 @@
-use Rattle.holding.specs.Held.{at-skip, at-old, at-new, Held, held-start}
+use Rattle.holding.specs.Held.{Held}
 use Rattle.problem.specs.Problem.{item, Block}
 use borrow.Author.Tests.{not-true, not-false}
 use lib.ListN.{getD}
@@ -7,6 +7,7 @@ use Prim.Native.Nat.{ℕ, _<_, _≤_, _+_, _-_, _*_}
 use mathlib.Core.Logic.{⊎-elim}
 use mathlib.Core.Path.{_≡_, sym, _∙_, subst}
 use borrow.Author.Needs.{needs}
+use Rattle.holding.specs.HeldLaws.{held-start, at-skip, at-old, at-new}
 use Rattle.holding.proofs.held.Statement.{statement}
 use Rattle.holding.proofs.held.Tie as tie
 use Rattle.holding.proofs.held.Reads as reads

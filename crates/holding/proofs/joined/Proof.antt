@@ -3,8 +3,8 @@ use Prim.Native.Nat.{ℕ, _*_, _%_, _^_, _<_}
 use native.Mathlib.Nat.{one-mul, mod-eq-of-lt}
 use native.Mathlib.Omega.{arith}
 use lib.Pow.{pow-lt}
-use Rattle.holding.specs.Joined.{joined-of}
 use borrow.Author.Needs.{needs}
+use Rattle.holding.specs.JoinedLaws.{joined-of}
 use Rattle.holding.proofs.joined.Statement.{statement}
 use Rattle.holding.proofs.joined.Tie as tie
 use Rattle.holding.proofs.joined.Reads as reads

@@ -1,6 +1,6 @@
 use Prim.Native.Nat.{_-_}
 use Rattle.bits.specs.DigitLaws.{on-ones}
-use Rattle.holding.specs.Blocks.{on-either}
+use Rattle.holding.specs.BlocksLaws.{on-either}
 use borrow.Author.Needs.{needs}
 use Rattle.holding.proofs.keep.Statement.{statement}
 use Rattle.holding.proofs.keep.Tie as tie

@@ -1,9 +1,10 @@
-use Rattle.holding.specs.Reach.{Lacks, lacks-start, lacks-more}
+use Rattle.holding.specs.Reach.{Lacks}
 use lib.ListN.{getD}
 use native.Mathlib.Omega.{arith}
 use Prim.Native.Nat.{ℕ, _≤_, _-_, max}
 use mathlib.Core.Path.{refl, ap, _∙_, subst}
 use borrow.Author.Needs.{needs}
+use Rattle.holding.specs.ReachLaws.{lacks-start, lacks-more}
 use Rattle.holding.proofs.lacks.Statement.{statement}
 use Rattle.holding.proofs.lacks.Tie as tie
 use Rattle.holding.proofs.lacks.Reads as reads

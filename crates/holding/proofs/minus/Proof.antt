@@ -1,6 +1,6 @@
-use Rattle.holding.specs.Blocks.{minus-of}
 use Rattle.holding.proofs.minus.Statement.{statement}
 use Rattle.holding.proofs.minus.Tie as tie
+use Rattle.holding.specs.BlocksLaws.{minus-of}
 
 returns : tie.Need-returns
 returns c = minus-of (c .args .d) (c .args .b) (c .fits .b .fits)

@@ -1,9 +1,10 @@
-use Rattle.holding.specs.Narrow.{Narrowed, Stays, narrowed-start, narrowed-same, keep-more}
+use Rattle.holding.specs.Narrow.{Narrowed, Stays}
 use mathlib.Core.Logic.{⊎-elim}
 use native.Mathlib.Omega.{arith}
 use Prim.Native.Nat.{ℕ, _≤_, _+_, _-_, _*_}
 use mathlib.Core.Path.{sym, _∙_, subst}
 use borrow.Author.Needs.{needs}
+use Rattle.holding.specs.NarrowLaws.{narrowed-start, narrowed-same, keep-more}
 use Rattle.holding.proofs.narrow.Statement.{statement}
 use Rattle.holding.proofs.narrow.Tie as tie
 use Rattle.holding.proofs.narrow.Reads as reads

@@ -1,9 +1,9 @@
-use Rattle.holding.specs.Reach.{settled-no-room}
-use Rattle.holding.specs.Narrow.{settled-tight, kept-start}
-use Rattle.holding.specs.Wants.{wanted-held}
 use native.Mathlib.Omega.{arith}
 use mathlib.Core.Path.{refl, sym, _∙_}
 use Rattle.bits.specs.LogicLaws.{true-false}
+use Rattle.holding.specs.ReachLaws.{settled-no-room}
+use Rattle.holding.specs.NarrowLaws.{settled-tight, kept-start}
+use Rattle.holding.specs.WantsLaws.{wanted-held}
 use mir.Syntax.{w8, w64}
 use borrow.Author.Needs.{needs, elem-fits-field}
 use Rattle.holding.proofs.narrow_by.Statement.{statement}

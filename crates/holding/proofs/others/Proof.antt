@@ -2,8 +2,9 @@ use mathlib.Core.Path.{subst}
 use Prim.Native.Nat.{ℕ, _≤_, _-_}
 use native.Mathlib.Omega.{arith}
 use mathlib.Core.Logic.{⊎-elim}
-use Rattle.holding.specs.Full.{Others, others-start, others-in, others-out}
+use Rattle.holding.specs.Full.{Others}
 use borrow.Author.Needs.{needs}
+use Rattle.holding.specs.FullLaws.{others-start, others-in, others-out}
 use Rattle.holding.proofs.others.Statement.{statement}
 use Rattle.holding.proofs.others.Tie as tie
 use Rattle.holding.proofs.others.Reads as reads

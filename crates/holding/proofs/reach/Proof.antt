@@ -1,12 +1,13 @@
 use Rattle.holding.specs.Wants.{need}
 use Rattle.problem.specs.Problem.{partAt}
 use lib.ListN.{getD}
-use Rattle.holding.specs.Reach.{Reached, reached-start, reached-same, reached-more}
+use Rattle.holding.specs.Reach.{Reached}
 use mathlib.Core.Logic.{⊎-elim}
 use native.Mathlib.Omega.{arith}
 use Prim.Native.Nat.{ℕ, _≤_, _+_, _-_, _*_}
 use mathlib.Core.Path.{_≡_, subst}
 use borrow.Author.Needs.{needs}
+use Rattle.holding.specs.ReachLaws.{reached-start, reached-same, reached-more}
 use Rattle.holding.proofs.reach.Statement.{statement}
 use Rattle.holding.proofs.reach.Tie as tie
 use Rattle.holding.proofs.reach.Reads as reads

@@ -1,7 +1,7 @@
-use Rattle.holding.specs.Blocks.{all-ones}
 use native.Mathlib.Omega.{arith}
 use mathlib.Core.Path.{refl, sym, _∙_}
 use borrow.Author.Needs.{needs}
+use Rattle.holding.specs.BlocksLaws.{all-ones}
 use Rattle.cells.specs.ListLaws.{zeros-are}
 use Rattle.holding.proofs.settle.Statement.{statement}
 use Rattle.holding.proofs.settle.Tie as tie

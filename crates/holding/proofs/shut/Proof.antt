@@ -3,9 +3,11 @@ use Prim.Native.Nat.{ℕ, _≤_, _+_, _-_, _*_}
 use native.Mathlib.Omega.{arith}
 use mathlib.Core.Logic.{⊎-elim}
 use borrow.Author.Tests.{not-true}
-use Rattle.holding.specs.Full.{Free, shut-more}
-use Rattle.holding.specs.Narrow.{Narrowed, narrowed-start, narrowed-same}
+use Rattle.holding.specs.Full.{Free}
+use Rattle.holding.specs.Narrow.{Narrowed}
 use borrow.Author.Needs.{needs}
+use Rattle.holding.specs.FullLaws.{shut-more}
+use Rattle.holding.specs.NarrowLaws.{narrowed-start, narrowed-same}
 use Rattle.holding.proofs.shut.Statement.{statement}
 use Rattle.holding.proofs.shut.Tie as tie
 use Rattle.holding.proofs.shut.Reads as reads

@@ -3,8 +3,9 @@ use mathlib.Core.Logic.{⊎-elim}
 use Prim.Native.Nat.{ℕ, _-_, _≤_}
 use native.Mathlib.Omega.{arith}
 use borrow.Author.Tests.{not-true, not-false}
-use Rattle.holding.specs.Joined.{Spreading, spreading-start, spreading-same, spreading-more, spreading-end}
+use Rattle.holding.specs.Joined.{Spreading}
 use borrow.Author.Needs.{needs}
+use Rattle.holding.specs.JoinedLaws.{spreading-start, spreading-same, spreading-more, spreading-end}
 use Rattle.holding.proofs.spread.Statement.{statement}
 use Rattle.holding.proofs.spread.Tie as tie
 use Rattle.holding.proofs.spread.Reads as reads

@@ -1,9 +1,10 @@
-use Rattle.holding.specs.Wants.{Filled, filled-start, filled-same, filled-more}
+use Rattle.holding.specs.Wants.{TightBelow}
 use mathlib.Core.Logic.{⊎-elim}
 use native.Mathlib.Omega.{arith}
 use Prim.Native.Nat.{ℕ, _≤_, _-_}
 use mathlib.Core.Path.{subst}
 use borrow.Author.Needs.{needs}
+use Rattle.holding.specs.WantsLaws.{tight-start, tight-same, tight-more}
 use Rattle.holding.proofs.tight_parts.Statement.{statement}
 use Rattle.holding.proofs.tight_parts.Tie as tie
 use Rattle.holding.proofs.tight_parts.Reads as reads
@@ -11,13 +12,13 @@ use Rattle.holding.proofs.tight_parts.Lts as lts
 use Rattle.cells.proofs.with.Reads as with-reads
 
 abbrev Inv-loop : tie.InvT-loop
-Inv-loop ts spot r₀ p₀ r p = (p ≤ 32) × Filled ts spot p r
+Inv-loop ts spot r₀ p₀ r p = (p ≤ 32) × TightBelow ts spot p r
 
 abbrev μ-loop : tie.MeasureT-loop
 μ-loop ts spot r₀ p₀ r p = 32 - p
 
 loop-holds : tie.Need-loop-holds Inv-loop μ-loop
-loop-holds c = (omega arith, filled-start (c .before .args .ts .now) (c .before .args .spot))
+loop-holds c = (omega arith, tight-start (c .before .args .ts .now) (c .before .args .spot))
 
 cast-if1 : tie.Need-cast-if1 Inv-loop μ-loop
 cast-if1 c = search needs
@@ -44,8 +45,8 @@ loop-again c =
     let h = c .before .before .loop-test .taken in (
       omega arith,
       ⊎-elim
-          (λ w. filled-more (a .ts .now) (a .spot) (l .p) (l .r) _ (w .1 .result) (w .0 .taken) (w .1 .ensures) (w .2) (l .inv .1))
-          (λ w. filled-same (a .ts .now) (a .spot) (l .p) (l .r) _ (w .1) (l .inv .1))
+          (λ w. tight-more (a .ts .now) (a .spot) (l .p) (l .r) _ (w .1 .result) (w .0 .taken) (w .1 .ensures) (w .2) (l .inv .1))
+          (λ w. tight-same (a .ts .now) (a .spot) (l .p) (l .r) _ (w .1) (l .inv .1))
           (c .if1 .came),
     )
 
@@ -53,7 +54,7 @@ returns : tie.Need-returns Inv-loop μ-loop
 returns c =
     let a = c .before .before .before .args in
     let l = c .before .loop in
-    subst (λ (n : ℕ). Filled (a .ts .now) (a .spot) n (l .r)) (let h = c .loop-test .left in let z = l .inv .0 in omega arith) (l .inv .1)
+    subst (λ (n : ℕ). TightBelow (a .ts .now) (a .spot) n (l .r)) (let h = c .loop-test .left in let z = l .inv .0 in omega arith) (l .inv .1)
 
 pub tight-parts-spec : {M : Type 1} → statement M
 tight-parts-spec =

@@ -2,8 +2,9 @@ use mathlib.Core.Path.{refl, ap, _∙_, subst}
 use Prim.Native.Nat.{ℕ, _≤_, _-_, max}
 use native.Mathlib.Omega.{arith}
 use lib.ListN.{getD}
-use Rattle.holding.specs.Wants.{Totals, totals-start, totals-more}
+use Rattle.holding.specs.Wants.{Totals}
 use borrow.Author.Needs.{needs}
+use Rattle.holding.specs.WantsLaws.{totals-start, totals-more}
 use Rattle.cells.specs.ListLaws.{zeros-are}
 use Rattle.holding.proofs.totals.Statement.{statement}
 use Rattle.holding.proofs.totals.Tie as tie

@@ -3,8 +3,9 @@ use Prim.Native.Nat.{ℕ, _≤_, _+_, _-_, _*_}
 use native.Mathlib.Omega.{arith}
 use mathlib.Core.Logic.{⊎-elim}
 use lib.ListN.{length}
-use Rattle.holding.specs.Wants.{Wanted, wanted-start, wanted-same, wanted-more}
+use Rattle.holding.specs.Wants.{Wanted}
 use borrow.Author.Needs.{needs}
+use Rattle.holding.specs.WantsLaws.{wanted-start, wanted-same, wanted-more}
 use Rattle.holding.proofs.wanted.Statement.{statement}
 use Rattle.holding.proofs.wanted.Tie as tie
 use Rattle.holding.proofs.wanted.Reads as reads

@@ -4,7 +4,7 @@ use Prim.Native.Nat.{ℕ, _<_}
 use native.Mathlib.Omega.{arith}
 use Rattle.bits.specs.Digit.{digit, on}
 use Rattle.bits.specs.Every.{every}
-use Rattle.holding.specs.WithoutCell.{withoutCell, without-cell-on}
+use Rattle.holding.specs.WithoutCellLaws.{withoutCell, without-cell-on}
 use Rattle.holding.proofs.without_cell.Statement.{statement}
 use Rattle.holding.proofs.without_cell.Tie as tie
 

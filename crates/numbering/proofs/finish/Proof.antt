@@ -1,7 +1,8 @@
-use Rattle.numbering.specs.Number.{Finished, finished-start, finished-more, finished-all, finished-fixed, written-whole, written-large, crowded}
+use Rattle.numbering.specs.Number.{Finished}
 use native.Mathlib.Omega.{arith}
 use Prim.Native.Nat.{_≤_, _-_}
 use borrow.Author.Needs.{needs}
+use Rattle.numbering.specs.NumberLaws.{written-whole, written-large, finished-start, finished-more, finished-all, finished-fixed, crowded}
 use Rattle.numbering.proofs.finish.Statement.{statement}
 use Rattle.numbering.proofs.finish.Tie as tie
 use Rattle.numbering.proofs.finish.Reads as reads

@@ -1,10 +1,11 @@
-use Rattle.numbering.specs.Number.{key, both-same, Passed, passed-start, at-miss, at-low, at-high, number-old, number-new}
+use Rattle.numbering.specs.Number.{key, Passed}
 use Rattle.problem.specs.Problem.{labelAt, partOf}
 use native.Mathlib.Omega.{arith}
 use Prim.Native.Nat.{ℕ, _≤_, _-_}
 use mathlib.Core.Logic.{⊎-elim}
 use mathlib.Core.Path.{_≡_, refl, sym, ap, _∙_}
 use borrow.Author.Needs.{needs}
+use Rattle.numbering.specs.NumberLaws.{both-same, passed-start, number-old, at-miss, at-low, at-high, number-new}
 use Rattle.numbering.proofs.number.Statement.{statement}
 use Rattle.numbering.proofs.number.Tie as tie
 use Rattle.numbering.proofs.number.Reads as reads

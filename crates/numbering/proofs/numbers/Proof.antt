@@ -1,8 +1,9 @@
-use Rattle.numbering.specs.Number.{Numbered, numbered-start, numbered-more}
+use Rattle.numbering.specs.Number.{Numbered}
 use native.Mathlib.Omega.{arith}
 use Prim.Native.Nat.{ℕ, _≤_, _-_}
 use mathlib.Core.Path.{_≡_, refl, subst}
 use borrow.Author.Needs.{needs}
+use Rattle.numbering.specs.NumberLaws.{numbered-more, numbered-start}
 use Rattle.numbering.proofs.numbers.Statement.{statement}
 use Rattle.numbering.proofs.numbers.Tie as tie
 use Rattle.numbering.proofs.numbers.Reads as reads

@@ -1,9 +1,10 @@
-use Rattle.numbering.specs.Number.{Spreading, spreading-start, spreading-skip, spreading-one, spreading-zero, spreading-end, spread-low}
+use Rattle.numbering.specs.Number.{Spreading}
 use native.Mathlib.Omega.{arith}
 use Prim.Native.Nat.{_≤_, _-_}
 use mathlib.Core.Logic.{⊎-elim}
 use mathlib.Core.Path.{sym, _∙_}
 use borrow.Author.Needs.{needs}
+use Rattle.numbering.specs.NumberLaws.{spread-low, spreading-start, spreading-skip, spreading-one, spreading-zero, spreading-end}
 use Rattle.numbering.proofs.spread.Statement.{statement}
 use Rattle.numbering.proofs.spread.Tie as tie
 use Rattle.numbering.proofs.spread.Reads as reads

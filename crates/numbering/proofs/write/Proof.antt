@@ -1,8 +1,9 @@
-use Rattle.numbering.specs.Number.{Wrote, wrote-start, wrote-more}
+use Rattle.numbering.specs.Number.{Wrote}
 use native.Mathlib.Omega.{arith}
 use Prim.Native.Nat.{ℕ, _≤_, _-_}
 use mathlib.Core.Path.{_≡_, subst}
 use borrow.Author.Needs.{needs}
+use Rattle.numbering.specs.NumberLaws.{wrote-start, wrote-more}
 use Rattle.numbering.proofs.write.Statement.{statement}
 use Rattle.numbering.proofs.write.Tie as tie
 use Rattle.numbering.proofs.write.Reads as reads

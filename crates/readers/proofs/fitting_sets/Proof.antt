@@ -1,9 +1,9 @@
 use mathlib.Core.Path.{_≡_, refl, subst}
 use Prim.Native.Nat.{ℕ, _≤_, _-_}
 use native.Mathlib.Omega.{arith}
-use Rattle.holding.specs.Blocks.{all-ones}
 use Rattle.readers.specs.Known.{Fitted, fitted-any, fitted-more}
 use borrow.Author.Needs.{needs}
+use Rattle.holding.specs.BlocksLaws.{all-ones}
 use Rattle.readers.proofs.fitting_sets.Statement.{statement}
 use Rattle.readers.proofs.fitting_sets.Tie as tie
 use Rattle.readers.proofs.fitting_sets.Reads as reads

@@ -4,8 +4,6 @@ use mathlib.Core.List.{List}
 use Prim.Native.Nat.{ℕ, _≤_}
 use native.Mathlib.Omega.{arith}
 use Rattle.cells.specs.Lists.{zeros}
-use Rattle.holding.specs.Narrow.{kept-start}
-use Rattle.holding.specs.Search.{told-found}
 use borrow.Author.Tests.{not-true}
 use Rattle.readers.specs.Groups.{start-valued}
 use Rattle.readers.specs.Known.{Public, Zero, grouping-over, grouping-alone, start-knows, zeros-knows}
@@ -13,6 +11,8 @@ use Rattle.readers.specs.Masks.{Short, Common, Planned, Decided, plan-of
 use Rattle.readers.specs.Answer.{decided-of, decided-lost}
 use Rattle.readers.specs.Needs.{bounds-of}
 use borrow.Author.Needs.{needs}
+use Rattle.holding.specs.SearchLaws.{told-found}
+use Rattle.holding.specs.NarrowLaws.{kept-start}
 use Rattle.cells.specs.ListLaws.{zeros-are}
 use Rattle.readers.proofs.search.Statement.{statement}
 use Rattle.readers.proofs.search.Tie as tie
