@@ -126,7 +126,8 @@ fn reads_cell_0(mem: &[u16], i: usize) -> bool
 // The cache without what it says of subproblems that read cell 0. What it says of the others holds whatever is known of cell 0.
 pub fn keep_unread(mem: &mut [u16])
     requires { ⌜ length (now mem) ≡ entryCount * entrySize ⌝ }
-    ensures { λ r. ⌜ ((cl given : List ℕ) (kn val kn' val' v : ℕ) → (on kn 0 ≡ true → on val 0 ≡ false) → Honest cl given kn val v (now (mem .entry)) → Honest cl given kn' val' v (now (mem .exit))) ⌝ }
+    ensures { λ r. ⌜ ((cl given : List ℕ) (kn val kn' val' v : ℕ) → (on kn 0 ≡ true → on val 0 ≡ false) → Honest cl given kn val v (now (mem .entry))
+        → Honest cl given kn' val' v (now (mem .exit))) ⌝ }
 {
     let mut i: usize = 0;
     while i < ENTRIES {

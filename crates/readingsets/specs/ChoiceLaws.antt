@@ -1,6 +1,7 @@
--- Rows chosen output after output. Of open cells that may change places and that the outputs so far read alike, the next output
--- may be taken to read the first ones: a core is replaced by one that differs in the order of these cells alone. So only rows in
--- that order are tried, and rows that no codes answer are left. Assumes nothing.
+-- Why rows that are not tried lose no core. Of open cells that may change places and that the outputs so far read alike, the
+-- next output may be taken to read the first ones: a core is replaced by one that differs in the order of these cells alone. So
+-- only rows in that order are tried, and of these those are left that no codes answer, alone or with the outputs chosen before.
+-- Assumes nothing.
 use mathlib.Core.Path.{_≡_, refl, sym, ap, ap₂, _∙_, subst}
 use mathlib.Core.Bool.{Bool, true, false, not}
 use mathlib.Core.List.{List}
@@ -29,7 +30,7 @@ use Rattle.relation.specs.Relation.{Left}
 use Rattle.subproblems.specs.Subproblem.{openOf, givenOf, Barred, Settled}
 use Rattle.subproblems.specs.SubproblemLaws.{on-open}
 use Rattle.cache.specs.CacheLaws.{barred-among}
-use Rattle.readingsets.specs.Choice.{RowFits, numbered, turned, firstOutputs, Core, Rows, ReadAlike, Agree, Found, Lost, Chosen, disorder, Suits, stillAlike, Next}
+use Rattle.readingsets.specs.Choice.{RowFits, numbered, turned, firstOutputs, Core, Rows, ReadAlike, Agree, Found, Lost, Chosen, disorder, Suits, stillAlike, Next, numberOf, Tried}
 
 -- ======== digits of rows
 on-given : (row i : ℕ) → on row (6 + i) ≡ on (row / 64) i
@@ -48,10 +49,6 @@ count-row row = count-sum (on row) 6 10 ∙ ap₂ (λ (a b : ℕ). a + b)
     (count-alike (λ (i : ℕ). on row (6 + i)) (on (row / 64)) 10 (λ i h. on-given row i))
 
 -- ======== a row and its number
--- the number of a row among u open cells
-abbrev pub numberOf : ℕ → ℕ → ℕ
-numberOf u row = openOf row + 2 ^ u * givenOf row
-
 pub power-low : (u : ℕ) → u ≤ 6 → 2 ^ u ≤ 64
 power-low u h = let p : 2 ^ u ≤ 2 ^ 6 = pow-mono h in p
 
@@ -302,11 +299,6 @@ module _ (done n : ℕ) where
         of-same i e = and-left (on same i) (on (alike-cells (openOf row)) i) (sym (on-and same (alike-cells (openOf row)) i) ∙ e)
 
 -- ======== rows tried for output n
--- no core whose row of output n is in order has one that is tried at a place before i
-pub record Tried (cl given budgets : List ℕ) (kn val v m u g done : ℕ) (rows : List ℕ) (same n : ℕ) (down : Bool) (i : ℕ) : Type 0 where
-  pub past : (R F : ℕ → ℕ) → Core cl given budgets kn val v m u g R F → Agree done rows R → InOrder same (openOf (R n))
-      → i ≤ turned down (2 ^ (u + g)) (numberOf u (R n))
-
 module _ (cl given budgets : List ℕ) (kn val v m u g done : ℕ) (rows : List ℕ) where
   abbrev CoreOf : (ℕ → ℕ) → (ℕ → ℕ) → Type 0
   CoreOf R F = Core cl given budgets kn val v m u g R F

@@ -11,11 +11,6 @@ use mathlib.Core.Path.{sym, _∙_, subst}
 use borrow.Author.Needs.{needs}
 use Rattle.cache.proofs.settle.Statement.{statement}
 use Rattle.cache.proofs.settle.Tie as tie
-use Rattle.cache.proofs.settle.Reads as reads
-use Rattle.cache.proofs.settle.Lts as lts
-use Rattle.cache.proofs.between.Reads as between-reads
-use Rattle.cache.proofs.tell.Reads as tell-reads
-use Rattle.std.proofs.num.wrapping_add_u64.Reads as wrapping-add-u64-reads
 
 abbrev Inv-loop : tie.InvT-loop
 Inv-loop cl given mem₀ v kn val n with among rows limit nodes₀ a₀ mem nodes a = (a ≤ 256) × Honest cl given kn val v mem

@@ -6,10 +6,6 @@ use mathlib.Core.Path.{sym, _∙_}
 use borrow.Author.Needs.{needs}
 use Rattle.cache.proofs.settle_smaller.Statement.{statement}
 use Rattle.cache.proofs.settle_smaller.Tie as tie
-use Rattle.cache.proofs.settle_smaller.Reads as reads
-use Rattle.cache.proofs.settle_smaller.Lts as lts
-use Rattle.cache.proofs.settle.Reads as settle-reads
-use Rattle.std.proofs.num.wrapping_add_u64.Reads as wrapping-add-u64-reads
 
 abbrev Inv-loop : tie.InvT-loop
 Inv-loop cl given mem₀ v kn val n among rows limit nodes₀ i₀ mem nodes i = Honest cl given kn val v mem

@@ -9,15 +9,6 @@ use mathlib.Core.Path.{_≡_, sym, _∙_}
 use borrow.Author.Needs.{needs}
 use Rattle.cache.proofs.tell.Statement.{statement}
 use Rattle.cache.proofs.tell.Tie as tie
-use Rattle.cache.proofs.tell.Reads as reads
-use Rattle.cache.proofs.tell.Lts as lts
-use Rattle.cache.proofs.head.Reads as head-reads
-use Rattle.cache.proofs.holds.Reads as holds-reads
-use Rattle.cache.proofs.is_bad.Reads as is-bad-reads
-use Rattle.cache.proofs.place.Reads as place-reads
-use Rattle.cache.proofs.store.Reads as store-reads
-use Rattle.subproblems.proofs.ask.Reads as ask-reads
-use Rattle.subproblems.proofs.question.Reads as question-reads
 
 question-requires : tie.Need-question-requires
 question-requires c κs = search needs

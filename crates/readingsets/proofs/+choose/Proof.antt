@@ -5,10 +5,10 @@ use mathlib.Core.Logic.{⊎-elim}
 use native.Mathlib.Omega.{arith}
 use lib.Dec.{eqb}
 use lib.ListN.{set}
-use Rattle.readingsets.specs.ChoiceLaws.{Tried, tried-start, tried-all, step-less, step-fits, step-rows, step-alike, step-lost, step-dead, step-unfit}
+use Rattle.readingsets.specs.ChoiceLaws.{tried-start, tried-all, step-less, step-fits, step-rows, step-alike, step-lost, step-dead, step-unfit}
 use Rattle.readingsets.specs.ChoiceLaws.{chosen-end, chosen-found, chosen-lost, chosen-none, done-lost, known-or-none, number-room, on-with-same}
 use Rattle.readingsets.specs.ServedLaws.{served-chosen}
-use Rattle.readingsets.specs.Choice.{Lost, Chosen, turned}
+use Rattle.readingsets.specs.Choice.{Lost, Chosen, turned, Tried}
 use Rattle.bits.specs.Digit.{on}
 use Rattle.bits.specs.Count.{count}
 use Rattle.coding.specs.Limit.{Sure}

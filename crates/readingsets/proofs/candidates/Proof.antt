@@ -6,11 +6,6 @@ use Rattle.readingsets.specs.ChoiceLaws.{number-room}
 use borrow.Author.Needs.{needs}
 use Rattle.readingsets.proofs.candidates.Statement.{statement}
 use Rattle.readingsets.proofs.candidates.Tie as tie
-use Rattle.readingsets.proofs.candidates.Reads as reads
-use Rattle.readingsets.proofs.candidates.Lts as lts
-use Rattle.readingsets.proofs.numbers.Reads as numbers-reads
-use Rattle.readingsets.proofs.row_of.Reads as row-of-reads
-use Rattle.readingsets.proofs.counts.Reads as counts-reads
 
 abbrev Inv-loop : tie.InvT-loop
 Inv-loop cl given p o want same end n₀ r₀ n r = (end ≡ 2 ^ (p .cells + p .tables)) × (end ≤ 65536) × (n ≤ r) × (r ≤ end)

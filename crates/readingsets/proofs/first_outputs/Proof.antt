@@ -3,8 +3,6 @@ use native.Mathlib.Omega.{arith}
 use borrow.Author.Needs.{needs}
 use Rattle.readingsets.proofs.first_outputs.Statement.{statement}
 use Rattle.readingsets.proofs.first_outputs.Tie as tie
-use Rattle.readingsets.proofs.first_outputs.Reads as reads
-use Rattle.readingsets.proofs.first_outputs.Lts as lts
 
 cast-result : tie.Need-cast-result
 cast-result c = search needs

@@ -2,8 +2,6 @@ use Rattle.readingsets.specs.ChoiceLaws.{numbers-are}
 use borrow.Author.Needs.{needs}
 use Rattle.readingsets.proofs.numbers.Statement.{statement}
 use Rattle.readingsets.proofs.numbers.Tie as tie
-use Rattle.readingsets.proofs.numbers.Reads as reads
-use Rattle.readingsets.proofs.numbers.Lts as lts
 
 shl-result : tie.Need-shl-result
 shl-result c = search needs

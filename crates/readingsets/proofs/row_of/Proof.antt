@@ -5,9 +5,6 @@ use Rattle.readingsets.specs.ChoiceLaws.{number-parts}
 use borrow.Author.Needs.{needs}
 use Rattle.readingsets.proofs.row_of.Statement.{statement}
 use Rattle.readingsets.proofs.row_of.Tie as tie
-use Rattle.readingsets.proofs.row_of.Reads as reads
-use Rattle.readingsets.proofs.row_of.Lts as lts
-use Rattle.readingsets.proofs.numbers.Reads as numbers-reads
 
 numbers-requires : tie.Need-numbers-requires
 numbers-requires c κs = let h = c .pre .0 in omega arith

@@ -6,13 +6,6 @@ use native.Mathlib.Omega.{arith}
 use borrow.Author.Needs.{needs}
 use Rattle.readingsets.proofs.rows_alone.Statement.{statement}
 use Rattle.readingsets.proofs.rows_alone.Tie as tie
-use Rattle.readingsets.proofs.rows_alone.Reads as reads
-use Rattle.readingsets.proofs.rows_alone.Lts as lts
-use Rattle.cells.proofs.with.Reads as with-reads
-use Rattle.readingsets.proofs.leaves.Reads as leaves-reads
-use Rattle.readingsets.proofs.numbers.Reads as numbers-reads
-use Rattle.readingsets.proofs.row_of.Reads as row-of-reads
-use Rattle.readingsets.proofs.suits.Reads as suits-reads
 
 abbrev Inv-loop : tie.InvT-loop
 Inv-loop cl given vertices o want cells tables all end left₀ r₀ left r =

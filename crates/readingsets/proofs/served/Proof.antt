@@ -5,13 +5,6 @@ use Rattle.readingsets.specs.ServedLaws.{served-here, served-none}
 use borrow.Author.Needs.{needs}
 use Rattle.readingsets.proofs.served.Statement.{statement}
 use Rattle.readingsets.proofs.served.Tie as tie
-use Rattle.readingsets.proofs.served.Reads as reads
-use Rattle.readingsets.proofs.served.Lts as lts
-use Rattle.readingsets.proofs.numbers.Reads as numbers-reads
-use Rattle.readingsets.proofs.row_of.Reads as row-of-reads
-use Rattle.readingsets.proofs.suits.Reads as suits-reads
-use Rattle.subproblems.proofs.given_of.Reads as given-of-reads
-use Rattle.relation.proofs.none_left.Reads as none-left-reads
 
 abbrev Inv-loop : tie.InvT-loop
 Inv-loop cl given p n want same end r₀ r = r ≤ end

@@ -4,8 +4,6 @@ use lib.Bits.{bitOr}
 use borrow.Author.Needs.{needs}
 use Rattle.readingsets.proofs.with.Statement.{statement}
 use Rattle.readingsets.proofs.with.Tie as tie
-use Rattle.readingsets.proofs.with.Reads as reads
-use Rattle.readingsets.proofs.with.Lts as lts
 
 cast-result : tie.Need-cast-result
 cast-result c = search needs
