@@ -9,11 +9,11 @@ use mathlib.Core.Logic.{_⊎_, inl, inr, ⊎-elim}
 use Prim.Native.Nat.{ℕ, zero, suc, _+_, _-_, _*_, _/_, _%_, _^_, _≤_, _<_, min}
 use native.Mathlib.Decide.{ℕ-discrete, decLt}
 use native.Mathlib.Omega.{arith}
-use native.Mathlib.Nat.{mod-eq-of-lt, mod-lt, div-eq-of-lt, add-mul-div-left, add-mul-mod-self-left, div-lt-iff-lt-mul, mul-comm, mul-suc, mul-le-mul-left, one-mul}
+use native.Mathlib.Nat.{mod-eq-of-lt, mod-lt, div-eq-of-lt, add-mul-div-left, add-mul-mod-self-left, div-lt-iff-lt-mul, mul-comm, mul-suc, mul-le-mul-left}
 use lib.Bits.{bitAnd, bitOr, bitXor, and-le-r}
 use lib.Dec.{eqb}
 use lib.ListN.{length, set, length-set}
-use lib.Pow.{pow-add, pow-mono, pow-pos, pow-lt, shr-shr}
+use lib.Pow.{pow-add, pow-mono, pow-pos, shr-shr}
 use lib.Seq.{getD-set-same, getD-set-other}
 use borrow.Author.Tests.{eqb-true, eqb-false, not-false}
 use Rattle.bits.specs.Logic.{andb, orb, xorb}
@@ -450,16 +450,10 @@ barred-alone cl given kn val v done n one rows e h = barred-among cl given kn va
 pub known-or-none : (kn : ℕ) → not (eqb kn 0) ≡ false → kn ≡ 0
 known-or-none kn e = eqb-true kn 0 (not-false (eqb kn 0) e)
 
--- ======== shifts
-pub shifted : (w k : ℕ) → k < w → 1 * 2 ^ k % 2 ^ w ≡ 2 ^ k
-shifted w k h = rw one-mul (mod-eq-of-lt (pow-lt h))
-
-pub numbers-are : (d : ℕ) → d ≤ 16 → (1 * 2 ^ d % 2 ^ 32 ≡ 2 ^ d) × (1 * 2 ^ d % 2 ^ 32 ≤ 2 ^ 16)
-numbers-are d h = let e = shifted 32 d (omega arith) in (e, subst (λ (z : ℕ). z ≤ 2 ^ 16) (sym e) (pow-mono h))
-
+-- ======== powers of two
 -- the first m outputs as a set: below 2 ^ 8
-pub first-outputs-are : (m : ℕ) → m ≤ 8 → (1 * 2 ^ m % 2 ^ 16 ≡ 2 ^ m) × (0 < 2 ^ m) × (2 ^ m ≤ 256)
-first-outputs-are m h = (shifted 16 m (omega arith), pow-pos m, let p : 2 ^ m ≤ 2 ^ 8 = pow-mono h in p)
+pub first-outputs-are : (m : ℕ) → m ≤ 8 → (0 < 2 ^ m) × (2 ^ m ≤ 256)
+first-outputs-are m h = (pow-pos m, let p : 2 ^ m ≤ 2 ^ 8 = pow-mono h in p)
 
 -- the parts of a row's number
 pub number-parts : (u r p : ℕ) → u ≤ 6 → p ≡ 2 ^ u → r < 2 ^ (u + 10) → (0 < p) × (r / p < 1024) × (r % p < 64)

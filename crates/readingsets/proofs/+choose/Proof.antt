@@ -26,7 +26,7 @@ use Rattle.readingsets.proofs.alive.Reads as alive-reads
 use Rattle.readingsets.proofs.finish.Reads as finish-reads
 use Rattle.readingsets.proofs.next.Reads as next-reads
 use Rattle.readingsets.proofs.none.Reads as none-reads
-use Rattle.readingsets.proofs.numbers.Reads as numbers-reads
+use Rattle.readingsets.proofs.power.Reads as power-reads
 use Rattle.readingsets.proofs.row_of.Reads as row-of-reads
 use Rattle.readingsets.proofs.served.Reads as served-reads
 use Rattle.readingsets.proofs.still_alike.Reads as still-alike-reads
@@ -59,8 +59,8 @@ choose-claims t = (
   wanted-reads.Learnt,
   with-reads.Asked,
   with-reads.Learnt,
-  numbers-reads.Asked,
-  numbers-reads.Learnt,
+  power-reads.Asked,
+  power-reads.Learnt,
   served-reads.Asked,
   served-reads.Learnt,
   row-of-reads.Asked,
@@ -126,11 +126,11 @@ choose-wanted-requires t c κs = let q = c .before .before .before .before .befo
 choose-with-requires : (t : ℕ) → choose-lts.Need-with-requires (choose-claims t) (choose-at t) choose.Post choose-Inv-loop choose-μ-loop
 choose-with-requires t c κs = let h = c .before .before .before .next .ensures .room in let e = c .before .before .if1 .left in omega arith
 
-choose-add-numbers : (t : ℕ) → choose-lts.Need-add-numbers (choose-claims t) (choose-at t) choose.Post choose-Inv-loop choose-μ-loop
-choose-add-numbers t c = let q = c .before .before .before .before .before .before .before .before .before .pre .1 in let h = q .4 in let k = q .5 in search needs
+choose-add-power : (t : ℕ) → choose-lts.Need-add-power (choose-claims t) (choose-at t) choose.Post choose-Inv-loop choose-μ-loop
+choose-add-power t c = let q = c .before .before .before .before .before .before .before .before .before .pre .1 in let h = q .4 in let k = q .5 in search needs
 
-choose-numbers-requires : (t : ℕ) → choose-lts.Need-numbers-requires (choose-claims t) (choose-at t) choose.Post choose-Inv-loop choose-μ-loop
-choose-numbers-requires t c κs = let q = c .before .before .before .before .before .before .before .before .before .pre .1 in let h = q .4 in let k = q .5 in omega arith
+choose-power-requires : (t : ℕ) → choose-lts.Need-power-requires (choose-claims t) (choose-at t) choose.Post choose-Inv-loop choose-μ-loop
+choose-power-requires t c κs = let q = c .before .before .before .before .before .before .before .before .before .pre .1 in let h = q .4 in let k = q .5 in omega arith
 
 choose-served-requires : (t : ℕ) → choose-lts.Need-served-requires (choose-claims t) (choose-at t) choose.Post choose-Inv-loop choose-μ-loop
 choose-served-requires t c κs =
@@ -147,7 +147,7 @@ choose-row-of-requires t c κs =
     let p = start .args .p in
     let q = start .pre .1 in
     let s = c .before .served in
-    let k = c .before .before .numbers in
+    let k = c .before .before .power in
     let h = c .if2 .taken in
     (q .4, number-room (p .cells) (p .tables) (s .result) (k .result) (q .5) (k .ensures .0) h)
 
@@ -180,7 +180,7 @@ choose-choose-requires t c κs =
     let low : n < 8 = omega arith in
     let free = x .free low in
     let w = c .before .before .before .before .before .before .before .with in
-    let e3 = c .before .before .before .before .before .numbers .ensures .0 in
+    let e3 = c .before .before .before .before .before .power .ensures .0 in
     let s = c .before .before .before .before .served in
     let e4 = c .before .before .before .if2 .taken in
     let k = c .before .before .row-of in
@@ -216,7 +216,7 @@ choose-returns-2 t c =
     let low : n < 8 = omega arith in
     let free = x .free low in
     let w = c10 .with in
-    let e3 = c .before .before .before .before .before .before .before .before .numbers .ensures .0 in
+    let e3 = c .before .before .before .before .before .before .before .before .power .ensures .0 in
     let s = c .before .before .before .before .before .before .before .served in
     let e4 = c .before .before .before .before .before .before .if2 .taken in
     let k = c .before .before .before .before .before .row-of in
@@ -259,7 +259,7 @@ choose-row-of-requires-2 t c κs =
     let p = a .p in
     let q = start .pre .1 in
     let y = c .turn in
-    let k = c .before .before .before .before .before .before .numbers in
+    let k = c .before .before .before .before .before .before .power in
     (q .4, number-room (p .cells) (p .tables) (y .result) (k .result) (q .5) (k .ensures .0) (y .ensures .1))
 
 choose-suits-requires : (t : ℕ) → choose-lts.Need-suits-requires (choose-claims t) (choose-at t) choose.Post choose-Inv-loop choose-μ-loop
@@ -317,7 +317,7 @@ choose-choose-requires-2 t c κs =
     let k = c10 .row-of2 in
     let last = k .ensures in
     let t' = start .pre .0 in
-    let e3 = c10 .before .before .before .before .before .before .before .numbers .ensures .0 in
+    let e3 = c10 .before .before .before .before .before .before .before .power .ensures .0 in
     let e4 = y .ensures .1 in
     let e5 = c .before .before .before .before .before .before .before .before .before .suits .ensures .right (c .before .before .before .before .before .before .before .before .if3 .taken) in
     let full = e5 ∙ c10 .before .before .before .before .before .before .before .before .before .before .wanted .ensures in
@@ -384,7 +384,7 @@ choose-returns-4 t c =
 choose-add-i : (t : ℕ) → choose-lts.Need-add-i (choose-claims t) (choose-at t) choose.Post choose-Inv-loop choose-μ-loop
 choose-add-i t c =
     let h = c .before .before .before .before .before .loop-test .taken in
-    let z = c .before .before .before .before .before .before .before .before .before .numbers .ensures .1 in
+    let z = c .before .before .before .before .before .before .before .before .before .power .ensures .1 in
     omega arith
 
 choose-loop-less : (t : ℕ) → choose-lts.Need-loop-less (choose-claims t) (choose-at t) choose.Post choose-Inv-loop choose-μ-loop
@@ -408,7 +408,7 @@ choose-loop-again t c =
     let k = c .before .before .row-of2 in
     let y = c .before .before .before .turn in
     let down = not (eqb (p .kn) 0) in
-    let e3 = c .before .before .before .before .before .before .before .before .before .numbers .ensures .0 in
+    let e3 = c .before .before .before .before .before .before .before .before .before .power .ensures .0 in
     let place = subst (λ (z : ℕ). y .result ≡ turned down z (l .i)) e3 (y .ensures .0) in
     let last = k .ensures in
     let i = l .inv in
@@ -468,7 +468,7 @@ choose-returns-5 t c =
     let l = c .before .before .loop in
     let i = l .inv in
     let h = c .before .loop-test .left in
-    let e3 = c .before .before .before .before .before .numbers .ensures .0 in
+    let e3 = c .before .before .before .before .before .power .ensures .0 in
     let r = c .none2 .result in
     let e = c .none2 .ensures in
     let all = tried-all (a .cl .now) (a .given .now) (p .budgets) (p .kn) (p .val) (p .vertices) (p .outputs) (p .cells) (p .tables) (a .done) (a .rows) (a .same) n
@@ -491,8 +491,8 @@ pub +choose-spec : {M : Type 1} → statement M
     (choose-array-read-wanted t)
     (choose-wanted-requires t)
     (choose-with-requires t)
-    (choose-add-numbers t)
-    (choose-numbers-requires t)
+    (choose-add-power t)
+    (choose-power-requires t)
     (choose-served-requires t)
     (choose-row-of-requires t)
     (choose-mul-only t)
