@@ -388,19 +388,24 @@ chosen-lost cl given budgets kn val v m u g done rows rows' codes true e c = abs
 -- ======== one step: output n gets row number r
 module _ (cl given budgets : List ℕ) (kn val v m u g done : ℕ) (rows : List ℕ) (same n with-n row r : ℕ) (few : u ≤ 6) (l : n < m) (h : n < 8) (free : on done n ≡ false)
     (ew : with-n ≡ bitOr done (2 ^ n)) (er : row ≡ numbered u r) (s : Rows budgets m u g done rows) where
-  pub step-less : 8 - count (on with-n) 8 < 8 - count (on done) 8
+  step-less : 8 - count (on with-n) 8 < 8 - count (on done) 8
   step-less = subst (λ (d : ℕ). 8 - count (on d) 8 < 8 - count (on done) 8) (sym ew) (with-next-less done n h free)
 
   pub step-fits : r < 2 ^ (u + g) → count (on row) 16 ≡ min (item budgets n) (u + g) → RowFits (item budgets n) u g row
   step-fits low full = subst (RowFits (item budgets n) u g) (sym er) (numbered-fits u g r few low (item budgets n)
       (subst (λ (z : ℕ). count (on z) 16 ≡ min (item budgets n) (u + g)) er full))
 
-  pub step-rows : r < 2 ^ (u + g) → count (on row) 16 ≡ min (item budgets n) (u + g) → Rows budgets m u g with-n (set rows n row)
+  step-rows : r < 2 ^ (u + g) → count (on row) 16 ≡ min (item budgets n) (u + g) → Rows budgets m u g with-n (set rows n row)
   step-rows low full = subst (λ (d : ℕ). Rows budgets m u g d (set rows n row)) (sym ew) (rows-more done n rows row (s .long) h free budgets m u g l (step-fits low full) s)
 
-  pub step-alike : (z : ℕ) → z ≡ stillAlike same row → ReadAlike kn u done rows same → ReadAlike kn u with-n (set rows n row) z
+  step-alike : (z : ℕ) → z ≡ stillAlike same row → ReadAlike kn u done rows same → ReadAlike kn u with-n (set rows n row) z
   step-alike z e a = subst (ReadAlike kn u with-n (set rows n row)) (sym e)
       (subst (λ (d : ℕ). ReadAlike kn u d (set rows n row) (stillAlike same row)) (sym ew) (alike-more done n rows row (s .long) h free kn u same few a))
+
+  -- what the search with one output more asks for
+  pub step-on : r < 2 ^ (u + g) → count (on row) 16 ≡ min (item budgets n) (u + g) → (z : ℕ) → z ≡ stillAlike same row → ReadAlike kn u done rows same
+      → (8 - count (on with-n) 8 < 8 - count (on done) 8) × Rows budgets m u g with-n (set rows n row) × ReadAlike kn u with-n (set rows n row) z
+  step-on low full z e a = (step-less, step-rows low full, step-alike z e a)
 
   -- that row is tried at place i
   module _ (down : Bool) (i : ℕ) (et : r ≡ turned down (2 ^ (u + g)) i) where
@@ -410,19 +415,24 @@ module _ (cl given budgets : List ℕ) (kn val v m u g done : ℕ) (rows : List 
     at-place : row ≡ numbered u (turned down (2 ^ (u + g)) i)
     at-place = er ∙ ap (numbered u) et
 
-    pub step-lost : Lost cl given budgets kn val v m u g with-n (set rows n row) → TriedTo' i → TriedTo' (i + 1)
+    step-lost : Lost cl given budgets kn val v m u g with-n (set rows n row) → TriedTo' i → TriedTo' (i + 1)
     step-lost x = tried-lost cl given budgets kn val v m u g done rows same n down few l i (s .long) h free
         (subst (λ (z : ℕ). Lost cl given budgets kn val v m u g (bitOr done (2 ^ n)) (set rows n z)) at-place
         (subst (λ (d : ℕ). Lost cl given budgets kn val v m u g d (set rows n row)) ew x))
 
-    pub step-dead : Barred cl given kn val v with-n (item (set rows n row)) → TriedTo' i → TriedTo' (i + 1)
+    step-dead : Barred cl given kn val v with-n (item (set rows n row)) → TriedTo' i → TriedTo' (i + 1)
     step-dead b = step-lost (barred-lost cl given budgets kn val v m u g with-n (set rows n row) with-n (λ o e. (within o (subst (λ (d : ℕ). on d o ≡ true) ew e), e)) b)
       where
         within : (o : ℕ) → on (bitOr done (2 ^ n)) o ≡ true → o < m
         within o e = ⊎-elim (s .few o) (λ d. subst (λ (o : ℕ). o < m) (sym d) l) (on-with-next done n o e)
 
-    pub step-unfit : (want : ℕ) (ok : Bool) → want ≡ min (item budgets n) (u + g) → ok ≡ false → Suits row want same ok → TriedTo' i → TriedTo' (i + 1)
+    step-unfit : (want : ℕ) (ok : Bool) → want ≡ min (item budgets n) (u + g) → ok ≡ false → Suits row want same ok → TriedTo' i → TriedTo' (i + 1)
     step-unfit want ok w q x = tried-unfit cl given budgets kn val v m u g done rows same n down few l i want ok w q (subst (λ (z : ℕ). Suits z want same ok) at-place x)
+
+    -- it is past where the search below found nothing, where no codes answer it, and where it doesn't suit
+    pub step-past : (want : ℕ) (ok : Bool) → want ≡ min (item budgets n) (u + g) → (Lost cl given budgets kn val v m u g with-n (set rows n row) → TriedTo' i → TriedTo' (i + 1))
+        × (Barred cl given kn val v with-n (item (set rows n row)) → TriedTo' i → TriedTo' (i + 1)) × (ok ≡ false → Suits row want same ok → TriedTo' i → TriedTo' (i + 1))
+    step-past want ok w = (step-lost, step-dead, step-unfit want ok w)
 
 -- ======== no core
 pub settled-none : (cl given : List ℕ) (kn val v asked : ℕ) (rows : ℕ → ℕ) (ok : Bool) (codes : List ℕ) → ok ≡ false → Barred cl given kn val v asked rows
