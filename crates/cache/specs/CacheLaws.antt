@@ -1,5 +1,6 @@
--- Laws of a cache: what is found in it, what is written into it, what is left out of it, and sets of outputs between two
--- others. Assumes nothing.
+-- Why a cache loses no answer: it says "no codes" only of what was found to have none, in the rows that it holds, and a larger
+-- set of outputs has none either. What is written over an entry replaces what it said; the other entries stay. Entries whose
+-- rows don't read cell 0 stay true whatever is known of that cell, and the others are taken out. Assumes nothing.
 use mathlib.Core.Path.{_≡_, refl, sym, ap, _∙_, subst}
 use mathlib.Core.Bool.{Bool, true, false, not}
 use mathlib.Core.List.{List}
@@ -11,7 +12,6 @@ use lib.Bits.{bitAnd, bitOr}
 use lib.Dec.{eqb}
 use lib.ListN.{length, set, length-set}
 use lib.Seq.{getD-set-same, getD-set-other}
-use Rattle.limits.specs.Limits.{searchOutputs}
 use Rattle.bits.specs.LogicLaws.{and-both, never-both}
 use Rattle.bits.specs.Digit.{digit, on}
 use Rattle.bits.specs.DigitLaws.{on-and, on-or-one, on-or-none, on-zero, on-above, on-complement}
@@ -19,27 +19,8 @@ use Rattle.bits.specs.CountLaws.{less-or-equal}
 use Rattle.problem.specs.Problem.{item}
 use Rattle.subproblems.specs.Subproblem.{Barred}
 use Rattle.subproblems.specs.SubproblemLaws.{barred-more}
-use Rattle.subproblems.specs.Unread.{barred-unread}
-use Rattle.cache.specs.Cache.{headAt, rowAt, Honest}
-
--- ======== definitions
--- entry i has the first o of the rows, and the other entries are as they were
-pub record Written (old : List ℕ) (i : ℕ) (rows : List ℕ) (o : ℕ) (mem : List ℕ) : Type 0 where
-  pub long : length mem ≡ length old
-  pub heads : (k : ℕ) → (k ≡ i → ⊥) → headAt mem k ≡ headAt old k
-  pub others : (k q : ℕ) → (k ≡ i → ⊥) → q < searchOutputs → rowAt mem k q ≡ rowAt old k q
-  pub mine : (q : ℕ) → q < o → rowAt mem i q ≡ item rows q
-
--- where all doesn't have cell 0, none of the first o rows of entry i reads it
-pub record Joined (mem : List ℕ) (i o all : ℕ) : Type 0 where
-  pub unread : on all 0 ≡ false → (q : ℕ) → q < o → on (rowAt mem i q) 0 ≡ false
-
--- what entries say they said in old too, and of the first i only those say something whose rows don't read cell 0
-pub record Unread (old : List ℕ) (i : ℕ) (mem : List ℕ) : Type 0 where
-  pub long : length mem ≡ length old
-  pub heads : (k : ℕ) → headAt mem k % 2 ≡ 1 → headAt mem k ≡ headAt old k
-  pub rows : (k q : ℕ) → q < searchOutputs → rowAt mem k q ≡ rowAt old k q
-  pub unread : (k q : ℕ) → k < i → headAt mem k % 2 ≡ 1 → q < searchOutputs → on (rowAt mem k q) 0 ≡ false
+use Rattle.subproblems.specs.UnreadLaws.{barred-unread}
+use Rattle.cache.specs.Cache.{headAt, rowAt, Honest, Written, Joined, Unread}
 
 -- ======== an entry written
 pub written-start : (old : List ℕ) (i : ℕ) (rows : List ℕ) → Written old i rows 0 old

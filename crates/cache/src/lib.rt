@@ -126,7 +126,8 @@ fn reads_cell_0(mem: &[u16], i: usize) -> bool
 // The cache without what it says of subproblems that read cell 0. What it says of the others holds whatever is known of cell 0.
 pub fn keep_unread(mem: &mut [u16])
     requires { ⌜ length (now mem) ≡ entryCount * entrySize ⌝ }
-    ensures { λ r. ⌜ ((cl given : List ℕ) (kn val kn' val' v : ℕ) → (on kn 0 ≡ true → on val 0 ≡ false) → Honest cl given kn val v (now (mem .entry)) → Honest cl given kn' val' v (now (mem .exit))) ⌝ }
+    ensures { λ r. ⌜ ((cl given : List ℕ) (kn val kn' val' v : ℕ) → (on kn 0 ≡ true → on val 0 ≡ false) → Honest cl given kn val v (now (mem .entry))
+        → Honest cl given kn' val' v (now (mem .exit))) ⌝ }
 {
     let mut i: usize = 0;
     while i < ENTRIES {
@@ -156,22 +157,25 @@ pub struct Reply {
     pub nodes: u64,
 }
 
-// The same for the outputs of the set asked, from the cache where it is known.
-fn tell(
-    cl: &[u8],
-    given: &[u16],
-    mem: &mut [u16],
-    v: usize,
-    kn: u32,
-    val: u32,
-    asked: u8,
-    rows: [u16; SEARCH_OUTPUTS],
-    limit: u64,
-) -> Reply
-    requires { ⌜ Classes (now cl) × (length (now given) ≡ maxVertices) × (v ≤ maxVertices) × Honest (now cl) (now given) kn val v (now mem) ⌝ }
-    ensures { λ r. ⌜ Honest (now (cl .entry)) (now (given .entry)) kn val v (now (mem .exit)) × (r .ok ≡ false → Barred (now (cl .entry)) (now (given .entry)) kn val v asked (item rows)) ⌝ }
+// What is asked of sets of outputs: the number of vertices, those where cell 0 has known digits and these digits, the outputs' rows,
+// and the limit of nodes for each set.
+pub struct Query {
+    pub vertices: usize,
+    pub kn: u32,
+    pub val: u32,
+    pub rows: [u16; SEARCH_OUTPUTS],
+    pub limit: u64,
+}
+
+// The reply for the outputs of the set asked, from the cache where it is known.
+fn tell(cl: &[u8], given: &[u16], mem: &mut [u16], q: Query, asked: u8) -> Reply
+    requires { ⌜ Classes (now cl) × (length (now given) ≡ maxVertices) × (q .vertices ≤ maxVertices)
+        × Honest (now cl) (now given) (q .kn) (q .val) (q .vertices) (now mem) ⌝ }
+    ensures { λ r. ⌜ Honest (now (cl .entry)) (now (given .entry)) (q .kn) (q .val) (q .vertices) (now (mem .exit))
+        × (r .ok ≡ false → Barred (now (cl .entry)) (now (given .entry)) (q .kn) (q .val) (q .vertices) asked (item (q .rows))) ⌝ }
 {
-    let asks = subproblems::question(rows, asked, kn != 0);
+    let rows = q.rows;
+    let asks = subproblems::question(rows, asked, q.kn != 0);
     if is_bad(mem, asked, asks) {
         return Reply {
             ok: false,
@@ -181,7 +185,7 @@ fn tell(
     if holds(mem, place(asked, asks), head(asked, true), asks) {
         return Reply { ok: true, nodes: 0 };
     }
-    let a = subproblems::ask(cl, given, v, kn, val, asked, asks, limit);
+    let a = subproblems::ask(cl, given, q.vertices, q.kn, q.val, asked, asks, q.limit);
     let ok = if a.unsure { true } else { a.ok };
     store(mem, asked, asks, ok);
     Reply { ok, nodes: a.nodes }
@@ -221,24 +225,22 @@ pub fn settle(
     cl: &[u8],
     given: &[u16],
     mem: &mut [u16],
-    v: usize,
-    kn: u32,
-    val: u32,
+    q: Query,
     n: u32,
     with: u8,
     among: u8,
-    rows: [u16; SEARCH_OUTPUTS],
-    limit: u64,
 ) -> Reply
-    requires { ⌜ Classes (now cl) × (length (now given) ≡ maxVertices) × (v ≤ maxVertices) × Honest (now cl) (now given) kn val v (now mem) ⌝ }
-    ensures { λ r. ⌜ Honest (now (cl .entry)) (now (given .entry)) kn val v (now (mem .exit)) × (r .ok ≡ false → Barred (now (cl .entry)) (now (given .entry)) kn val v among (item rows)) ⌝ }
+    requires { ⌜ Classes (now cl) × (length (now given) ≡ maxVertices) × (q .vertices ≤ maxVertices)
+        × Honest (now cl) (now given) (q .kn) (q .val) (q .vertices) (now mem) ⌝ }
+    ensures { λ r. ⌜ Honest (now (cl .entry)) (now (given .entry)) (q .kn) (q .val) (q .vertices) (now (mem .exit))
+        × (r .ok ≡ false → Barred (now (cl .entry)) (now (given .entry)) (q .kn) (q .val) (q .vertices) among (item (q .rows))) ⌝ }
 {
     let mut nodes: u64 = 0;
     let mut a: usize = 1;
     while a <= among as usize {
         if u64::count_ones(a as u64) == n {
             if between(a as u8, with, among) {
-                let t = tell(cl, given, mem, v, kn, val, a as u8, rows, limit);
+                let t = tell(cl, given, mem, q, a as u8);
                 nodes = std::num::wrapping_add_u64(nodes, t.nodes);
                 if !t.ok {
                     return Reply { ok: false, nodes };
@@ -257,21 +259,19 @@ pub fn settle_smaller(
     cl: &[u8],
     given: &[u16],
     mem: &mut [u16],
-    v: usize,
-    kn: u32,
-    val: u32,
+    q: Query,
     n: u32,
     among: u8,
-    rows: [u16; SEARCH_OUTPUTS],
-    limit: u64,
 ) -> Reply
-    requires { ⌜ Classes (now cl) × (length (now given) ≡ maxVertices) × (v ≤ maxVertices) × Honest (now cl) (now given) kn val v (now mem) ⌝ }
-    ensures { λ r. ⌜ Honest (now (cl .entry)) (now (given .entry)) kn val v (now (mem .exit)) × (r .ok ≡ false → Barred (now (cl .entry)) (now (given .entry)) kn val v among (item rows)) ⌝ }
+    requires { ⌜ Classes (now cl) × (length (now given) ≡ maxVertices) × (q .vertices ≤ maxVertices)
+        × Honest (now cl) (now given) (q .kn) (q .val) (q .vertices) (now mem) ⌝ }
+    ensures { λ r. ⌜ Honest (now (cl .entry)) (now (given .entry)) (q .kn) (q .val) (q .vertices) (now (mem .exit))
+        × (r .ok ≡ false → Barred (now (cl .entry)) (now (given .entry)) (q .kn) (q .val) (q .vertices) among (item (q .rows))) ⌝ }
 {
     let mut nodes: u64 = 0;
-    let mut i: u32 = if kn != 0 { 1 } else { 2 };
+    let mut i: u32 = if q.kn != 0 { 1 } else { 2 };
     while i < n {
-        let t = settle(cl, given, mem, v, kn, val, i, 0, among, rows, limit);
+        let t = settle(cl, given, mem, q, i, 0, among);
         nodes = std::num::wrapping_add_u64(nodes, t.nodes);
         if !t.ok {
             return Reply { ok: false, nodes };

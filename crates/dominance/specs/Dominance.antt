@@ -3,8 +3,9 @@
 use mathlib.Core.Path.{_≡_}
 use mathlib.Core.List.{List}
 use Prim.Native.Nat.{ℕ, _/_, _%_, _≤_, _<_}
-use lib.ListN.{length, getD}
+use lib.ListN.{length}
 use Rattle.limits.specs.Limits.{searchOutputs, maxVertices, labelCount}
+use Rattle.bits.specs.Filled.{Filled}
 use Rattle.problem.specs.Problem.{labelAt, item}
 use Rattle.relation.specs.Relation.{Inside}
 use Rattle.sorting.specs.Order.{Indices}
@@ -37,11 +38,9 @@ pub record Chosen (cl budgets : List ℕ) (v m n : ℕ) (from by : List ℕ) : T
   pub dominated : (o : ℕ) → o < m → Dominates cl budgets v o (item from (item by o))
 
 -- the first n numbers of r are those of the outputs of from
-pub record Picked (l from : List ℕ) (n : ℕ) (r : List ℕ) : Type 0 where
-  pub long : length r ≡ searchOutputs
-  pub done : (i : ℕ) → i < n → item r i ≡ item l (item from i)
+abbrev pub Picked : List ℕ → List ℕ → ℕ → List ℕ → Type 0
+Picked l from n r = Filled searchOutputs (λ i. item l (item from i)) n r
 
 -- the first n labels are those of the outputs of from
-pub record Taken (cl from : List ℕ) (n : ℕ) (r : List ℕ) : Type 0 where
-  pub long : length r ≡ labelCount
-  pub done : (i : ℕ) → i < n → getD r i 0 ≡ labelAt cl (item from (i / maxVertices)) (i % maxVertices)
+abbrev pub Taken : List ℕ → List ℕ → ℕ → List ℕ → Type 0
+Taken cl from n r = Filled labelCount (λ i. labelAt cl (item from (i / maxVertices)) (i % maxVertices)) n r

@@ -8,34 +8,15 @@ use native.Mathlib.Decide.{ℕ-discrete}
 use native.Mathlib.Omega.{arith}
 use lib.ListN.{length, set, length-set}
 use lib.Seq.{getD-set-same, getD-set-other}
-use Rattle.limits.specs.Limits.{maxVertices}
 use Rattle.bits.specs.CountLaws.{less-or-equal}
 use Rattle.bits.specs.FilledLaws.{each-more}
+use Rattle.sorting.specs.OrderLaws.{indices-set}
 use Rattle.problem.specs.Problem.{labelAt, item}
 use Rattle.relation.specs.Relation.{Classes, Conflict}
 use Rattle.relation.specs.RelationLaws.{same-labels-conflict}
-use Rattle.sorting.specs.Order.{Order, Indices, indices-set}
-use Rattle.dominance.specs.Kept.{StandFor, Placed}
+use Rattle.sorting.specs.Order.{Order, Indices}
+use Rattle.dominance.specs.Kept.{StandFor}
 use Rattle.dominance.specs.Dominance.{Dominates, Choosing, Chosen, Picked, Taken}
-
--- ======== one more entry of an array
-pub picked-more : (l from : List ℕ) (n x : ℕ) (r : List ℕ) → n < 8 → x ≡ item l (item from n) → Picked l from n r → Picked l from (n + 1) (set r n x)
-picked-more l from n x r h e s = record {
-  long = length-set r n x ∙ s .long;
-  done = each-more (λ i z. z ≡ item l (item from i)) n x r (let z = s .long in omega arith) e (s .done);
-}
-
-pub taken-more : (cl from : List ℕ) (i x : ℕ) (r : List ℕ) → i < 256 → x ≡ labelAt cl (item from (i / 32)) (i % 32) → Taken cl from i r → Taken cl from (i + 1) (set r i x)
-taken-more cl from i x r h e s = record {
-  long = length-set r i x ∙ s .long;
-  done = each-more (λ i z. z ≡ labelAt cl (item from (i / maxVertices)) (i % maxVertices)) i x r (let z = s .long in omega arith) e (s .done);
-}
-
-pub placed-more : (rows by : List ℕ) (o x : ℕ) (r : List ℕ) → o < 8 → x ≡ item rows (item by o) → Placed rows by o r → Placed rows by (o + 1) (set r o x)
-placed-more rows by o x r h e s = record {
-  long = length-set r o x ∙ s .long;
-  done = each-more (λ o z. z ≡ item rows (item by o)) o x r (let z = s .long in omega arith) e (s .done);
-}
 
 -- ======== output after output
 module _ (cl budgets : List ℕ) (v : ℕ) where

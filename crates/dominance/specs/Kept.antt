@@ -1,9 +1,10 @@
--- What is kept of the outputs of a problem, so that an answer for those kept is one for all. Assumes nothing.
+-- What is kept of the outputs of a problem, so that an answer for those kept is one for all: each output left out has to tell
+-- apart no more than one kept, with the same budget, and takes its row. Assumes nothing.
 use mathlib.Core.Path.{_≡_}
 use mathlib.Core.List.{List}
 use Prim.Native.Nat.{ℕ, _≤_, _<_}
-use lib.ListN.{length}
 use Rattle.limits.specs.Limits.{searchOutputs}
+use Rattle.bits.specs.Filled.{Filled}
 use Rattle.problem.specs.Problem.{item}
 use Rattle.relation.specs.Relation.{Classes, Conflict}
 
@@ -18,6 +19,5 @@ pub record StandFor (cl budgets : List ℕ) (v m : ℕ) (labels budgets' : List 
   pub from : (i : ℕ) → i < n → (o : ℕ) × (o < m) × ((x y : ℕ) → x < v → y < v → Conflict labels i x y → Conflict cl o x y) × (item budgets' i ≡ item budgets o)
 
 -- the first m rows of r are those of the outputs kept for them
-pub record Placed (rows by : List ℕ) (m : ℕ) (r : List ℕ) : Type 0 where
-  pub long : length r ≡ searchOutputs
-  pub done : (o : ℕ) → o < m → item r o ≡ item rows (item by o)
+abbrev pub Placed : List ℕ → List ℕ → ℕ → List ℕ → Type 0
+Placed rows by m r = Filled searchOutputs (λ o. item rows (item by o)) m r

@@ -14,7 +14,7 @@ use Rattle.subproblems.specs.Subproblem.{openOf}
 use Rattle.readingsets.specs.Choice.{RowFits}
 use Rattle.seeking.specs.Seeking.{Tables, Known, Lacks, openCells, givenCells, Has, Sought}
 use Rattle.dominance.specs.Kept.{StandFor, Placed}
-use Rattle.dominance.specs.KeptCells.{origin, renumbered-append, all-serves-kept}
+use Rattle.dominance.specs.KeptCellsLaws.{origin, renumbered-append, all-serves-kept}
 
 -- ======== readers do not matter for tables
 known-renumbered : (kn val v : ℕ) (from : ℕ → ℕ) (l : List Cell) → Known kn val v l → Known kn val v (renumbered from l)

@@ -19,7 +19,7 @@ use Rattle.order.specs.LeastTables.{tables-all}
 use Rattle.problem.specs.Problem.{labelAt, item}
 use Rattle.relation.specs.Relation.{Conflict}
 use Rattle.dominance.specs.Kept.{StandFor}
-use Rattle.dominance.specs.KeptCells.{origin, all-serves-kept, kept-serves-all, renumbered-cells, renumbered-tables, renumbered-zero}
+use Rattle.dominance.specs.KeptCellsLaws.{origin, all-serves-kept, kept-serves-all, renumbered-cells, renumbered-tables, renumbered-zero}
 use Rattle.fewest.specs.Count as count
 use Rattle.fewest.specs.Count.{serves-conflict, conflict-serves}
 use Rattle.picking.specs.Picked.{Picked}

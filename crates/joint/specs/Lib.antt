@@ -1,4 +1,6 @@
--- Digits has what is known of cell 0 at vertices and classes, Merge the joint classes: definitions that contracts cite, and
--- their laws.
+-- Digits has what is known of cell 0 at vertices and classes, Merge the joint classes; DigitsLaws and MergeLaws have their
+-- laws.
 pub mod Digits
+pub mod DigitsLaws
 pub mod Merge
+pub mod MergeLaws

@@ -1,35 +1,28 @@
--- The cells that two outputs read, and each output's cells split by them: the facts that the search for codes and the
--- writing of private cells ask for. Assumes nothing.
+-- Codes for given reading sets. A cell that two outputs read is shared, the others are private; the search gives codes of the
+-- shared cells alone, and private cells are written afterwards. Here stand the shared cells, each output's plan (its shared and
+-- private cells and how many codes they allow), where the search starts, and what its answer has to say. Assumes nothing.
 use Rattle.limits.specs.Limits.{searchOutputs, maxVertices, maxCodes, maxCells}
-use Rattle.cells.specs.Lists.{zeros, All, Pairs}
-use mathlib.Core.Path.{_≡_, refl, sym, ap, ap₂, _∙_, subst}
-use mathlib.Core.Bool.{Bool, true, false, not}
-use mathlib.Core.List.{List, _∷_}
-use mathlib.Core.Logic.{_⊎_, inl, inr, ⊎-elim}
-use Prim.Native.Nat.{ℕ, zero, suc, _+_, _-_, _*_, _/_, _%_, _^_, _≤_, _<_}
-use native.Mathlib.Decide.{ℕ-discrete, decLt}
-use native.Mathlib.Omega.{arith}
-use lib.Bits.{bitAnd, bitOr, and-le-l, and-le-r}
-use lib.ListN.{length, getD, set, length-set}
-use lib.Seq.{getD-set-same, getD-set-other}
-use Rattle.bits.specs.Logic.{andb, orb}
-use Rattle.bits.specs.LogicLaws.{true-false, and-left, and-right, never-both, false-unless, and-false, or-first, or-second}
+use Rattle.cells.specs.Lists.{All, Pairs}
+use mathlib.Core.Path.{_≡_}
+use mathlib.Core.Bool.{Bool, true, false}
+use mathlib.Core.List.{List}
+use Prim.Native.Nat.{ℕ, _-_, _^_, _≤_, _<_}
+use lib.Bits.{bitAnd}
+use lib.ListN.{length}
 use Rattle.bits.specs.Digit.{on}
-use Rattle.bits.specs.DigitLaws.{on-and, on-or, on-ones, on-above, on-complement}
 use Rattle.bits.specs.Count.{count}
 use Rattle.bits.specs.CountLaws.{less-or-equal}
 use Rattle.holding.specs.BlocksLaws.{copies-are}
+use Rattle.bits.specs.Filled.{Filled}
 use Rattle.cells.specs.Cut.{Within}
-use Rattle.cells.specs.Pigeon.{agree-and, and-agree}
 use Rattle.cells.specs.Codes.{Coded}
-use Rattle.cells.specs.Shared.{Split, sharedCode, crowd-bound, places-bound}
-use Rattle.problem.specs.Problem.{noCode, labelAt, partAt, item, Block, Blocks, Plan, Solves, Kept, Parted, Fixed}
+use Rattle.cells.specs.Shared.{sharedCode}
+use Rattle.problem.specs.Problem.{noCode, labelAt, partAt, item, Fixed}
 use Rattle.coding.specs.Known.{Fitting}
 use Rattle.coding.specs.Values.{Agrees}
 use Rattle.coding.specs.Tried.{Covers}
 use Rattle.holding.specs.Blocks.{Table, copies}
 
--- ======== definitions
 -- each output reads cells below 6
 abbrev pub Short : List ℕ → ℕ → Type 0
 Short rows j = (o : ℕ) → o < j → item rows o < maxCodes
@@ -39,201 +32,32 @@ pub record Common (rows : List ℕ) (j sh : ℕ) : Type 0 where
   pub two : (o q i : ℕ) → o < j → q < j → (o ≡ q → ⊥) → on (item rows o) i ≡ true → on (item rows q) i ≡ true → on sh i ≡ true
   pub low : sh < maxCodes
 
--- each output's shared and private cells, 2 to the number of the private ones, and 2 to the number of all
-pub record Planned (rows : List ℕ) (sh n : ℕ) (ms ps caps spots : List ℕ) : Type 0 where
-  pub ms-long : length ms ≡ searchOutputs
-  pub ps-long : length ps ≡ searchOutputs
-  pub caps-long : length caps ≡ searchOutputs
-  pub spots-long : length spots ≡ searchOutputs
-  pub shared : (o : ℕ) → o < n → item ms o ≡ bitAnd (item rows o) sh
-  pub private : (o : ℕ) → o < n → item ps o ≡ bitAnd (item rows o) (2 ^ 8 - 1 - sh)
-  pub caps-are : (o : ℕ) → o < n → item caps o ≡ 2 ^ count (on (item ps o)) maxCells
-  pub spots-are : (o : ℕ) → o < n → item spots o ≡ 2 ^ count (on (item rows o)) maxCells
+-- the cells that output o reads and that are not in sh
+abbrev pub privateCells : List ℕ → ℕ → ℕ → ℕ
+privateCells rows sh o = bitAnd (item rows o) (2 ^ 8 - 1 - sh)
 
--- ======== the loop over the outputs
+-- the first n outputs' shared and private cells, 2 to the number of the private ones, and 2 to the number of all
+pub record Planned (rows : List ℕ) (sh n : ℕ) (ms ps caps spots : List ℕ) : Type 0 where
+  pub shared : Filled searchOutputs (λ o. bitAnd (item rows o) sh) n ms
+  pub private : Filled searchOutputs (privateCells rows sh) n ps
+  pub caps-are : Filled searchOutputs (λ o. 2 ^ count (on (privateCells rows sh o)) maxCells) n caps
+  pub spots-are : Filled searchOutputs (λ o. 2 ^ count (on (item rows o)) maxCells) n spots
+
 -- once has what some output before o reads, many what two of them read
 pub record Seen (rows : List ℕ) (o once many : ℕ) : Type 0 where
   pub any : (q i : ℕ) → q < o → on (item rows q) i ≡ true → on once i ≡ true
   pub two : (p q i : ℕ) → p < o → q < o → (p ≡ q → ⊥) → on (item rows p) i ≡ true → on (item rows q) i ≡ true → on many i ≡ true
 
-pub seen-start : (rows : List ℕ) → Seen rows 0 0 0
-seen-start rows = record { any = λ q i h. absurd (omega arith); two = λ p q i h. absurd (omega arith) }
-
-pub seen-more : (rows : List ℕ) (o once many : ℕ) → Seen rows o once many → Seen rows (o + 1) (bitOr once (item rows o)) (bitOr many (bitAnd once (item rows o)))
-seen-more rows o once many s = record {
-  any = λ q i h e. on-or once (item rows o) i ∙ ⊎-elim (λ l. or-first _ _ (s .any q i l e)) (λ p. or-second (on once i) _ (subst (λ (z : ℕ). on (item rows z) i ≡ true) p e)) (less-or-equal q o (omega arith));
-  two = λ p q i h k ne e f. on-or many (bitAnd once (item rows o)) i ∙ pair p q i (less-or-equal p o (omega arith)) (less-or-equal q o (omega arith)) ne e f;
-}
-  where
-    now-too : (q i : ℕ) → q < o → on (item rows q) i ≡ true → on (item rows o) i ≡ true → orb (on many i) (on (bitAnd once (item rows o)) i) ≡ true
-    now-too q i l e f = or-second (on many i) _ (on-and once (item rows o) i ∙ ap₂ andb (s .any q i l e) f)
-
-    pair : (p q i : ℕ) → (p < o) ⊎ (p ≡ o) → (q < o) ⊎ (q ≡ o) → (p ≡ q → ⊥) → on (item rows p) i ≡ true → on (item rows q) i ≡ true → orb (on many i) (on (bitAnd once (item rows o)) i) ≡ true
-    pair p q i (inl a) (inl b) ne e f = or-first _ _ (s .two p q i a b ne e f)
-    pair p q i (inl a) (inr b) ne e f = now-too p i a e (subst (λ (z : ℕ). on (item rows z) i ≡ true) b f)
-    pair p q i (inr a) (inl b) ne e f = now-too q i b f (subst (λ (z : ℕ). on (item rows z) i ≡ true) a e)
-    pair p q i (inr a) (inr b) ne e f = absurd (ne (a ∙ sym b))
-
-digit-low : (n i : ℕ) → n < 64 → on n i ≡ true → i < 6
-digit-low n i h e = elim (decLt i 6) as (λ _. i < 6) [ yes l ↦ l | no l ↦ absurd (never-both e (on-above 6 n i h (omega arith))) ]
-
-pub seen-all : (rows : List ℕ) (j o once many : ℕ) → j ≤ o → Short rows j → Seen rows o once many → Common rows j (bitAnd many 63)
-seen-all rows j o once many h short s = record {
-  two = λ p q i a b ne e f. on-and many 63 i ∙ ap₂ andb (s .two p q i (omega arith) (omega arith) ne e f) (on-ones 6 i (digit-low (item rows p) i (short p a) e));
-  low = (let z = and-le-r many 63 in omega arith);
-}
-
--- ======== the plan, output by output
-pub planned-start : (rows : List ℕ) (sh : ℕ) → Planned rows sh 0 (zeros 8) (zeros 8) (zeros 8) (zeros 8)
-planned-start rows sh = record {
-  ms-long = refl;
-  ps-long = refl;
-  caps-long = refl;
-  spots-long = refl;
-  shared = λ o h. absurd (omega arith);
-  private = λ o h. absurd (omega arith);
-  caps-are = λ o h. absurd (omega arith);
-  spots-are = λ o h. absurd (omega arith);
-}
-
-store : (P : ℕ → ℕ → Type 0) (l : List ℕ) (n x : ℕ) → length l ≡ 8 → n < 8 → ((k : ℕ) → k < n → P k (item l k)) → P n x → (k : ℕ) → k < n + 1 → P k (item (set l n x) k)
-store P l n x e h a b k i = ⊎-elim
-    (λ j. subst (P k) (sym (getD-set-other l n k x 0 (λ q. let z : k ≡ n = q in omega arith))) (a k j))
-    (λ q. subst (λ (z : ℕ). P z (item (set l n x) z)) (sym q) (subst (P n) (sym (getD-set-same l n x 0 (omega arith))) b))
-    (less-or-equal k n (omega arith))
-
-pub planned-more : (rows : List ℕ) (sh n : ℕ) (ms ps caps spots : List ℕ) (m p a b : ℕ) → n < 8
-    → m ≡ bitAnd (item rows n) sh → p ≡ bitAnd (item rows n) (2 ^ 8 - 1 - sh) → a ≡ 2 ^ count (on p) 6
-    → b ≡ 2 ^ count (on (item rows n)) 6 → Planned rows sh n ms ps caps spots
-    → Planned rows sh (n + 1) (set ms n m) (set ps n p) (set caps n a) (set spots n b)
-planned-more rows sh n ms ps caps spots m p a b h em ep ea eb s = record {
-  ms-long = length-set ms n m ∙ s .ms-long;
-  ps-long = length-set ps n p ∙ s .ps-long;
-  caps-long = length-set caps n a ∙ s .caps-long;
-  spots-long = length-set spots n b ∙ s .spots-long;
-  shared = store (λ (k x : ℕ). x ≡ bitAnd (item rows k) sh) ms n m (s .ms-long) h (s .shared) em;
-  private = store (λ (k x : ℕ). x ≡ bitAnd (item rows k) (2 ^ 8 - 1 - sh)) ps n p (s .ps-long) h (s .private) ep;
-  caps-are = λ k i. store (λ (k x : ℕ). x ≡ 2 ^ count (on (bitAnd (item rows k) (2 ^ 8 - 1 - sh))) 6) caps n a (s .caps-long) h
-      (λ k i. s .caps-are k i ∙ ap (λ (z : ℕ). 2 ^ count (on z) 6) (s .private k i)) (ea ∙ ap (λ (z : ℕ). 2 ^ count (on z) 6) ep) k i
-      ∙ sym (ap (λ (z : ℕ). 2 ^ count (on z) 6) (store (λ (k x : ℕ). x ≡ bitAnd (item rows k) (2 ^ 8 - 1 - sh)) ps n p (s .ps-long) h (s .private) ep k i));
-  spots-are = store (λ (k x : ℕ). x ≡ 2 ^ count (on (item rows k)) 6) spots n b (s .spots-long) h (s .spots-are) eb;
-}
-
--- ======== what the plan says
-module _ (rows : List ℕ) (sh j : ℕ) (ms ps caps spots : List ℕ) (short : Short rows j) (c : Common rows j sh) (p : Planned rows sh j ms ps caps spots) where
-  shared-on : (o i : ℕ) → o < j → on (item ms o) i ≡ andb (on (item rows o) i) (on sh i)
-  shared-on o i h = ap (λ (z : ℕ). on z i) (p .shared o h) ∙ on-and (item rows o) sh i
-
-  private-on : (o i : ℕ) → o < j → i < 6 → on (item ps o) i ≡ andb (on (item rows o) i) (not (on sh i))
-  private-on o i h l = ap (λ (z : ℕ). on z i) (p .private o h) ∙ on-and (item rows o) (2 ^ 8 - 1 - sh) i ∙ ap (λ (b : Bool). andb (on (item rows o) i) b)
-      (on-complement 8 sh i (let z = c .low in omega arith) (omega arith))
-
-  pub private-low : (o : ℕ) → o < j → item ps o < 64
-  private-low o h = let e = p .private o h in let w = and-le-l (item rows o) (2 ^ 8 - 1 - sh) in let z = short o h in omega arith
-
-  pub shared-low : (o : ℕ) → o < j → item ms o < 64
-  shared-low o h = let e = p .shared o h in let w = and-le-l (item rows o) sh in let z = short o h in omega arith
-
-  -- a private cell is read by its output and is not shared
-  pub private-read : (o i : ℕ) → o < j → on (item ps o) i ≡ true → (on (item rows o) i ≡ true) × (on sh i ≡ false)
-  private-read o i h e = go (on (item rows o) i) (on sh i) (sym (private-on o i h (digit-low (item ps o) i (private-low o h) e)) ∙ e)
-    where
-      go : (a b : Bool) → andb a (not b) ≡ true → (a ≡ true) × (b ≡ false)
-      go true false e = (refl, refl)
-      go true true e = absurd (true-false (sym e))
-      go false b e = absurd (true-false (sym e))
-
-  pub plan-of : Plan ms ps caps j
-  plan-of = record {
-    private = λ o q i h k e. shared-on q i k ∙ ap (λ (b : Bool). andb (on (item rows q) i) b) (private-read o i h e .1) ∙ and-false (on (item rows q) i);
-    single = λ o q i h k ne e. false-unless _ (λ f. never-both (c .two o q i h k ne (private-read o i h e .0) (private-read q i k f .0)) (private-read o i h e .1));
-    room = p .caps-are;
-    short = private-low;
-    short-shared = shared-low;
-  }
-
-  pub shared-among : (o i : ℕ) → o < j → on (item ms o) i ≡ true → on sh i ≡ true
-  shared-among o i h e = and-right (on (item rows o) i) (on sh i) (sym (shared-on o i h) ∙ e)
-
-  pub split-of : Split j 6 (item rows) (item ms) (item ps) sh
-  split-of = record {
-    whole = λ o i h. whole o i h (decLt i 6);
-    among = shared-among;
-    outside = λ o i h e. private-read o i h e .1;
-    own = λ o q i h k ne e. false-unless _ (λ f. never-both (c .two o q i h k ne (private-read o i h e .0) f) (private-read o i h e .1));
-    short = short;
-    short-shared = shared-low;
-  }
-    where
-      parts : (a b : Bool) → a ≡ orb (andb a b) (andb a (not b))
-      parts true true = refl
-      parts true false = refl
-      parts false b = refl
-
-      whole : (o i : ℕ) → o < j → Dec (i < 6) → on (item rows o) i ≡ orb (on (item ms o) i) (on (item ps o) i)
-      whole o i h (yes l) = parts (on (item rows o) i) (on sh i) ∙ sym (ap₂ orb (shared-on o i h) (private-on o i h l))
-      whole o i h (no l) = on-above 6 (item rows o) i (short o h) (omega arith) ∙ sym
-          (ap₂ orb (on-above 6 (item ms o) i (shared-low o h) (omega arith)) (on-above 6 (item ps o) i (private-low o h) (omega arith)))
-
-  -- codes that part by shared and private cells part by what is read
-  pub coded-of : (cl : List ℕ) (v : ℕ) (r : List ℕ) → Parted cl ms ps v j r → Coded v j (Within (partAt cl) (labelAt cl)) (item rows) (item r)
-  coded-of cl v r t = record {
-    tells = λ o x y h a b d e. d .1 (t .parted o x y h a b (d .0)
-        (agree-and 6 (item ms o) (item r x) (item r y) (shared-low o h) (λ i l m. and-agree 6 (item rows o) (item r x) (item r y) e i l
-        (and-left (on (item rows o) i) (on sh i) (sym (shared-on o i h) ∙ m))))
-        (agree-and 6 (item ps o) (item r x) (item r y) (private-low o h) (λ i l m. and-agree 6 (item rows o) (item r x) (item r y) e i l (private-read o i h m .0))));
-  }
-
-  -- a core gives codes over the shared cells; what base promises is asked
-  pub solves-of : (cl base : List ℕ) (v : ℕ) (f : ℕ → ℕ) → Coded v j (Within (partAt cl) (labelAt cl)) (item rows) f
-      → ((o l : ℕ) → o < j → l < 32 → (xs : List ℕ) × All (λ (x : ℕ). (x < v) × (labelAt cl o x ≡ l)) xs × Pairs
-      (λ (x y : ℕ). bitAnd (sharedCode sh f x) (item ms o) ≡ bitAnd (sharedCode sh f y) (item ms o) → ⊥) xs × (labelAt base o l ≤ length xs)) → Solves cl base ms caps spots v j (sharedCode sh f)
-  solves-of cl base v f k need = record {
-    fits = record {
-      crowd = λ o t b xs h a q. subst (λ (z : ℕ). length xs ≤ z) (sym (p .caps-are o h)) (crowd-bound v j 6 (partAt cl) (labelAt cl) (item rows) (item ms) (item ps) sh split-of f k o t b xs h a q);
-      places = λ o t xs h a q. subst (λ (z : ℕ). length xs ≤ z) (sym (p .spots-are o h)) (places-bound v j 6 (partAt cl) (labelAt cl) (item rows) (item ms) (item ps) sh split-of f k o t xs h a q);
-      needs = need;
-    };
-    small = λ x h. let z = and-le-r (f x) sh in let w = c .low in omega arith;
-  }
-
--- ======== where the search starts
 -- vertex 0 has code 0, no other has a code, and any code with the known digit of cell 0 may be taken
 pub record Start (kn val : ℕ) (codes dom : List ℕ) : Type 0 where
   pub first : item codes 0 ≡ 0
   pub others : (x : ℕ) → x < maxVertices → (x ≡ 0 → ⊥) → item codes x ≡ noCode
   pub any : (x : ℕ) → x < maxVertices → Fitting kn val x (item dom x)
 
-pub start-of : (kn val : ℕ) (dom : List ℕ) → ((x : ℕ) → x < 32 → Fitting kn val x (item dom x)) → Start kn val (0 ∷ copies 31 64) dom
-start-of kn val dom any = record { first = refl; others = others; any = any }
-  where
-    others : (x : ℕ) → x < 32 → (x ≡ 0 → ⊥) → item (0 ∷ copies 31 64) x ≡ 64
-    others zero h ne = absurd (ne refl)
-    others (suc x) h ne = copies-are 31 64 x (omega arith)
-
-pub start-agrees : (sh kn val : ℕ) (codes dom : List ℕ) (v : ℕ) (f : ℕ → ℕ) → v ≤ 32 → f 0 ≡ 0 → Start kn val codes dom → Agrees codes v (sharedCode sh f)
-start-agrees sh kn val codes dom v f few z s x h l = go (ℕ-discrete x 0)
-  where
-    go : Dec (x ≡ 0) → sharedCode sh f x ≡ item codes x
-    go (yes e) = ap (λ (y : ℕ). bitAnd (f y) sh) e ∙ ap (λ (y : ℕ). bitAnd y sh) z ∙ (let w = and-le-l 0 sh in let r : bitAnd 0 sh ≡ 0 = omega arith in r) ∙ sym (s .first) ∙ ap (item codes) (sym e)
-    go (no ne) = absurd (let e = s .others x (omega arith) ne in omega arith)
-
-pub start-covers : (cl base ms caps spots : List ℕ) (v j kn val : ℕ) (codes dom d : List ℕ) → v ≤ 32 → Start kn val codes dom → Kept cl base ms caps spots v j codes dom d
-    → Covers cl base ms caps spots v j kn val codes d
-start-covers cl base ms caps spots v j kn val codes dom d few s k = record
-    { covers = λ g f a b. k .keeps g f (record { coded = a; within = λ x h. s .any x (omega arith) .all (g x) (f .small x h) (b x h) }) .within }
-
 -- the answer: codes that tell the classes apart and have the known digits of cell 0, or there are none with code 0 at vertex 0
 abbrev pub Decided : List ℕ → ℕ → ℕ → List ℕ → ℕ → ℕ → Bool → List ℕ → Type 0
 Decided cl v j rows kn val true r = Coded v j (Within (partAt cl) (labelAt cl)) (item rows) (item r) × Fixed kn val v (item r)
 Decided cl v j rows kn val false r = (f : ℕ → ℕ) → Coded v j (Within (partAt cl) (labelAt cl)) (item rows) f → Fixed kn val v f → f 0 ≡ 0 → ⊥
-
-pub blocks-of : (ms bs : List ℕ) (j : ℕ) → Table ms (j * 64) bs → Blocks ms bs j
-blocks-of ms bs j t = record {
-  long = t .long;
-  each = λ o c l k. subst (λ (z : ℕ). Block (item ms z) c (getD bs (o * 64 + c) 0)) (let e : (o * 64 + c) / 64 ≡ o = omega arith in e)
-      (subst (λ (z : ℕ). Block (item ms ((o * 64 + c) / 64)) z (getD bs (o * 64 + c) 0)) (let e : (o * 64 + c) % 64 ≡ c = omega arith in e) (t .filled (o * 64 + c) (omega arith)));
-}
 
 -- what base promises of every core
 pub record Bounds (cl base : List ℕ) (rows : List ℕ) (sh : ℕ) (ms : List ℕ) (v j : ℕ) : Type 0 where

@@ -9,6 +9,7 @@ use lib.ListN.{length}
 use Rattle.limits.specs.Limits.{searchOutputs, maxCells, maxCodes}
 use Rattle.bits.specs.Digit.{on}
 use Rattle.bits.specs.Count.{count}
+use Rattle.cells.specs.Reorder.{InOrder}
 use Rattle.problem.specs.Problem.{item}
 use Rattle.relation.specs.Relation.{NoneLeft}
 use Rattle.subproblems.specs.Subproblem.{openOf, givenOf, Answers}
@@ -99,3 +100,12 @@ pub record Next (m done r : ℕ) : Type 0 where
 pub record Served (cl given : List ℕ) (v u g n want r : ℕ) : Type 0 where
   pub full : r < 2 ^ (u + g) → count (on (numbered u r)) rowDigits ≡ want
   pub serves : r < 2 ^ (u + g) → NoneLeft cl given (givenOf (numbered u r)) n v
+
+-- the number of a row among u open cells
+abbrev pub numberOf : ℕ → ℕ → ℕ
+numberOf u row = openOf row + 2 ^ u * givenOf row
+
+-- no core whose row of output n is in order has one that is tried at a place before i
+pub record Tried (cl given budgets : List ℕ) (kn val v m u g done : ℕ) (rows : List ℕ) (same n : ℕ) (down : Bool) (i : ℕ) : Type 0 where
+  pub past : (R F : ℕ → ℕ) → Core cl given budgets kn val v m u g R F → Agree done rows R → InOrder same (openOf (R n))
+      → i ≤ turned down (2 ^ (u + g)) (numberOf u (R n))

@@ -1,6 +1,7 @@
--- Rows chosen output after output. Of open cells that may change places and that the outputs so far read alike, the next output
--- may be taken to read the first ones: a core is replaced by one that differs in the order of these cells alone. So only rows in
--- that order are tried, and rows that no codes answer are left. Assumes nothing.
+-- Why rows that are not tried lose no core. Of open cells that may change places and that the outputs so far read alike, the
+-- next output may be taken to read the first ones: a core is replaced by one that differs in the order of these cells alone. So
+-- only rows in that order are tried, and of these those are left that no codes answer, alone or with the outputs chosen before.
+-- Assumes nothing.
 use mathlib.Core.Path.{_≡_, refl, sym, ap, ap₂, _∙_, subst}
 use mathlib.Core.Bool.{Bool, true, false, not}
 use mathlib.Core.List.{List}
@@ -8,11 +9,11 @@ use mathlib.Core.Logic.{_⊎_, inl, inr, ⊎-elim}
 use Prim.Native.Nat.{ℕ, zero, suc, _+_, _-_, _*_, _/_, _%_, _^_, _≤_, _<_, min}
 use native.Mathlib.Decide.{ℕ-discrete, decLt}
 use native.Mathlib.Omega.{arith}
-use native.Mathlib.Nat.{mod-eq-of-lt, mod-lt, div-eq-of-lt, add-mul-div-left, add-mul-mod-self-left, div-lt-iff-lt-mul, mul-comm, mul-suc, mul-le-mul-left, one-mul}
+use native.Mathlib.Nat.{mod-eq-of-lt, mod-lt, div-eq-of-lt, add-mul-div-left, add-mul-mod-self-left, div-lt-iff-lt-mul, mul-comm, mul-suc, mul-le-mul-left}
 use lib.Bits.{bitAnd, bitOr, bitXor, and-le-r}
 use lib.Dec.{eqb}
 use lib.ListN.{length, set, length-set}
-use lib.Pow.{pow-add, pow-mono, pow-pos, pow-lt, shr-shr}
+use lib.Pow.{pow-add, pow-mono, pow-pos, shr-shr}
 use lib.Seq.{getD-set-same, getD-set-other}
 use borrow.Author.Tests.{eqb-true, eqb-false, not-false}
 use Rattle.bits.specs.Logic.{andb, orb, xorb}
@@ -29,7 +30,7 @@ use Rattle.relation.specs.Relation.{Left}
 use Rattle.subproblems.specs.Subproblem.{openOf, givenOf, Barred, Settled}
 use Rattle.subproblems.specs.SubproblemLaws.{on-open}
 use Rattle.cache.specs.CacheLaws.{barred-among}
-use Rattle.readingsets.specs.Choice.{RowFits, numbered, turned, firstOutputs, Core, Rows, ReadAlike, Agree, Found, Lost, Chosen, disorder, Suits, stillAlike, Next}
+use Rattle.readingsets.specs.Choice.{RowFits, numbered, turned, firstOutputs, Core, Rows, ReadAlike, Agree, Found, Lost, Chosen, disorder, Suits, stillAlike, Next, numberOf, Tried}
 
 -- ======== digits of rows
 on-given : (row i : ℕ) → on row (6 + i) ≡ on (row / 64) i
@@ -48,10 +49,6 @@ count-row row = count-sum (on row) 6 10 ∙ ap₂ (λ (a b : ℕ). a + b)
     (count-alike (λ (i : ℕ). on row (6 + i)) (on (row / 64)) 10 (λ i h. on-given row i))
 
 -- ======== a row and its number
--- the number of a row among u open cells
-abbrev pub numberOf : ℕ → ℕ → ℕ
-numberOf u row = openOf row + 2 ^ u * givenOf row
-
 pub power-low : (u : ℕ) → u ≤ 6 → 2 ^ u ≤ 64
 power-low u h = let p : 2 ^ u ≤ 2 ^ 6 = pow-mono h in p
 
@@ -302,11 +299,6 @@ module _ (done n : ℕ) where
         of-same i e = and-left (on same i) (on (alike-cells (openOf row)) i) (sym (on-and same (alike-cells (openOf row)) i) ∙ e)
 
 -- ======== rows tried for output n
--- no core whose row of output n is in order has one that is tried at a place before i
-pub record Tried (cl given budgets : List ℕ) (kn val v m u g done : ℕ) (rows : List ℕ) (same n : ℕ) (down : Bool) (i : ℕ) : Type 0 where
-  pub past : (R F : ℕ → ℕ) → Core cl given budgets kn val v m u g R F → Agree done rows R → InOrder same (openOf (R n))
-      → i ≤ turned down (2 ^ (u + g)) (numberOf u (R n))
-
 module _ (cl given budgets : List ℕ) (kn val v m u g done : ℕ) (rows : List ℕ) where
   abbrev CoreOf : (ℕ → ℕ) → (ℕ → ℕ) → Type 0
   CoreOf R F = Core cl given budgets kn val v m u g R F
@@ -396,19 +388,24 @@ chosen-lost cl given budgets kn val v m u g done rows rows' codes true e c = abs
 -- ======== one step: output n gets row number r
 module _ (cl given budgets : List ℕ) (kn val v m u g done : ℕ) (rows : List ℕ) (same n with-n row r : ℕ) (few : u ≤ 6) (l : n < m) (h : n < 8) (free : on done n ≡ false)
     (ew : with-n ≡ bitOr done (2 ^ n)) (er : row ≡ numbered u r) (s : Rows budgets m u g done rows) where
-  pub step-less : 8 - count (on with-n) 8 < 8 - count (on done) 8
+  step-less : 8 - count (on with-n) 8 < 8 - count (on done) 8
   step-less = subst (λ (d : ℕ). 8 - count (on d) 8 < 8 - count (on done) 8) (sym ew) (with-next-less done n h free)
 
   pub step-fits : r < 2 ^ (u + g) → count (on row) 16 ≡ min (item budgets n) (u + g) → RowFits (item budgets n) u g row
   step-fits low full = subst (RowFits (item budgets n) u g) (sym er) (numbered-fits u g r few low (item budgets n)
       (subst (λ (z : ℕ). count (on z) 16 ≡ min (item budgets n) (u + g)) er full))
 
-  pub step-rows : r < 2 ^ (u + g) → count (on row) 16 ≡ min (item budgets n) (u + g) → Rows budgets m u g with-n (set rows n row)
+  step-rows : r < 2 ^ (u + g) → count (on row) 16 ≡ min (item budgets n) (u + g) → Rows budgets m u g with-n (set rows n row)
   step-rows low full = subst (λ (d : ℕ). Rows budgets m u g d (set rows n row)) (sym ew) (rows-more done n rows row (s .long) h free budgets m u g l (step-fits low full) s)
 
-  pub step-alike : (z : ℕ) → z ≡ stillAlike same row → ReadAlike kn u done rows same → ReadAlike kn u with-n (set rows n row) z
+  step-alike : (z : ℕ) → z ≡ stillAlike same row → ReadAlike kn u done rows same → ReadAlike kn u with-n (set rows n row) z
   step-alike z e a = subst (ReadAlike kn u with-n (set rows n row)) (sym e)
       (subst (λ (d : ℕ). ReadAlike kn u d (set rows n row) (stillAlike same row)) (sym ew) (alike-more done n rows row (s .long) h free kn u same few a))
+
+  -- what the search with one output more asks for
+  pub step-on : r < 2 ^ (u + g) → count (on row) 16 ≡ min (item budgets n) (u + g) → (z : ℕ) → z ≡ stillAlike same row → ReadAlike kn u done rows same
+      → (8 - count (on with-n) 8 < 8 - count (on done) 8) × Rows budgets m u g with-n (set rows n row) × ReadAlike kn u with-n (set rows n row) z
+  step-on low full z e a = (step-less, step-rows low full, step-alike z e a)
 
   -- that row is tried at place i
   module _ (down : Bool) (i : ℕ) (et : r ≡ turned down (2 ^ (u + g)) i) where
@@ -418,19 +415,24 @@ module _ (cl given budgets : List ℕ) (kn val v m u g done : ℕ) (rows : List 
     at-place : row ≡ numbered u (turned down (2 ^ (u + g)) i)
     at-place = er ∙ ap (numbered u) et
 
-    pub step-lost : Lost cl given budgets kn val v m u g with-n (set rows n row) → TriedTo' i → TriedTo' (i + 1)
+    step-lost : Lost cl given budgets kn val v m u g with-n (set rows n row) → TriedTo' i → TriedTo' (i + 1)
     step-lost x = tried-lost cl given budgets kn val v m u g done rows same n down few l i (s .long) h free
         (subst (λ (z : ℕ). Lost cl given budgets kn val v m u g (bitOr done (2 ^ n)) (set rows n z)) at-place
         (subst (λ (d : ℕ). Lost cl given budgets kn val v m u g d (set rows n row)) ew x))
 
-    pub step-dead : Barred cl given kn val v with-n (item (set rows n row)) → TriedTo' i → TriedTo' (i + 1)
+    step-dead : Barred cl given kn val v with-n (item (set rows n row)) → TriedTo' i → TriedTo' (i + 1)
     step-dead b = step-lost (barred-lost cl given budgets kn val v m u g with-n (set rows n row) with-n (λ o e. (within o (subst (λ (d : ℕ). on d o ≡ true) ew e), e)) b)
       where
         within : (o : ℕ) → on (bitOr done (2 ^ n)) o ≡ true → o < m
         within o e = ⊎-elim (s .few o) (λ d. subst (λ (o : ℕ). o < m) (sym d) l) (on-with-next done n o e)
 
-    pub step-unfit : (want : ℕ) (ok : Bool) → want ≡ min (item budgets n) (u + g) → ok ≡ false → Suits row want same ok → TriedTo' i → TriedTo' (i + 1)
+    step-unfit : (want : ℕ) (ok : Bool) → want ≡ min (item budgets n) (u + g) → ok ≡ false → Suits row want same ok → TriedTo' i → TriedTo' (i + 1)
     step-unfit want ok w q x = tried-unfit cl given budgets kn val v m u g done rows same n down few l i want ok w q (subst (λ (z : ℕ). Suits z want same ok) at-place x)
+
+    -- it is past where the search below found nothing, where no codes answer it, and where it doesn't suit
+    pub step-past : (want : ℕ) (ok : Bool) → want ≡ min (item budgets n) (u + g) → (Lost cl given budgets kn val v m u g with-n (set rows n row) → TriedTo' i → TriedTo' (i + 1))
+        × (Barred cl given kn val v with-n (item (set rows n row)) → TriedTo' i → TriedTo' (i + 1)) × (ok ≡ false → Suits row want same ok → TriedTo' i → TriedTo' (i + 1))
+    step-past want ok w = (step-lost, step-dead, step-unfit want ok w)
 
 -- ======== no core
 pub settled-none : (cl given : List ℕ) (kn val v asked : ℕ) (rows : ℕ → ℕ) (ok : Bool) (codes : List ℕ) → ok ≡ false → Barred cl given kn val v asked rows
@@ -458,16 +460,10 @@ barred-alone cl given kn val v done n one rows e h = barred-among cl given kn va
 pub known-or-none : (kn : ℕ) → not (eqb kn 0) ≡ false → kn ≡ 0
 known-or-none kn e = eqb-true kn 0 (not-false (eqb kn 0) e)
 
--- ======== shifts
-pub shifted : (w k : ℕ) → k < w → 1 * 2 ^ k % 2 ^ w ≡ 2 ^ k
-shifted w k h = rw one-mul (mod-eq-of-lt (pow-lt h))
-
-pub numbers-are : (d : ℕ) → d ≤ 16 → (1 * 2 ^ d % 2 ^ 32 ≡ 2 ^ d) × (1 * 2 ^ d % 2 ^ 32 ≤ 2 ^ 16)
-numbers-are d h = let e = shifted 32 d (omega arith) in (e, subst (λ (z : ℕ). z ≤ 2 ^ 16) (sym e) (pow-mono h))
-
+-- ======== powers of two
 -- the first m outputs as a set: below 2 ^ 8
-pub first-outputs-are : (m : ℕ) → m ≤ 8 → (1 * 2 ^ m % 2 ^ 16 ≡ 2 ^ m) × (0 < 2 ^ m) × (2 ^ m ≤ 256)
-first-outputs-are m h = (shifted 16 m (omega arith), pow-pos m, let p : 2 ^ m ≤ 2 ^ 8 = pow-mono h in p)
+pub first-outputs-are : (m : ℕ) → m ≤ 8 → (0 < 2 ^ m) × (2 ^ m ≤ 256)
+first-outputs-are m h = (pow-pos m, let p : 2 ^ m ≤ 2 ^ 8 = pow-mono h in p)
 
 -- the parts of a row's number
 pub number-parts : (u r p : ℕ) → u ≤ 6 → p ≡ 2 ^ u → r < 2 ^ (u + 10) → (0 < p) × (r / p < 1024) × (r % p < 64)

@@ -1,5 +1,6 @@
 -- An output that given tables serve alone: it has no conflict left for the codes. One row that reads these tables is enough for
--- it: in each core the output's row can be replaced by that row, and the codes stay. Assumes nothing.
+-- it: in each core the output's row can be replaced by that row, and the codes stay. So no other row of it is tried. Assumes
+-- nothing.
 use mathlib.Core.Path.{_≡_, refl, sym, _∙_, subst}
 use mathlib.Core.Bool.{Bool, true, false}
 use mathlib.Core.List.{List}

@@ -42,7 +42,7 @@ pub fn first_outputs(m: usize) -> u8
     requires { ⌜ m ≤ searchOutputs ⌝ }
     ensures { λ r. ⌜ r ≡ firstOutputs m ⌝ }
 {
-    ((1u16 << m) - 1) as u8
+    (bits::power(m) - 1) as u8
 }
 
 // The set done with output n.
@@ -50,7 +50,7 @@ fn with(done: u8, n: usize) -> u8
     requires { ⌜ n < searchOutputs ⌝ }
     ensures { λ r. ⌜ r ≡ bitOr done (2 ^ n) ⌝ }
 {
-    done | (1u8 << n)
+    done | bits::power(n) as u8
 }
 
 // How many tables an output with this budget reads.
@@ -66,12 +66,12 @@ fn wanted(budget: u8, u: u8, g: u8) -> u32
     }
 }
 
-// How many numbers of d digits there are.
-fn numbers(d: u8) -> u32
+// 2 to the power d: how many rows of d digits there are.
+fn power(d: u8) -> u32
     requires { ⌜ d ≤ rowDigits ⌝ }
     ensures { λ r. ⌜ (r ≡ 2 ^ d) × (r ≤ 2 ^ rowDigits) ⌝ }
 {
-    1 << d
+    bits::power(d as usize) as u32
 }
 
 // The row of number r: its open cells are the lowest digits of r, as many as there are, and its given tables the digits above.
@@ -79,7 +79,7 @@ fn row_of(r: u32, u: u8) -> u16
     requires { ⌜ (u ≤ maxCells) × (r < 2 ^ (u + maxGiven)) ⌝ }
     ensures { λ row. ⌜ row ≡ numbered u r ⌝ }
 {
-    let end = numbers(u);
+    let end = power(u);
     (r / end * limits::MAX_CODES as u32 + r % end) as u16
 }
 
@@ -135,7 +135,7 @@ fn rows_alone(
 ) -> u64
     requires { ⌜ Classes (now cl) × (length (now given) ≡ maxVertices) × (vertices ≤ maxVertices) × (o < searchOutputs) × (cells ≤ maxCells) × (tables ≤ maxGiven) ⌝ }
 {
-    let all = numbers(cells + tables);
+    let all = power(cells + tables);
     let end = if all < NOTED { all } else { NOTED };
     let mut left: u64 = 0;
     let mut r: u32 = 0;
@@ -219,7 +219,7 @@ fn counts(cl: &[u8], given: &[u16], p: Problem, o: usize, row: u16, want: u32, s
 fn candidates(cl: &[u8], given: &[u16], p: Problem, o: usize, want: u32, same: u8) -> u32
     requires { ⌜ Classes (now cl) × (length (now given) ≡ maxVertices) × (p .vertices ≤ maxVertices) × (o < searchOutputs) × (p .cells ≤ maxCells) × (p .tables ≤ maxGiven) ⌝ }
 {
-    let end = numbers(p.cells + p.tables);
+    let end = power(p.cells + p.tables);
     let mut n: u32 = 0;
     let mut r: u32 = 0;
     while r < end {
@@ -305,23 +305,18 @@ fn small_questions(
         × (r .ok ≡ false → Barred (now (cl .entry)) (now (given .entry)) (p .kn) (p .val) (p .vertices) done (item rows)) ⌝ }
 {
     let last = with(0, n);
+    let q = cache::Query {
+        vertices: p.vertices,
+        kn: p.kn,
+        val: p.val,
+        rows,
+        limit: p.limit,
+    };
     let mut nodes: u64 = 0;
     let mut size: u32 = if p.kn != 0 { 1 } else { 2 };
     let end: u32 = if p.outputs == 2 { 2 } else { 3 };
     while size < end {
-        let a = cache::settle(
-            cl,
-            given,
-            mem,
-            p.vertices,
-            p.kn,
-            p.val,
-            size,
-            last,
-            done,
-            rows,
-            p.limit,
-        );
+        let a = cache::settle(cl, given, mem, q, size, last, done);
         nodes = std::num::wrapping_add_u64(nodes, a.nodes);
         if !a.ok {
             return cache::Reply { ok: false, nodes };
@@ -368,7 +363,7 @@ fn served(cl: &[u8], given: &[u16], p: Problem, n: usize, want: u32, same: u8) -
     requires { ⌜ Classes (now cl) × (length (now given) ≡ maxVertices) × (p .vertices ≤ maxVertices) × (n < searchOutputs) × (p .cells ≤ maxCells) × (p .tables ≤ maxGiven) ⌝ }
     ensures { λ r. ⌜ Served (now (cl .entry)) (now (given .entry)) (p .vertices) (p .cells) (p .tables) n want r ⌝ }
 {
-    let end = numbers(p.cells + p.tables);
+    let end = power(p.cells + p.tables);
     if p.tables == 0 {
         return end;
     }
@@ -462,18 +457,14 @@ fn finish(
 {
     let all = first_outputs(p.outputs);
     let m = p.outputs as u32;
-    let s = cache::settle_smaller(
-        cl,
-        given,
-        mem,
-        p.vertices,
-        p.kn,
-        p.val,
-        m,
-        all,
+    let q = cache::Query {
+        vertices: p.vertices,
+        kn: p.kn,
+        val: p.val,
         rows,
-        p.limit,
-    );
+        limit: p.limit,
+    };
+    let s = cache::settle_smaller(cl, given, mem, q, m, all);
     let asked = std::num::wrapping_add_u64(nodes, s.nodes);
     if !s.ok {
         return none(rows, false, asked);
@@ -506,7 +497,7 @@ pub fn choose(
     let budgets = p.budgets;
     let want = wanted(budgets[n], p.cells, p.tables);
     let done_now = with(done, n);
-    let end = numbers(p.cells + p.tables);
+    let end = power(p.cells + p.tables);
     let s = served(cl, given, p, n, want, same);
     if s < end {
         let row = row_of(s, p.cells);

@@ -1,6 +1,7 @@
 -- What readingsets finds and what it rules out, in words of cells. A core that serves is made to read as many tables as it may,
 -- and its open cells are made 0 at vertex 0 (FullSize of cells); its rows and the codes of its open cells are then a core of
--- readingsets. The way back puts the open cells and the given tables after one another. Assumes nothing.
+-- readingsets, so none is missed. The way back puts the open cells and the given tables after one another. A round that gave
+-- something up says nothing, and the last one gives nothing up. Assumes nothing.
 use mathlib.Core.Path.{_≡_, refl, sym, ap, ap₂, _∙_, subst, fun-ext}
 use mathlib.Core.Bool.{Bool, true, false}
 use mathlib.Core.List.{List, [], _∷_, _++_}
@@ -28,8 +29,8 @@ use Rattle.problem.specs.Problem.{item, Fixed}
 use Rattle.relation.specs.Relation.{Conflict}
 use Rattle.coding.specs.Limit.{noLimit, Sure}
 use Rattle.subproblems.specs.Subproblem.{openOf, givenOf}
-use Rattle.readingsets.specs.Choice.{RowFits, numbered, firstOutputs, Core, Rows, ReadAlike, Found, Lost, Chosen}
-use Rattle.readingsets.specs.ChoiceLaws.{count-sum, count-row, numberOf, number-row, number-low, numbered-open, numbered-given, given-low, first-outputs-low}
+use Rattle.readingsets.specs.Choice.{RowFits, numbered, firstOutputs, Core, Rows, ReadAlike, Found, Lost, Chosen, numberOf}
+use Rattle.readingsets.specs.ChoiceLaws.{count-sum, count-row, number-row, number-low, numbered-open, numbered-given, given-low, first-outputs-low}
 use Rattle.seeking.specs.Seeking.{Tables, Known, Begins, Lacks, openCells, givenCells, Has, Sought, AllFit, SoughtWhere, roundCount, Places}
 
 -- ======== digits

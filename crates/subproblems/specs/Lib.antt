@@ -1,6 +1,7 @@
--- Subproblem has the definitions that contracts cite, SubproblemLaws and Unread the laws that callers need, Gathering what the
--- code's own proofs need.
+-- Subproblem has the definitions that contracts cite, SubproblemLaws and UnreadLaws the laws that callers need, Gathering and
+-- GatheringLaws what the code's own proofs need.
 pub mod Subproblem
 pub mod SubproblemLaws
-pub mod Unread
+pub mod UnreadLaws
 pub mod Gathering
+pub mod GatheringLaws

@@ -1,5 +1,5 @@
--- Laws of subproblems: what no codes answer stays so where more outputs are asked about, and rows say the same where they are
--- equal. Assumes nothing.
+-- What no codes answer stays so where more outputs are asked about, since codes that answer a larger set answer its parts; and
+-- rows that are equal ask the same. So a subproblem that is ruled out rules out every one around it. Assumes nothing.
 use mathlib.Core.Path.{_≡_, sym, ap, _∙_, subst}
 use mathlib.Core.Bool.{Bool, true, false}
 use mathlib.Core.List.{List}

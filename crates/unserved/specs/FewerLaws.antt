@@ -14,7 +14,7 @@ use Rattle.cells.specs.Renumbered.{renumbered, serves-as, renumbered-length, re
 use Rattle.problem.specs.Problem.{labelAt, item}
 use Rattle.relation.specs.Relation.{Conflict}
 use Rattle.dominance.specs.Kept.{StandFor}
-use Rattle.dominance.specs.KeptCells.{origin, origin-like}
+use Rattle.dominance.specs.KeptCellsLaws.{origin, origin-like}
 use Rattle.subsets.specs.Subset.{members, size, memberAt, SomeOf}
 use Rattle.subsets.specs.SubsetLaws.{Place, member-below, member-in, members-distinct, member-place}
 use Rattle.unserved.specs.Unserved.{Fits}

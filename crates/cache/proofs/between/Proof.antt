@@ -3,8 +3,6 @@ use Rattle.bits.specs.LogicLaws.{true-false}
 use mathlib.Core.Path.{sym}
 use Rattle.cache.proofs.between.Statement.{statement}
 use Rattle.cache.proofs.between.Tie as tie
-use Rattle.cache.proofs.between.Reads as reads
-use Rattle.cache.proofs.between.Lts as lts
 
 returns : tie.Need-returns
 returns c = λ e. absurd (true-false (sym e))

@@ -7,8 +7,6 @@ use mathlib.Core.Path.{_≡_, refl, _∙_}
 use borrow.Author.Needs.{needs}
 use Rattle.cache.proofs.clear.Statement.{statement}
 use Rattle.cache.proofs.clear.Tie as tie
-use Rattle.cache.proofs.clear.Reads as reads
-use Rattle.cache.proofs.clear.Lts as lts
 
 abbrev Inv-loop : tie.InvT-loop
 Inv-loop mem₀ i₀ mem i = (i ≤ 2048) × (length mem ≡ 18432) × (length mem ≡ length mem₀) × ((k : ℕ) → k < i → headAt mem k ≡ 0)

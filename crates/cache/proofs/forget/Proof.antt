@@ -9,8 +9,6 @@ use mathlib.Core.Path.{_≡_, refl, sym, ap, _∙_, subst}
 use borrow.Author.Needs.{needs}
 use Rattle.cache.proofs.forget.Statement.{statement}
 use Rattle.cache.proofs.forget.Tie as tie
-use Rattle.cache.proofs.forget.Reads as reads
-use Rattle.cache.proofs.forget.Lts as lts
 
 abbrev Inv-loop : tie.InvT-loop
 Inv-loop mem₀ i₀ mem i = (i ≤ 2048) × (length mem ≡ 18432) × (length mem ≡ length mem₀) × ((cl given : List ℕ) (kn val v : ℕ) → Honest cl given kn val v mem₀ → Honest cl given kn val v mem)

@@ -3,8 +3,6 @@ use mathlib.Core.Path.{refl, sym, _∙_}
 use borrow.Author.Needs.{needs}
 use Rattle.cache.proofs.head.Statement.{statement}
 use Rattle.cache.proofs.head.Tie as tie
-use Rattle.cache.proofs.head.Reads as reads
-use Rattle.cache.proofs.head.Lts as lts
 
 mul-result : tie.Need-mul-result
 mul-result c = search needs

@@ -9,8 +9,6 @@ use mathlib.Core.Path.{_≡_, sym, ap, _∙_, subst}
 use borrow.Author.Needs.{needs}
 use Rattle.cache.proofs.holds.Statement.{statement}
 use Rattle.cache.proofs.holds.Tie as tie
-use Rattle.cache.proofs.holds.Reads as reads
-use Rattle.cache.proofs.holds.Lts as lts
 
 abbrev Inv-loop : tie.InvT-loop
 Inv-loop mem i head rows o₀ o = (o ≤ 8) × ((q : ℕ) → q < o → rowAt mem i q ≡ item rows q)

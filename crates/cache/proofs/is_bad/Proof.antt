@@ -3,11 +3,6 @@ use mathlib.Core.Path.{refl, _∙_}
 use borrow.Author.Needs.{needs}
 use Rattle.cache.proofs.is_bad.Statement.{statement}
 use Rattle.cache.proofs.is_bad.Tie as tie
-use Rattle.cache.proofs.is_bad.Reads as reads
-use Rattle.cache.proofs.is_bad.Lts as lts
-use Rattle.cache.proofs.head.Reads as head-reads
-use Rattle.cache.proofs.holds.Reads as holds-reads
-use Rattle.cache.proofs.place.Reads as place-reads
 
 place-requires : tie.Need-place-requires
 place-requires c κs = search needs

@@ -1,4 +1,4 @@
-use Rattle.cache.specs.CacheLaws.{Unread, unread-start, unread-same, unread-less, honest-unread}
+use Rattle.cache.specs.CacheLaws.{unread-start, unread-same, unread-less, honest-unread}
 use native.Mathlib.Omega.{arith}
 use lib.ListN.{length}
 use Prim.Native.Nat.{ℕ, _+_, _≤_, _-_}
@@ -6,11 +6,9 @@ use mathlib.Core.List.{List}
 use mathlib.Core.Logic.{⊎-elim}
 use mathlib.Core.Path.{_≡_, sym, _∙_, subst}
 use borrow.Author.Needs.{needs}
+use Rattle.cache.specs.Cache.{Unread}
 use Rattle.cache.proofs.keep_unread.Statement.{statement}
 use Rattle.cache.proofs.keep_unread.Tie as tie
-use Rattle.cache.proofs.keep_unread.Reads as reads
-use Rattle.cache.proofs.keep_unread.Lts as lts
-use Rattle.cache.proofs.reads_cell_0.Reads as reads-cell-0-reads
 
 abbrev Inv-loop : tie.InvT-loop
 Inv-loop mem₀ i₀ mem i = (i ≤ 2048) × (length mem₀ ≡ 18432) × Unread mem₀ i mem

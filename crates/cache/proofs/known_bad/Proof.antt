@@ -7,11 +7,6 @@ use mathlib.Core.Path.{sym}
 use borrow.Author.Needs.{needs}
 use Rattle.cache.proofs.known_bad.Statement.{statement}
 use Rattle.cache.proofs.known_bad.Tie as tie
-use Rattle.cache.proofs.known_bad.Reads as reads
-use Rattle.cache.proofs.known_bad.Lts as lts
-use Rattle.cache.proofs.between.Reads as between-reads
-use Rattle.cache.proofs.is_bad.Reads as is-bad-reads
-use Rattle.subproblems.proofs.question.Reads as question-reads
 
 abbrev Inv-loop : tie.InvT-loop
 Inv-loop mem rows with among known a₀ a = a ≤ 256

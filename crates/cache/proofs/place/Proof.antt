@@ -3,9 +3,6 @@ use Prim.Native.Nat.{_<_, _≤_, _-_}
 use borrow.Author.Needs.{needs}
 use Rattle.cache.proofs.place.Statement.{statement}
 use Rattle.cache.proofs.place.Tie as tie
-use Rattle.cache.proofs.place.Reads as reads
-use Rattle.cache.proofs.place.Lts as lts
-use Rattle.std.proofs.num.wrapping_add_u64.Reads as wrapping-add-u64-reads
 
 abbrev Inv-loop : tie.InvT-loop
 Inv-loop asked rows h₀ o₀ h o = (o ≤ 8) × (h < 4294967291)

@@ -1,13 +1,12 @@
-use Rattle.cache.specs.CacheLaws.{Joined, joined-start, joined-more, joined-all}
+use Rattle.cache.specs.CacheLaws.{joined-start, joined-more, joined-all}
 use Rattle.problem.specs.Problem.{item}
 use native.Mathlib.Omega.{arith}
 use Prim.Native.Nat.{ℕ, suc, _+_, _*_, _≤_, _-_}
 use mathlib.Core.Path.{_≡_, ap, subst}
 use borrow.Author.Needs.{needs}
+use Rattle.cache.specs.Cache.{Joined}
 use Rattle.cache.proofs.reads_cell_0.Statement.{statement}
 use Rattle.cache.proofs.reads_cell_0.Tie as tie
-use Rattle.cache.proofs.reads_cell_0.Reads as reads
-use Rattle.cache.proofs.reads_cell_0.Lts as lts
 
 abbrev Inv-loop : tie.InvT-loop
 Inv-loop mem i all₀ o₀ all o = (o ≤ 8) × Joined mem i o all

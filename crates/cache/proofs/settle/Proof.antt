@@ -11,17 +11,12 @@ use mathlib.Core.Path.{sym, _∙_, subst}
 use borrow.Author.Needs.{needs}
 use Rattle.cache.proofs.settle.Statement.{statement}
 use Rattle.cache.proofs.settle.Tie as tie
-use Rattle.cache.proofs.settle.Reads as reads
-use Rattle.cache.proofs.settle.Lts as lts
-use Rattle.cache.proofs.between.Reads as between-reads
-use Rattle.cache.proofs.tell.Reads as tell-reads
-use Rattle.std.proofs.num.wrapping_add_u64.Reads as wrapping-add-u64-reads
 
 abbrev Inv-loop : tie.InvT-loop
-Inv-loop cl given mem₀ v kn val n with among rows limit nodes₀ a₀ mem nodes a = (a ≤ 256) × Honest cl given kn val v mem
+Inv-loop cl given mem₀ q n with among nodes₀ a₀ mem nodes a = (a ≤ 256) × Honest cl given (q .kn) (q .val) (q .vertices) mem
 
 abbrev μ-loop : tie.MeasureT-loop
-μ-loop cl given mem₀ v kn val n with among rows limit nodes₀ a₀ mem nodes a = 256 - a
+μ-loop cl given mem₀ q n with among nodes₀ a₀ mem nodes a = 256 - a
 
 loop-holds : tie.Need-loop-holds Inv-loop μ-loop
 loop-holds c = (omega arith, c .before .before .before .pre .3)
@@ -57,7 +52,7 @@ returns c =
     let i = c .before .before .before .before .before .before .before .before .before .before .before .loop .a in
     let b = c .before .before .before .before .before .before .before .before .between .ensures (if2 .taken) in
     let n = not-true _ (c .if3 .taken) in
-    (t .ensures .0, λ e. barred-among (a .cl .now) (a .given .now) (a .kn) (a .val) (a .v) i (a .among) (item (a .rows)) b (t .ensures .1 n))
+    (t .ensures .0, λ e. barred-among (a .cl .now) (a .given .now) (a .q .kn) (a .q .val) (a .q .vertices) i (a .among) (item (a .q .rows)) b (t .ensures .1 n))
 
 add-a : tie.Need-add-a Inv-loop μ-loop
 add-a c = let h = c .before .loop-test .taken in omega arith
@@ -70,7 +65,7 @@ loop-again c =
     let h = c .before .loop-test .taken in
     let a = c .before .before .before .before .before .before .args in
     let l = c .before .before .loop in
-    let P : List ℕ → Type 0 = Honest (a .cl .now) (a .given .now) (a .kn) (a .val) (a .v) in (
+    let P : List ℕ → Type 0 = Honest (a .cl .now) (a .given .now) (a .q .kn) (a .q .val) (a .q .vertices) in (
       omega arith,
       ⊎-elim
           (λ w. subst P (sym (w .10)) (w .4 .ensures .0))

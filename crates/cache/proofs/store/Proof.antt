@@ -1,15 +1,12 @@
-use Rattle.cache.specs.CacheLaws.{Written, written-start, written-more, honest-written}
+use Rattle.cache.specs.CacheLaws.{written-start, written-more, honest-written}
 use lib.ListN.{length-set}
 use native.Mathlib.Omega.{arith}
 use Prim.Native.Nat.{ℕ, suc, _+_, _*_, _≤_, _-_}
 use mathlib.Core.Path.{_≡_, refl, _∙_, subst}
 use borrow.Author.Needs.{needs}
+use Rattle.cache.specs.Cache.{Written}
 use Rattle.cache.proofs.store.Statement.{statement}
 use Rattle.cache.proofs.store.Tie as tie
-use Rattle.cache.proofs.store.Reads as reads
-use Rattle.cache.proofs.store.Lts as lts
-use Rattle.cache.proofs.head.Reads as head-reads
-use Rattle.cache.proofs.place.Reads as place-reads
 
 abbrev Inv-loop : tie.InvT-loop
 Inv-loop mem₀ asked ok rows i o₀ mem o = (o ≤ 8) × Written mem₀ i rows o mem

@@ -11,11 +11,6 @@ use borrow.Author.Needs.{needs}
 use Rattle.cells.specs.ListLaws.{zeros-are}
 use Rattle.dominance.proofs.chosen.Statement.{statement}
 use Rattle.dominance.proofs.chosen.Tie as tie
-use Rattle.dominance.proofs.chosen.Reads as reads
-use Rattle.dominance.proofs.chosen.Lts as lts
-use Rattle.dominance.proofs.dominator.Reads as dominator-reads
-use Rattle.dominance.proofs.ranks.Reads as ranks-reads
-use Rattle.sorting.proofs.falling.Reads as falling-reads
 
 abbrev Inv-loop : tie.InvT-loop
 Inv-loop cl budgets v m order from₀ by₀ n₀ i₀ from by n i = (i ≤ m) × Choosing cl budgets v m order i n from by

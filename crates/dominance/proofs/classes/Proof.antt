@@ -4,11 +4,6 @@ use native.Mathlib.Omega.{arith}
 use borrow.Author.Needs.{needs}
 use Rattle.dominance.proofs.classes.Statement.{statement}
 use Rattle.dominance.proofs.classes.Tie as tie
-use Rattle.dominance.proofs.classes.Reads as reads
-use Rattle.dominance.proofs.classes.Lts as lts
-use Rattle.cells.proofs.in_set.Reads as in-set-reads
-use Rattle.cells.proofs.with.Reads as with-reads
-use Rattle.problem.proofs.label.Reads as label-reads
 
 abbrev Inv-loop : tie.InvT-loop
 Inv-loop cl v o seen₀ n₀ x₀ seen n x = (x ≤ v) × (n ≤ x)

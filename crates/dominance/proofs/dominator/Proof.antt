@@ -4,9 +4,6 @@ use native.Mathlib.Omega.{arith}
 use borrow.Author.Needs.{needs}
 use Rattle.dominance.proofs.dominator.Statement.{statement}
 use Rattle.dominance.proofs.dominator.Tie as tie
-use Rattle.dominance.proofs.dominator.Reads as reads
-use Rattle.dominance.proofs.dominator.Lts as lts
-use Rattle.relation.proofs.inside.Reads as inside-reads
 
 abbrev Inv-loop : tie.InvT-loop
 Inv-loop cl v n o budgets from k₀ k = k ≤ n

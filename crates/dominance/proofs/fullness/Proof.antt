@@ -3,8 +3,6 @@ use native.Mathlib.Omega.{arith}
 use borrow.Author.Needs.{needs}
 use Rattle.dominance.proofs.fullness.Statement.{statement}
 use Rattle.dominance.proofs.fullness.Tie as tie
-use Rattle.dominance.proofs.fullness.Reads as reads
-use Rattle.dominance.proofs.fullness.Lts as lts
 
 cast-result : tie.Need-cast-result
 cast-result c = search needs

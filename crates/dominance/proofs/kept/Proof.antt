@@ -1,11 +1,6 @@
 use Rattle.dominance.specs.DominanceLaws.{chosen-stand-for}
 use Rattle.dominance.proofs.kept.Statement.{statement}
 use Rattle.dominance.proofs.kept.Tie as tie
-use Rattle.dominance.proofs.kept.Reads as reads
-use Rattle.dominance.proofs.kept.Lts as lts
-use Rattle.dominance.proofs.chosen.Reads as chosen-reads
-use Rattle.dominance.proofs.labels.Reads as labels-reads
-use Rattle.dominance.proofs.picked.Reads as picked-reads
 
 chosen-requires : tie.Need-chosen-requires
 chosen-requires c κs = let p = c .before .pre in (p .0, p .1, p .2)

@@ -1,14 +1,11 @@
 use Rattle.dominance.specs.Dominance.{Taken}
-use Rattle.dominance.specs.DominanceLaws.{taken-more}
 use mathlib.Core.Path.{refl, subst}
 use Prim.Native.Nat.{ℕ, _≤_, _-_, _/_}
 use native.Mathlib.Omega.{arith}
 use borrow.Author.Needs.{needs}
+use Rattle.bits.specs.FilledLaws.{filled-none, filled-more}
 use Rattle.dominance.proofs.labels.Statement.{statement}
 use Rattle.dominance.proofs.labels.Tie as tie
-use Rattle.dominance.proofs.labels.Reads as reads
-use Rattle.dominance.proofs.labels.Lts as lts
-use Rattle.problem.proofs.label.Reads as label-reads
 
 abbrev Inv-loop : tie.InvT-loop
 Inv-loop cl from r₀ i₀ r i = (i ≤ 256) × Taken cl from i r
@@ -17,7 +14,7 @@ abbrev μ-loop : tie.MeasureT-loop
 μ-loop cl from r₀ i₀ r i = 256 - i
 
 loop-holds : tie.Need-loop-holds Inv-loop μ-loop
-loop-holds c = (omega arith, record { long = refl; done = λ k h. absurd (omega arith) })
+loop-holds c = (omega arith, filled-none _ _ refl)
 
 array-read-label : tie.Need-array-read-label Inv-loop μ-loop
 array-read-label c = let h = c .loop-test .taken in search needs
@@ -46,10 +43,9 @@ loop-less c = search needs
 
 loop-again : tie.Need-loop-again Inv-loop μ-loop
 loop-again c =
-    let a = c .before .before .before .before .args in
     let l = c .before .before .loop in
     let h = c .before .loop-test .taken in
-    (omega arith, taken-more (a .cl .now) (a .t2) (l .i) _ (l .r) h (c .label .ensures) (l .inv .1))
+    (omega arith, filled-more _ h (c .label .ensures) (l .inv .1))
 
 returns : tie.Need-returns Inv-loop μ-loop
 returns c =

@@ -1,13 +1,11 @@
 use Rattle.dominance.specs.Dominance.{Picked}
-use Rattle.dominance.specs.DominanceLaws.{picked-more}
 use mathlib.Core.Path.{refl, subst}
 use Prim.Native.Nat.{ℕ, _≤_, _-_}
 use native.Mathlib.Omega.{arith}
 use borrow.Author.Needs.{needs}
+use Rattle.bits.specs.FilledLaws.{filled-none, filled-more}
 use Rattle.dominance.proofs.picked.Statement.{statement}
 use Rattle.dominance.proofs.picked.Tie as tie
-use Rattle.dominance.proofs.picked.Reads as reads
-use Rattle.dominance.proofs.picked.Lts as lts
 
 abbrev Inv-loop : tie.InvT-loop
 Inv-loop budgets from r₀ i₀ r i = (i ≤ 8) × Picked budgets from i r
@@ -16,7 +14,7 @@ abbrev μ-loop : tie.MeasureT-loop
 μ-loop budgets from r₀ i₀ r i = 8 - i
 
 loop-holds : tie.Need-loop-holds Inv-loop μ-loop
-loop-holds c = (omega arith, record { long = refl; done = λ k h. absurd (omega arith) })
+loop-holds c = (omega arith, filled-none _ _ refl)
 
 array-read-r : tie.Need-array-read-r Inv-loop μ-loop
 array-read-r c = search needs
@@ -38,10 +36,9 @@ loop-less c = search needs
 
 loop-again : tie.Need-loop-again Inv-loop μ-loop
 loop-again c =
-    let a = c .before .before .args in
     let l = c .before .loop in
     let h = c .loop-test .taken in
-    (omega arith, picked-more (a .t1) (a .t2) (l .i) _ (l .r) h refl (l .inv .1))
+    (omega arith, filled-more _ h refl (l .inv .1))
 
 returns : tie.Need-returns Inv-loop μ-loop
 returns c =

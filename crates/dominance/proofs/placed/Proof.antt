@@ -1,13 +1,11 @@
 use Rattle.dominance.specs.Kept.{Placed}
-use Rattle.dominance.specs.DominanceLaws.{placed-more}
 use mathlib.Core.Path.{refl, subst}
 use Prim.Native.Nat.{ℕ, _≤_, _-_}
 use native.Mathlib.Omega.{arith}
 use borrow.Author.Needs.{needs}
+use Rattle.bits.specs.FilledLaws.{filled-none, filled-more}
 use Rattle.dominance.proofs.placed.Statement.{statement}
 use Rattle.dominance.proofs.placed.Tie as tie
-use Rattle.dominance.proofs.placed.Reads as reads
-use Rattle.dominance.proofs.placed.Lts as lts
 
 abbrev Inv-loop : tie.InvT-loop
 Inv-loop m rows by r₀ o₀ r o = (o ≤ m) × Placed rows by o r
@@ -16,7 +14,7 @@ abbrev μ-loop : tie.MeasureT-loop
 μ-loop m rows by r₀ o₀ r o = m - o
 
 loop-holds : tie.Need-loop-holds Inv-loop μ-loop
-loop-holds c = (omega arith, record { long = refl; done = λ k h. absurd (omega arith) })
+loop-holds c = (omega arith, filled-none _ _ refl)
 
 array-read-r : tie.Need-array-read-r Inv-loop μ-loop
 array-read-r c = let h = c .loop-test .taken in let b = c .before .before .pre .0 in search needs
@@ -44,11 +42,10 @@ loop-less c = search needs
 
 loop-again : tie.Need-loop-again Inv-loop μ-loop
 loop-again c =
-    let a = c .before .before .args in
     let l = c .before .loop in
     let h = c .loop-test .taken in
     let b = c .before .before .pre .0 in
-    (omega arith, placed-more (a .t1) (a .t2) (l .o) _ (l .r) (omega arith) refl (l .inv .1))
+    (omega arith, filled-more _ (omega arith) refl (l .inv .1))
 
 returns : tie.Need-returns Inv-loop μ-loop
 returns c =

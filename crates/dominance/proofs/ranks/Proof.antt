@@ -5,10 +5,6 @@ use lib.ListN.{length, length-set}
 use borrow.Author.Needs.{needs}
 use Rattle.dominance.proofs.ranks.Statement.{statement}
 use Rattle.dominance.proofs.ranks.Tie as tie
-use Rattle.dominance.proofs.ranks.Reads as reads
-use Rattle.dominance.proofs.ranks.Lts as lts
-use Rattle.dominance.proofs.classes.Reads as classes-reads
-use Rattle.dominance.proofs.fullness.Reads as fullness-reads
 
 abbrev Inv-loop : tie.InvT-loop
 Inv-loop cl v m budgets r₀ o₀ r o = (o ≤ m) × (length r ≡ 8)

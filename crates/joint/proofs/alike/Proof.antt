@@ -1,16 +1,13 @@
-use Rattle.joint.specs.Merge.{SameLabels, alike-more}
+use Rattle.joint.specs.Merge.{SameLabels}
 use borrow.Author.Tests.{eqb-true}
 use Rattle.bits.specs.LogicLaws.{true-false}
+use Rattle.joint.specs.MergeLaws.{alike-more}
 use native.Mathlib.Omega.{arith}
 use Prim.Native.Nat.{_≤_, _-_}
 use mathlib.Core.Path.{sym, _∙_}
 use borrow.Author.Needs.{needs}
 use Rattle.joint.proofs.alike.Statement.{statement}
 use Rattle.joint.proofs.alike.Tie as tie
-use Rattle.joint.proofs.alike.Reads as reads
-use Rattle.joint.proofs.alike.Lts as lts
-use Rattle.joint.proofs.known_at.Reads as known-at-reads
-use Rattle.problem.proofs.label.Reads as label-reads
 
 abbrev Inv-loop : tie.InvT-loop
 Inv-loop cl j kn val x y o₀ o = (o ≤ j) × SameLabels cl o (x .0) (y .0)

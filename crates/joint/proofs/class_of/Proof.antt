@@ -3,9 +3,6 @@ use native.Mathlib.Omega.{arith}
 use borrow.Author.Needs.{needs}
 use Rattle.joint.proofs.class_of.Statement.{statement}
 use Rattle.joint.proofs.class_of.Tie as tie
-use Rattle.joint.proofs.class_of.Reads as reads
-use Rattle.joint.proofs.class_of.Lts as lts
-use Rattle.joint.proofs.alike.Reads as alike-reads
 
 abbrev Inv-loop : tie.InvT-loop
 Inv-loop cl j kn val n x first i₀ i = i ≤ n

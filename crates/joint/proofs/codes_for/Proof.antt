@@ -1,16 +1,9 @@
-use Rattle.joint.specs.Merge.{picked-labels, decided-merged}
 use native.Mathlib.Omega.{arith}
 use Prim.Native.Nat.{_-_}
 use mathlib.Core.Path.{sym}
+use Rattle.joint.specs.MergeLaws.{picked-labels, decided-merged}
 use Rattle.joint.proofs.codes_for.Statement.{statement}
 use Rattle.joint.proofs.codes_for.Tie as tie
-use Rattle.joint.proofs.codes_for.Reads as reads
-use Rattle.joint.proofs.codes_for.Lts as lts
-use Rattle.joint.proofs.drawn.Reads as drawn-reads
-use Rattle.joint.proofs.expand.Reads as expand-reads
-use Rattle.joint.proofs.merge.Reads as merge-reads
-use Rattle.joint.proofs.relabel.Reads as relabel-reads
-use Rattle.readers.proofs.codes_for.Reads as codes-for-reads
 
 merge-requires : tie.Need-merge-requires
 merge-requires c κs = (c .before .pre .0, c .before .pre .1, c .before .pre .2)

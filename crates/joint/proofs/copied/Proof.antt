@@ -1,12 +1,11 @@
 use mathlib.Core.Path.{refl, subst}
 use Prim.Native.Nat.{ℕ, _≤_, _-_}
 use native.Mathlib.Omega.{arith}
-use Rattle.joint.specs.Merge.{Copied, copied-more}
+use Rattle.joint.specs.Merge.{Copied}
 use borrow.Author.Needs.{needs}
+use Rattle.bits.specs.FilledLaws.{filled-none, filled-more}
 use Rattle.joint.proofs.copied.Statement.{statement}
 use Rattle.joint.proofs.copied.Tie as tie
-use Rattle.joint.proofs.copied.Reads as reads
-use Rattle.joint.proofs.copied.Lts as lts
 
 abbrev Inv-loop : tie.InvT-loop
 Inv-loop cl r₀ i₀ r i = (i ≤ 512) × Copied cl i r
@@ -15,7 +14,7 @@ abbrev μ-loop : tie.MeasureT-loop
 μ-loop cl r₀ i₀ r i = 512 - i
 
 loop-holds : tie.Need-loop-holds Inv-loop μ-loop
-loop-holds c = (omega arith, record { long = refl; same = λ i h. absurd (omega arith) })
+loop-holds c = (omega arith, filled-none _ _ refl)
 
 shared-slice-read-r : tie.Need-shared-slice-read-r Inv-loop μ-loop
 shared-slice-read-r c = let z = c .before .before .before .pre .long in let h = c .before .loop-test .taken in search needs
@@ -31,8 +30,7 @@ loop-less c = search needs
 
 loop-again : tie.Need-loop-again Inv-loop μ-loop
 loop-again c =
-    let start = c .before .before .before in
-    let h = c .before .loop-test .taken in let l = c .before .before .loop in (omega arith, copied-more (start .args .cl .now) (l .i) _ (l .r) h refl (l .inv .1))
+    let h = c .before .loop-test .taken in let l = c .before .before .loop in (omega arith, filled-more _ h refl (l .inv .1))
 
 returns : tie.Need-returns Inv-loop μ-loop
 returns c =

@@ -2,14 +2,11 @@ use mathlib.Core.Logic.{⊎-elim}
 use mathlib.Core.Path.{_≡_, sym, _∙_, subst}
 use Prim.Native.Nat.{ℕ, _≤_, _-_}
 use native.Mathlib.Omega.{arith}
-use Rattle.joint.specs.Digits.{Drawn, drawn-start, drawn-none, drawn-in, drawn-out, drawn-low}
+use Rattle.joint.specs.Digits.{Drawn}
 use borrow.Author.Needs.{needs}
+use Rattle.joint.specs.DigitsLaws.{drawn-start, drawn-none, drawn-in, drawn-out, drawn-low}
 use Rattle.joint.proofs.drawn.Statement.{statement}
 use Rattle.joint.proofs.drawn.Tie as tie
-use Rattle.joint.proofs.drawn.Reads as reads
-use Rattle.joint.proofs.drawn.Lts as lts
-use Rattle.cells.proofs.in_set.Reads as in-set-reads
-use Rattle.cells.proofs.with.Reads as with-reads
 
 abbrev Inv-loop : tie.InvT-loop
 Inv-loop s n first r₀ i₀ r i = (i ≤ n) × Drawn s first i r

@@ -1,12 +1,11 @@
 use mathlib.Core.Path.{refl, subst}
 use Prim.Native.Nat.{ℕ, _≤_, _-_}
 use native.Mathlib.Omega.{arith}
-use Rattle.joint.specs.Merge.{Spread, spread-more}
+use Rattle.joint.specs.Merge.{Spread}
 use borrow.Author.Needs.{needs}
+use Rattle.bits.specs.FilledLaws.{filled-none, filled-more}
 use Rattle.joint.proofs.expand.Statement.{statement}
 use Rattle.joint.proofs.expand.Tie as tie
-use Rattle.joint.proofs.expand.Reads as reads
-use Rattle.joint.proofs.expand.Lts as lts
 
 abbrev Inv-loop : tie.InvT-loop
 Inv-loop v codes place r₀ x₀ r x = (x ≤ v) × Spread place codes x r
@@ -15,7 +14,7 @@ abbrev μ-loop : tie.MeasureT-loop
 μ-loop v codes place r₀ x₀ r x = v - x
 
 loop-holds : tie.Need-loop-holds Inv-loop μ-loop
-loop-holds c = (omega arith, record { long = refl; done = λ k h. absurd (omega arith) })
+loop-holds c = (omega arith, filled-none _ _ refl)
 
 mul-q : tie.Need-mul-q Inv-loop μ-loop
 mul-q c = let h = c .loop-test .taken in let z = c .before .before .pre .0 in search needs
@@ -43,7 +42,7 @@ loop-again c =
     let l = c .before .before .loop in
     let h = c .before .loop-test .taken in
     let z = start .pre .0 in
-    (omega arith, spread-more (start .args .t2) (start .args .t1) (l .x) _ (l .r) (omega arith) refl (l .inv .1))
+    (omega arith, filled-more _ (omega arith) refl (l .inv .1))
 
 returns : tie.Need-returns Inv-loop μ-loop
 returns c =

@@ -1,13 +1,10 @@
 use mathlib.Core.Path.{sym, _∙_}
 use native.Mathlib.Omega.{arith}
 use borrow.Author.Tests.{not-true, not-false}
-use Rattle.joint.specs.Digits.{unknown-at, one-at, zero-at}
 use borrow.Author.Needs.{needs}
+use Rattle.joint.specs.DigitsLaws.{unknown-at, one-at, zero-at}
 use Rattle.joint.proofs.known_at.Statement.{statement}
 use Rattle.joint.proofs.known_at.Tie as tie
-use Rattle.joint.proofs.known_at.Reads as reads
-use Rattle.joint.proofs.known_at.Lts as lts
-use Rattle.cells.proofs.in_set.Reads as in-set-reads
 
 cast-in-set : tie.Need-cast-in-set
 cast-in-set c = let h = c .before .pre in search needs

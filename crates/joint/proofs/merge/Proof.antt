@@ -3,13 +3,11 @@ use mathlib.Core.Path.{refl, subst}
 use Prim.Native.Nat.{ℕ, _≤_, _-_}
 use native.Mathlib.Omega.{arith}
 use Rattle.limits.specs.Limits.{maxVertices}
-use Rattle.joint.specs.Merge.{Merged, vertices-zero, merged-start, at-new, at-old}
+use Rattle.joint.specs.MergeLaws.{vertices-zero, merged-start, at-new, at-old}
+use Rattle.joint.specs.Merge.{Merged}
 use borrow.Author.Needs.{needs}
 use Rattle.joint.proofs.merge.Statement.{statement}
 use Rattle.joint.proofs.merge.Tie as tie
-use Rattle.joint.proofs.merge.Reads as reads
-use Rattle.joint.proofs.merge.Lts as lts
-use Rattle.joint.proofs.class_of.Reads as class-of-reads
 
 abbrev Inv-loop : tie.InvT-loop
 Inv-loop cl v j kn val first₀ place₀ n₀ x₀ first place n x = (x ≤ v) × Merged cl j kn val x n first place

@@ -2,15 +2,11 @@ use mathlib.Core.Path.{_≡_, refl, subst}
 use Prim.Native.Nat.{ℕ, _≤_, _-_, _*_, _%_}
 use native.Mathlib.Omega.{arith}
 use Rattle.limits.specs.Limits.{maxVertices}
-use Rattle.joint.specs.Merge.{Picked, picked-start, picked-more}
+use Rattle.joint.specs.MergeLaws.{picked-start, picked-more}
+use Rattle.joint.specs.Merge.{Picked}
 use borrow.Author.Needs.{needs}
 use Rattle.joint.proofs.relabel.Statement.{statement}
 use Rattle.joint.proofs.relabel.Tie as tie
-use Rattle.joint.proofs.relabel.Reads as reads
-use Rattle.joint.proofs.relabel.Lts as lts
-use Rattle.joint.proofs.copied.Reads as copied-reads
-use Rattle.joint.proofs.copied.Reads as copied-reads
-use Rattle.problem.proofs.label.Reads as label-reads
 
 abbrev Inv-loop : tie.InvT-loop
 Inv-loop cl j first r₀ end i₀ r i = (i ≤ end) × (end ≡ j * maxVertices) × Picked cl first i r

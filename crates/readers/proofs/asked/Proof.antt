@@ -4,14 +4,11 @@ use mathlib.Core.Logic.{inl, inr}
 use Prim.Native.Nat.{ℕ, _<_, _≤_, _-_}
 use native.Mathlib.Omega.{arith}
 use Rattle.bits.specs.Digit.{on}
+use Rattle.readers.specs.KnownLaws.{unread-more}
 use Rattle.problem.specs.Problem.{item}
-use Rattle.readers.specs.Known.{unread-more}
 use borrow.Author.Needs.{needs}
 use Rattle.readers.proofs.asked.Statement.{statement}
 use Rattle.readers.proofs.asked.Tie as tie
-use Rattle.readers.proofs.asked.Reads as reads
-use Rattle.readers.proofs.asked.Lts as lts
-use Rattle.cells.proofs.in_set.Reads as in-set-reads
 
 abbrev Inv-loop : tie.InvT-loop
 Inv-loop j kn rows o₀ o = (o ≤ j) × ((q : ℕ) → q < o → on (item rows q) 0 ≡ false)

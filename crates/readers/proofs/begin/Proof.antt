@@ -1,10 +1,7 @@
-use Rattle.readers.specs.Masks.{start-of}
 use borrow.Author.Needs.{needs}
+use Rattle.readers.specs.MasksLaws.{start-of}
 use Rattle.readers.proofs.begin.Statement.{statement}
 use Rattle.readers.proofs.begin.Tie as tie
-use Rattle.readers.proofs.begin.Reads as reads
-use Rattle.readers.proofs.begin.Lts as lts
-use Rattle.readers.proofs.fitting_sets.Reads as fitting-sets-reads
 
 array-write-codes : tie.Need-array-write-codes
 array-write-codes c = search needs

@@ -1,16 +1,10 @@
 use mathlib.Core.Path.{refl, subst}
 use Prim.Native.Nat.{ℕ}
-use Rattle.readers.specs.Known.{decided-asked, decided-contrary, decided-written}
 use Rattle.readers.specs.Masks.{Decided}
 use borrow.Author.Needs.{needs}
+use Rattle.readers.specs.KnownLaws.{decided-contrary, decided-asked, decided-written}
 use Rattle.readers.proofs.codes_for.Statement.{statement}
 use Rattle.readers.proofs.codes_for.Tie as tie
-use Rattle.readers.proofs.codes_for.Reads as reads
-use Rattle.readers.proofs.codes_for.Lts as lts
-use Rattle.readers.proofs.asked.Reads as asked-reads
-use Rattle.readers.proofs.contrary.Reads as contrary-reads
-use Rattle.readers.proofs.search.Reads as search-reads
-use Rattle.readers.proofs.written.Reads as written-reads
 
 asked-requires : tie.Need-asked-requires
 asked-requires c κs = c .before .pre .2

@@ -5,9 +5,6 @@ use Rattle.bits.specs.LogicLaws.{true-false, never-both}
 use borrow.Author.Needs.{needs}
 use Rattle.readers.proofs.contrary.Statement.{statement}
 use Rattle.readers.proofs.contrary.Tie as tie
-use Rattle.readers.proofs.contrary.Reads as reads
-use Rattle.readers.proofs.contrary.Lts as lts
-use Rattle.cells.proofs.in_set.Reads as in-set-reads
 
 returns : tie.Need-returns
 returns c = let e = c .if1 .taken in (λ t. absurd (true-false (sym t)), λ t h. absurd (omega arith))

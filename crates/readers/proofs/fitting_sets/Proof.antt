@@ -4,11 +4,10 @@ use native.Mathlib.Omega.{arith}
 use Rattle.readers.specs.Known.{Fitted, fitted-any, fitted-more}
 use borrow.Author.Needs.{needs}
 use Rattle.holding.specs.BlocksLaws.{all-ones}
+use Rattle.holding.specs.Blocks.{all-ones}
+use Rattle.readers.specs.KnownLaws.{fitted-any, fitted-more}
 use Rattle.readers.proofs.fitting_sets.Statement.{statement}
 use Rattle.readers.proofs.fitting_sets.Tie as tie
-use Rattle.readers.proofs.fitting_sets.Reads as reads
-use Rattle.readers.proofs.fitting_sets.Lts as lts
-use Rattle.coding.proofs.fitting.Reads as fitting-reads
 
 abbrev Inv-loop : tie.InvT-loop
 Inv-loop kn val r₀ x₀ r x = (x ≤ 32) × Fitted kn val x r

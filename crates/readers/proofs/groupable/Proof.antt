@@ -1,8 +1,6 @@
-use Rattle.readers.specs.Known.{groupable-all, groupable-less}
 use Rattle.readers.proofs.groupable.Statement.{statement}
 use Rattle.readers.proofs.groupable.Tie as tie
-use Rattle.readers.proofs.groupable.Reads as reads
-use Rattle.readers.proofs.groupable.Lts as lts
+use Rattle.readers.specs.KnownLaws.{groupable-all, groupable-less}
 
 returns : tie.Need-returns
 returns c = let a = c .before .args in groupable-all (a .sh) (a .kn) (c .before .pre) (c .if1 .taken)

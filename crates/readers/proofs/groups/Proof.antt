@@ -2,14 +2,11 @@ use mathlib.Core.Path.{refl}
 use Prim.Native.Nat.{_≤_, _-_}
 use native.Mathlib.Omega.{arith}
 use mathlib.Core.Logic.{⊎-elim}
-use Rattle.readers.specs.Groups.{Grouping, grouping-start, grouping-more, grouping-same}
+use Rattle.readers.specs.Groups.{Grouping}
 use borrow.Author.Needs.{needs}
+use Rattle.readers.specs.GroupsLaws.{grouping-start, grouping-same, grouping-more}
 use Rattle.readers.proofs.groups.Statement.{statement}
 use Rattle.readers.proofs.groups.Tie as tie
-use Rattle.readers.proofs.groups.Reads as reads
-use Rattle.readers.proofs.groups.Lts as lts
-use Rattle.readers.proofs.twins.Reads as twins-reads
-use Rattle.readers.proofs.useful.Reads as useful-reads
 
 abbrev Inv-loop : tie.InvT-loop
 Inv-loop rows j sh gs₀ done₀ n₀ i₀ gs done n i = (n ≤ 3) × Grouping rows gs sh j done

@@ -1,18 +1,12 @@
 use Prim.Native.Nat.{_≤_, _-_}
 use native.Mathlib.Omega.{arith}
 use Rattle.bits.specs.LogicLaws.{true-false}
-use Rattle.readers.specs.Needs.{bounds-of}
-use Rattle.readers.specs.Answer.{decided-crowded}
+use Rattle.readers.specs.NeedsLaws.{bounds-of}
+use Rattle.readers.specs.AnswerLaws.{decided-crowded}
 use mir.Syntax.{w8, w64}
 use borrow.Author.Needs.{needs, elem-fits-field}
 use Rattle.readers.proofs.possible.Statement.{statement}
 use Rattle.readers.proofs.possible.Tie as tie
-use Rattle.readers.proofs.possible.Reads as reads
-use Rattle.readers.proofs.possible.Lts as lts
-use Rattle.lowerbounds.proofs.bases.Reads as bases-reads
-use Rattle.holding.proofs.total.Reads as total-reads
-use Rattle.readers.proofs.plan.Reads as plan-reads
-use Rattle.readers.proofs.shared.Reads as shared-reads
 
 abbrev Inv-loop : tie.InvT-loop
 Inv-loop cl v j sh spots base o₀ none o = o ≤ j

@@ -3,9 +3,6 @@ use Prim.Native.Nat.{_≤_, _-_}
 use borrow.Author.Needs.{needs}
 use Rattle.readers.proofs.read_by.Statement.{statement}
 use Rattle.readers.proofs.read_by.Tie as tie
-use Rattle.readers.proofs.read_by.Reads as reads
-use Rattle.readers.proofs.read_by.Lts as lts
-use Rattle.cells.proofs.in_set.Reads as in-set-reads
 
 abbrev Inv-loop : tie.InvT-loop
 Inv-loop j i rows r₀ o₀ r o = o ≤ j

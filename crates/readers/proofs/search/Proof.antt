@@ -5,32 +5,19 @@ use Prim.Native.Nat.{ℕ, _≤_}
 use native.Mathlib.Omega.{arith}
 use Rattle.cells.specs.Lists.{zeros}
 use borrow.Author.Tests.{not-true}
-use Rattle.readers.specs.Groups.{start-valued}
-use Rattle.readers.specs.Known.{Public, Zero, grouping-over, grouping-alone, start-knows, zeros-knows}
-use Rattle.readers.specs.Masks.{Short, Common, Planned, Decided, plan-of, blocks-of, shared-low, shared-among, start-covers}
-use Rattle.readers.specs.Answer.{decided-of, decided-lost}
-use Rattle.readers.specs.Needs.{bounds-of}
+use Rattle.readers.specs.Known.{Public, Zero}
+use Rattle.readers.specs.Masks.{Short, Common, Planned, Decided}
+use Rattle.readers.specs.AnswerLaws.{decided-of, decided-lost}
+use Rattle.readers.specs.NeedsLaws.{bounds-of}
 use borrow.Author.Needs.{needs}
 use Rattle.holding.specs.SearchLaws.{told-found}
 use Rattle.holding.specs.NarrowLaws.{kept-start}
+use Rattle.readers.specs.KnownLaws.{grouping-over, grouping-alone, start-knows, zeros-knows}
+use Rattle.readers.specs.GroupsLaws.{start-valued}
+use Rattle.readers.specs.MasksLaws.{shared-low, plan-of, shared-among, start-covers, blocks-of}
 use Rattle.cells.specs.ListLaws.{zeros-are}
 use Rattle.readers.proofs.search.Statement.{statement}
 use Rattle.readers.proofs.search.Tie as tie
-use Rattle.readers.proofs.search.Reads as reads
-use Rattle.readers.proofs.search.Lts as lts
-use Rattle.lowerbounds.proofs.bases.Reads as bases-reads
-use Rattle.coding.proofs.find.Reads as find-reads
-use Rattle.coding.proofs.mark.Reads as mark-reads
-use Rattle.coding.proofs.meet.Reads as meet-reads
-use Rattle.coding.proofs.settle_all.Reads as settle-all-reads
-use Rattle.holding.proofs.block.Reads as block-reads
-use Rattle.holding.proofs.blocks.Reads as blocks-reads
-use Rattle.numbering.proofs.finish.Reads as finish-reads
-use Rattle.readers.proofs.begin.Reads as begin-reads
-use Rattle.readers.proofs.groupable.Reads as groupable-reads
-use Rattle.readers.proofs.groups.Reads as groups-reads
-use Rattle.readers.proofs.plan.Reads as plan-reads
-use Rattle.readers.proofs.searched.Reads as searched-reads
 
 -- what holds of four numbers holds of four that equal them
 at-equals : (P : ℕ → ℕ → ℕ → ℕ → Type 0) (v j kn val v₂ j₂ kn₂ val₂ : ℕ) → v ≡ v₂ → j ≡ j₂ → kn ≡ kn₂ → val ≡ val₂ → P v j kn val → P v₂ j₂ kn₂ val₂

@@ -1,9 +1,6 @@
-use Rattle.readers.specs.Known.{public-none, public-more, common-more}
 use Rattle.readers.proofs.searched.Statement.{statement}
 use Rattle.readers.proofs.searched.Tie as tie
-use Rattle.readers.proofs.searched.Reads as reads
-use Rattle.readers.proofs.searched.Lts as lts
-use Rattle.readers.proofs.shared.Reads as shared-reads
+use Rattle.readers.specs.KnownLaws.{public-none, public-more, common-more}
 
 shared-requires : tie.Need-shared-requires
 shared-requires c κs = c .pre

@@ -1,11 +1,10 @@
-use Rattle.readers.specs.Masks.{Seen, seen-start, seen-more, seen-all}
+use Rattle.readers.specs.Masks.{Seen}
 use native.Mathlib.Omega.{arith}
 use Prim.Native.Nat.{_≤_, _-_}
 use borrow.Author.Needs.{needs}
+use Rattle.readers.specs.MasksLaws.{seen-start, seen-more, seen-all}
 use Rattle.readers.proofs.shared.Statement.{statement}
 use Rattle.readers.proofs.shared.Tie as tie
-use Rattle.readers.proofs.shared.Reads as reads
-use Rattle.readers.proofs.shared.Lts as lts
 
 abbrev Inv-loop : tie.InvT-loop
 Inv-loop j rows once₀ many₀ o₀ once many o = (o ≤ j) × Seen rows o once many

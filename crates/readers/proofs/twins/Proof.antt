@@ -2,9 +2,6 @@ use Prim.Native.Nat.{_≤_, _-_}
 use borrow.Author.Needs.{needs}
 use Rattle.readers.proofs.twins.Statement.{statement}
 use Rattle.readers.proofs.twins.Tie as tie
-use Rattle.readers.proofs.twins.Reads as reads
-use Rattle.readers.proofs.twins.Lts as lts
-use Rattle.readers.proofs.read_by.Reads as read-by-reads
 
 abbrev Inv-loop : tie.InvT-loop
 Inv-loop rows j i own r₀ k₀ r k = k ≤ 6

@@ -1,7 +1,7 @@
-use Rattle.readers.specs.Groups.{uniform-more}
 use Rattle.coding.specs.Exchange.{Uniform}
 use Rattle.problem.specs.Problem.{item}
 use Rattle.bits.specs.LogicLaws.{true-false}
+use Rattle.readers.specs.GroupsLaws.{uniform-more}
 use native.Mathlib.Omega.{arith}
 use Prim.Native.Nat.{ℕ, _<_, _≤_, _-_}
 use mathlib.Core.Logic.{_⊎_, inl, inr, ⊎-elim}
@@ -9,8 +9,6 @@ use mathlib.Core.Path.{sym}
 use borrow.Author.Needs.{needs}
 use Rattle.readers.proofs.uniform.Statement.{statement}
 use Rattle.readers.proofs.uniform.Tie as tie
-use Rattle.readers.proofs.uniform.Reads as reads
-use Rattle.readers.proofs.uniform.Lts as lts
 
 abbrev Inv-loop : tie.InvT-loop
 Inv-loop j g rows o₀ o = (o ≤ j) × ((q : ℕ) → q < o → Uniform (item rows q) g)

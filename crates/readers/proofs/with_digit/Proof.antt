@@ -1,9 +1,7 @@
 use borrow.Author.Tests.{not-true}
-use Rattle.readers.specs.Known.{digit-unknown, digit-one, digit-zero}
+use Rattle.readers.specs.KnownLaws.{digit-unknown, digit-one, digit-zero}
 use Rattle.readers.proofs.with_digit.Statement.{statement}
 use Rattle.readers.proofs.with_digit.Tie as tie
-use Rattle.readers.proofs.with_digit.Reads as reads
-use Rattle.readers.proofs.with_digit.Lts as lts
 
 returns : tie.Need-returns
 returns c = let a = c .before .args in digit-unknown (a .c) (a .known) (a .d) (not-true _ (c .if1 .taken))

@@ -1,14 +1,11 @@
 use mathlib.Core.Path.{_≡_, subst}
 use Prim.Native.Nat.{ℕ, _≤_, _-_}
 use native.Mathlib.Omega.{arith}
-use Rattle.readers.specs.Known.{Wrote, wrote-start, wrote-more}
+use Rattle.readers.specs.Known.{Wrote}
 use borrow.Author.Needs.{needs}
+use Rattle.readers.specs.KnownLaws.{wrote-start, wrote-more}
 use Rattle.readers.proofs.written.Statement.{statement}
 use Rattle.readers.proofs.written.Tie as tie
-use Rattle.readers.proofs.written.Reads as reads
-use Rattle.readers.proofs.written.Lts as lts
-use Rattle.cells.proofs.in_set.Reads as in-set-reads
-use Rattle.readers.proofs.with_digit.Reads as with-digit-reads
 
 abbrev Inv-loop : tie.InvT-loop
 Inv-loop kn val v r₀ x₀ r x = (x ≤ v) × Wrote kn val r₀ x r

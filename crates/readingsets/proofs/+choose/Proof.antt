@@ -5,10 +5,10 @@ use mathlib.Core.Logic.{⊎-elim}
 use native.Mathlib.Omega.{arith}
 use lib.Dec.{eqb}
 use lib.ListN.{set}
-use Rattle.readingsets.specs.ChoiceLaws.{Tried, tried-start, tried-all, step-less, step-fits, step-rows, step-alike, step-lost, step-dead, step-unfit}
+use Rattle.readingsets.specs.ChoiceLaws.{tried-start, tried-all, step-fits, step-on, step-past}
 use Rattle.readingsets.specs.ChoiceLaws.{chosen-end, chosen-found, chosen-lost, chosen-none, done-lost, known-or-none, number-room, on-with-same}
 use Rattle.readingsets.specs.ServedLaws.{served-chosen}
-use Rattle.readingsets.specs.Choice.{Lost, Chosen, turned}
+use Rattle.readingsets.specs.Choice.{Chosen, turned, Tried}
 use Rattle.bits.specs.Digit.{on}
 use Rattle.bits.specs.Count.{count}
 use Rattle.coding.specs.Limit.{Sure}
@@ -17,7 +17,7 @@ use Rattle.relation.specs.Relation.{NoneLeft}
 use Rattle.subproblems.specs.Subproblem.{givenOf}
 use Rattle.cache.specs.Cache.{Honest}
 use borrow.Author.Needs.{needs}
-use borrow.Fn.Kinds.{In}
+use borrow.Fn.Kinds.{In, Out}
 use borrow.Fn.PlainCycle.{Measures, is, falls, and}
 use Rattle.readingsets.proofs.choose.Reads as choose
 use Rattle.readingsets.proofs.choose.Kinds as choose-kinds
@@ -26,7 +26,7 @@ use Rattle.readingsets.proofs.alive.Reads as alive-reads
 use Rattle.readingsets.proofs.finish.Reads as finish-reads
 use Rattle.readingsets.proofs.next.Reads as next-reads
 use Rattle.readingsets.proofs.none.Reads as none-reads
-use Rattle.readingsets.proofs.numbers.Reads as numbers-reads
+use Rattle.readingsets.proofs.power.Reads as power-reads
 use Rattle.readingsets.proofs.row_of.Reads as row-of-reads
 use Rattle.readingsets.proofs.served.Reads as served-reads
 use Rattle.readingsets.proofs.still_alike.Reads as still-alike-reads
@@ -59,8 +59,8 @@ choose-claims t = (
   wanted-reads.Learnt,
   with-reads.Asked,
   with-reads.Learnt,
-  numbers-reads.Asked,
-  numbers-reads.Learnt,
+  power-reads.Asked,
+  power-reads.Learnt,
   served-reads.Asked,
   served-reads.Learnt,
   row-of-reads.Asked,
@@ -93,16 +93,20 @@ abbrev choose-μ-loop : choose-lts.MeasureT-loop
 choose-μ-loop cl given mem₀ p rows done same nodes n want done-now end s total₀ unsure₀ i₀ mem total unsure i =
     end - i
 
-choose-next-requires : (t : ℕ) → choose-lts.Need-next-requires (choose-claims t) (choose-at t) choose.Post choose-Inv-loop choose-μ-loop
+-- a need at measure t, with what is known of the functions called, the contract and the loop
+abbrev Here : ℕ → (choose-lts.Claims → In 3 choose-kinds.ps → Out 3 choose-kinds.ps choose-kinds.r → choose-lts.InvT-loop → choose-lts.MeasureT-loop → Type 0) → Type 0
+Here t need = need (choose-claims t) (choose-at t) choose.Post choose-Inv-loop choose-μ-loop
+
+choose-next-requires : (t : ℕ) → Here t choose-lts.Need-next-requires
 choose-next-requires t c κs = let q = c .before .before .before .pre .1 in (q .0, q .1, q .2, q .3, q .4, q .5)
 
-choose-finish-requires : (t : ℕ) → choose-lts.Need-finish-requires (choose-claims t) (choose-at t) choose.Post choose-Inv-loop choose-μ-loop
+choose-finish-requires : (t : ℕ) → Here t choose-lts.Need-finish-requires
 choose-finish-requires t c κs = let q = c .before .before .before .before .before .before .pre .1 in (q .0, q .1, q .2, q .3, q .8)
 
-choose-same-length : (t : ℕ) → choose-lts.Need-same-length (choose-claims t) (choose-at t) choose.Post choose-Inv-loop choose-μ-loop
+choose-same-length : (t : ℕ) → Here t choose-lts.Need-same-length
 choose-same-length t c = c .before .before .finish .ensures .2 .long ∙ sym (c .before .before .before .before .before .before .before .before .before .pre .1 .8 .long)
 
-choose-returns : (t : ℕ) → choose-lts.Need-returns (choose-claims t) (choose-at t) choose.Post choose-Inv-loop choose-μ-loop
+choose-returns : (t : ℕ) → Here t choose-lts.Need-returns
 choose-returns t c =
     let start = c .before .before .before .before .before .before .before .before .before in
     let a = start .args in
@@ -114,25 +118,25 @@ choose-returns t c =
     (a .done) (a .rows) (r .ok) (r .rows) (r .codes) (c .before .before .before .before .before .next .ensures .none (c .before .before .before .before .if1 .taken)) (f .ensures .0) (q .6) in
     (sure-then (p .last) (r .unsure) _ _ end (f .ensures .1), f .ensures .2)
 
-choose-array-read-wanted : (t : ℕ) → choose-lts.Need-array-read-wanted (choose-claims t) (choose-at t) choose.Post choose-Inv-loop choose-μ-loop
+choose-array-read-wanted : (t : ℕ) → Here t choose-lts.Need-array-read-wanted
 choose-array-read-wanted t c =
     let h = c .before .before .next .ensures .room in
     let e = c .before .if1 .left in
     search needs
 
-choose-wanted-requires : (t : ℕ) → choose-lts.Need-wanted-requires (choose-claims t) (choose-at t) choose.Post choose-Inv-loop choose-μ-loop
+choose-wanted-requires : (t : ℕ) → Here t choose-lts.Need-wanted-requires
 choose-wanted-requires t c κs = let q = c .before .before .before .before .before .before .pre .1 in (q .4, q .5)
 
-choose-with-requires : (t : ℕ) → choose-lts.Need-with-requires (choose-claims t) (choose-at t) choose.Post choose-Inv-loop choose-μ-loop
+choose-with-requires : (t : ℕ) → Here t choose-lts.Need-with-requires
 choose-with-requires t c κs = let h = c .before .before .before .next .ensures .room in let e = c .before .before .if1 .left in omega arith
 
-choose-add-numbers : (t : ℕ) → choose-lts.Need-add-numbers (choose-claims t) (choose-at t) choose.Post choose-Inv-loop choose-μ-loop
-choose-add-numbers t c = let q = c .before .before .before .before .before .before .before .before .before .pre .1 in let h = q .4 in let k = q .5 in search needs
+choose-add-power : (t : ℕ) → Here t choose-lts.Need-add-power
+choose-add-power t c = let q = c .before .before .before .before .before .before .before .before .before .pre .1 in let h = q .4 in let k = q .5 in search needs
 
-choose-numbers-requires : (t : ℕ) → choose-lts.Need-numbers-requires (choose-claims t) (choose-at t) choose.Post choose-Inv-loop choose-μ-loop
-choose-numbers-requires t c κs = let q = c .before .before .before .before .before .before .before .before .before .pre .1 in let h = q .4 in let k = q .5 in omega arith
+choose-power-requires : (t : ℕ) → Here t choose-lts.Need-power-requires
+choose-power-requires t c κs = let q = c .before .before .before .before .before .before .before .before .before .pre .1 in let h = q .4 in let k = q .5 in omega arith
 
-choose-served-requires : (t : ℕ) → choose-lts.Need-served-requires (choose-claims t) (choose-at t) choose.Post choose-Inv-loop choose-μ-loop
+choose-served-requires : (t : ℕ) → Here t choose-lts.Need-served-requires
 choose-served-requires t c κs =
     let c10 = c .before .before .before .before .before .before .before .before .before .before in
     let q = c10 .pre .1 in
@@ -140,33 +144,33 @@ choose-served-requires t c κs =
     let e = c .before .before .before .before .before .if1 .left in
     (q .0, q .1, q .2, omega arith, q .4, q .5)
 
-choose-row-of-requires : (t : ℕ) → choose-lts.Need-row-of-requires (choose-claims t) (choose-at t) choose.Post choose-Inv-loop choose-μ-loop
+choose-row-of-requires : (t : ℕ) → Here t choose-lts.Need-row-of-requires
 choose-row-of-requires t c κs =
     let c10 = c .before .before .before .before .before .before .before .before .before .before in
     let start = c10 .before .before in
     let p = start .args .p in
     let q = start .pre .1 in
     let s = c .before .served in
-    let k = c .before .before .numbers in
+    let k = c .before .before .power in
     let h = c .if2 .taken in
     (q .4, number-room (p .cells) (p .tables) (s .result) (k .result) (q .5) (k .ensures .0) h)
 
-choose-mul-only : (t : ℕ) → choose-lts.Need-mul-only (choose-claims t) (choose-at t) choose.Post choose-Inv-loop choose-μ-loop
+choose-mul-only : (t : ℕ) → Here t choose-lts.Need-mul-only
 choose-mul-only t c =
     let h = c .before .before .before .before .before .before .before .before .before .next .ensures .room in
     let e = c .before .before .before .before .before .before .before .before .if1 .left in
     search needs
 
-choose-array-write-only : (t : ℕ) → choose-lts.Need-array-write-only (choose-claims t) (choose-at t) choose.Post choose-Inv-loop choose-μ-loop
+choose-array-write-only : (t : ℕ) → Here t choose-lts.Need-array-write-only
 choose-array-write-only t c =
     let h = c .before .before .before .before .before .before .before .before .before .next .ensures .room in
     let e = c .before .before .before .before .before .before .before .before .if1 .left in
     search needs
 
-choose-still-alike-requires : (t : ℕ) → choose-lts.Need-still-alike-requires (choose-claims t) (choose-at t) choose.Post choose-Inv-loop choose-μ-loop
+choose-still-alike-requires : (t : ℕ) → Here t choose-lts.Need-still-alike-requires
 choose-still-alike-requires t c κs = search needs
 
-choose-choose-requires : (t : ℕ) → choose-lts.Need-choose-requires (choose-claims t) (choose-at t) choose.Post choose-Inv-loop choose-μ-loop
+choose-choose-requires : (t : ℕ) → Here t choose-lts.Need-choose-requires
 choose-choose-requires t c κs =
     let c10 = c .before .before .before .before .before .before .before .before .before .before in
     let start = c10 .before .before .before .before .before in
@@ -180,7 +184,7 @@ choose-choose-requires t c κs =
     let low : n < 8 = omega arith in
     let free = x .free low in
     let w = c .before .before .before .before .before .before .before .with in
-    let e3 = c .before .before .before .before .before .numbers .ensures .0 in
+    let e3 = c .before .before .before .before .before .power .ensures .0 in
     let s = c .before .before .before .before .served in
     let e4 = c .before .before .before .if2 .taken in
     let k = c .before .before .row-of in
@@ -189,20 +193,17 @@ choose-choose-requires t c κs =
     let full = ap (λ (z : ℕ). count (on z) 16) last ∙ s .ensures .full here ∙ c .before .before .before .before .before .before .before .before .wanted .ensures in
     let y = c .still-alike in
     let t' = start .pre .0 in
-    let less = step-less (a .cl .now) (a .given .now) (p .budgets) (p .kn) (p .val) (p .vertices) (p .outputs) (p .cells) (p .tables) (a .done) (a .rows) (a .same) n
-    (w .result) (k .result) (s .result) (q .4) (free .0) low (free .1) (w .ensures) last (q .6) in
-    let more = step-rows (a .cl .now) (a .given .now) (p .budgets) (p .kn) (p .val) (p .vertices) (p .outputs) (p .cells) (p .tables) (a .done) (a .rows) (a .same) n
-    (w .result) (k .result) (s .result) (q .4) (free .0) low (free .1) (w .ensures) last (q .6) here full in
-    let same = step-alike (a .cl .now) (a .given .now) (p .budgets) (p .kn) (p .val) (p .vertices) (p .outputs) (p .cells) (p .tables) (a .done) (a .rows) (a .same) n
-    (w .result) (k .result) (s .result) (q .4) (free .0) low (free .1) (w .ensures) last (q .6) (y .result) (y .ensures) (q .7) in
-    (omega arith, (q .0, q .1, q .2, q .3, q .4, q .5, more, same, q .8))
+    let on = step-on (a .cl .now) (a .given .now) (p .budgets) (p .kn) (p .val) (p .vertices) (p .outputs) (p .cells) (p .tables) (a .done) (a .rows) (a .same) n
+    (w .result) (k .result) (s .result) (q .4) (free .0) low (free .1) (w .ensures) last (q .6) here full (y .result) (y .ensures) (q .7) in
+    let less = on .0 in
+    (omega arith, (q .0, q .1, q .2, q .3, q .4, q .5, on .1, on .2, q .8))
 
-choose-same-length-2 : (t : ℕ) → choose-lts.Need-same-length-2 (choose-claims t) (choose-at t) choose.Post choose-Inv-loop choose-μ-loop
+choose-same-length-2 : (t : ℕ) → Here t choose-lts.Need-same-length-2
 choose-same-length-2 t c =
     let c10 = c .before .before .before .before .before .before .before .before .before .before in
     c .before .before .choose .ensures .1 .long ∙ sym (c10 .before .before .before .before .before .before .before .before .pre .1 .8 .long)
 
-choose-returns-2 : (t : ℕ) → choose-lts.Need-returns-2 (choose-claims t) (choose-at t) choose.Post choose-Inv-loop choose-μ-loop
+choose-returns-2 : (t : ℕ) → Here t choose-lts.Need-returns-2
 choose-returns-2 t c =
     let c10 = c .before .before .before .before .before .before .before .before .before .before in
     let start = c10 .before .before .before .before .before .before .before .before in
@@ -216,7 +217,7 @@ choose-returns-2 t c =
     let low : n < 8 = omega arith in
     let free = x .free low in
     let w = c10 .with in
-    let e3 = c .before .before .before .before .before .before .before .before .numbers .ensures .0 in
+    let e3 = c .before .before .before .before .before .before .before .before .power .ensures .0 in
     let s = c .before .before .before .before .before .before .before .served in
     let e4 = c .before .before .before .before .before .before .if2 .taken in
     let k = c .before .before .before .before .before .row-of in
@@ -232,7 +233,7 @@ choose-returns-2 t c =
     (a .done) (w .result) (a .rows) (q .6 .long) low (free .1) (w .ensures) (r .rows) (r .codes) (r .ok) in
     (sure-then (p .last) (r .unsure) _ _ said (y .ensures .0), y .ensures .1)
 
-choose-loop-holds : (t : ℕ) → choose-lts.Need-loop-holds (choose-claims t) (choose-at t) choose.Post choose-Inv-loop choose-μ-loop
+choose-loop-holds : (t : ℕ) → Here t choose-lts.Need-loop-holds
 choose-loop-holds t c =
     let c10 = c .before .before .before .before .before .before .before .before .before .before in
     let a = c10 .before .before .args in
@@ -248,10 +249,10 @@ choose-loop-holds t c =
     let start = tried-start (a .cl .now) (a .given .now) (p .budgets) (p .kn) (p .val) (p .vertices) (p .outputs) (p .cells) (p .tables) (a .done) (a .rows) (a .same) n down (q .4) (free .0) in
     (omega arith, sure-now (p .last) false _ refl start, q .8)
 
-choose-turn-requires : (t : ℕ) → choose-lts.Need-turn-requires (choose-claims t) (choose-at t) choose.Post choose-Inv-loop choose-μ-loop
+choose-turn-requires : (t : ℕ) → Here t choose-lts.Need-turn-requires
 choose-turn-requires t c κs = c .before .loop-test .taken
 
-choose-row-of-requires-2 : (t : ℕ) → choose-lts.Need-row-of-requires-2 (choose-claims t) (choose-at t) choose.Post choose-Inv-loop choose-μ-loop
+choose-row-of-requires-2 : (t : ℕ) → Here t choose-lts.Need-row-of-requires-2
 choose-row-of-requires-2 t c κs =
     let c10 = c .before .before .before .before .before .before .before .before .before .before in
     let start = c10 .before .before .before .before .before .before in
@@ -259,27 +260,27 @@ choose-row-of-requires-2 t c κs =
     let p = a .p in
     let q = start .pre .1 in
     let y = c .turn in
-    let k = c .before .before .before .before .before .before .numbers in
+    let k = c .before .before .before .before .before .before .power in
     (q .4, number-room (p .cells) (p .tables) (y .result) (k .result) (q .5) (k .ensures .0) (y .ensures .1))
 
-choose-suits-requires : (t : ℕ) → choose-lts.Need-suits-requires (choose-claims t) (choose-at t) choose.Post choose-Inv-loop choose-μ-loop
+choose-suits-requires : (t : ℕ) → Here t choose-lts.Need-suits-requires
 choose-suits-requires t c κs = search needs
 
-choose-mul-tried : (t : ℕ) → choose-lts.Need-mul-tried (choose-claims t) (choose-at t) choose.Post choose-Inv-loop choose-μ-loop
+choose-mul-tried : (t : ℕ) → Here t choose-lts.Need-mul-tried
 choose-mul-tried t c =
     let c10 = c .before .before .before .before .before .before .before .before .before .before in
     let h = c10 .before .before .before .before .before .next .ensures .room in
     let e = c10 .before .before .before .before .if1 .left in
     search needs
 
-choose-array-write-tried : (t : ℕ) → choose-lts.Need-array-write-tried (choose-claims t) (choose-at t) choose.Post choose-Inv-loop choose-μ-loop
+choose-array-write-tried : (t : ℕ) → Here t choose-lts.Need-array-write-tried
 choose-array-write-tried t c =
     let c10 = c .before .before .before .before .before .before .before .before .before .before in
     let h = c10 .before .before .before .before .before .next .ensures .room in
     let e = c10 .before .before .before .before .if1 .left in
     search needs
 
-choose-alive-requires : (t : ℕ) → choose-lts.Need-alive-requires (choose-claims t) (choose-at t) choose.Post choose-Inv-loop choose-μ-loop
+choose-alive-requires : (t : ℕ) → Here t choose-lts.Need-alive-requires
 choose-alive-requires t c κs =
     let c10 = c .before .before .before .before .before .before .before .before .before .before in
     let start = c10 .before .before .before .before .before .before .before .before .before .before in
@@ -292,13 +293,13 @@ choose-alive-requires t c κs =
     let has = subst (λ (d : ℕ). on d (x .result) ≡ true) (sym (w .ensures)) (on-with-same (a .done) (x .result)) in
     (q .0, q .1, q .2, omega arith, has, q .4, c .before .before .before .before .before .before .before .loop .inv .2)
 
-choose-wrapping-add-u64-requires : (t : ℕ) → choose-lts.Need-wrapping-add-u64-requires (choose-claims t) (choose-at t) choose.Post choose-Inv-loop choose-μ-loop
+choose-wrapping-add-u64-requires : (t : ℕ) → Here t choose-lts.Need-wrapping-add-u64-requires
 choose-wrapping-add-u64-requires t c κs = search needs
 
-choose-still-alike-requires-2 : (t : ℕ) → choose-lts.Need-still-alike-requires-2 (choose-claims t) (choose-at t) choose.Post choose-Inv-loop choose-μ-loop
+choose-still-alike-requires-2 : (t : ℕ) → Here t choose-lts.Need-still-alike-requires-2
 choose-still-alike-requires-2 t c κs = search needs
 
-choose-choose-requires-2 : (t : ℕ) → choose-lts.Need-choose-requires-2 (choose-claims t) (choose-at t) choose.Post choose-Inv-loop choose-μ-loop
+choose-choose-requires-2 : (t : ℕ) → Here t choose-lts.Need-choose-requires-2
 choose-choose-requires-2 t c κs =
     let c10 = c .before .before .before .before .before .before .before .before .before .before in
     let c20 = c10 .before .before .before .before .before .before .before .before .before .before in
@@ -317,27 +318,24 @@ choose-choose-requires-2 t c κs =
     let k = c10 .row-of2 in
     let last = k .ensures in
     let t' = start .pre .0 in
-    let e3 = c10 .before .before .before .before .before .before .before .numbers .ensures .0 in
+    let e3 = c10 .before .before .before .before .before .before .before .power .ensures .0 in
     let e4 = y .ensures .1 in
     let e5 = c .before .before .before .before .before .before .before .before .before .suits .ensures .right (c .before .before .before .before .before .before .before .before .if3 .taken) in
     let full = e5 ∙ c10 .before .before .before .before .before .before .before .before .before .before .wanted .ensures in
     let s = c .still-alike2 in
-    let less = step-less (a .cl .now) (a .given .now) (p .budgets) (p .kn) (p .val) (p .vertices) (p .outputs) (p .cells) (p .tables) (a .done) (a .rows) (a .same) n
-    (w .result) (k .result) (y .result) (q .4) (free .0) low (free .1) (w .ensures) last (q .6) in
-    let more = step-rows (a .cl .now) (a .given .now) (p .budgets) (p .kn) (p .val) (p .vertices) (p .outputs) (p .cells) (p .tables) (a .done) (a .rows) (a .same) n
-    (w .result) (k .result) (y .result) (q .4) (free .0) low (free .1) (w .ensures) last (q .6) (omega arith) full in
-    let same = step-alike (a .cl .now) (a .given .now) (p .budgets) (p .kn) (p .val) (p .vertices) (p .outputs) (p .cells) (p .tables) (a .done) (a .rows) (a .same) n
-    (w .result) (k .result) (y .result) (q .4) (free .0) low (free .1) (w .ensures) last (q .6) (s .result) (s .ensures) (q .7) in
-    (omega arith, (q .0, q .1, q .2, q .3, q .4, q .5, more, same, c .before .before .before .before .before .before .alive .ensures .0))
+    let on = step-on (a .cl .now) (a .given .now) (p .budgets) (p .kn) (p .val) (p .vertices) (p .outputs) (p .cells) (p .tables) (a .done) (a .rows) (a .same) n
+    (w .result) (k .result) (y .result) (q .4) (free .0) low (free .1) (w .ensures) last (q .6) (omega arith) full (s .result) (s .ensures) (q .7) in
+    let less = on .0 in
+    (omega arith, (q .0, q .1, q .2, q .3, q .4, q .5, on .1, on .2, c .before .before .before .before .before .before .alive .ensures .0))
 
-choose-same-length-3 : (t : ℕ) → choose-lts.Need-same-length-3 (choose-claims t) (choose-at t) choose.Post choose-Inv-loop choose-μ-loop
+choose-same-length-3 : (t : ℕ) → Here t choose-lts.Need-same-length-3
 choose-same-length-3 t c =
     let c10 = c .before .before .before .before .before .before .before .before .before .before in
     let c20 = c10 .before .before .before .before .before .before .before .before .before .before in
     let h = c .before .before .before .choose2 .ensures .1 in
     h .long ∙ sym (c20 .before .before .before .before .before .before .before .before .before .before .before .pre .1 .8 .long)
 
-choose-returns-3 : (t : ℕ) → choose-lts.Need-returns-3 (choose-claims t) (choose-at t) choose.Post choose-Inv-loop choose-μ-loop
+choose-returns-3 : (t : ℕ) → Here t choose-lts.Need-returns-3
 choose-returns-3 t c =
     let c10 = c .before .before .before .before .before .before .before .before .before .before in
     let c20 = c10 .before .before .before .before .before .before .before .before .before .before in
@@ -352,20 +350,20 @@ choose-returns-3 t c =
     (a .done) (c20 .before .before .before .with .result) (a .rows) tried (r .rows) (r .codes) (r .ok) (c .if5 .taken) in
     (sure-then (p .last) (r .unsure) _ _ found (y .ensures .0), y .ensures .1)
 
-choose-known-bad-requires : (t : ℕ) → choose-lts.Need-known-bad-requires (choose-claims t) (choose-at t) choose.Post choose-Inv-loop choose-μ-loop
+choose-known-bad-requires : (t : ℕ) → Here t choose-lts.Need-known-bad-requires
 choose-known-bad-requires t c κs = c .before .before .before .before .before .before .choose2 .ensures .1 .long
 
-choose-none-requires : (t : ℕ) → choose-lts.Need-none-requires (choose-claims t) (choose-at t) choose.Post choose-Inv-loop choose-μ-loop
+choose-none-requires : (t : ℕ) → Here t choose-lts.Need-none-requires
 choose-none-requires t c κs = search needs
 
-choose-same-length-4 : (t : ℕ) → choose-lts.Need-same-length-4 (choose-claims t) (choose-at t) choose.Post choose-Inv-loop choose-μ-loop
+choose-same-length-4 : (t : ℕ) → Here t choose-lts.Need-same-length-4
 choose-same-length-4 t c =
     let c10 = c .before .before .before .before .before .before .before .before .before .before in
     let c20 = c10 .before .before .before .before .before .before .before .before .before .before in
     let h = c .before .before .before .before .before .before .before .before .before .choose2 .ensures .1 in
     h .long ∙ sym (c20 .before .before .before .before .before .before .before .before .before .before .before .before .before .before .before .before .before .pre .1 .8 .long)
 
-choose-returns-4 : (t : ℕ) → choose-lts.Need-returns-4 (choose-claims t) (choose-at t) choose.Post choose-Inv-loop choose-μ-loop
+choose-returns-4 : (t : ℕ) → Here t choose-lts.Need-returns-4
 choose-returns-4 t c =
     let c10 = c .before .before .before .before .before .before .before .before .before .before in
     let c20 = c10 .before .before .before .before .before .before .before .before .before .before in
@@ -381,16 +379,16 @@ choose-returns-4 t c =
     let said = chosen-none (a .cl .now) (a .given .now) (p .budgets) (p .kn) (p .val) (p .vertices) (p .outputs) (p .cells) (p .tables) (a .done) (a .rows) (r .rows) (r .codes) (r .ok) (e .0) lost in
     (sure-now (p .last) (r .unsure) _ (e .1) said, h)
 
-choose-add-i : (t : ℕ) → choose-lts.Need-add-i (choose-claims t) (choose-at t) choose.Post choose-Inv-loop choose-μ-loop
+choose-add-i : (t : ℕ) → Here t choose-lts.Need-add-i
 choose-add-i t c =
     let h = c .before .before .before .before .before .loop-test .taken in
-    let z = c .before .before .before .before .before .before .before .before .before .numbers .ensures .1 in
+    let z = c .before .before .before .before .before .before .before .before .before .power .ensures .1 in
     omega arith
 
-choose-loop-less : (t : ℕ) → choose-lts.Need-loop-less (choose-claims t) (choose-at t) choose.Post choose-Inv-loop choose-μ-loop
+choose-loop-less : (t : ℕ) → Here t choose-lts.Need-loop-less
 choose-loop-less t c = let h = c .before .before .before .before .before .loop-test .taken in search needs
 
-choose-loop-again : (t : ℕ) → choose-lts.Need-loop-again (choose-claims t) (choose-at t) choose.Post choose-Inv-loop choose-μ-loop
+choose-loop-again : (t : ℕ) → Here t choose-lts.Need-loop-again
 choose-loop-again t c =
     let c10 = c .before .before .before .before .before .before .before .before .before .before in
     let start = c10 .before .before .before .before .before .before .before .before .before in
@@ -408,7 +406,7 @@ choose-loop-again t c =
     let k = c .before .before .row-of2 in
     let y = c .before .before .before .turn in
     let down = not (eqb (p .kn) 0) in
-    let e3 = c .before .before .before .before .before .before .before .before .before .numbers .ensures .0 in
+    let e3 = c .before .before .before .before .before .before .before .before .before .power .ensures .0 in
     let place = subst (λ (z : ℕ). y .result ≡ turned down z (l .i)) e3 (y .ensures .0) in
     let last = k .ensures in
     let i = l .inv in
@@ -417,14 +415,9 @@ choose-loop-again t c =
     let T : ℕ → Type 0 = Tried (a .cl .now) (a .given .now) (p .budgets) (p .kn) (p .val) (p .vertices) (p .outputs) (p .cells) (p .tables) (a .done) (a .rows) (a .same) n down in
     let S : Bool → Type 0 = λ b. Sure (p .last) b (T (l .i + 1)) in
     let H = Honest (a .cl .now) (a .given .now) (p .kn) (p .val) (p .vertices) in
-    let lost : Lost (a .cl .now) (a .given .now) (p .budgets) (p .kn) (p .val) (p .vertices) (p .outputs) (p .cells) (p .tables) (w .result) tried → T (l .i) → T (l .i + 1) = step-lost
-    (a .cl .now) (a .given .now) (p .budgets) (p .kn) (p .val) (p .vertices) (p .outputs) (p .cells) (p .tables) (a .done) (a .rows) (a .same) n
-    (w .result) (k .result) (y .result) (q .4) (free .0) low (free .1) (w .ensures) last (q .6) down (l .i) place in
-    let dead = step-dead (a .cl .now) (a .given .now) (p .budgets) (p .kn) (p .val) (p .vertices) (p .outputs) (p .cells) (p .tables) (a .done) (a .rows) (a .same) n
-    (w .result) (k .result) (y .result) (q .4) (free .0) low (free .1) (w .ensures) last (q .6) down (l .i) place in
     let s = c .before .suits in
     let v = c10 .before .before .wanted in
-    let unfit = step-unfit (a .cl .now) (a .given .now) (p .budgets) (p .kn) (p .val) (p .vertices) (p .outputs) (p .cells) (p .tables) (a .done) (a .rows) (a .same) n
+    let past = step-past (a .cl .now) (a .given .now) (p .budgets) (p .kn) (p .val) (p .vertices) (p .outputs) (p .cells) (p .tables) (a .done) (a .rows) (a .same) n
     (w .result) (k .result) (y .result) (q .4) (free .0) low (free .1) (w .ensures) last (q .6) down (l .i) place
     (v .result) (s .result) (v .ensures) in (
       omega arith,
@@ -433,10 +426,10 @@ choose-loop-again t c =
           let r = z .9 .result in
           let none = chosen-lost (a .cl .now) (a .given .now) (p .budgets) (p .kn) (p .val) (p .vertices) (p .outputs) (p .cells) (p .tables)
           (w .result) tried (r .rows) (r .codes) (r .ok) (z .12 .left) in
-          subst S (sym (z .20)) (sure-both (p .last) (l .unsure) (r .unsure) _ _ _ (λ t s. lost (none s) t) (i .1) (z .9 .ensures .0)))
+          subst S (sym (z .20)) (sure-both (p .last) (l .unsure) (r .unsure) _ _ _ (λ t s. past .0 (none s) t) (i .1) (z .9 .ensures .0)))
           (⊎-elim
-          (λ z. subst S (sym (z .9)) (sure-then (p .last) (l .unsure) _ _ (dead (z .2 .ensures .1 (z .6 .left))) (i .1)))
-          (λ z. subst S (sym (z .3)) (sure-then (p .last) (l .unsure) _ _ (unfit (z .0 .left) (s .ensures)) (i .1))))
+          (λ z. subst S (sym (z .9)) (sure-then (p .last) (l .unsure) _ _ (past .1 (z .2 .ensures .1 (z .6 .left))) (i .1)))
+          (λ z. subst S (sym (z .3)) (sure-then (p .last) (l .unsure) _ _ (past .2 (z .0 .left) (s .ensures)) (i .1))))
           (c .if3 .came),
       ⊎-elim
           (λ z. subst H (sym (z .18)) (z .9 .ensures .1))
@@ -444,15 +437,15 @@ choose-loop-again t c =
           (c .if3 .came),
     )
 
-choose-none-requires-2 : (t : ℕ) → choose-lts.Need-none-requires-2 (choose-claims t) (choose-at t) choose.Post choose-Inv-loop choose-μ-loop
+choose-none-requires-2 : (t : ℕ) → Here t choose-lts.Need-none-requires-2
 choose-none-requires-2 t c κs = search needs
 
-choose-same-length-5 : (t : ℕ) → choose-lts.Need-same-length-5 (choose-claims t) (choose-at t) choose.Post choose-Inv-loop choose-μ-loop
+choose-same-length-5 : (t : ℕ) → Here t choose-lts.Need-same-length-5
 choose-same-length-5 t c =
     let c10 = c .before .before .before .before .before .before .before .before .before .before in
     c .before .before .loop .inv .2 .long ∙ sym (c10 .before .before .before .before .before .pre .1 .8 .long)
 
-choose-returns-5 : (t : ℕ) → choose-lts.Need-returns-5 (choose-claims t) (choose-at t) choose.Post choose-Inv-loop choose-μ-loop
+choose-returns-5 : (t : ℕ) → Here t choose-lts.Need-returns-5
 choose-returns-5 t c =
     let c10 = c .before .before .before .before .before .before .before .before .before .before in
     let start = c10 .before .before .before .before .before in
@@ -468,7 +461,7 @@ choose-returns-5 t c =
     let l = c .before .before .loop in
     let i = l .inv in
     let h = c .before .loop-test .left in
-    let e3 = c .before .before .before .before .before .numbers .ensures .0 in
+    let e3 = c .before .before .before .before .before .power .ensures .0 in
     let r = c .none2 .result in
     let e = c .none2 .ensures in
     let all = tried-all (a .cl .now) (a .given .now) (p .budgets) (p .kn) (p .val) (p .vertices) (p .outputs) (p .cells) (p .tables) (a .done) (a .rows) (a .same) n
@@ -491,8 +484,8 @@ pub +choose-spec : {M : Type 1} → statement M
     (choose-array-read-wanted t)
     (choose-wanted-requires t)
     (choose-with-requires t)
-    (choose-add-numbers t)
-    (choose-numbers-requires t)
+    (choose-add-power t)
+    (choose-power-requires t)
     (choose-served-requires t)
     (choose-row-of-requires t)
     (choose-mul-only t)

@@ -3,12 +3,6 @@ use borrow.Author.Tests.{not-true}
 use borrow.Author.Needs.{needs}
 use Rattle.readingsets.proofs.alive.Statement.{statement}
 use Rattle.readingsets.proofs.alive.Tie as tie
-use Rattle.readingsets.proofs.alive.Reads as reads
-use Rattle.readingsets.proofs.alive.Lts as lts
-use Rattle.readingsets.proofs.possible.Reads as possible-reads
-use Rattle.readingsets.proofs.small_questions.Reads as small-questions-reads
-use Rattle.readingsets.proofs.with.Reads as with-reads
-use Rattle.cache.proofs.known_bad.Reads as known-bad-reads
 
 possible-requires : tie.Need-possible-requires
 possible-requires c κs = search needs

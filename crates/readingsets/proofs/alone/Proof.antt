@@ -3,10 +3,6 @@ use native.Mathlib.Omega.{arith}
 use borrow.Author.Needs.{needs}
 use Rattle.readingsets.proofs.alone.Statement.{statement}
 use Rattle.readingsets.proofs.alone.Tie as tie
-use Rattle.readingsets.proofs.alone.Reads as reads
-use Rattle.readingsets.proofs.alone.Lts as lts
-use Rattle.readingsets.proofs.rows_alone.Reads as rows-alone-reads
-use Rattle.readingsets.proofs.wanted.Reads as wanted-reads
 
 abbrev Inv-loop : tie.InvT-loop
 Inv-loop cl given vertices outputs cells tables budgets a₀ o₀ a o = o ≤ outputs

@@ -10,13 +10,6 @@ use borrow.Author.Tests.{not-true}
 use borrow.Author.Needs.{needs}
 use Rattle.readingsets.proofs.ask_all.Statement.{statement}
 use Rattle.readingsets.proofs.ask_all.Tie as tie
-use Rattle.readingsets.proofs.ask_all.Reads as reads
-use Rattle.readingsets.proofs.ask_all.Lts as lts
-use Rattle.readingsets.proofs.none.Reads as none-reads
-use Rattle.cache.proofs.is_bad.Reads as is-bad-reads
-use Rattle.cache.proofs.store.Reads as store-reads
-use Rattle.subproblems.proofs.ask.Reads as ask-reads
-use Rattle.std.proofs.num.wrapping_add_u64.Reads as wrapping-add-u64-reads
 
 is-bad-requires : tie.Need-is-bad-requires
 is-bad-requires c κs = search needs

@@ -6,11 +6,6 @@ use Rattle.readingsets.specs.ChoiceLaws.{number-room}
 use borrow.Author.Needs.{needs}
 use Rattle.readingsets.proofs.candidates.Statement.{statement}
 use Rattle.readingsets.proofs.candidates.Tie as tie
-use Rattle.readingsets.proofs.candidates.Reads as reads
-use Rattle.readingsets.proofs.candidates.Lts as lts
-use Rattle.readingsets.proofs.numbers.Reads as numbers-reads
-use Rattle.readingsets.proofs.row_of.Reads as row-of-reads
-use Rattle.readingsets.proofs.counts.Reads as counts-reads
 
 abbrev Inv-loop : tie.InvT-loop
 Inv-loop cl given p o want same end n₀ r₀ n r = (end ≡ 2 ^ (p .cells + p .tables)) × (end ≤ 65536) × (n ≤ r) × (r ≤ end)
@@ -18,22 +13,22 @@ Inv-loop cl given p o want same end n₀ r₀ n r = (end ≡ 2 ^ (p .cells + p .
 abbrev μ-loop : tie.MeasureT-loop
 μ-loop cl given p o want same end n₀ r₀ n r = end - r
 
-add-numbers : tie.Need-add-numbers Inv-loop μ-loop
-add-numbers c = let q = c .before .before .before .pre in let h = q .4 in let k = q .5 in omega arith
+add-power : tie.Need-add-power Inv-loop μ-loop
+add-power c = let q = c .before .before .before .pre in let h = q .4 in let k = q .5 in omega arith
 
-numbers-requires : tie.Need-numbers-requires Inv-loop μ-loop
-numbers-requires c κs = let q = c .before .before .before .pre in let h = q .4 in let k = q .5 in omega arith
+power-requires : tie.Need-power-requires Inv-loop μ-loop
+power-requires c κs = let q = c .before .before .before .pre in let h = q .4 in let k = q .5 in omega arith
 
 loop-holds : tie.Need-loop-holds Inv-loop μ-loop
-loop-holds c = let e = c .numbers .ensures in (e .0, e .1, omega arith, omega arith)
+loop-holds c = let e = c .power .ensures in (e .0, e .1, omega arith, omega arith)
 
 row-of-requires : tie.Need-row-of-requires Inv-loop μ-loop
 row-of-requires c κs =
-    let numbers = c .before .before .numbers in
+    let power = c .before .before .power in
     let p = c .before .before .before .before .before .before .args .p in
     let q = c .before .before .before .before .before .before .pre in
     let l = c .before .loop in
-    (q .4, number-room (p .cells) (p .tables) (l .r) (numbers .result) (q .5) (l .inv .0) (c .loop-test .taken))
+    (q .4, number-room (p .cells) (p .tables) (l .r) (power .result) (q .5) (l .inv .0) (c .loop-test .taken))
 
 counts-requires : tie.Need-counts-requires Inv-loop μ-loop
 counts-requires c κs = search needs
@@ -65,8 +60,8 @@ candidates-spec =
     (tie.spec
     Inv-loop
     μ-loop
-    add-numbers
-    numbers-requires
+    add-power
+    power-requires
     loop-holds
     row-of-requires
     counts-requires

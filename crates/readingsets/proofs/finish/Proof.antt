@@ -9,13 +9,6 @@ use borrow.Author.Tests.{not-true}
 use borrow.Author.Needs.{needs}
 use Rattle.readingsets.proofs.finish.Statement.{statement}
 use Rattle.readingsets.proofs.finish.Tie as tie
-use Rattle.readingsets.proofs.finish.Reads as reads
-use Rattle.readingsets.proofs.finish.Lts as lts
-use Rattle.readingsets.proofs.ask_all.Reads as ask-all-reads
-use Rattle.readingsets.proofs.first_outputs.Reads as first-outputs-reads
-use Rattle.readingsets.proofs.none.Reads as none-reads
-use Rattle.cache.proofs.settle_smaller.Reads as settle-smaller-reads
-use Rattle.std.proofs.num.wrapping_add_u64.Reads as wrapping-add-u64-reads
 
 first-outputs-requires : tie.Need-first-outputs-requires
 first-outputs-requires c κs = search needs

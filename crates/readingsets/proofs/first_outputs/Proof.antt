@@ -1,25 +1,19 @@
 use Rattle.readingsets.specs.ChoiceLaws.{first-outputs-are}
 use native.Mathlib.Omega.{arith}
-use borrow.Author.Needs.{needs}
 use Rattle.readingsets.proofs.first_outputs.Statement.{statement}
 use Rattle.readingsets.proofs.first_outputs.Tie as tie
-use Rattle.readingsets.proofs.first_outputs.Reads as reads
-use Rattle.readingsets.proofs.first_outputs.Lts as lts
 
-cast-result : tie.Need-cast-result
-cast-result c = search needs
-
-shl-result : tie.Need-shl-result
-shl-result c = search needs
+power-requires : tie.Need-power-requires
+power-requires c κs = let h = c .pre in omega arith
 
 sub-result : tie.Need-sub-result
-sub-result c = let h = first-outputs-are (c .args .m) (c .pre) in let a = h .0 in let b = h .1 in omega arith
+sub-result c = let h = first-outputs-are (c .before .args .m) (c .before .pre) in let a = h .0 in let e = c .power .ensures in omega arith
 
-cast-result-2 : tie.Need-cast-result-2
-cast-result-2 c = let h = first-outputs-are (c .args .m) (c .pre) in let a = h .0 in let b = h .2 in omega arith
+cast-result : tie.Need-cast-result
+cast-result c = let h = first-outputs-are (c .before .args .m) (c .before .pre) in let a = h .1 in let e = c .power .ensures in record { fits = omega arith }
 
 returns : tie.Need-returns
-returns c = let h = first-outputs-are (c .args .m) (c .pre) in let a = h .0 in omega arith
+returns c = let e = c .power .ensures in omega arith
 
 pub first-outputs-spec : {M : Type 1} → statement M
-first-outputs-spec = tie.close (tie.spec cast-result shl-result sub-result cast-result-2 returns)
+first-outputs-spec = tie.close (tie.spec power-requires sub-result cast-result returns)

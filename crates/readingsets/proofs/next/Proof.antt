@@ -10,11 +10,6 @@ use Rattle.readingsets.specs.ChoiceLaws.{next-start, next-here, next-fou
 use borrow.Author.Needs.{needs}
 use Rattle.readingsets.proofs.next.Statement.{statement}
 use Rattle.readingsets.proofs.next.Tie as tie
-use Rattle.readingsets.proofs.next.Reads as reads
-use Rattle.readingsets.proofs.next.Lts as lts
-use Rattle.cells.proofs.in_set.Reads as in-set-reads
-use Rattle.readingsets.proofs.candidates.Reads as candidates-reads
-use Rattle.readingsets.proofs.wanted.Reads as wanted-reads
 
 abbrev Inv-loop : tie.InvT-loop
 Inv-loop cl given p done same budgets m best₀ least₀ o₀ best least o = (o ≤ m) × (m ≤ 8) × Next o done best

@@ -5,12 +5,6 @@ use borrow.Author.Tests.{not-true}
 use borrow.Author.Needs.{needs}
 use Rattle.readingsets.proofs.possible.Statement.{statement}
 use Rattle.readingsets.proofs.possible.Tie as tie
-use Rattle.readingsets.proofs.possible.Reads as reads
-use Rattle.readingsets.proofs.possible.Lts as lts
-use Rattle.readingsets.proofs.is_left.Reads as is-left-reads
-use Rattle.readingsets.proofs.number_of.Reads as number-of-reads
-use Rattle.readingsets.proofs.with.Reads as with-reads
-use Rattle.subproblems.proofs.possible.Reads as possible-reads
 
 mul-number-of : tie.Need-mul-number-of
 mul-number-of c = let h = c .before .before .before .before .pre .3 in search needs

@@ -6,13 +6,6 @@ use native.Mathlib.Omega.{arith}
 use borrow.Author.Needs.{needs}
 use Rattle.readingsets.proofs.rows_alone.Statement.{statement}
 use Rattle.readingsets.proofs.rows_alone.Tie as tie
-use Rattle.readingsets.proofs.rows_alone.Reads as reads
-use Rattle.readingsets.proofs.rows_alone.Lts as lts
-use Rattle.cells.proofs.with.Reads as with-reads
-use Rattle.readingsets.proofs.leaves.Reads as leaves-reads
-use Rattle.readingsets.proofs.numbers.Reads as numbers-reads
-use Rattle.readingsets.proofs.row_of.Reads as row-of-reads
-use Rattle.readingsets.proofs.suits.Reads as suits-reads
 
 abbrev Inv-loop : tie.InvT-loop
 Inv-loop cl given vertices o want cells tables all end left₀ r₀ left r =
@@ -21,15 +14,15 @@ Inv-loop cl given vertices o want cells tables all end left₀ r₀ left r =
 abbrev μ-loop : tie.MeasureT-loop
 μ-loop cl given vertices o want cells tables all end left₀ r₀ left r = end - r
 
-add-numbers : tie.Need-add-numbers Inv-loop μ-loop
-add-numbers c = let q = c .before .before .pre in let h = q .4 in let k = q .5 in omega arith
+add-power : tie.Need-add-power Inv-loop μ-loop
+add-power c = let q = c .before .before .pre in let h = q .4 in let k = q .5 in omega arith
 
-numbers-requires : tie.Need-numbers-requires Inv-loop μ-loop
-numbers-requires c κs = let q = c .before .before .pre in let h = q .4 in let k = q .5 in omega arith
+power-requires : tie.Need-power-requires Inv-loop μ-loop
+power-requires c κs = let q = c .before .before .pre in let h = q .4 in let k = q .5 in omega arith
 
 loop-holds : tie.Need-loop-holds Inv-loop μ-loop
 loop-holds c =
-    let k = c .before .numbers in
+    let k = c .before .power in
     let end = c .if1 .end in
     let short : end ≤ 64 = ⊎-elim (λ w. let h = w .0 .taken in let e = w .1 in omega arith) (λ w. let e = w .1 in omega arith) (c .if1 .came) in
     let within : end ≤ k .result = ⊎-elim (λ w. let e = w .1 in omega arith) (λ w. let h = w .0 .left in let e = w .1 in omega arith) (c .if1 .came) in
@@ -43,7 +36,7 @@ row-of-requires c κs =
     let l = c .before .loop in
     let h = c .loop-test .taken in
     let k = l .inv .2 in
-    let all = c .before .before .before .numbers .result in
+    let all = c .before .before .before .power .result in
     (q .4, number-room (a .cells) (a .tables) (l .r) all (q .5) (l .inv .3) (omega arith))
 
 suits-requires : tie.Need-suits-requires Inv-loop μ-loop
@@ -88,8 +81,8 @@ rows-alone-spec =
     (tie.spec
     Inv-loop
     μ-loop
-    add-numbers
-    numbers-requires
+    add-power
+    power-requires
     loop-holds
     row-of-requires
     suits-requires

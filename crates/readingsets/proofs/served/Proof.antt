@@ -5,13 +5,6 @@ use Rattle.readingsets.specs.ServedLaws.{served-here, served-none}
 use borrow.Author.Needs.{needs}
 use Rattle.readingsets.proofs.served.Statement.{statement}
 use Rattle.readingsets.proofs.served.Tie as tie
-use Rattle.readingsets.proofs.served.Reads as reads
-use Rattle.readingsets.proofs.served.Lts as lts
-use Rattle.readingsets.proofs.numbers.Reads as numbers-reads
-use Rattle.readingsets.proofs.row_of.Reads as row-of-reads
-use Rattle.readingsets.proofs.suits.Reads as suits-reads
-use Rattle.subproblems.proofs.given_of.Reads as given-of-reads
-use Rattle.relation.proofs.none_left.Reads as none-left-reads
 
 abbrev Inv-loop : tie.InvT-loop
 Inv-loop cl given p n want same end r₀ r = r ≤ end
@@ -19,17 +12,17 @@ Inv-loop cl given p n want same end r₀ r = r ≤ end
 abbrev μ-loop : tie.MeasureT-loop
 μ-loop cl given p n want same end r₀ r = end - r
 
-add-numbers : tie.Need-add-numbers Inv-loop μ-loop
-add-numbers c = let q = c .before .before .before .pre in let h = q .4 in let k = q .5 in search needs
+add-power : tie.Need-add-power Inv-loop μ-loop
+add-power c = let q = c .before .before .before .pre in let h = q .4 in let k = q .5 in search needs
 
-numbers-requires : tie.Need-numbers-requires Inv-loop μ-loop
-numbers-requires c κs = let q = c .before .before .before .pre in let h = q .4 in let k = q .5 in omega arith
+power-requires : tie.Need-power-requires Inv-loop μ-loop
+power-requires c κs = let q = c .before .before .before .pre in let h = q .4 in let k = q .5 in omega arith
 
 returns : tie.Need-returns Inv-loop μ-loop
 returns c =
     let a = c .before .before .before .before .before .before .args in
     let p = a .p in
-    let e = c .before .before .numbers in
+    let e = c .before .before .power in
     served-none (a .cl .now) (a .given .now) (p .vertices) (p .cells) (p .tables) (a .n) (a .want) (e .result) (e .ensures .0)
 
 loop-holds : tie.Need-loop-holds Inv-loop μ-loop
@@ -40,7 +33,7 @@ row-of-requires c κs =
     let p = c .before .before .before .before .before .before .before .before .args .p in
     let q = c .before .before .before .before .before .before .before .before .pre in
     let l = c .before .loop in
-    let k = c .before .before .before .before .numbers in
+    let k = c .before .before .before .before .power in
     let h = c .loop-test .taken in
     (q .4, number-room (p .cells) (p .tables) (l .r) (k .result) (q .5) (k .ensures .0) h)
 
@@ -59,7 +52,7 @@ returns-2 c =
     let a = c .before .before .before .before .before .before .before .before .before .before .before .before .before .before .args in
     let p = a .p in
     let l = c .before .before .before .before .before .before .before .loop in
-    let e = c .before .before .before .before .before .before .before .before .before .before .numbers in
+    let e = c .before .before .before .before .before .before .before .before .before .before .power in
     let row = c .before .before .before .before .before .row-of in
     let g = c .before .before .given-of in
     let full = c .before .before .before .before .suits .ensures .right (if2 .taken) in
@@ -67,7 +60,7 @@ returns-2 c =
     (row .ensures) (g .ensures .0) full (c .before .none-left .ensures .0 (c .if3 .taken))
 
 add-r : tie.Need-add-r Inv-loop μ-loop
-add-r c = let h = c .before .before .before .loop-test .taken in let z = c .before .before .before .before .before .before .before .numbers .ensures .1 in omega arith
+add-r c = let h = c .before .before .before .loop-test .taken in let z = c .before .before .before .before .before .before .before .power .ensures .1 in omega arith
 
 loop-less : tie.Need-loop-less Inv-loop μ-loop
 loop-less c = let h = c .before .before .before .loop-test .taken in search needs
@@ -79,7 +72,7 @@ returns-3 : tie.Need-returns-3 Inv-loop μ-loop
 returns-3 c =
     let a = c .before .before .before .before .before .before .before .before .args in
     let p = a .p in
-    let e = c .before .before .before .before .numbers in
+    let e = c .before .before .before .before .power in
     served-none (a .cl .now) (a .given .now) (p .vertices) (p .cells) (p .tables) (a .n) (a .want) (e .result) (e .ensures .0)
 
 pub served-spec : {M : Type 1} → statement M
@@ -88,8 +81,8 @@ served-spec =
     (tie.spec
     Inv-loop
     μ-loop
-    add-numbers
-    numbers-requires
+    add-power
+    power-requires
     returns
     loop-holds
     row-of-requires

@@ -8,17 +8,12 @@ use mathlib.Core.Path.{sym, _∙_}
 use borrow.Author.Needs.{needs}
 use Rattle.readingsets.proofs.small_questions.Statement.{statement}
 use Rattle.readingsets.proofs.small_questions.Tie as tie
-use Rattle.readingsets.proofs.small_questions.Reads as reads
-use Rattle.readingsets.proofs.small_questions.Lts as lts
-use Rattle.readingsets.proofs.with.Reads as with-reads
-use Rattle.cache.proofs.settle.Reads as settle-reads
-use Rattle.std.proofs.num.wrapping_add_u64.Reads as wrapping-add-u64-reads
 
 abbrev Inv-loop : tie.InvT-loop
-Inv-loop cl given mem₀ p rows done n last nodes₀ size₀ end mem nodes size = Honest cl given (p .kn) (p .val) (p .vertices) mem
+Inv-loop cl given mem₀ done n last q nodes₀ size₀ end mem nodes size = Honest cl given (q .kn) (q .val) (q .vertices) mem
 
 abbrev μ-loop : tie.MeasureT-loop
-μ-loop cl given mem₀ p rows done n last nodes₀ size₀ end mem nodes size = end - size
+μ-loop cl given mem₀ done n last q nodes₀ size₀ end mem nodes size = end - size
 
 with-requires : tie.Need-with-requires Inv-loop μ-loop
 with-requires c κs = c .before .before .before .pre .3

@@ -4,9 +4,6 @@ use lib.Bits.{bitAnd, bitXor}
 use borrow.Author.Needs.{needs}
 use Rattle.readingsets.proofs.still_alike.Statement.{statement}
 use Rattle.readingsets.proofs.still_alike.Tie as tie
-use Rattle.readingsets.proofs.still_alike.Reads as reads
-use Rattle.readingsets.proofs.still_alike.Lts as lts
-use Rattle.subproblems.proofs.open_of.Reads as open-of-reads
 
 open-of-requires : tie.Need-open-of-requires
 open-of-requires c κs = search needs

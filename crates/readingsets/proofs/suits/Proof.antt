@@ -8,9 +8,6 @@ use lib.Count.{ones}
 use borrow.Author.Needs.{needs}
 use Rattle.readingsets.proofs.suits.Statement.{statement}
 use Rattle.readingsets.proofs.suits.Tie as tie
-use Rattle.readingsets.proofs.suits.Reads as reads
-use Rattle.readingsets.proofs.suits.Lts as lts
-use Rattle.subproblems.proofs.open_of.Reads as open-of-reads
 
 open-of-requires : tie.Need-open-of-requires
 open-of-requires c κs = search needs

@@ -3,8 +3,6 @@ use native.Mathlib.Omega.{arith}
 use borrow.Author.Needs.{needs}
 use Rattle.readingsets.proofs.turn.Statement.{statement}
 use Rattle.readingsets.proofs.turn.Tie as tie
-use Rattle.readingsets.proofs.turn.Reads as reads
-use Rattle.readingsets.proofs.turn.Lts as lts
 
 sub-result : tie.Need-sub-result
 sub-result c = search needs

@@ -9,9 +9,6 @@ use Rattle.bits.specs.LogicLaws.{true-false, never-both}
 use borrow.Author.Needs.{needs}
 use Rattle.seeking.proofs.all_fit.Statement.{statement}
 use Rattle.seeking.proofs.all_fit.Tie as tie
-use Rattle.seeking.proofs.all_fit.Reads as reads
-use Rattle.seeking.proofs.all_fit.Lts as lts
-use Rattle.cells.proofs.in_set.Reads as in-set-reads
 
 abbrev Inv-loop : tie.InvT-loop
 Inv-loop fits m o₀ o = (o ≤ m) × ((p : ℕ) → p < o → on fits p ≡ true)

@@ -9,14 +9,6 @@ use mathlib.Core.Path.{_≡_, refl, sym, _∙_}
 use borrow.Author.Needs.{needs}
 use Rattle.seeking.proofs.seek.Statement.{statement}
 use Rattle.seeking.proofs.seek.Tie as tie
-use Rattle.seeking.proofs.seek.Reads as reads
-use Rattle.seeking.proofs.seek.Lts as lts
-use Rattle.readingsets.proofs.alone.Reads as alone-reads
-use Rattle.readingsets.proofs.choose.Reads as choose-reads
-use Rattle.cache.proofs.forget.Reads as forget-reads
-use Rattle.seeking.proofs.all_nodes.Reads as all-nodes-reads
-use Rattle.seeking.proofs.places.Reads as places-reads
-use Rattle.seeking.proofs.some_nodes.Reads as some-nodes-reads
 
 abbrev Inv-loop : tie.InvT-loop
 Inv-loop cl given mem₀ p nodes none same budgets alone total₀ i₀ mem total i =

@@ -3,10 +3,6 @@ use Rattle.seeking.specs.SeekingLaws.{sought-where}
 use borrow.Author.Needs.{needs}
 use Rattle.seeking.proofs.seek_where.Statement.{statement}
 use Rattle.seeking.proofs.seek_where.Tie as tie
-use Rattle.seeking.proofs.seek_where.Reads as reads
-use Rattle.seeking.proofs.seek_where.Lts as lts
-use Rattle.seeking.proofs.all_fit.Reads as all-fit-reads
-use Rattle.seeking.proofs.seek.Reads as seek-reads
 
 all-fit-requires : tie.Need-all-fit-requires
 all-fit-requires c κs = search needs

@@ -1,12 +1,7 @@
-use Rattle.subproblems.specs.Gathering.{gathered-short, settled-of}
 use borrow.Author.Needs.{needs}
+use Rattle.subproblems.specs.GatheringLaws.{gathered-short, settled-of}
 use Rattle.subproblems.proofs.ask.Statement.{statement}
 use Rattle.subproblems.proofs.ask.Tie as tie
-use Rattle.subproblems.proofs.ask.Reads as reads
-use Rattle.subproblems.proofs.ask.Lts as lts
-use Rattle.joint.proofs.codes_for.Reads as codes-for-reads
-use Rattle.subproblems.proofs.gather.Reads as gather-reads
-use Rattle.relation.proofs.cut.Reads as cut-reads
 
 gather-requires : tie.Need-gather-requires
 gather-requires c κs = search needs

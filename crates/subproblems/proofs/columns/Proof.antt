@@ -5,9 +5,6 @@ use lib.ListN.{length, length-set}
 use borrow.Author.Needs.{needs}
 use Rattle.subproblems.proofs.columns.Statement.{statement}
 use Rattle.subproblems.proofs.columns.Tie as tie
-use Rattle.subproblems.proofs.columns.Reads as reads
-use Rattle.subproblems.proofs.columns.Lts as lts
-use Rattle.subproblems.proofs.readers.Reads as readers-reads
 
 abbrev Inv-loop : tie.InvT-loop
 Inv-loop rows asked known r₀ i₀ r i = (i ≤ 6) × (length r ≡ 8)

@@ -1,17 +1,13 @@
-use Rattle.subproblems.specs.Gathering.{Gathered, gathered-start, gathered-skip, gathered-more, gathered-same}
+use Rattle.subproblems.specs.Gathering.{Gathered}
 use native.Mathlib.Omega.{arith}
 use Prim.Native.Nat.{ℕ, _+_, _≤_, _-_}
 use mathlib.Core.Logic.{⊎-elim}
 use mathlib.Core.Path.{refl, sym, _∙_, subst}
 use borrow.Author.Needs.{needs}
+use Rattle.subproblems.specs.GatheringLaws.{gathered-start, gathered-skip, gathered-more, gathered-same}
 use Rattle.cells.specs.ListLaws.{zeros-are}
 use Rattle.subproblems.proofs.gather.Statement.{statement}
 use Rattle.subproblems.proofs.gather.Tie as tie
-use Rattle.subproblems.proofs.gather.Reads as reads
-use Rattle.subproblems.proofs.gather.Lts as lts
-use Rattle.cells.proofs.in_set.Reads as in-set-reads
-use Rattle.subproblems.proofs.given_of.Reads as given-of-reads
-use Rattle.subproblems.proofs.open_of.Reads as open-of-reads
 
 abbrev Inv-loop : tie.InvT-loop
 Inv-loop asked rows from₀ fs₀ gs₀ n₀ o₀ from fs gs n o = (o ≤ 8) × Gathered asked rows o n from fs gs

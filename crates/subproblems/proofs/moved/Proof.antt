@@ -1,15 +1,12 @@
-use Rattle.subproblems.specs.Gathering.{Moved, moved-start, moved-off, moved-on, moved-low}
+use Rattle.subproblems.specs.Gathering.{Moved}
 use mathlib.Core.Path.{sym, _∙_, subst}
 use mathlib.Core.Logic.{⊎-elim}
 use Prim.Native.Nat.{ℕ, _≤_, _-_}
 use native.Mathlib.Omega.{arith}
 use borrow.Author.Needs.{needs}
+use Rattle.subproblems.specs.GatheringLaws.{moved-start, moved-off, moved-on, moved-low}
 use Rattle.subproblems.proofs.moved.Statement.{statement}
 use Rattle.subproblems.proofs.moved.Tie as tie
-use Rattle.subproblems.proofs.moved.Reads as reads
-use Rattle.subproblems.proofs.moved.Lts as lts
-use Rattle.lowerbounds.proofs.power.Reads as power-reads
-use Rattle.cells.proofs.in_set.Reads as in-set-reads
 
 abbrev Inv-loop : tie.InvT-loop
 Inv-loop f perm r₀ i₀ r i = (i ≤ 6) × Moved f perm i r

@@ -1,14 +1,10 @@
-use Rattle.sorting.specs.Order.{order-plain}
 use Rattle.bits.specs.LogicLaws.{true-false}
+use Rattle.sorting.specs.OrderLaws.{order-plain}
 use native.Mathlib.Omega.{arith}
 use mathlib.Core.Path.{refl, sym, _∙_}
 use borrow.Author.Needs.{needs}
 use Rattle.subproblems.proofs.order.Statement.{statement}
 use Rattle.subproblems.proofs.order.Tie as tie
-use Rattle.subproblems.proofs.order.Reads as reads
-use Rattle.subproblems.proofs.order.Lts as lts
-use Rattle.sorting.proofs.falling.Reads as falling-reads
-use Rattle.subproblems.proofs.columns.Reads as columns-reads
 
 columns-requires : tie.Need-columns-requires
 columns-requires c κs = search needs

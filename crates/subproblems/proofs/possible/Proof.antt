@@ -1,13 +1,8 @@
 use mathlib.Core.Bool.{false}
-use Rattle.subproblems.specs.Gathering.{gathered-short, settled-of}
 use borrow.Author.Needs.{needs}
+use Rattle.subproblems.specs.GatheringLaws.{gathered-short, settled-of}
 use Rattle.subproblems.proofs.possible.Statement.{statement}
 use Rattle.subproblems.proofs.possible.Tie as tie
-use Rattle.subproblems.proofs.possible.Reads as reads
-use Rattle.subproblems.proofs.possible.Lts as lts
-use Rattle.subproblems.proofs.gather.Reads as gather-reads
-use Rattle.readers.proofs.possible.Reads as possible-reads
-use Rattle.relation.proofs.cut.Reads as cut-reads
 
 gather-requires : tie.Need-gather-requires
 gather-requires c κs = search needs

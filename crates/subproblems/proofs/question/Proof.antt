@@ -1,18 +1,12 @@
-use Rattle.subproblems.specs.Gathering.{Moved, Turned, turned-start, turned-skip, turned-more, same-of}
+use Rattle.subproblems.specs.Gathering.{Moved, Turned}
 use native.Mathlib.Omega.{arith}
 use Prim.Native.Nat.{ℕ, _+_, _*_, _≤_, _-_}
 use mathlib.Core.Logic.{⊎-elim}
 use mathlib.Core.Path.{refl, sym, ap, _∙_, subst}
 use borrow.Author.Needs.{needs}
+use Rattle.subproblems.specs.GatheringLaws.{turned-start, turned-skip, turned-more, same-of}
 use Rattle.subproblems.proofs.question.Statement.{statement}
 use Rattle.subproblems.proofs.question.Tie as tie
-use Rattle.subproblems.proofs.question.Reads as reads
-use Rattle.subproblems.proofs.question.Lts as lts
-use Rattle.cells.proofs.in_set.Reads as in-set-reads
-use Rattle.subproblems.proofs.given_of.Reads as given-of-reads
-use Rattle.subproblems.proofs.moved.Reads as moved-reads
-use Rattle.subproblems.proofs.open_of.Reads as open-of-reads
-use Rattle.subproblems.proofs.order.Reads as order-reads
 
 abbrev Inv-loop : tie.InvT-loop
 Inv-loop asked known rows perm r₀ o₀ r o = (o ≤ 8) × Turned asked rows perm o r

@@ -3,10 +3,6 @@ use native.Mathlib.Omega.{arith}
 use borrow.Author.Needs.{needs}
 use Rattle.subproblems.proofs.readers.Statement.{statement}
 use Rattle.subproblems.proofs.readers.Tie as tie
-use Rattle.subproblems.proofs.readers.Reads as reads
-use Rattle.subproblems.proofs.readers.Lts as lts
-use Rattle.cells.proofs.in_set.Reads as in-set-reads
-use Rattle.cells.proofs.with.Reads as with-reads
 
 abbrev Inv-loop : tie.InvT-loop
 Inv-loop asked i rows r₀ o₀ r o = o ≤ 8

@@ -1,5 +1,6 @@
--- The search's answer for the shared cells is the answer for the reading sets: codes found tell apart, and where none are
--- found there are none. So it is where the classes of an output need more blocks than there are. Assumes nothing.
+-- The search's answer for the shared cells is the answer for the reading sets. Codes found tell apart; where none are found
+-- there are none, since codes for all cells give codes of the shared cells that the search would have met. Nor are there any
+-- where the classes of an output need more blocks than there are. Assumes nothing.
 use mathlib.Core.Path.{_≡_, sym, ap, _∙_, subst}
 use mathlib.Core.Bool.{Bool, true, false}
 use mathlib.Core.List.{List}
@@ -9,14 +10,16 @@ use native.Mathlib.Decide.{ℕ-discrete}
 use native.Mathlib.Omega.{arith}
 use borrow.Author.Tests.{eq-eqb, ne-eqb}
 use Rattle.bits.specs.Logic.{pick}
+use Rattle.readers.specs.KnownLaws.{shared-fixed}
+use Rattle.readers.specs.MasksLaws.{coded-of, solves-of, start-agrees}
 use Rattle.cells.specs.ListLaws.{all-map, zeros-are}
 use Rattle.cells.specs.Lists.{zeros}
 use Rattle.cells.specs.Shared.{block, sharedCode, Group, gather}
 use Rattle.problem.specs.Problem.{labelAt, partAt, partOf, item, Told, Hopeless}
 use Rattle.holding.specs.Wants.{need, share, needed}
 use Rattle.coding.specs.Tried.{Covers}
-use Rattle.readers.specs.Known.{Public, shared-fixed}
-use Rattle.readers.specs.Masks.{Short, Common, Planned, Start, Bounds, Decided, coded-of, solves-of, start-agrees}
+use Rattle.readers.specs.Known.{Public}
+use Rattle.readers.specs.Masks.{Short, Common, Planned, Start, Bounds, Decided}
 
 -- what class l needs where nothing is held
 need-none : (base : List ℕ) (o l : ℕ) → need (zeros 32) base o l ≡ labelAt base o l

@@ -1,5 +1,5 @@
 -- Cells that serve all outputs serve those kept, and the other way round: only the readers are numbered anew, the tables stay.
--- Assumes nothing.
+-- An output left out reads what the one kept for it reads, which tells apart all that it has to. Assumes nothing.
 use mathlib.Core.Path.{_≡_, refl, ap}
 use mathlib.Core.Bool.{Bool}
 use mathlib.Core.List.{List, [], _∷_, _++_}

@@ -1,6 +1,7 @@
--- The reasons of the crate lowerbounds hold for every core that tells apart: vertices of class l of o in different classes of one part of q
--- have different codes in what q reads; those with one block of o differ in the cells that q reads and o does not, and are
--- at most 2 to the number of these. So the blocks are at least the classes of q divided by that. Assumes nothing.
+-- Why the lower bounds of the crate lowerbounds leave out no codes: they hold for every core that tells apart. Vertices of
+-- class l of o in different classes of one part of q have different codes in what q reads; those with one block of o differ in
+-- the cells that q reads and o does not, and are at most 2 to the number of these. So the blocks are at least the classes of q
+-- divided by that. Assumes nothing.
 use mathlib.Core.Path.{_≡_, refl, sym, ap, ap₂, _∙_, subst}
 use mathlib.Core.Bool.{Bool, true, false, not}
 use mathlib.Core.List.{List, []}
@@ -72,7 +73,7 @@ module _ (cl rows : List ℕ) (sh v j : ℕ) (ms ps caps spots : List ℕ) (shor
       let a : on (item rows q) d ≡ true = and-left _ _ (sym (on-and (item rows q) (item rows o) d) ∙ m) in
       let b : on (item rows o) d ≡ true = and-right (on (item rows q) d) _ (sym (on-and (item rows q) (item rows o) d) ∙ m) in
       let s : on sh d ≡ true = c .two o q d h i ne b a in
-      let t : on (item ms o) d ≡ true = ap (λ (z : ℕ). on z d) (p .shared o h) ∙ on-and (item rows o) sh d ∙ ap₂ andb b s in
+      let t : on (item ms o) d ≡ true = ap (λ (z : ℕ). on z d) (p .shared .done o h) ∙ on-and (item rows o) sh d ∙ ap₂ andb b s in
       let read : (z : ℕ) → on (sharedCode sh f z) d ≡ on (f z) d = λ z. on-and (f z) sh d ∙ ap (λ (x : Bool). andb (on (f z) d) x) s ∙ and-true (on (f z) d) in
       sym (read x) ∙ and-agree 6 (item ms o) (sharedCode sh f x) (sharedCode sh f y) e d l t ∙ read y)
 

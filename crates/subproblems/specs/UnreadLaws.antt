@@ -1,5 +1,6 @@
--- A subproblem whose rows don't read cell 0. What is known of cell 0 has no part in its answer: codes that answer it are given the
--- known digits in cell 0, and 0 where none is known, and answer it still. Assumes nothing.
+-- A subproblem whose rows don't read cell 0. What is known of cell 0 has no part in its answer: codes that answer it are given
+-- the known digits in cell 0, and 0 where none is known, and answer it still. So what was found without known digits holds with
+-- them. Assumes nothing.
 use mathlib.Core.Path.{_≡_, refl, sym, ap, _∙_}
 use mathlib.Core.Bool.{Bool, true, false}
 use mathlib.Core.List.{List}
