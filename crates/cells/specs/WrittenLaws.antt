@@ -11,8 +11,9 @@ use Rattle.bits.specs.Digit.{on}
 use Rattle.bits.specs.Values.{valuesUpto}
 use Rattle.bits.specs.ValuesLaws.{values-length, values-at, values-same, same-values}
 use Rattle.bits.specs.Logic.{bit}
+use Rattle.cells.specs.CodesLaws.{on-low, on-high, cells-length}
 use Rattle.cells.specs.Core.{Cell, cellsFrom, coreOf}
-use Rattle.cells.specs.Codes.{numberOf, rowOf, codeOf, on-low, on-high, cells-length}
+use Rattle.cells.specs.Codes.{numberOf, rowOf, codeOf}
 use Rattle.cells.specs.Written.{tablesOf, readsOf}
 
 -- ======== lengths

@@ -19,7 +19,7 @@ use Rattle.bits.specs.LogicLaws.{true-false, and-left, and-right, never-both, f
 use Rattle.bits.specs.Digit.{on}
 use Rattle.bits.specs.DigitLaws.{on-and, on-or, on-zero, on-above, on-complement, equal-digits, on-or-one}
 use Rattle.bits.specs.CountLaws.{less-or-equal}
-use Rattle.cells.specs.Pigeon.{agree-and}
+use Rattle.cells.specs.PigeonLaws.{agree-and}
 use Rattle.problem.specs.Problem.{noCode, item, Block, Blocks, Solves, Knows}
 use Rattle.holding.specs.Blocks.{on-both}
 use Rattle.coding.specs.Exchange.{Uniform, swap, swap-blocks, swap-small, swap-stays, swap-first, swap-outside, solves-alike}

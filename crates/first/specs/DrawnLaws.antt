@@ -8,8 +8,8 @@ use native.Mathlib.Omega.{arith}
 use lib.ListN.{length, getD, take, length-take, List·getD-append}
 use lib.Seq.{ext-getD, getD-take, getD-at, length-take-le}
 use Rattle.bits.specs.Digit.{on}
+use Rattle.cells.specs.CodesLaws.{cells-length}
 use Rattle.cells.specs.Core.{Cell, ZeroFirst, cellsFrom, coreOf}
-use Rattle.cells.specs.Codes.{cells-length}
 use Rattle.cells.specs.Written.{tablesOf}
 use Rattle.cells.specs.WrittenLaws.{tables-length, table-length, table-digit, core-code, tables-of-rows}
 use Rattle.order.specs.Least.{asked}

@@ -12,14 +12,15 @@ use Rattle.bits.specs.DigitLaws.{on-above}
 use Rattle.bits.specs.Values.{valuesUpto}
 use Rattle.bits.specs.LogicLaws.{never-both}
 use Rattle.bits.specs.Count.{count}
+use Rattle.bits.specs.CountLaws.{ones-count}
+use Rattle.cells.specs.PigeonLaws.{and-agree}
+use Rattle.cells.specs.CodesLaws.{number-lt, number-reading, number-apart, core-serves}
 use Rattle.order.specs.Order.{tableOrder}
 use Rattle.order.specs.OrderLaws.{NotLess}
 use Rattle.cells.specs.Core.{Cell, reading, Serves, coreOf}
 use Rattle.cells.specs.Written.{tablesOf}
-use Rattle.cells.specs.Pigeon.{and-agree}
-use Rattle.cells.specs.Codes.{rowOf, codeOf, number-lt, number-reading, number-apart, core-serves}
+use Rattle.cells.specs.Codes.{rowOf, codeOf}
 use Rattle.cells.specs.WrittenLaws.{reads-are-digits, same-tables-codes, core-code, core-reads}
-use Rattle.cells.specs.Sets.{ones-count}
 use Rattle.problem.specs.Problem.{item}
 use Rattle.relation.specs.Relation.{Conflict}
 use Rattle.picking.specs.Picked.{Picked}

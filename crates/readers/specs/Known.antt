@@ -17,8 +17,8 @@ use Rattle.bits.specs.LogicLaws.{and-left, never-both, false-unless, and-true, 
 use Rattle.bits.specs.Digit.{on}
 use Rattle.bits.specs.DigitLaws.{on-and, on-or, on-or-one, on-or-none, on-zero, on-single, on-complement}
 use Rattle.bits.specs.CountLaws.{less-or-equal}
-use Rattle.cells.specs.Pigeon.{agree-and, and-agree}
-use Rattle.cells.specs.Sets.{on-power-other}
+use Rattle.cells.specs.PigeonLaws.{agree-and, and-agree}
+use Rattle.cells.specs.SetsLaws.{on-power-other}
 use Rattle.cells.specs.Shared.{sharedCode}
 use Rattle.problem.specs.Problem.{item, Fixed, Knows}
 use Rattle.coding.specs.Known.{Fitting, fitting-any}

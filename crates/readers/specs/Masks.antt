@@ -18,10 +18,11 @@ use Rattle.bits.specs.Digit.{on}
 use Rattle.bits.specs.DigitLaws.{on-and, on-or, on-ones, on-above, on-complement}
 use Rattle.bits.specs.Count.{count}
 use Rattle.bits.specs.CountLaws.{less-or-equal}
-use Rattle.cells.specs.Cut.{Within}
-use Rattle.cells.specs.Pigeon.{agree-and, and-agree}
+use Rattle.cells.specs.SharedLaws.{crowd-bound, places-bound}
+use Rattle.cells.specs.PigeonLaws.{agree-and, and-agree}
+use Rattle.cells.specs.Core.{Within}
 use Rattle.cells.specs.Codes.{Coded}
-use Rattle.cells.specs.Shared.{Split, sharedCode, crowd-bound, places-bound}
+use Rattle.cells.specs.Shared.{Split, sharedCode}
 use Rattle.problem.specs.Problem.{noCode, labelAt, partAt, item, Block, Blocks, Plan, Solves, Kept, Parted, Fixed}
 use Rattle.coding.specs.Known.{Fitting}
 use Rattle.coding.specs.Values.{Agrees}

@@ -9,7 +9,7 @@ use native.Mathlib.Decide.{ℕ-discrete}
 use native.Mathlib.Omega.{arith}
 use lib.Bits.{and-zero-r}
 use Rattle.bits.specs.CountLaws.{less-or-equal}
-use Rattle.cells.specs.Cut.{Within}
+use Rattle.cells.specs.Core.{Within}
 use Rattle.cells.specs.Codes.{Coded}
 use Rattle.problem.specs.Problem.{labelAt, partAt, item}
 use Rattle.relation.specs.Relation.{Conflict, Left, Leaves, NoneLeft, Inside}
