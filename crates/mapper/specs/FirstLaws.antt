@@ -7,9 +7,9 @@ use mathlib.Core.List.{List}
 use Prim.Native.Nat.{ℕ, _≤_, _<_}
 use lib.ListN.{length}
 use Rattle.limits.specs.Limits.{maxCells}
+use Rattle.order.specs.Total.{NotLess}
 use Rattle.cells.specs.CodesLaws.{cells-length}
 use Rattle.order.specs.Order.{tableOrder, tablesOrder}
-use Rattle.order.specs.OrderLaws.{NotLess}
 use Rattle.sheet.specs.Examine.{Design}
 use Rattle.sheet.specs.WellFormed.{WellFormed}
 use Rattle.classes.specs.Proper.{Proper}

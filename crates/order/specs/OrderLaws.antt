@@ -1,5 +1,5 @@
--- Laws of the order of lists: it is a total order where the items' is; equal beginnings do not matter, and beginnings of
--- equal length decide before what follows. Assumes nothing.
+-- Laws of the order of lists: it is a total order where the items' is, since the first items that differ decide; equal beginnings do
+-- not matter, and beginnings of equal length decide before what follows. Assumes nothing.
 use mathlib.Core.Path.{_≡_, refl, sym, ap, ap₂, _∙_, subst}
 use mathlib.Core.Bool.{Bool, true, false}
 use mathlib.Core.List.{List, [], _∷_, _++_, map}
@@ -9,27 +9,9 @@ use native.Mathlib.Omega.{arith}
 use native.Mathlib.Nat.{zero-add, suc-add}
 use lib.ListN.{length}
 use Rattle.bits.specs.LogicLaws.{true-false}
+use Rattle.order.specs.Total.{turn, NotLess, Total}
 use Rattle.order.specs.Order.{then, listOrder, isLess, byteOrder, before, bitOrder, tableOrder, tablesOrder}
 
--- ======== definitions
--- the answer the other way round
-abbrev pub turn : Ordering → Ordering
-turn Ordering·lt = Ordering·gt
-turn Ordering·eq = Ordering·eq
-turn Ordering·gt = Ordering·lt
-
--- "not less": a record, so that the answer that it speaks of is seen
-pub record NotLess (o : Ordering) : Type 0 where
-  pub is-not : isLess o ≡ false
-
--- a total order
-pub record Total {A : Type 0} (c : A → A → Ordering) : Type 0 where
-  pub self : (a : A) → c a a ≡ Ordering·eq
-  pub equal : (a b : A) → c a b ≡ Ordering·eq → a ≡ b
-  pub turned : (a b : A) → c b a ≡ turn (c a b)
-  pub chain : (a b d : A) → c a b ≡ Ordering·lt → c b d ≡ Ordering·lt → c a d ≡ Ordering·lt
-
--- ======== laws
 -- ---- the three answers
 pub eq-not-lt : Ordering·eq ≡ Ordering·lt → ⊥
 eq-not-lt e = true-false (sym (ap isLess e))

@@ -9,8 +9,8 @@ use lib.ListN.{length}
 use Rattle.limits.specs.Limits.{searchOutputs}
 use Rattle.bits.specs.Digit.{on}
 use Rattle.bits.specs.Values.{valuesUpto}
+use Rattle.order.specs.Total.{NotLess}
 use Rattle.order.specs.Order.{tableOrder}
-use Rattle.order.specs.OrderLaws.{NotLess}
 use Rattle.problem.specs.Problem.{item}
 use Rattle.relation.specs.Relation.{NoneLeft}
 

@@ -13,8 +13,9 @@ use Rattle.bits.specs.Digit.{on}
 use Rattle.bits.specs.Values.{valuesUpto}
 use Rattle.bits.specs.CountLaws.{less-or-equal}
 use Rattle.bits.specs.FilledLaws.{each-more}
+use Rattle.order.specs.Total.{NotLess}
 use Rattle.order.specs.Order.{isLess, tableOrder}
-use Rattle.order.specs.OrderLaws.{NotLess, above-not-less, table-total}
+use Rattle.order.specs.OrderLaws.{above-not-less, table-total}
 use Rattle.problem.specs.Problem.{item}
 use Rattle.picking.specs.Best.{Suits, setOrder, Best, Filled, Copied}
 use Rattle.picking.specs.SoonerLaws.{set-self, empty-last}

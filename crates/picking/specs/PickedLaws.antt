@@ -13,10 +13,10 @@ use Rattle.bits.specs.Values.{valuesUpto}
 use Rattle.bits.specs.LogicLaws.{never-both}
 use Rattle.bits.specs.Count.{count}
 use Rattle.bits.specs.CountLaws.{ones-count}
+use Rattle.order.specs.Total.{NotLess}
 use Rattle.cells.specs.PigeonLaws.{and-agree}
 use Rattle.cells.specs.CodesLaws.{number-lt, number-reading, number-apart, core-serves}
 use Rattle.order.specs.Order.{tableOrder}
-use Rattle.order.specs.OrderLaws.{NotLess}
 use Rattle.cells.specs.Core.{Cell, reading, Serves, coreOf}
 use Rattle.cells.specs.Written.{tablesOf}
 use Rattle.cells.specs.Codes.{rowOf, codeOf}
