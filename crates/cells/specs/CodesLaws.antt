@@ -18,7 +18,6 @@ use Rattle.bits.specs.Logic.{bit}
 use Rattle.bits.specs.ShiftLaws.{on-half}
 use Rattle.cells.specs.PigeonLaws.{agree-and}
 use Rattle.cells.specs.Core.{Cell, Apart, reading, Serves, ZeroFirst, cellsFrom, coreOf}
-use Rattle.cells.specs.Free.{retabled}
 use Rattle.cells.specs.Codes.{Coded, numberOf, rowOf, codeOf, digitsOf}
 
 -- ======== digits
@@ -67,11 +66,6 @@ number-apart o x y (c ∷ l) a h = ⊎-elim
     (λ p. p .1 (sym (on-low (c .table x) (codeOf l x)) ∙ h 0 (on-low (c .readers o) (rowOf l o) ∙ p .0) ∙ on-low (c .table y) (codeOf l y)))
     (λ r. number-apart o x y l r (λ i e. sym (on-high (c .table x) (codeOf l x) i) ∙ h (suc i) (on-high (c .readers o) (rowOf l o) i ∙ e) ∙ on-high (c .table y) (codeOf l y) i))
     a
-
-retabled-row : (g : Cell → ℕ → Bool) (o : ℕ) (l : List Cell) → rowOf (retabled g l) o ≡ rowOf l o
-unfolding retabled numberOf
-retabled-row g o [] = refl
-retabled-row g o (c ∷ l) = ap (λ (n : ℕ). bit (c .readers o) + 2 * n) (retabled-row g o l)
 
 -- ======== from numbers to cells
 pub cells-length : (n i : ℕ) (rows codes : ℕ → ℕ) → length (cellsFrom n i rows codes) ≡ n

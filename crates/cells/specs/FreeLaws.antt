@@ -1,6 +1,6 @@
--- What may be changed in a core that serves, for any conflict: complementing tables so that each is 0 at vertex 0, seeing
--- the tables through a map of vertices (so that each is constant on joint classes), reading more cells up to the budget,
--- and adding idle cells. Each change keeps every pair of vertices apart that was apart. Assumes nothing.
+-- What may be changed in a core that serves, for any conflict: seeing the tables through a map of vertices (so that each is constant on
+-- joint classes), reading more cells up to the budget, and adding idle cells. Each change keeps every pair of vertices apart that was
+-- apart. Assumes nothing.
 use mathlib.Core.Path.{_≡_, refl, sym, ap, subst}
 use mathlib.Core.Bool.{Bool, true, false, not}
 use mathlib.Core.List.{List, [], _∷_}
@@ -10,10 +10,10 @@ use native.Mathlib.Omega.{arith}
 use lib.Dec.{ltb}
 use lib.ListN.{length}
 use borrow.Author.Tests.{ltb-true, ltb-false}
-use Rattle.bits.specs.Logic.{orb, xorb, bit}
-use Rattle.bits.specs.LogicLaws.{true-false, bit-le}
+use Rattle.bits.specs.Logic.{orb, bit}
+use Rattle.bits.specs.LogicLaws.{bit-le}
 use Rattle.cells.specs.Core.{Cell, Apart, reading, Serves}
-use Rattle.cells.specs.Free.{retabled, zeroed, filled, padded}
+use Rattle.cells.specs.Free.{retabled, filled, padded}
 
 -- ---- a change of each cell's table
 pub retabled-length : (g : Cell → ℕ → Bool) (l : List Cell) → length (retabled g l) ≡ length l
@@ -21,30 +21,16 @@ unfolding retabled
 retabled-length g [] = refl
 retabled-length g (c ∷ l) = ap suc (retabled-length g l)
 
-pub retabled-reading : (g : Cell → ℕ → Bool) (o : ℕ) (l : List Cell) → reading o (retabled g l) ≡ reading o l
+retabled-reading : (g : Cell → ℕ → Bool) (o : ℕ) (l : List Cell) → reading o (retabled g l) ≡ reading o l
 unfolding retabled reading
 retabled-reading g o [] = refl
 retabled-reading g o (c ∷ l) = ap (λ (n : ℕ). bit (c .readers o) + n) (retabled-reading g o l)
 
 -- where equal new values at x' and y' come only from equal old values at x and y
-pub retabled-apart : (g : Cell → ℕ → Bool) (o x y x' y' : ℕ) → ((c : Cell) → g c x' ≡ g c y' → c .table x ≡ c .table y) → (l : List Cell) → Apart o x y l → Apart o x' y' (retabled g l)
+retabled-apart : (g : Cell → ℕ → Bool) (o x y x' y' : ℕ) → ((c : Cell) → g c x' ≡ g c y' → c .table x ≡ c .table y) → (l : List Cell) → Apart o x y l → Apart o x' y' (retabled g l)
 unfolding retabled
 retabled-apart g o x y x' y' k [] a = a
 retabled-apart g o x y x' y' k (c ∷ l) a = ⊎-elim (λ p. inl (p .0, λ e. p .1 (k c e))) (λ r. inr (retabled-apart g o x y x' y' k l r)) a
-
--- ---- complementing: every table 0 at vertex 0
-not-same : (b c : Bool) → not b ≡ not c → b ≡ c
-not-same true true e = refl
-not-same false false e = refl
-not-same true false e = absurd (true-false (sym e))
-not-same false true e = absurd (true-false e)
-
-pub zeroed-same : (c : Cell) (x y : ℕ) → zeroed c x ≡ zeroed c y → c .table x ≡ c .table y
-zeroed-same c x y = go (c .table 0)
-  where
-    go : (a : Bool) → xorb a (c .table x) ≡ xorb a (c .table y) → c .table x ≡ c .table y
-    go true e = not-same (c .table x) (c .table y) e
-    go false e = e
 
 -- ---- seen through a map of vertices: with rep x the first vertex of x's joint class, each table is constant on joint
 -- classes; with a list of representatives and back, the problem of the joint classes is the problem
@@ -68,7 +54,7 @@ unfolding filled
 filled-apart o x y d [] a = a
 filled-apart o x y d (c ∷ l) a = ⊎-elim (λ p. inl (ap (λ (b : Bool). orb b (ltb 0 (d o))) (p .0), p .1)) (λ r. inr (filled-apart o x y _ l r)) a
 
-pub reading-le : (o : ℕ) (l : List Cell) → reading o l ≤ length l
+reading-le : (o : ℕ) (l : List Cell) → reading o l ≤ length l
 unfolding reading
 reading-le o [] = omega arith
 reading-le o (c ∷ l) = let h = reading-le o l in let b = bit-le (c .readers o) in omega arith

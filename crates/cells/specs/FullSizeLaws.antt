@@ -214,7 +214,7 @@ xor-same false true true e = sym e
 xor-same false true false e = e
 
 -- one number exclusive-or'd to all codes: what was told apart still is
-pub zeroed-coded : (v j : ℕ) (Conflict : ℕ → ℕ → ℕ → Type 0) (rows codes : ℕ → ℕ) (c : ℕ) → Coded v j Conflict rows codes → Coded v j Conflict rows (λ x. bitXor (codes x) c)
+zeroed-coded : (v j : ℕ) (Conflict : ℕ → ℕ → ℕ → Type 0) (rows codes : ℕ → ℕ) (c : ℕ) → Coded v j Conflict rows codes → Coded v j Conflict rows (λ x. bitXor (codes x) c)
 zeroed-coded v j Conflict rows codes c s = record { tells = λ o x y h p q k e. s .tells o x y h p q k (same (rows o) (codes x) (codes y) e) }
   where
     same : (r a b : ℕ) → bitAnd (bitXor a c) r ≡ bitAnd (bitXor b c) r → bitAnd a r ≡ bitAnd b r
@@ -251,7 +251,7 @@ between-out k u n i = ⊎-elim (λ a. below a (decLt i u)) (λ b. digits-above (
     below a (no l) = digits-above (λ (i : ℕ). andb (leb k i) (on n i)) u i (omega arith)
 
 module _ (k u : ℕ) (codes : ℕ → ℕ) where
-  pub cleared-kept : (x i : ℕ) → (i < k) ⊎ (u ≤ i) → on (cleared k u codes x) i ≡ on (codes x) i
+  cleared-kept : (x i : ℕ) → (i < k) ⊎ (u ≤ i) → on (cleared k u codes x) i ≡ on (codes x) i
   cleared-kept x i h = on-xor (codes x) (between k u (codes 0)) i ∙ xor-off (on (codes x) i) (on (between k u (codes 0)) i) (between-out k u (codes 0) i h)
 
   pub cleared-off : Off k u (cleared k u codes 0)
@@ -260,7 +260,7 @@ module _ (k u : ℕ) (codes : ℕ → ℕ) where
       ∙ ap (xorb (on (codes 0) i)) (on-digits (λ (i : ℕ). andb (leb k i) (on (codes 0) i)) u i b ∙ ap (λ (t : Bool). andb t (on (codes 0) i)) (le-leb k i a))
       ∙ xor-self (on (codes 0) i)
 
-  pub cleared-low : (x n : ℕ) → u ≤ n → codes x < 2 ^ n → cleared k u codes x < 2 ^ n
+  cleared-low : (x n : ℕ) → u ≤ n → codes x < 2 ^ n → cleared k u codes x < 2 ^ n
   cleared-low x n l h = low-digits n (cleared k u codes x) (λ i a. cleared-kept x i (inr (omega arith)) ∙ on-above n (codes x) i h a)
 
 -- ---- what keeps a core full

@@ -24,7 +24,7 @@ use Rattle.cells.specs.Shared.{Split, block, sharedCode, Group}
 
 module _ (v j u : ℕ) (part cls : ℕ → ℕ → ℕ) (rows shared private : ℕ → ℕ) (sh : ℕ) (s : Split j u rows shared private sh) (f : ℕ → ℕ) (c : Coded v j (Within part cls) rows f) where
   -- a digit that o reads in a shared cell is the same in the code and in its shared part
-  pub shared-digit : (o i x : ℕ) → o < j → on (shared o) i ≡ true → on (sharedCode sh f x) i ≡ on (f x) i
+  shared-digit : (o i x : ℕ) → o < j → on (shared o) i ≡ true → on (sharedCode sh f x) i ≡ on (f x) i
   shared-digit o i x h e = on-and (f x) sh i ∙ ap (λ (b : Bool). andb (on (f x) i) b) (s .among o i h e) ∙ and-true (on (f x) i)
 
   same-block : (o x y : ℕ) → o < j → block shared (sharedCode sh f) o x ≡ block shared (sharedCode sh f) o y → Agree u (shared o) (f x) (f y)

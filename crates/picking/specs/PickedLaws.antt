@@ -24,7 +24,7 @@ use Rattle.cells.specs.WrittenLaws.{reads-are-digits, same-tables-codes, core-c
 use Rattle.problem.specs.Problem.{item}
 use Rattle.relation.specs.Relation.{Conflict}
 use Rattle.picking.specs.Picked.{Picked}
-use Rattle.picking.specs.Best.{Suits, setOrder, Filled}
+use Rattle.picking.specs.Best.{Suits, setOrder, FirstRows}
 
 module _ (cl codes budgets : List ℕ) (v m u : ℕ) (rows : ℕ → ℕ) (l : List Cell) (long : length l ≡ u)
     (same : tablesOf v l ≡ tablesOf v (coreOf u rows (item codes))) (s : Serves v m (Conflict cl) (item budgets) l) (o : ℕ) (h : o < m) where
@@ -49,7 +49,7 @@ module _ (cl codes budgets : List ℕ) (v m u : ℕ) (rows : ℕ → ℕ) (l : L
       below i e (yes k) = k
       below i e (no k) = absurd (never-both e (on-above u (rowOf l o) i row-low (omega arith)))
 
-pub picked-of : (cl codes budgets : List ℕ) (v m u : ℕ) (r : List ℕ) → Filled cl codes budgets v u m r → Picked cl budgets v m u codes r
+pub picked-of : (cl codes budgets : List ℕ) (v m u : ℕ) (r : List ℕ) → FirstRows cl codes budgets v u m r → Picked cl budgets v m u codes r
 picked-of cl codes budgets v m u r f = record {
   low = λ o h. f .done o h .low;
   serves = λ l long same s.

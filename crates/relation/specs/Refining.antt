@@ -43,7 +43,7 @@ pub record Fine (labels parts : List ℕ) (v : ℕ) : Type 0 where
   pub one-part : (x y : ℕ) → x < v → y < v → item labels x ≡ item labels y → item parts x ≡ item parts y
 
 -- r is as old for every output but i
-abbrev pub Others : ℕ → List ℕ → List ℕ → Type 0
+abbrev Others : ℕ → List ℕ → List ℕ → Type 0
 Others i old r = (q z : ℕ) → q < searchOutputs → (q ≡ i → ⊥) → z < maxVertices → (labelAt r q z ≡ labelAt old q z) × (partAt r q z ≡ partAt old q z)
 
 -- output i has these labels and parts at the first x vertices

@@ -12,7 +12,7 @@ use Rattle.cells.specs.Codes.{Coded}
 use Rattle.problem.specs.Problem.{labelAt, partAt, item}
 use Rattle.relation.specs.Relation.{Conflict, Left, Leaves, NoneLeft, Inside}
 
-pub conflict-sym : (cl : List ℕ) (o x y : ℕ) → Conflict cl o x y → Conflict cl o y x
+conflict-sym : (cl : List ℕ) (o x y : ℕ) → Conflict cl o x y → Conflict cl o y x
 unfolding Conflict
 conflict-sym cl o x y c e = c (sym e)
 
