@@ -1,8 +1,9 @@
--- Filling an array: nothing is asked before the first number, and a loop's turn fills one number more. Assumes nothing.
+-- Filling an array: nothing is asked before the first number, a loop's turn fills one number more, and what is filled so far has all
+-- that fewer numbers have. Assumes nothing.
 use mathlib.Core.Path.{_≡_, sym, _∙_, subst}
 use mathlib.Core.List.{List}
 use mathlib.Core.Logic.{⊎-elim}
-use Prim.Native.Nat.{ℕ, _+_, _<_}
+use Prim.Native.Nat.{ℕ, _+_, _≤_, _<_}
 use native.Mathlib.Omega.{arith}
 use lib.ListN.{length, getD, set, length-set}
 use lib.Seq.{getD-set-same, getD-set-other}
@@ -24,3 +25,6 @@ filled-more {size} {f} {n} {r} x b e s = record {
   long = length-set r n x ∙ s .long;
   done = each-more (λ k y. y ≡ f k) n x r (let z = s .long in omega arith) e (s .done);
 }
+
+pub filled-fewer : {size : ℕ} {f : ℕ → ℕ} {n k : ℕ} {r : List ℕ} → k ≤ n → Filled size f n r → Filled size f k r
+filled-fewer h s = record { long = s .long; done = λ x l. s .done x (omega arith) }

@@ -1,7 +1,8 @@
--- The digits of a number that is cut to a width, and of one that is shifted. Assumes nothing.
+-- The digits of a number that is cut to a width, and of one that is shifted: the digits move by the number of places. Assumes nothing.
 use mathlib.Core.Path.{_≡_, sym, ap, _∙_}
 use mathlib.Core.Bool.{false}
-use Prim.Native.Nat.{ℕ, _+_, _-_, _*_, _/_, _%_, _^_, _<_}
+use Prim.Native.Nat.{ℕ, suc, _+_, _-_, _*_, _/_, _%_, _^_, _<_}
+use native.Mathlib.Numerals.{one-add}
 use lib.Bits.{and-mask, and-shifted}
 use lib.Dec.{eqb}
 use lib.Pow.{shl-shr, shr-shr, pow-lt}
@@ -24,3 +25,6 @@ pub on-below-shifted : (n s k : ℕ) → k < s → on (n * 2 ^ s) k ≡ false
 on-below-shifted n s k h =
     sym (and-true (on (n * 2 ^ s) k)) ∙ ap (andb (on (n * 2 ^ s) k)) (sym (on-single k)) ∙ sym (on-and (n * 2 ^ s) (2 ^ k) k)
     ∙ ap (λ (z : ℕ). on z k) (and-shifted n s (2 ^ k) (pow-lt h)) ∙ on-zero k
+
+pub on-half : (n i : ℕ) → on n (suc i) ≡ on (n / 2) i
+on-half n i = sym (on-down n 1 i ∙ ap (on n) (one-add i))

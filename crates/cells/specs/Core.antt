@@ -33,6 +33,10 @@ pub record Serves (v m : ℕ) (Conflict : ℕ → ℕ → ℕ → Type 0) (budge
 abbrev pub Differ : (ℕ → ℕ → ℕ) → ℕ → ℕ → ℕ → Type 0
 Differ cls o x y = cls o x ≡ cls o y → ⊥
 
+-- The conflict of labels with parts: two classes of one part. A class belongs to a part, so equal classes have equal parts.
+abbrev pub Within : (ℕ → ℕ → ℕ) → (ℕ → ℕ → ℕ) → ℕ → ℕ → ℕ → Type 0
+Within part cls o x y = (part o (cls o x) ≡ part o (cls o y)) × (cls o x ≡ cls o y → ⊥)
+
 -- Every table is 0 at vertex 0.
 abbrev pub ZeroFirst : List Cell → Type 0
 ZeroFirst [] = Unit {0}

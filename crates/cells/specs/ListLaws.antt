@@ -1,14 +1,11 @@
--- Laws of finite choices: what holds of each element holds of parts and of lists put together, and for numbers that are counted there
--- is a list of witnesses, one for each. Assumes nothing.
+-- Laws of finite choices: what holds of each element, or of each pair, holds of parts, of lists put together and of what follows from
+-- it; each is an induction over the list. Assumes nothing.
 use mathlib.Core.Path.{_≡_, refl}
 use mathlib.Core.Bool.{Bool, true, false, not}
 use mathlib.Core.List.{List, [], _∷_, _++_}
-use Prim.Native.Nat.{ℕ, zero, suc, _+_, _<_}
+use Prim.Native.Nat.{ℕ, zero, suc, _+_}
 use native.Mathlib.Omega.{arith}
 use lib.ListN.{length, getD}
-use Rattle.bits.specs.Logic.{bit}
-use Rattle.bits.specs.Logic.{bit}
-use Rattle.bits.specs.Count.{count}
 use Rattle.cells.specs.Lists.{All, Pairs, keep, part, zeros}
 
 pub all-map : (P Q : ℕ → Type 0) (xs : List ℕ) → ((x : ℕ) → P x → Q x) → All P xs → All Q xs
@@ -73,34 +70,6 @@ part-length p (x ∷ xs) = go (p x) (part-length p xs)
     go true h = omega arith
     go false h = omega arith
 
--- ---- counting
--- the numbers counted, as a list of witnesses, one for each
-module _ (p : ℕ → Bool) (W : ℕ → ℕ → Type 0) (R : ℕ → ℕ → Type 0) (apart : (l k w z : ℕ) → k < l → W l w → W k z → R w z) where
-  abbrev pub Witness : ℕ → ℕ → Type 0
-  Witness n w = (l : ℕ) × (l < n) × W l w
-
-  pub counted : (n : ℕ) → ((l : ℕ) → l < n → p l ≡ true → (w : ℕ) × W l w) → (ws : List ℕ) × (length ws ≡ count p n) × All (Witness n) ws × Pairs R ws
-  unfolding count
-  counted zero h = ([], refl, tt, tt)
-  counted (suc n) h = go (p n) refl (counted n (λ l k. h l (omega arith)))
-    where
-      Out : ℕ → ℕ → Type 0
-      Out n k = (ws : List ℕ) × (length ws ≡ k) × All (Witness n) ws × Pairs R ws
-
-      up : (ws : List ℕ) → All (Witness n) ws → All (Witness (suc n)) ws
-      up ws a = all-map (Witness n) (Witness (suc n)) ws (λ w q. (q .0, (let z = q .1 in omega arith), q .2)) a
-
-      go : (b : Bool) → p n ≡ b → Out n (count p n) → Out (suc n) (count p n + bit b)
-      go false e r = (r .0, (let z = r .1 in omega arith), up (r .0) (r .2), r .3)
-      go true e r =
-          let w = h n (omega arith) e in (
-            w .0 ∷ r .0,
-            (let z = r .1 in omega arith),
-            ((n, (omega arith), w .1), up (r .0) (r .2)),
-            (all-map (Witness n) (R (w .0)) (r .0) (λ z q. apart n (q .0) (w .0) z (q .1) (w .1) (q .2)) (r .2), r .3),
-          )
-
--- ---- sums
 -- ---- a list of n zeros
 pub zeros-are : (n i : ℕ) → getD (zeros n) i 0 ≡ 0
 zeros-are zero i = refl

@@ -1,25 +1,11 @@
--- Sets of numbers below 64 as the digits of one number: one more element, one less, the lowest, and how many there are.
--- Assumes nothing.
-use mathlib.Core.Path.{_≡_, refl, sym, ap, ap₂, _∙_}
-use mathlib.Core.Bool.{Bool, true, false, not}
-use Prim.Native.Nat.{ℕ, zero, suc, _+_, _-_, _*_, _/_, _%_, _^_, _≤_, _<_}
-use native.Mathlib.Decide.{ℕ-discrete, decLt}
-use native.Mathlib.Omega.{arith}
-use native.Mathlib.Nat.{pow-suc}
-use lib.Bits.{bitAnd, bitOr, and-le-l}
-use lib.Count.{trailingZeros, under, ones, ones-step}
+-- Sets of numbers below 64 as the digits of one number: one element more, one less. Assumes nothing.
+use mathlib.Core.Path.{_≡_}
+use mathlib.Core.Bool.{true}
+use Prim.Native.Nat.{ℕ, _<_}
 use lib.Dec.{eqb}
-use lib.Pow.{pow-lt}
-use borrow.Author.Tests.{eq-eqb, ne-eqb}
-use Rattle.bits.specs.Logic.{andb, orb, bit}
-use Rattle.bits.specs.Digit.{digit, on}
-use Rattle.bits.specs.DigitLaws.{Binary, is0, is1, binary, on-and, on-or, on-zero, on-single, on-complement}
-use Rattle.bits.specs.LogicLaws.{never-both, and-true, and-false}
-use Rattle.bits.specs.Count.{count}
-use Rattle.bits.specs.CountLaws.{count-alike}
-use Rattle.cells.specs.Codes.{on-half, count-shift}
+use Rattle.bits.specs.Logic.{orb}
+use Rattle.bits.specs.Digit.{on}
 
--- ======== definitions
 -- the numbers that a set has room for: a word has a digit for each
 abbrev pub setRoom : ℕ
 setRoom = 64
@@ -32,64 +18,3 @@ With s k r = (i : ℕ) → on r i ≡ orb (on s i) (eqb i k)
 pub record Without (s k r : ℕ) : Type 0 where
   pub others : (i : ℕ) → i < setRoom → (i ≡ k → ⊥) → on r i ≡ on s i
   pub less : on s k ≡ true → r < s
-
--- ======== laws
-pub on-power-other : (k i : ℕ) → (i ≡ k → ⊥) → on (2 ^ k) i ≡ false
-unfolding on digit
-on-power-other zero zero ne = absurd (ne refl)
-on-power-other zero (suc i) ne = on-half 1 i ∙ on-zero i
-on-power-other (suc k) zero ne = let e : 2 ^ suc k ≡ 2 ^ k * 2 = pow-suc 2 k in let d : 2 ^ suc k / 1 % 2 ≡ 0 = omega arith in rw d refl
-on-power-other (suc k) (suc i) ne =
-    on-half (2 ^ suc k) i
-    ∙ ap (λ (z : ℕ). on z i) (let e : 2 ^ suc k ≡ 2 ^ k * 2 = pow-suc 2 k in let d : 2 ^ suc k / 2 ≡ 2 ^ k = omega arith in d)
-    ∙ on-power-other k i (λ e. ne (ap suc e))
-
-pub with-power : (s k : ℕ) → With s k (bitOr s (2 ^ k))
-with-power s k i = on-or s (2 ^ k) i ∙ ap (λ (b : Bool). orb (on s i) b) (go (ℕ-discrete i k))
-  where
-    go : Dec (i ≡ k) → on (2 ^ k) i ≡ eqb i k
-    go (yes e) = ap (λ (z : ℕ). on (2 ^ k) z) e ∙ on-single k ∙ sym (eq-eqb i k e)
-    go (no e) = on-power-other k i e ∙ sym (ne-eqb i k e)
-
-pub without-power : (s k : ℕ) → k < 64 → Without s k (bitAnd s (2 ^ 64 - 1 - 2 ^ k))
-without-power s k h = record {
-  others = λ i l ne. digit-of i l ∙ ap (λ (b : Bool). andb (on s i) (not b)) (on-power-other k i ne) ∙ and-true (on s i);
-  less = λ t.
-      let le : bitAnd s (2 ^ 64 - 1 - 2 ^ k) ≤ s = and-le-l s (2 ^ 64 - 1 - 2 ^ k) in
-      let ne : bitAnd s (2 ^ 64 - 1 - 2 ^ k) ≡ s → ⊥ = λ e. never-both (ap (λ (z : ℕ). on z k) e ∙ t) (digit-of k h ∙ ap (λ (b : Bool). andb (on s k) (not b)) (on-single k) ∙ and-false (on s k)) in
-      elim (decLt (bitAnd s (2 ^ 64 - 1 - 2 ^ k)) s) as (λ _. bitAnd s (2 ^ 64 - 1 - 2 ^ k) < s) [ yes l ↦ l | no g ↦ absurd (ne (omega arith)) ];
-}
-  where
-    digit-of : (i : ℕ) → i < 64 → on (bitAnd s (2 ^ 64 - 1 - 2 ^ k)) i ≡ andb (on s i) (not (on (2 ^ k) i))
-    digit-of i l = on-and s (2 ^ 64 - 1 - 2 ^ k) i ∙ ap (λ (b : Bool). andb (on s i) b) (on-complement 64 (2 ^ k) i (pow-lt h) l)
-
--- the lowest element
-pub lowest-on : (d n : ℕ) → (n ≡ 0 → ⊥) → n < 2 ^ d → (trailingZeros d n < d) × (on n (trailingZeros d n) ≡ true)
-unfolding trailingZeros on digit
-lowest-on zero n ne h = absurd (ne (omega arith))
-lowest-on (suc d) n ne h = go (n % 2) refl
-    (λ e. lowest-on d (n / 2) (λ q. ne (omega arith)) (let p : 2 ^ suc d ≡ 2 ^ d * 2 = pow-suc 2 d in omega arith))
-  where
-    go : (r : ℕ) → n % 2 ≡ r
-        → (n % 2 ≡ 0 → (trailingZeros d (n / 2) < d) × (on (n / 2) (trailingZeros d (n / 2)) ≡ true))
-        → (under r (trailingZeros d (n / 2)) < suc d) × (on n (under r (trailingZeros d (n / 2))) ≡ true)
-    go zero e ih = let r = ih e in ((let z = r .0 in omega arith), on-half n (trailingZeros d (n / 2)) ∙ r .1)
-    go (suc r) e ih = ((omega arith), (let p : n / 1 % 2 ≡ 1 = omega arith in rw p refl))
-
--- how many elements
-low-digit : (n : ℕ) → n % 2 ≡ bit (on n 0)
-unfolding on digit
-low-digit n = go (n / 1 % 2) (binary (n / 1 % 2) (omega arith)) (omega arith)
-  where
-    go : (d : ℕ) → Binary d → n % 2 ≡ d → n % 2 ≡ bit (eqb d 1)
-    go d is0 e = e
-    go d is1 e = e
-
-pub ones-count : (w n : ℕ) → n < 2 ^ w → ones n ≡ count (on n) w
-unfolding count ones
-ones-count zero n h = ap ones (let e : n ≡ 0 = omega arith in e)
-ones-count (suc w) n h =
-    ones-step n
-    ∙ ap₂ (λ (a b : ℕ). a + b) (low-digit n)
-    (ones-count w (n / 2) (let e = pow-suc 2 w in omega arith) ∙ count-alike (on (n / 2)) (λ (i : ℕ). on n (suc i)) w (λ i h. sym (on-half n i)))
-    ∙ sym (count-shift (on n) w)

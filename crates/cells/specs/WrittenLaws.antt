@@ -11,8 +11,9 @@ use Rattle.bits.specs.Digit.{on}
 use Rattle.bits.specs.Values.{valuesUpto}
 use Rattle.bits.specs.ValuesLaws.{values-length, values-at, values-same, same-values}
 use Rattle.bits.specs.Logic.{bit}
+use Rattle.cells.specs.CodesLaws.{on-low, on-high, cells-length}
 use Rattle.cells.specs.Core.{Cell, cellsFrom, coreOf}
-use Rattle.cells.specs.Codes.{numberOf, rowOf, codeOf, on-low, on-high, cells-length}
+use Rattle.cells.specs.Codes.{numberOf, rowOf, codeOf}
 use Rattle.cells.specs.Written.{tablesOf, readsOf}
 
 -- ======== lengths
@@ -27,7 +28,7 @@ table-length v i [] h = absurd (omega arith)
 table-length v zero (c ∷ l) h = values-length (c .table) v
 table-length v (suc i) (c ∷ l) h = table-length v i l (omega arith)
 
-pub reads-length : (o : ℕ) (l : List Cell) → length (readsOf o l) ≡ length l
+reads-length : (o : ℕ) (l : List Cell) → length (readsOf o l) ≡ length l
 unfolding readsOf
 reads-length o [] = refl
 reads-length o (c ∷ l) = ap suc (reads-length o l)
@@ -39,7 +40,7 @@ table-digit v x i [] b h = absurd (omega arith)
 table-digit v x zero (c ∷ l) b h = values-at (c .table) v x b ∙ sym (on-low (c .table x) (codeOf l x))
 table-digit v x (suc i) (c ∷ l) b h = table-digit v x i l b (omega arith) ∙ sym (on-high (c .table x) (codeOf l x) i)
 
-pub reads-digit : (o i : ℕ) (l : List Cell) → i < length l → getD (readsOf o l) i false ≡ on (rowOf l o) i
+reads-digit : (o i : ℕ) (l : List Cell) → i < length l → getD (readsOf o l) i false ≡ on (rowOf l o) i
 unfolding readsOf numberOf
 reads-digit o i [] h = absurd (omega arith)
 reads-digit o zero (c ∷ l) h = sym (on-low (c .readers o) (rowOf l o))
@@ -81,7 +82,7 @@ cells-code x (suc k) (suc n) i rows codes h =
     on-high (on (codes x) i) (codeOf (cellsFrom n (suc i) rows codes) x) k
     ∙ cells-code x k n (suc i) rows codes (omega arith) ∙ ap (on (codes x)) (let e : suc i + k ≡ i + suc k = omega arith in e)
 
-pub core-row : (o k u : ℕ) (rows codes : ℕ → ℕ) → k < u → on (rowOf (coreOf u rows codes) o) k ≡ on (rows o) k
+core-row : (o k u : ℕ) (rows codes : ℕ → ℕ) → k < u → on (rowOf (coreOf u rows codes) o) k ≡ on (rows o) k
 core-row o k u rows codes h = cells-row o k u 0 rows codes h ∙ ap (on (rows o)) (let e : 0 + k ≡ k = omega arith in e)
 
 pub core-code : (x k u : ℕ) (rows codes : ℕ → ℕ) → k < u → on (codeOf (coreOf u rows codes) x) k ≡ on (codes x) k
@@ -95,7 +96,7 @@ core-reads o u rows codes = reads-are-digits o l ∙ ap (valuesUpto (on (rowOf l
     l = coreOf u rows codes
 
 -- cells with codes that agree show the same tables, whoever reads them
-pub same-codes-tables : (v n i : ℕ) (rows rows' codes codes' : ℕ → ℕ) → ((x : ℕ) → x < v → codes x ≡ codes' x)
+same-codes-tables : (v n i : ℕ) (rows rows' codes codes' : ℕ → ℕ) → ((x : ℕ) → x < v → codes x ≡ codes' x)
     → tablesOf v (cellsFrom n i rows codes) ≡ tablesOf v (cellsFrom n i rows' codes')
 unfolding cellsFrom tablesOf
 same-codes-tables v zero i rows rows' codes codes' e = refl

@@ -12,6 +12,7 @@ use native.Mathlib.Decide.{ℕ-discrete}
 use lib.ListN.{length}
 use Rattle.bits.specs.LogicLaws.{true-false}
 use Rattle.limits.specs.Limits.{maxCells}
+use Rattle.cells.specs.FreeLaws.{retabled-length, mapped-serves}
 use Rattle.order.specs.Order.{then, isLess, before, tablesOrder}
 use Rattle.sheet.specs.Examine.{Design}
 use Rattle.sheet.specs.WellFormed.{WellFormed}
@@ -26,7 +27,7 @@ use Rattle.network.specs.NamedLaws.{design-named}
 use Rattle.network.specs.Value.{lutAt}
 use Rattle.cells.specs.Core.{Cell, ZeroFirst}
 use Rattle.cells.specs.Codes.{rowOf, codeOf}
-use Rattle.cells.specs.Free.{retabled, retabled-length, mapped-serves}
+use Rattle.cells.specs.Free.{retabled}
 use Rattle.cells.specs.Written.{tablesOf}
 use Rattle.serving.specs.NetworkCore.{cellsOf, networkCore, Conflicts, ServesDesign}
 use Rattle.serving.specs.Tells.{core-length}

@@ -15,9 +15,10 @@ use Rattle.bits.specs.Values.{valuesUpto}
 use Rattle.bits.specs.ValuesLaws.{values-at}
 use Rattle.bits.specs.Every.{every}
 use Rattle.bits.specs.EveryLaws.{every-at}
+use Rattle.order.specs.Total.{NotLess}
+use Rattle.order.specs.TablesLaws.{shaped-of}
 use Rattle.order.specs.Order.{isLess, tableOrder, tablesOrder}
-use Rattle.order.specs.OrderLaws.{NotLess}
-use Rattle.order.specs.Tables.{Shaped, shaped-none, shaped-more, shaped-of}
+use Rattle.order.specs.Tables.{Shaped, shaped-none, shaped-more}
 use Rattle.sheet.specs.Examine.{Design}
 use Rattle.sheet.specs.WellFormed.{WellFormed}
 use Rattle.classes.specs.ProperLaws.{proper-of}

@@ -7,9 +7,10 @@ use Prim.Native.Nat.{ℕ, zero, suc, _<_}
 use native.Mathlib.Decide.{decLt}
 use Rattle.bits.specs.Digit.{on}
 use Rattle.bits.specs.Values.{valuesUpto}
+use Rattle.cells.specs.RenumberedLaws.{serves-as, renumbered-reads-as}
 use Rattle.cells.specs.Core.{Cell, Serves, ZeroFirst, cellsFrom}
 use Rattle.cells.specs.Written.{tablesOf}
-use Rattle.cells.specs.Renumbered.{renumbered, serves-as, renumbered-reads-as}
+use Rattle.cells.specs.Renumbered.{renumbered}
 use Rattle.problem.specs.Problem.{item}
 use Rattle.relation.specs.Relation.{Conflict}
 use Rattle.dominance.specs.Kept.{StandFor}

@@ -6,8 +6,9 @@ use mathlib.Core.Bool.{Bool, true, false}
 use mathlib.Core.List.{List, [], _∷_, _++_}
 use Prim.Native.Nat.{ℕ, zero, suc, _<_}
 use Rattle.bits.specs.Digit.{on}
+use Rattle.cells.specs.RenumberedLaws.{reads-as-append, serves-as, renumbered-length, renumbered-code, cells-read-as, read-by-reads-as}
 use Rattle.cells.specs.Core.{Cell, Serves, cellsFrom}
-use Rattle.cells.specs.Renumbered.{renumbered, ReadsAs, reads-as-append, serves-as, renumbered-length, renumbered-code, cells-read-as, read-by-reads-as}
+use Rattle.cells.specs.Renumbered.{renumbered, ReadsAs}
 use Rattle.problem.specs.Problem.{item}
 use Rattle.relation.specs.Relation.{Conflict}
 use Rattle.subproblems.specs.Subproblem.{openOf}

@@ -17,9 +17,10 @@ use Rattle.bits.specs.DigitLaws.{on-xor, on-none, on-zero}
 use Rattle.bits.specs.Count.{count}
 use Rattle.bits.specs.CountLaws.{less-or-equal}
 use Rattle.bits.specs.FilledLaws.{each-more}
+use Rattle.cells.specs.FullSizeLaws.{xor-same}
+use Rattle.cells.specs.CodesLaws.{cells-length, cells-zero}
 use Rattle.cells.specs.Core.{Cell, Apart, reading, Differ, Serves, Answer, cellsFrom, coreOf}
-use Rattle.cells.specs.Codes.{cells-length, cells-zero}
-use Rattle.cells.specs.FullSize.{readBy, xor-same}
+use Rattle.cells.specs.FullSize.{readBy}
 use Rattle.problem.specs.Problem.{labelAt, item}
 use Rattle.relation.specs.Relation.{Conflict}
 use Rattle.subproblems.specs.Subproblem.{openOf}

@@ -13,12 +13,14 @@ use Rattle.bits.specs.LogicLaws.{true-false, xor-off, xor-self}
 use Rattle.bits.specs.Digit.{on}
 use Rattle.bits.specs.Count.{count}
 use Rattle.bits.specs.CountLaws.{less-or-equal}
+use Rattle.order.specs.TablesLaws.{shaped-at}
+use Rattle.cells.specs.PigeonLaws.{agree-and, and-agree}
+use Rattle.cells.specs.FullSizeLaws.{full-of, read-by-length, read-by-code, xor-same}
+use Rattle.cells.specs.CodesLaws.{cells-length, core-serves}
 use Rattle.cells.specs.Core.{Cell, Serves, cellsFrom, coreOf}
-use Rattle.cells.specs.Pigeon.{agree-and, and-agree}
-use Rattle.cells.specs.Codes.{codeOf, cells-length, core-serves}
-use Rattle.cells.specs.FullSize.{Full, full-of, read-by-length, read-by-code, xor-same}
+use Rattle.cells.specs.Codes.{codeOf}
+use Rattle.cells.specs.FullSize.{Full}
 use Rattle.cells.specs.WrittenLaws.{core-code, table-digit}
-use Rattle.order.specs.Tables.{shaped-at}
 use Rattle.order.specs.LeastTables.{table}
 use Rattle.problem.specs.Problem.{item}
 use Rattle.relation.specs.Relation.{Conflict}

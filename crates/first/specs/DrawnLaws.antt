@@ -8,14 +8,14 @@ use native.Mathlib.Omega.{arith}
 use lib.ListN.{length, getD, take, length-take, List·getD-append}
 use lib.Seq.{ext-getD, getD-take, getD-at, length-take-le}
 use Rattle.bits.specs.Digit.{on}
+use Rattle.order.specs.TablesLaws.{shaped-at, shaped-of}
+use Rattle.cells.specs.CodesLaws.{cells-length}
 use Rattle.cells.specs.Core.{Cell, ZeroFirst, cellsFrom, coreOf}
-use Rattle.cells.specs.Codes.{cells-length}
 use Rattle.cells.specs.Written.{tablesOf}
 use Rattle.cells.specs.WrittenLaws.{tables-length, table-length, table-digit, core-code, tables-of-rows}
-use Rattle.order.specs.Least.{asked}
 use Rattle.order.specs.LeastLaws.{take-more}
-use Rattle.order.specs.Tables.{Shaped, shaped-none, shaped-more, shaped-of, shaped-at}
-use Rattle.order.specs.LeastTables.{table, Agrees}
+use Rattle.order.specs.Tables.{Shaped, shaped-none, shaped-more}
+use Rattle.order.specs.LeastTables.{table, Agrees, asked}
 use Rattle.problem.specs.Problem.{item}
 use Rattle.witness.specs.Witness.{Witness}
 use Rattle.first.specs.Drawn.{shown, Drawn}

@@ -4,11 +4,11 @@ use mathlib.Core.Bool.{Bool, true}
 use mathlib.Core.List.{List}
 use Prim.Native.Nat.{ℕ, _≤_, _<_}
 use lib.ListN.{length}
+use Rattle.order.specs.Total.{NotLess}
 use Rattle.cells.specs.Core.{Cell, Serves, Differ, ZeroFirst, Answer, coreOf}
 use Rattle.cells.specs.Written.{tablesOf, readsOf}
 use Rattle.problem.specs.Problem.{labelAt, item}
 use Rattle.order.specs.Order.{tableOrder, tablesOrder}
-use Rattle.order.specs.OrderLaws.{NotLess}
 
 -- The first core: of all cores of as many cells that serve and are 0 at vertex 0 its tables come first, as lists of digits, and of
 -- all that have these tables and serve each output reads what comes first: of two sets of cells the one that has the first cell in

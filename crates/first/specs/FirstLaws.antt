@@ -8,14 +8,15 @@ use native.Mathlib.Omega.{arith}
 use lib.ListN.{length}
 use Rattle.bits.specs.LogicLaws.{true-false, never-both}
 use Rattle.bits.specs.Digit.{on}
+use Rattle.order.specs.Total.{NotLess}
+use Rattle.order.specs.LeastTablesLaws.{tables-all}
+use Rattle.cells.specs.RenumberedLaws.{renumbered-length}
+use Rattle.cells.specs.CodesLaws.{cells-length}
 use Rattle.cells.specs.Core.{Cell, Differ, Serves, ZeroFirst, Least, Answer, coreOf}
-use Rattle.cells.specs.Codes.{cells-length}
-use Rattle.cells.specs.Renumbered.{renumbered, renumbered-length}
+use Rattle.cells.specs.Renumbered.{renumbered}
 use Rattle.cells.specs.Written.{tablesOf}
 use Rattle.cells.specs.WrittenLaws.{tables-length, tables-of-rows}
 use Rattle.order.specs.Order.{tablesOrder}
-use Rattle.order.specs.OrderLaws.{NotLess}
-use Rattle.order.specs.LeastTables.{tables-all}
 use Rattle.problem.specs.Problem.{labelAt, item}
 use Rattle.relation.specs.Relation.{Conflict}
 use Rattle.dominance.specs.Kept.{StandFor}

@@ -8,7 +8,8 @@ use native.Mathlib.Omega.{arith}
 use Rattle.bits.specs.LogicLaws.{true-false}
 use Rattle.bits.specs.Digit.{on}
 use Rattle.bits.specs.DigitLaws.{on-zero}
-use Rattle.order.specs.LeastTables.{UptoTables, tables-none, own-zero, tables-same, tables-zero, tables-one, tables-next}
+use Rattle.order.specs.LeastTablesLaws.{tables-none, own-zero, tables-same, tables-zero, tables-one, tables-next}
+use Rattle.order.specs.LeastTables.{UptoTables}
 use Rattle.problem.specs.Problem.{item}
 use Rattle.cache.specs.Cache.{Honest}
 use Rattle.witness.specs.Witness.{Witness, Keeps, Front}

@@ -7,10 +7,10 @@ use Prim.Native.Nat.{ℕ, zero, suc, _<_}
 use native.Mathlib.Omega.{arith}
 use lib.ListN.{take, drop, take-append-drop}
 use Rattle.bits.specs.Digit.{on}
+use Rattle.cells.specs.AppendLaws.{reading-append, apart-append, apart-left, apart-right}
+use Rattle.cells.specs.FullSizeLaws.{code-first, code-next}
 use Rattle.cells.specs.Core.{Cell, Serves}
 use Rattle.cells.specs.Codes.{codeOf}
-use Rattle.cells.specs.FullSize.{code-first, code-next}
-use Rattle.cells.specs.Cut.{reading-append, apart-append, apart-left, apart-right}
 use Rattle.seeking.specs.Seeking.{Known}
 
 pub parts-exchanged : (v m : ℕ) (Conflict : ℕ → ℕ → ℕ → Type 0) (budget : ℕ → ℕ) (l k : List Cell) → Serves v m Conflict budget (l ++ k) → Serves v m Conflict budget (k ++ l)

@@ -18,8 +18,9 @@ use Rattle.bits.specs.DigitLaws.{on-and, on-zero}
 use Rattle.bits.specs.LogicLaws.{never-both, false-unless, true-unless}
 use Rattle.bits.specs.Count.{sum}
 use Rattle.bits.specs.CountLaws.{less-or-equal, sum-more}
+use Rattle.cells.specs.SharedLaws.{gather}
 use Rattle.cells.specs.ListLaws.{all-map, pairs-map}
-use Rattle.cells.specs.Shared.{block, Group, gather}
+use Rattle.cells.specs.Shared.{block, Group}
 use Rattle.problem.specs.Problem.{labelAt, partAt, partOf, item, Solves, Extends}
 use Rattle.holding.specs.Held.{Held}
 use Rattle.holding.specs.Wants.{New, Wanted, need, share, needed}

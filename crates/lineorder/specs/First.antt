@@ -6,6 +6,7 @@ use mathlib.Core.List.{List, []}
 use Prim.Native.Nat.{ℕ, _+_, _^_, _<_}
 use native.Mathlib.Omega.{arith}
 use lib.ListN.{length, getD}
+use Rattle.order.specs.Total.{NotLess}
 use Rattle.sheet.specs.Examine.{Design}
 use Rattle.network.specs.Network.{Network}
 use Rattle.network.specs.Printer.{printNode, printNetwork}
@@ -15,7 +16,7 @@ use Rattle.network.specs.Answers.{readCount, Computes}
 use Rattle.serving.specs.Parts.{Parts}
 use Rattle.network.specs.NetworkFor.{NetworkFor, Named, nodeAt}
 use Rattle.order.specs.Order.{before, tablesOrder}
-use Rattle.order.specs.OrderLaws.{NotLess, tables-total, then-not-less, before-not-less}
+use Rattle.order.specs.OrderLaws.{tables-total, then-not-less, before-not-less}
 use Rattle.lineorder.specs.LineOrder.{lineOrder}
 use Rattle.lineorder.specs.NodeOrder.{readsOrder, node-not-less}
 use Rattle.lineorder.specs.NodeDigits.{Blank, digits-follow}

@@ -7,6 +7,7 @@ use mathlib.Core.List.{List, [], _∷_, _++_, append-assoc, map}
 use Prim.Native.Nat.{ℕ, suc, _+_, _≤_, _<_, Ordering, Ordering·lt, Ordering·eq, Ordering·gt, compare}
 use native.Mathlib.Omega.{arith}
 use lib.ListN.{length}
+use Rattle.order.specs.Total.{NotLess}
 use Rattle.text.specs.Bytes.{newline, closeBracket}
 use Rattle.text.specs.FigureLaws.{print-digit}
 use Rattle.names.specs.Name.{Name}
@@ -14,7 +15,7 @@ use Rattle.network.specs.Network.{Node}
 use Rattle.network.specs.Printer.{led, ledAll, lutName, printDigits, nodeHead, printNode}
 use Rattle.network.specs.Reads.{Rising, rising-none, rising-more}
 use Rattle.order.specs.Order.{then, listOrder, byteOrder}
-use Rattle.order.specs.OrderLaws.{NotLess, compare-total, compare-shift, bytes-total, same-front, front-first}
+use Rattle.order.specs.OrderLaws.{compare-total, compare-shift, bytes-total, same-front, front-first}
 use Rattle.order.specs.OrderLaws.{then-then, then-eq, then-equal, then-not-less, lt-not-eq, gt-not-eq, not-less-eq}
 use Rattle.lineorder.specs.LineOrder.{lineOrder}
 

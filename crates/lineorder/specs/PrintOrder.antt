@@ -6,6 +6,7 @@ use mathlib.Core.List.{List, [], _∷_, _++_, append-assoc}
 use Prim.Native.Nat.{ℕ, suc, _<_, Ordering, compare}
 use native.Mathlib.Omega.{arith}
 use lib.ListN.{length, length-map, getD}
+use Rattle.order.specs.Total.{NotLess}
 use Rattle.text.specs.Bytes.{newline, closeBracket}
 use Rattle.names.specs.Name.{Name}
 use Rattle.rows.specs.Digits.{digit}
@@ -16,7 +17,7 @@ use Rattle.network.specs.Parts.{freeOf, namesOf, lastLines}
 use Rattle.network.specs.NetworkFor.{NetworkFor, Named, nodeAt}
 use Rattle.network.specs.SpellingLaws.{print-lines-spelled, lines-unbroken}
 use Rattle.order.specs.Order.{then, listOrder, byteOrder, bitOrder, tableOrder, tablesOrder}
-use Rattle.order.specs.OrderLaws.{NotLess, compare-total, bytes-total, same-front, front-first, map-order}
+use Rattle.order.specs.OrderLaws.{compare-total, bytes-total, same-front, front-first, map-order}
 use Rattle.order.specs.OrderLaws.{then-eq, then-not-less, not-less-eq}
 use Rattle.order.specs.Tables.{SameLengths, alike-none, alike-more}
 use Rattle.lineorder.specs.LineOrder.{lineOrder, line-self, lines-self, ended-order}

@@ -7,8 +7,9 @@ use native.Mathlib.Omega.{arith}
 use native.Mathlib.Nat.{zero-add}
 use lib.ListN.{length}
 use Rattle.bits.specs.Digit.{on}
+use Rattle.cells.specs.CodesLaws.{on-low, on-high}
 use Rattle.cells.specs.Core.{Cell, cellsFrom, coreOf}
-use Rattle.cells.specs.Codes.{numberOf, rowOf, codeOf, on-low, on-high}
+use Rattle.cells.specs.Codes.{numberOf, rowOf, codeOf}
 
 cells-numbered : (l : List Cell) (i : ℕ) (rows codes : ℕ → ℕ)
     → ((o j : ℕ) → on (rows o) (i + j) ≡ on (rowOf l o) j)

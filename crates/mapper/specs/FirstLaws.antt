@@ -7,8 +7,9 @@ use mathlib.Core.List.{List}
 use Prim.Native.Nat.{ℕ, _≤_, _<_}
 use lib.ListN.{length}
 use Rattle.limits.specs.Limits.{maxCells}
+use Rattle.order.specs.Total.{NotLess}
+use Rattle.cells.specs.CodesLaws.{cells-length}
 use Rattle.order.specs.Order.{tableOrder, tablesOrder}
-use Rattle.order.specs.OrderLaws.{NotLess}
 use Rattle.sheet.specs.Examine.{Design}
 use Rattle.sheet.specs.WellFormed.{WellFormed}
 use Rattle.classes.specs.Proper.{Proper}
@@ -17,7 +18,6 @@ use Rattle.network.specs.Network.{Network}
 use Rattle.network.specs.NetworkFor.{nodeAt}
 use Rattle.network.specs.NamedLaws.{design-named}
 use Rattle.cells.specs.Core.{Cell, Serves, Differ, coreOf}
-use Rattle.cells.specs.Codes.{cells-length}
 use Rattle.cells.specs.Written.{tablesOf, readsOf}
 use Rattle.problem.specs.Problem.{labelAt, item}
 use Rattle.first.specs.First.{FirstCore, Answered}

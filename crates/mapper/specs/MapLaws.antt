@@ -8,6 +8,7 @@ use native.Mathlib.Omega.{arith}
 use lib.ListN.{length}
 use Rattle.bits.specs.LogicLaws.{true-false, true-unless}
 use Rattle.limits.specs.Limits.{maxCells}
+use Rattle.cells.specs.CodesLaws.{cells-length}
 use Rattle.sheet.specs.Examine.{Design}
 use Rattle.sheet.specs.WellFormed.{WellFormed}
 use Rattle.classes.specs.ProperLaws.{proper-of}
@@ -17,7 +18,6 @@ use Rattle.network.specs.Network.{Network}
 use Rattle.network.specs.NetworkFor.{NetworkFor}
 use Rattle.network.specs.Answers.{WithinLimits, Computes}
 use Rattle.cells.specs.Core.{Cell, Serves, Differ, coreOf, reading}
-use Rattle.cells.specs.Codes.{cells-length}
 use Rattle.problem.specs.Problem.{labelAt, item}
 use Rattle.first.specs.First.{Answered}
 use Rattle.serving.specs.NetworkCore.{networkCore, ServesDesign}

@@ -9,8 +9,8 @@ use lib.ListN.{length}
 use Rattle.limits.specs.Limits.{searchOutputs}
 use Rattle.bits.specs.Digit.{on}
 use Rattle.bits.specs.Values.{valuesUpto}
+use Rattle.order.specs.Total.{NotLess}
 use Rattle.order.specs.Order.{tableOrder}
-use Rattle.order.specs.OrderLaws.{NotLess}
 use Rattle.problem.specs.Problem.{item}
 use Rattle.relation.specs.Relation.{NoneLeft}
 
@@ -31,11 +31,6 @@ pub record Best (cl codes : List ℕ) (v o u budget n best : ℕ) : Type 0 where
   pub first : (f : ℕ) → f < n → Suits cl codes v o budget f → NotLess (setOrder u best f)
 
 -- r has the first sets that suit for the first n outputs
-pub record Filled (cl codes budgets : List ℕ) (v u n : ℕ) (r : List ℕ) : Type 0 where
+pub record FirstRows (cl codes budgets : List ℕ) (v u n : ℕ) (r : List ℕ) : Type 0 where
   pub long : length r ≡ searchOutputs
   pub done : (o : ℕ) → o < n → Best cl codes v o u (item budgets o) (2 ^ u) (item r o)
-
--- the first n numbers of r are those of codes
-pub record Copied (codes : List ℕ) (n : ℕ) (r : List ℕ) : Type 0 where
-  pub long : length r ≡ length codes
-  pub done : (x : ℕ) → x < n → item r x ≡ item codes x

@@ -4,7 +4,7 @@ use mathlib.Core.Path.{_≡_, refl, sym, _∙_, subst}
 use mathlib.Core.Bool.{true, false}
 use mathlib.Core.List.{List}
 use mathlib.Core.Logic.{inl, inr, ⊎-elim}
-use Prim.Native.Nat.{ℕ, _+_, _^_, _≤_, _<_}
+use Prim.Native.Nat.{ℕ, _+_, _^_, _<_}
 use native.Mathlib.Omega.{arith}
 use lib.ListN.{length, set, length-set}
 use lib.Pow.{pow-pos}
@@ -13,10 +13,12 @@ use Rattle.bits.specs.Digit.{on}
 use Rattle.bits.specs.Values.{valuesUpto}
 use Rattle.bits.specs.CountLaws.{less-or-equal}
 use Rattle.bits.specs.FilledLaws.{each-more}
+use Rattle.bits.specs.Filled.{Filled}
+use Rattle.order.specs.Total.{NotLess}
 use Rattle.order.specs.Order.{isLess, tableOrder}
-use Rattle.order.specs.OrderLaws.{NotLess, above-not-less, table-total}
+use Rattle.order.specs.OrderLaws.{above-not-less, table-total}
 use Rattle.problem.specs.Problem.{item}
-use Rattle.picking.specs.Best.{Suits, setOrder, Best, Filled, Copied}
+use Rattle.picking.specs.Best.{Suits, setOrder, Best, FirstRows}
 use Rattle.picking.specs.SoonerLaws.{set-self, empty-last}
 
 module _ (cl codes : List ℕ) (v o u budget : ℕ) where
@@ -58,19 +60,13 @@ module _ (cl codes : List ℕ) (v o u budget : ℕ) where
         (less-or-equal g f (omega arith));
   }
 
--- ======== arrays filled one after the other
-pub filled-one : (cl codes budgets : List ℕ) (v u n : ℕ) (r : List ℕ) (f : ℕ) → n < 8 → Best cl codes v n u (item budgets n) (2 ^ u) f
-    → Filled cl codes budgets v u n r → Filled cl codes budgets v u (n + 1) (set r n f)
-filled-one cl codes budgets v u n r f h b s = record {
+-- ---- arrays filled one after the other
+pub first-rows-more : (cl codes budgets : List ℕ) (v u n : ℕ) (r : List ℕ) (f : ℕ) → n < 8 → Best cl codes v n u (item budgets n) (2 ^ u) f
+    → FirstRows cl codes budgets v u n r → FirstRows cl codes budgets v u (n + 1) (set r n f)
+first-rows-more cl codes budgets v u n r f h b s = record {
   long = length-set r n f ∙ s .long;
   done = each-more (λ o f. Best cl codes v o u (item budgets o) (2 ^ u) f) n f r (let z = s .long in omega arith) b (s .done);
 }
 
-pub copied-more : (codes : List ℕ) (n : ℕ) (r : List ℕ) (x : ℕ) → n < length codes → x ≡ item codes n → Copied codes n r → Copied codes (n + 1) (set r n x)
-copied-more codes n r x h e s = record {
-  long = length-set r n x ∙ s .long;
-  done = each-more (λ k z. z ≡ item codes k) n x r (let z = s .long in omega arith) e (s .done);
-}
-
-pub copied-all : (codes : List ℕ) (n : ℕ) (r : List ℕ) → length codes ≤ n → Copied codes n r → r ≡ codes
-copied-all codes n r h s = ext-getD 0 r codes (s .long) (λ i k. s .done i (let z = s .long in omega arith))
+pub copied-all : (codes r : List ℕ) → length codes ≡ 32 → Filled 32 (item codes) 32 r → r ≡ codes
+copied-all codes r e s = ext-getD 0 r codes (s .long ∙ sym e) (λ i h. s .done i (let z = s .long in omega arith))

@@ -4,8 +4,8 @@ use mathlib.Core.Path.{_≡_}
 use mathlib.Core.List.{List}
 use Prim.Native.Nat.{ℕ, _^_, _<_}
 use lib.ListN.{length}
+use Rattle.order.specs.Total.{NotLess}
 use Rattle.order.specs.Order.{tableOrder}
-use Rattle.order.specs.OrderLaws.{NotLess}
 use Rattle.cells.specs.Core.{Cell, Serves, coreOf}
 use Rattle.cells.specs.Written.{tablesOf, readsOf}
 use Rattle.problem.specs.Problem.{item}

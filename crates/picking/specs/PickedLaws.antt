@@ -12,18 +12,19 @@ use Rattle.bits.specs.DigitLaws.{on-above}
 use Rattle.bits.specs.Values.{valuesUpto}
 use Rattle.bits.specs.LogicLaws.{never-both}
 use Rattle.bits.specs.Count.{count}
+use Rattle.bits.specs.CountLaws.{ones-count}
+use Rattle.order.specs.Total.{NotLess}
+use Rattle.cells.specs.PigeonLaws.{and-agree}
+use Rattle.cells.specs.CodesLaws.{number-lt, number-reading, number-apart, core-serves}
 use Rattle.order.specs.Order.{tableOrder}
-use Rattle.order.specs.OrderLaws.{NotLess}
 use Rattle.cells.specs.Core.{Cell, reading, Serves, coreOf}
 use Rattle.cells.specs.Written.{tablesOf}
-use Rattle.cells.specs.Pigeon.{and-agree}
-use Rattle.cells.specs.Codes.{rowOf, codeOf, number-lt, number-reading, number-apart, core-serves}
+use Rattle.cells.specs.Codes.{rowOf, codeOf}
 use Rattle.cells.specs.WrittenLaws.{reads-are-digits, same-tables-codes, core-code, core-reads}
-use Rattle.cells.specs.Sets.{ones-count}
 use Rattle.problem.specs.Problem.{item}
 use Rattle.relation.specs.Relation.{Conflict}
 use Rattle.picking.specs.Picked.{Picked}
-use Rattle.picking.specs.Best.{Suits, setOrder, Filled}
+use Rattle.picking.specs.Best.{Suits, setOrder, FirstRows}
 
 module _ (cl codes budgets : List ℕ) (v m u : ℕ) (rows : ℕ → ℕ) (l : List Cell) (long : length l ≡ u)
     (same : tablesOf v l ≡ tablesOf v (coreOf u rows (item codes))) (s : Serves v m (Conflict cl) (item budgets) l) (o : ℕ) (h : o < m) where
@@ -48,7 +49,7 @@ module _ (cl codes budgets : List ℕ) (v m u : ℕ) (rows : ℕ → ℕ) (l : L
       below i e (yes k) = k
       below i e (no k) = absurd (never-both e (on-above u (rowOf l o) i row-low (omega arith)))
 
-pub picked-of : (cl codes budgets : List ℕ) (v m u : ℕ) (r : List ℕ) → Filled cl codes budgets v u m r → Picked cl budgets v m u codes r
+pub picked-of : (cl codes budgets : List ℕ) (v m u : ℕ) (r : List ℕ) → FirstRows cl codes budgets v u m r → Picked cl budgets v m u codes r
 picked-of cl codes budgets v m u r f = record {
   low = λ o h. f .done o h .low;
   serves = λ l long same s.

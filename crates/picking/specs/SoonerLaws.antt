@@ -8,8 +8,9 @@ use Rattle.bits.specs.Digit.{on}
 use Rattle.bits.specs.DigitLaws.{on-zero, on-above, on-none}
 use Rattle.bits.specs.Values.{valuesUpto}
 use Rattle.bits.specs.ValuesLaws.{values-first, values-same, same-values}
+use Rattle.order.specs.Total.{NotLess}
 use Rattle.order.specs.Order.{then, listOrder, isLess, bitOrder, tableOrder}
-use Rattle.order.specs.OrderLaws.{NotLess, not-less-eq, then-not-less, neither-less, bit-total, table-total}
+use Rattle.order.specs.OrderLaws.{not-less-eq, then-not-less, neither-less, bit-total, table-total}
 use Rattle.order.specs.LeastLaws.{zero-low}
 use Rattle.picking.specs.Best.{setOrder}
 

@@ -12,9 +12,10 @@ use borrow.Author.Tests.{eq-eqb, ne-eqb}
 use Rattle.bits.specs.Logic.{pick}
 use Rattle.readers.specs.KnownLaws.{shared-fixed}
 use Rattle.readers.specs.MasksLaws.{coded-of, solves-of, start-agrees}
+use Rattle.cells.specs.SharedLaws.{gather}
 use Rattle.cells.specs.ListLaws.{all-map, zeros-are}
 use Rattle.cells.specs.Lists.{zeros}
-use Rattle.cells.specs.Shared.{block, sharedCode, Group, gather}
+use Rattle.cells.specs.Shared.{block, sharedCode, Group}
 use Rattle.problem.specs.Problem.{labelAt, partAt, partOf, item, Told, Hopeless}
 use Rattle.holding.specs.Wants.{need, share, needed}
 use Rattle.coding.specs.Tried.{Covers}

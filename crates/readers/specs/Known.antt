@@ -14,6 +14,8 @@ use Rattle.bits.specs.CountLaws.{less-or-equal}
 use Rattle.coding.specs.KnownLaws.{fitting-any}
 use Rattle.cells.specs.Pigeon.{agree-and, and-agree}
 use Rattle.cells.specs.Sets.{on-power-other}
+use Rattle.cells.specs.PigeonLaws.{agree-and, and-agree}
+use Rattle.cells.specs.SetsLaws.{on-power-other}
 use Rattle.cells.specs.Shared.{sharedCode}
 use Rattle.problem.specs.Problem.{item, Fixed, Knows}
 use Rattle.coding.specs.Known.{Fitting}

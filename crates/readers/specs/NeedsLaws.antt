@@ -18,11 +18,11 @@ use Rattle.bits.specs.LogicLaws.{and-left, and-right, and-true}
 use Rattle.bits.specs.Digit.{on}
 use Rattle.bits.specs.DigitLaws.{on-and, on-complement}
 use Rattle.bits.specs.Count.{count}
+use Rattle.cells.specs.PigeonLaws.{agree-and, and-agree, pigeon, buckets}
+use Rattle.cells.specs.Core.{Within}
 use Rattle.cells.specs.ListLaws.{all-map, pairs-map}
-use Rattle.cells.specs.Cut.{Within}
 use Rattle.cells.specs.Lists.{All, Pairs}
-use Rattle.cells.specs.Pigeon.{Agree, agree-and, and-agree, pigeon, buckets}
-use Rattle.cells.specs.Codes.{Coded}
+use Rattle.cells.specs.Codes.{Coded, Agree}
 use Rattle.cells.specs.Shared.{sharedCode}
 use Rattle.problem.specs.Problem.{labelAt, partAt, partOf, item}
 use Rattle.lowerbounds.specs.Reasons.{Kinds, apart, Reason, Based}

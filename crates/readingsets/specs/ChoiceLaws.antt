@@ -22,9 +22,11 @@ use Rattle.bits.specs.Digit.{digit, on}
 use Rattle.bits.specs.DigitLaws.{on-and, on-or, on-or-one, on-or-none, on-xor, on-ones, on-above, on-complement, on-single, on-none, on-zero, equal-digits}
 use Rattle.bits.specs.Count.{count}
 use Rattle.bits.specs.CountLaws.{less-or-equal, count-le, count-alike, count-drop}
-use Rattle.cells.specs.Codes.{Coded, on-half}
-use Rattle.cells.specs.Sets.{on-power-other}
-use Rattle.cells.specs.Reorder.{Exchangeable, InOrder, Exchanged, in-order-none, reordered}
+use Rattle.bits.specs.ShiftLaws.{on-half}
+use Rattle.cells.specs.SetsLaws.{on-power-other}
+use Rattle.cells.specs.ReorderLaws.{in-order-none, reordered}
+use Rattle.cells.specs.Codes.{Coded}
+use Rattle.cells.specs.Reorder.{Exchangeable, InOrder, Exchanged}
 use Rattle.problem.specs.Problem.{item, Fixed}
 use Rattle.relation.specs.Relation.{Left}
 use Rattle.subproblems.specs.Subproblem.{openOf, givenOf, Barred, Settled}

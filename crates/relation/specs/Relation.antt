@@ -6,8 +6,7 @@ use Prim.Native.Nat.{ℕ, _<_}
 use lib.Bits.{bitAnd}
 use lib.ListN.{length, getD}
 use Rattle.limits.specs.Limits.{maxVertices, labelCount}
-use Rattle.cells.specs.Core.{Differ}
-use Rattle.cells.specs.Cut.{Within}
+use Rattle.cells.specs.Core.{Differ, Within}
 use Rattle.problem.specs.Problem.{labelAt, partAt, item, Labels}
 
 -- the classes of the outputs at the vertices; an output has no more classes than there are vertices

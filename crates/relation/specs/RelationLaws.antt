@@ -1,28 +1,18 @@
--- Laws of what given tables leave: a conflict can be decided and has no order, no given table leaves every conflict, codes tell
--- apart what is left exactly when they tell the labels and parts apart, and one output has to tell apart no more than another
--- where that is so at each vertex for the vertices before it. Assumes nothing.
+-- Laws of what given tables leave: a conflict has no order, codes tell apart what is left exactly when they tell the labels and parts
+-- apart, and one output has to tell apart no more than another where that is so at each vertex for the vertices before it. Assumes
+-- nothing.
 use mathlib.Core.Path.{_≡_, refl, sym, _∙_, subst}
 use mathlib.Core.List.{List, [], _∷_}
 use mathlib.Core.Logic.{_⊎_, inl, inr}
 use Prim.Native.Nat.{ℕ, _+_, _≤_, _<_}
-use native.Mathlib.Decide.{ℕ-discrete}
 use native.Mathlib.Omega.{arith}
-use lib.Bits.{and-zero-r}
 use Rattle.bits.specs.CountLaws.{less-or-equal}
-use Rattle.cells.specs.Cut.{Within}
+use Rattle.cells.specs.Core.{Within}
 use Rattle.cells.specs.Codes.{Coded}
 use Rattle.problem.specs.Problem.{labelAt, partAt, item}
 use Rattle.relation.specs.Relation.{Conflict, Left, Leaves, NoneLeft, Inside}
 
-pub conflict-or-not : (cl : List ℕ) (o x y : ℕ) → Conflict cl o x y ⊎ (Conflict cl o x y → ⊥)
-unfolding Conflict
-conflict-or-not cl o x y = go (ℕ-discrete (labelAt cl o x) (labelAt cl o y))
-  where
-    go : Dec (labelAt cl o x ≡ labelAt cl o y) → (labelAt cl o x ≡ labelAt cl o y → ⊥) ⊎ ((labelAt cl o x ≡ labelAt cl o y → ⊥) → ⊥)
-    go (yes e) = inr (λ c. c e)
-    go (no d) = inl d
-
-pub conflict-sym : (cl : List ℕ) (o x y : ℕ) → Conflict cl o x y → Conflict cl o y x
+conflict-sym : (cl : List ℕ) (o x y : ℕ) → Conflict cl o x y → Conflict cl o y x
 unfolding Conflict
 conflict-sym cl o x y c e = c (sym e)
 
@@ -42,12 +32,6 @@ equal-no-conflict cl o x y e c = c e
 pub same-labels-conflict : (cl cl' : List ℕ) (o q x y : ℕ) → labelAt cl o x ≡ labelAt cl' q x → labelAt cl o y ≡ labelAt cl' q y → Conflict cl o x y → Conflict cl' q x y
 unfolding Conflict
 same-labels-conflict cl cl' o q x y a b c e = c (a ∙ e ∙ sym b)
-
-pub left-none-conflict : (cl given : List ℕ) (o x y : ℕ) → Left cl given 0 o x y → Conflict cl o x y
-left-none-conflict cl given o x y l = l .conflict
-
-pub conflict-left-none : (cl given : List ℕ) (o x y : ℕ) → Conflict cl o x y → Left cl given 0 o x y
-conflict-left-none cl given o x y c = record { conflict = c; agree = and-zero-r (item given x) ∙ sym (and-zero-r (item given y)) }
 
 module _ (cl given from gs : List ℕ) (n v : ℕ) (r : List ℕ) (s : Leaves cl given from gs n v r) (j : ℕ) (h : j ≤ n) (rows codes : ℕ → ℕ) where
   pub coded-left : Coded v j (Within (partAt r) (labelAt r)) rows codes → Coded v j (λ i x y. Left cl given (item gs i) (item from i) x y) rows codes

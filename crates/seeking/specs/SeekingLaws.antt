@@ -21,10 +21,12 @@ use Rattle.bits.specs.DigitLaws.{on-zero, on-and, on-xor, on-ones, on-above, on
 use Rattle.bits.specs.Count.{count}
 use Rattle.bits.specs.CountLaws.{count-alike}
 use Rattle.bits.specs.ShiftLaws.{on-cut}
+use Rattle.cells.specs.PigeonLaws.{agree-and, and-agree}
+use Rattle.cells.specs.FullSizeLaws.{code-first, full-of, full-serves, cleared-off, cleared-full}
+use Rattle.cells.specs.CodesLaws.{on-low, on-digits}
 use Rattle.cells.specs.Core.{Cell, Serves, cellsFrom, coreOf}
-use Rattle.cells.specs.Pigeon.{agree-and, and-agree}
-use Rattle.cells.specs.Codes.{Coded, codeOf, on-digits, on-low}
-use Rattle.cells.specs.FullSize.{Full, readBy, between, cleared, code-first, full-of, full-serves, cleared-full, cleared-off}
+use Rattle.cells.specs.Codes.{Coded, codeOf}
+use Rattle.cells.specs.FullSize.{Full, readBy, between, cleared}
 use Rattle.problem.specs.Problem.{item, Fixed}
 use Rattle.relation.specs.Relation.{Conflict}
 use Rattle.coding.specs.Limit.{noLimit, Sure}

@@ -11,8 +11,9 @@ use Rattle.bits.specs.Logic.{andb}
 use Rattle.bits.specs.Digit.{on}
 use Rattle.bits.specs.DigitLaws.{on-zero}
 use Rattle.bits.specs.LogicLaws.{never-both}
-use Rattle.cells.specs.Pigeon.{agree-and, and-agree}
-use Rattle.cells.specs.Codes.{digitsOf, on-digits, digits-none}
+use Rattle.cells.specs.PigeonLaws.{agree-and, and-agree}
+use Rattle.cells.specs.CodesLaws.{on-digits, digits-none}
+use Rattle.cells.specs.Codes.{digitsOf}
 use Rattle.subproblems.specs.Subproblem.{openOf, Barred}
 use Rattle.subproblems.specs.SubproblemLaws.{on-open}
 

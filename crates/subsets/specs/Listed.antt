@@ -12,3 +12,9 @@ pub record Lists (m s n : ℕ) (from : List ℕ) : Type 0 where
   pub small : (j : ℕ) → j < searchOutputs → getD from j 0 < searchOutputs
   pub count : n ≡ size m s
   pub each : (j : ℕ) → j < n → getD from j 0 ≡ memberAt m s j
+
+-- x stands at a place of the list l
+pub record Place (l : List ℕ) (x : ℕ) : Type 0 where
+  pub place : ℕ
+  pub within : place < length l
+  pub is-there : getD l place 0 ≡ x

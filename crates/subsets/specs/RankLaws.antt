@@ -1,5 +1,5 @@
--- Laws of ranks: the digits of a rank are those of the set turned round, so that the set with rank r is the rank of r, and a set is
--- decided by its rank; the earlier set has the greater rank. Assumes nothing.
+-- Laws of ranks: the digits of a rank are those of the set turned round, so that the set with rank r is the rank of r; the earlier
+-- set has the greater rank. Assumes nothing.
 use mathlib.Core.Path.{_≡_, refl, sym, ap, _∙_}
 use mathlib.Core.Bool.{Bool, true, false}
 use Prim.Native.Nat.{ℕ, zero, suc, _+_, _-_, _*_, _/_, _%_, _^_, _≤_, _<_}
@@ -54,7 +54,7 @@ next-on q d j h =
     ap (λ (x : ℕ). eqb (x % 2) 1)
     (ap (λ (k : ℕ). (q * 2 + d) / 2 ^ k) (sym (one-add j)) ∙ sym (shr-shr (q * 2 + d) 1 j) ∙ ap (λ (x : ℕ). x / 2 ^ j) e)
 
-pub rank-on : (m s j : ℕ) → j < m → on (rank m s) j ≡ on s (m - 1 - j)
+rank-on : (m s j : ℕ) → j < m → on (rank m s) j ≡ on s (m - 1 - j)
 unfolding rank
 rank-on zero s j h = absurd (omega arith)
 rank-on (suc m) s zero h = let e : m ≡ suc m - 1 - 0 = omega arith in lowest-on (rank m s) s m ∙ ap (on s) e
@@ -71,9 +71,6 @@ rank-rank m s h = equal-digits (rank m (rank m s)) s (λ k. at k (decLt k m))
         let e : m - 1 - (m - 1 - k) ≡ k = omega arith in
         rank-on m (rank m s) k l ∙ rank-on m s (m - 1 - k) (omega arith) ∙ ap (on s) e
     at k (no g) = on-above m (rank m (rank m s)) k (rank-below m (rank m s)) (omega arith) ∙ sym (on-above m s k h (omega arith))
-
-pub same-rank : (m s t : ℕ) → s < 2 ^ m → t < 2 ^ m → rank m s ≡ rank m t → s ≡ t
-same-rank m s t h k e = sym (rank-rank m s h) ∙ ap (rank m) e ∙ rank-rank m t k
 
 -- ======== the set of no outputs has rank 0, and only it
 rank-empty : (m : ℕ) → rank m 0 ≡ 0

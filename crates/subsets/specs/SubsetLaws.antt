@@ -12,10 +12,11 @@ use lib.Pow.{pow-pos, pow-mono}
 use Rattle.bits.specs.Digit.{on}
 use Rattle.bits.specs.DigitLaws.{on-above, on-none, on-ones}
 use Rattle.bits.specs.LogicLaws.{either}
+use Rattle.subsets.specs.Listed.{Place}
 use Rattle.subsets.specs.Subset.{selected, members, size, memberAt, SomeOf}
 
 -- ---- each member is in the set, among the k numbers from i on
-pub record Member (s i k x : ℕ) : Type 0 where
+record Member (s i k x : ℕ) : Type 0 where
   pub from-start : i ≤ x
   pub to-end : x < i + k
   pub inside : on s x ≡ true
@@ -35,7 +36,7 @@ first-or-later : (s i k : ℕ) (l : List ℕ)
 first-or-later s i k l e later zero h = record { from-start = omega arith; to-end = omega arith; inside = e }
 first-or-later s i k l e later (suc j) h = later j (omega arith)
 
-pub each-member : (s i k j : ℕ) → j < length (members s i k) → Member s i k (getD (members s i k) j 0)
+each-member : (s i k j : ℕ) → j < length (members s i k) → Member s i k (getD (members s i k) j 0)
 unfolding members
 each-member s i zero = λ j h. absurd (omega arith)
 each-member s i (suc k) =
@@ -71,7 +72,7 @@ members-rise-from s i (suc k) =
     (λ e. rw e later)
     (either (on s i))
 
-pub members-rise : (m s j n : ℕ) → j < n → n < size m s → memberAt m s j < memberAt m s n
+members-rise : (m s j n : ℕ) → j < n → n < size m s → memberAt m s j < memberAt m s n
 members-rise m s = members-rise-from s 0 m
 
 pub members-distinct : (m s j n : ℕ) → j < size m s → n < size m s → memberAt m s j ≡ memberAt m s n → j ≡ n
@@ -85,11 +86,6 @@ members-distinct m s j n h g e =
     ]
 
 -- ---- every number of the set is a member
-pub record Place (l : List ℕ) (x : ℕ) : Type 0 where
-  pub place : ℕ
-  pub within : place < length l
-  pub is-there : getD l place 0 ≡ x
-
 place-later : (i x : ℕ) (l : List ℕ) → Place l x → Place (i ∷ l) x
 place-later i x l p =
     let h : p .place < length l = p .within in

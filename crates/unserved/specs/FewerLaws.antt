@@ -9,8 +9,9 @@ use native.Mathlib.Omega.{arith}
 use Rattle.bits.specs.Digit.{on}
 use Rattle.bits.specs.DigitLaws.{on-zero}
 use Rattle.bits.specs.LogicLaws.{never-both}
+use Rattle.cells.specs.RenumberedLaws.{serves-as, renumbered-length, renumbered-reads-as}
 use Rattle.cells.specs.Core.{Differ}
-use Rattle.cells.specs.Renumbered.{renumbered, serves-as, renumbered-length, renumbered-reads-as}
+use Rattle.cells.specs.Renumbered.{renumbered}
 use Rattle.problem.specs.Problem.{labelAt, item}
 use Rattle.relation.specs.Relation.{Conflict}
 use Rattle.dominance.specs.Kept.{StandFor}

@@ -8,10 +8,12 @@ use native.Mathlib.Decide.{decLt}
 use native.Mathlib.Omega.{arith}
 use lib.ListN.{length}
 use Rattle.bits.specs.LogicLaws.{true-false}
+use Rattle.cells.specs.RenumberedLaws.{renumbered-length}
+use Rattle.cells.specs.FreeLaws.{padded-length, padded-serves}
+use Rattle.cells.specs.CodesLaws.{cells-length}
 use Rattle.cells.specs.Core.{Cell, Serves}
-use Rattle.cells.specs.Codes.{cells-length}
-use Rattle.cells.specs.Free.{padded, padded-length, padded-serves}
-use Rattle.cells.specs.Renumbered.{renumbered, renumbered-length}
+use Rattle.cells.specs.Free.{padded}
+use Rattle.cells.specs.Renumbered.{renumbered}
 use Rattle.problem.specs.Problem.{item}
 use Rattle.relation.specs.Relation.{Conflict}
 use Rattle.subproblems.specs.Subproblem.{openOf}

@@ -13,7 +13,7 @@ use Rattle.bits.specs.DigitLaws.{on-single, on-xor}
 use Rattle.bits.specs.Count.{count}
 use Rattle.bits.specs.CountLaws.{count-drop}
 use Rattle.bits.specs.LogicLaws.{xor-false}
-use Rattle.cells.specs.Sets.{on-power-other}
+use Rattle.cells.specs.SetsLaws.{on-power-other}
 use Rattle.subsets.specs.Subset.{members, size}
 use Rattle.subsets.specs.ListedLaws.{members-more}
 

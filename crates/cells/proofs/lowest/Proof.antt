@@ -1,5 +1,5 @@
-use Rattle.cells.specs.Sets.{lowest-on}
 use native.Mathlib.Omega.{arith}
+use Rattle.cells.specs.SetsLaws.{lowest-on}
 use Rattle.cells.proofs.lowest.Statement.{statement}
 use Rattle.cells.proofs.lowest.Tie as tie
 use Rattle.cells.proofs.lowest.Reads as reads

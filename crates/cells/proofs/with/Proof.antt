@@ -1,8 +1,9 @@
-use Rattle.cells.specs.Sets.{With, with-power}
+use Rattle.cells.specs.Sets.{With}
 use lib.Bits.{bitOr}
 use Prim.Native.Nat.{ℕ}
 use mathlib.Core.Path.{subst, sym}
 use borrow.Author.Needs.{needs}
+use Rattle.cells.specs.SetsLaws.{with-power}
 use Rattle.cells.proofs.with.Statement.{statement}
 use Rattle.cells.proofs.with.Tie as tie
 use Rattle.cells.proofs.with.Reads as reads

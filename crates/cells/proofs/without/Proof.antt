@@ -1,8 +1,9 @@
-use Rattle.cells.specs.Sets.{Without, without-power}
+use Rattle.cells.specs.Sets.{Without}
 use lib.Bits.{bitAnd}
 use Prim.Native.Nat.{ℕ, _-_, _^_}
 use mathlib.Core.Path.{subst, sym}
 use borrow.Author.Needs.{needs}
+use Rattle.cells.specs.SetsLaws.{without-power}
 use Rattle.cells.proofs.without.Statement.{statement}
 use Rattle.cells.proofs.without.Tie as tie
 use Rattle.cells.proofs.without.Reads as reads

@@ -1,11 +1,11 @@
 use mathlib.Core.Path.{_≡_, refl, sym, subst}
 use mathlib.Core.List.{List}
-use Prim.Native.Nat.{ℕ, _-_, _≤_}
+use Prim.Native.Nat.{ℕ, _-_}
 use native.Mathlib.Omega.{arith}
 use lib.ListN.{length}
 use Rattle.picking.specs.Picked.{Picked}
-use Rattle.picking.specs.Best.{Filled}
-use Rattle.picking.specs.BestLaws.{filled-one}
+use Rattle.picking.specs.Best.{FirstRows}
+use Rattle.picking.specs.BestLaws.{first-rows-more}
 use Rattle.picking.specs.PickedLaws.{picked-of}
 use borrow.Author.Needs.{needs}
 use Rattle.picking.proofs.first_rows.Statement.{statement}
@@ -16,7 +16,7 @@ use Rattle.picking.proofs.first_row.Reads as first-row-reads
 use Rattle.picking.proofs.widened.Reads as widened-reads
 
 abbrev Inv-loop : tie.InvT-loop
-Inv-loop cl v m u budgets tables r₀ o₀ r o = (o ≤ m) × (length tables ≡ 32) × Filled cl tables budgets v u o r
+Inv-loop cl v m u budgets tables r₀ o₀ r o = (length tables ≡ 32) × FirstRows cl tables budgets v u o r
 
 abbrev μ-loop : tie.MeasureT-loop
 μ-loop cl v m u budgets tables r₀ o₀ r o = m - o
@@ -27,10 +27,10 @@ widened-requires c κs = search needs
 loop-holds : tie.Need-loop-holds Inv-loop μ-loop
 loop-holds c =
     let long : length (c .widened .result) ≡ 32 = search needs in
-    (omega arith, long, record { long = refl; done = λ o h. absurd (omega arith) })
+    (long, record { long = refl; done = λ o h. absurd (omega arith) })
 
 slice-aggregate-first-row : tie.Need-slice-aggregate-first-row Inv-loop μ-loop
-slice-aggregate-first-row c = sym (c .before .before .loop .inv .1)
+slice-aggregate-first-row c = sym (c .before .before .loop .inv .0)
 
 array-read-first-row : tie.Need-array-read-first-row Inv-loop μ-loop
 array-read-first-row c =
@@ -44,13 +44,13 @@ first-row-requires c κs =
     let p = c .before .before .before .before .before .pre in
     let outs = p .2 in
     let h = c .before .loop-test .taken in
-    (p .0, loop .inv .1, p .1, omega arith, p .3)
+    (p .0, loop .inv .0, p .1, omega arith, p .3)
 
 array-write-r : tie.Need-array-write-r Inv-loop μ-loop
 array-write-r c =
     let outs = c .before .before .before .before .before .before .pre .2 in
     let h = c .before .before .loop-test .taken in
-    let long = c .before .before .before .loop .inv .2 .long in
+    let long = c .before .before .before .loop .inv .1 .long in
     search needs
 
 add-o : tie.Need-add-o Inv-loop μ-loop
@@ -64,24 +64,22 @@ loop-again c =
     let a = c .before .before .before .before .before .before .args in
     let outs = c .before .before .before .before .before .before .pre .2 in
     let tables = c .before .before .before .before .widened .result in
-    let l = c .before .before .before .loop in
+    let loop = c .before .before .before .loop in
     let h = c .before .before .loop-test .taken in (
-      omega arith,
-      l .inv .1,
-      filled-one (a .cl .now) tables (a .t3) (a .v) (a .u) (l .o) (l .r) _ (omega arith) (c .first-row .ensures) (l .inv .2),
+      loop .inv .0,
+      first-rows-more (a .cl .now) tables (a .t3) (a .v) (a .u) (loop .o) (loop .r) _ (omega arith) (c .first-row .ensures) (loop .inv .1),
     )
 
 returns : tie.Need-returns Inv-loop μ-loop
 returns c =
     let a = c .before .before .before .before .args in
     let w = c .before .before .widened in
-    let l = c .before .loop in
+    let loop = c .before .loop in
     let h = c .loop-test .left in
-    let z = l .inv .0 in
-    let all : Filled (a .cl .now) (w .result) (a .t3) (a .v) (a .u) (a .m) (l .r) =
-    subst (λ (n : ℕ). Filled (a .cl .now) (w .result) (a .t3) (a .v) (a .u) n (l .r)) (omega arith) (l .inv .2) in
-    subst (λ (codes : List ℕ). Picked (a .cl .now) (a .t3) (a .v) (a .m) (a .u) codes (l .r)) (w .ensures)
-    (picked-of (a .cl .now) (w .result) (a .t3) (a .v) (a .m) (a .u) (l .r) all)
+    let rows = loop .inv .1 in
+    let all : FirstRows (a .cl .now) (w .result) (a .t3) (a .v) (a .u) (a .m) (loop .r) = record { long = rows .long; done = λ o k. rows .done o (omega arith) } in
+    subst (λ (codes : List ℕ). Picked (a .cl .now) (a .t3) (a .v) (a .m) (a .u) codes (loop .r)) (w .ensures)
+    (picked-of (a .cl .now) (w .result) (a .t3) (a .v) (a .m) (a .u) (loop .r) all)
 
 pub first-rows-spec : {M : Type 1} → statement M
 first-rows-spec =

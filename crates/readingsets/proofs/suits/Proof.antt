@@ -1,11 +1,11 @@
 use mathlib.Core.Path.{sym, subst}
 use Prim.Native.Nat.{ℕ}
 use lib.Dec.{eqb}
-use Rattle.cells.specs.Sets.{ones-count}
 use Rattle.readingsets.specs.Choice.{Suits, disorder}
 use Rattle.readingsets.specs.ChoiceLaws.{suits-count, suits-not}
 use lib.Count.{ones}
 use borrow.Author.Needs.{needs}
+use Rattle.bits.specs.CountLaws.{ones-count}
 use Rattle.readingsets.proofs.suits.Statement.{statement}
 use Rattle.readingsets.proofs.suits.Tie as tie
 

@@ -2,8 +2,10 @@ use native.Mathlib.Omega.{arith}
 use Prim.Native.Nat.{ℕ, _≤_, _-_, _*_, _/_}
 use mathlib.Core.Path.{_≡_, refl, subst}
 use Rattle.limits.specs.Limits.{maxVertices, labelCount}
+use Rattle.bits.specs.FilledLaws.{filled-none}
+use Rattle.relation.specs.RefiningLaws.{copied-more}
 use Rattle.cells.specs.ListLaws.{zeros-are}
-use Rattle.relation.specs.Refining.{Copied, copied-more}
+use Rattle.relation.specs.Refining.{Copied}
 use borrow.Author.Needs.{needs}
 use Rattle.relation.proofs.copied.Statement.{statement}
 use Rattle.relation.proofs.copied.Tie as tie
@@ -21,7 +23,7 @@ mul-end : tie.Need-mul-end Inv-loop μ-loop
 mul-end c = let z = c .before .pre .2 in search needs
 
 loop-holds : tie.Need-loop-holds Inv-loop μ-loop
-loop-holds c = (omega arith, refl, record { long = refl; done = λ l h. absurd (omega arith); rest = λ l h. zeros-are (2 * labelCount) l })
+loop-holds c = (omega arith, refl, record { filled = filled-none _ _ refl; rest = λ l h. zeros-are (2 * labelCount) l })
 
 array-read-o : tie.Need-array-read-o Inv-loop μ-loop
 array-read-o c =

@@ -3,8 +3,9 @@ use Prim.Native.Nat.{ℕ, _+_, _≤_, _-_}
 use mathlib.Core.List.{List}
 use mathlib.Core.Logic.{⊎-elim}
 use mathlib.Core.Path.{sym, subst}
-use Rattle.relation.specs.Refining.{Cutting, cutting-start, cutting-none, cutting-more, cutting-leaves}
+use Rattle.relation.specs.Refining.{Cutting}
 use borrow.Author.Needs.{needs}
+use Rattle.relation.specs.RefiningLaws.{cutting-start, cutting-none, cutting-more, cutting-leaves}
 use Rattle.relation.proofs.cut.Statement.{statement}
 use Rattle.relation.proofs.cut.Tie as tie
 use Rattle.relation.proofs.cut.Reads as reads

@@ -2,8 +2,9 @@ use native.Mathlib.Omega.{arith}
 use Prim.Native.Nat.{ℕ, _<_, _≤_, _-_}
 use mathlib.Core.Logic.{⊎-elim}
 use mathlib.Core.Path.{refl, subst}
-use Rattle.relation.specs.Refining.{Numbers, Numbering, numbering-start, numbering-old, numbering-new}
+use Rattle.relation.specs.Refining.{Numbers, Numbering}
 use borrow.Author.Needs.{needs}
+use Rattle.relation.specs.RefiningLaws.{numbering-start, numbering-old, numbering-new}
 use Rattle.relation.proofs.numbers.Statement.{statement}
 use Rattle.relation.proofs.numbers.Tie as tie
 use Rattle.relation.proofs.numbers.Reads as reads

@@ -1,9 +1,10 @@
 use native.Mathlib.Omega.{arith}
-use Prim.Native.Nat.{ℕ, _≤_, _+_, _*_, _-_}
-use mathlib.Core.Path.{refl, ap, subst}
+use Prim.Native.Nat.{ℕ, _+_, _*_, _-_}
+use mathlib.Core.Path.{refl, ap}
 use Rattle.limits.specs.Limits.{maxVertices}
+use Rattle.bits.specs.FilledLaws.{filled-none, filled-more, filled-fewer}
 use Rattle.problem.specs.Problem.{item}
-use Rattle.relation.specs.Refining.{Paired, paired-more}
+use Rattle.relation.specs.Refining.{Paired}
 use borrow.Author.Needs.{needs}
 use Rattle.relation.proofs.pairs.Statement.{statement}
 use Rattle.relation.proofs.pairs.Tie as tie
@@ -12,13 +13,13 @@ use Rattle.relation.proofs.pairs.Lts as lts
 use Rattle.problem.proofs.label.Reads as label-reads
 
 abbrev Inv-loop : tie.InvT-loop
-Inv-loop cl o v parts r₀ x₀ r x = (x ≤ v) × Paired cl o parts x r
+Inv-loop cl o v parts r₀ x₀ r x = Paired cl o parts x r
 
 abbrev μ-loop : tie.MeasureT-loop
 μ-loop cl o v parts r₀ x₀ r x = v - x
 
 loop-holds : tie.Need-loop-holds Inv-loop μ-loop
-loop-holds c = (omega arith, record { long = refl; each = λ y h. absurd (omega arith) })
+loop-holds c = filled-none _ _ refl
 
 array-read-p : tie.Need-array-read-p Inv-loop μ-loop
 array-read-p c = let z = c .before .before .before .pre .2 in search needs
@@ -83,17 +84,13 @@ loop-less c = search needs
 loop-again : tie.Need-loop-again Inv-loop μ-loop
 loop-again c =
     let start = c .before .before .before .before in
-    let l = c .before .before .loop in
-    let h = c .before .loop-test .taken in
-    let z = start .pre .2 in
-    let e = ap (λ (n : ℕ). item (start .args .t3) (l .x) * maxVertices + n) (c .label .ensures) in
-    (omega arith, paired-more (start .args .cl .now) (start .args .o) (start .args .t3) (l .x) _ (l .r) (omega arith) e (l .inv .1))
+    let loop = c .before .before .loop in
+    let test = c .before .loop-test .taken in
+    let few = start .pre .2 in
+    filled-more _ (omega arith) (ap (λ (n : ℕ). item (start .args .t3) (loop .x) * maxVertices + n) (c .label .ensures)) (loop .inv)
 
 returns : tie.Need-returns Inv-loop μ-loop
-returns c =
-    let start = c .before .before .before in
-    let l = c .before .loop in
-    subst (λ (z : ℕ). Paired (start .args .cl .now) (start .args .o) (start .args .t3) z (l .r)) (let h = c .loop-test .left in let z = l .inv .0 in omega arith) (l .inv .1)
+returns c = filled-fewer (c .loop-test .left) (c .before .loop .inv)
 
 pub pairs-spec : {M : Type 1} → statement M
 pairs-spec =

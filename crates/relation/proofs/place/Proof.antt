@@ -1,8 +1,9 @@
 use native.Mathlib.Omega.{arith}
 use Prim.Native.Nat.{ℕ, _≤_, _-_}
 use mathlib.Core.Path.{refl, subst}
-use Rattle.relation.specs.Refining.{Placed, placed-start, placed-more}
+use Rattle.relation.specs.Refining.{Placed}
 use borrow.Author.Needs.{needs}
+use Rattle.relation.specs.RefiningLaws.{placed-start, placed-more}
 use Rattle.relation.proofs.place.Statement.{statement}
 use Rattle.relation.proofs.place.Tie as tie
 use Rattle.relation.proofs.place.Reads as reads

@@ -1,4 +1,3 @@
-use Rattle.relation.specs.Refining.{fine, placed-refined}
 use Rattle.relation.proofs.refine.Statement.{statement}
 use Rattle.relation.proofs.refine.Tie as tie
 use Rattle.relation.proofs.refine.Reads as reads
@@ -7,6 +6,7 @@ use Rattle.relation.proofs.values.Reads as values-reads
 use Rattle.relation.proofs.numbers.Reads as numbers-reads
 use Rattle.relation.proofs.pairs.Reads as pairs-reads
 use Rattle.relation.proofs.place.Reads as place-reads
+use Rattle.relation.specs.RefiningLaws.{fine, placed-refined}
 
 values-requires : tie.Need-values-requires
 values-requires c κs = let p = c .before .before .pre in (p .1, p .3)

@@ -1,21 +1,22 @@
 use native.Mathlib.Omega.{arith}
-use Prim.Native.Nat.{ℕ, _≤_, _-_}
-use mathlib.Core.Path.{refl, subst}
-use Rattle.relation.specs.Refining.{Valued, valued-more}
+use Prim.Native.Nat.{_-_}
+use mathlib.Core.Path.{refl}
+use Rattle.relation.specs.Refining.{Valued}
 use borrow.Author.Needs.{needs}
+use Rattle.bits.specs.FilledLaws.{filled-none, filled-more, filled-fewer}
 use Rattle.relation.proofs.values.Statement.{statement}
 use Rattle.relation.proofs.values.Tie as tie
 use Rattle.relation.proofs.values.Reads as reads
 use Rattle.relation.proofs.values.Lts as lts
 
 abbrev Inv-loop : tie.InvT-loop
-Inv-loop given g v r₀ x₀ r x = (x ≤ v) × Valued given g x r
+Inv-loop given g v r₀ x₀ r x = Valued given g x r
 
 abbrev μ-loop : tie.MeasureT-loop
 μ-loop given g v r₀ x₀ r x = v - x
 
 loop-holds : tie.Need-loop-holds Inv-loop μ-loop
-loop-holds c = (omega arith, record { long = refl; each = λ y h. absurd (omega arith) })
+loop-holds c = filled-none _ _ refl
 
 mul-r : tie.Need-mul-r Inv-loop μ-loop
 mul-r c = let z = c .before .before .pre .1 in search needs
@@ -37,17 +38,12 @@ loop-less c = search needs
 
 loop-again : tie.Need-loop-again Inv-loop μ-loop
 loop-again c =
-    let start = c .before .before .before in
-    let l = c .before .before .loop in
-    let h = c .before .loop-test .taken in
-    let z = start .pre .1 in
-    (omega arith, valued-more (start .args .given .now) (start .args .g) (l .x) _ (l .r) (omega arith) refl (l .inv .1))
+    let few = c .before .before .before .pre .1 in
+    let test = c .before .loop-test .taken in
+    filled-more _ (omega arith) refl (c .before .before .loop .inv)
 
 returns : tie.Need-returns Inv-loop μ-loop
-returns c =
-    let start = c .before .before in
-    let l = c .before .loop in
-    subst (λ (z : ℕ). Valued (start .args .given .now) (start .args .g) z (l .r)) (let h = c .loop-test .left in let z = l .inv .0 in omega arith) (l .inv .1)
+returns c = filled-fewer (c .loop-test .left) (c .before .loop .inv)
 
 pub values-spec : {M : Type 1} → statement M
 values-spec =

@@ -1,6 +1,7 @@
--- Pigeonhole for codes. Numbers that differ pairwise in the digits of a mask are at most 2 to the number of its digits:
--- each digit of the mask splits the list in two, and what is left when no digit is left is one number at most.
--- Buckets: where each bucket holds at most n, a list has at most n times as many elements as buckets. Assumes nothing.
+-- Numbers agree in the digits of a mask exactly when the mask leaves the same of both. Pigeonhole for codes: numbers that differ
+-- pairwise in the digits of a mask are at most 2 to the number of its digits, since each digit of the mask splits the list in two, and
+-- what is left when no digit is left is one number at most. Buckets: where each bucket holds at most n, a list has at most n times as
+-- many elements as buckets. Assumes nothing.
 use mathlib.Core.Path.{_≡_, refl, sym, ap, _∙_, subst}
 use mathlib.Core.Bool.{Bool, true, false, not}
 use mathlib.Core.List.{List, [], _∷_}
@@ -19,12 +20,9 @@ use Rattle.bits.specs.DigitLaws.{on-and, on-above, equal-digits}
 use Rattle.bits.specs.LogicLaws.{never-both, and-true, and-false}
 use Rattle.bits.specs.Count.{count}
 use Rattle.bits.specs.CountLaws.{less-or-equal}
+use Rattle.cells.specs.Codes.{Agree}
 use Rattle.cells.specs.ListLaws.{all-both, all-map, all-part, pairs-map, pairs-part, part-has, part-length}
 use Rattle.cells.specs.Lists.{All, Pairs, part}
-
--- a and b agree in the digits of mask below u
-abbrev pub Agree : ℕ → ℕ → ℕ → ℕ → Type 0
-Agree u mask a b = (i : ℕ) → i < u → on mask i ≡ true → on a i ≡ on b i
 
 -- numbers agree in the digits of a mask exactly when the mask leaves the same of both
 pub agree-and : (u mask a b : ℕ) → mask < 2 ^ u → Agree u mask a b → bitAnd a mask ≡ bitAnd b mask
@@ -47,7 +45,7 @@ no-two R (x ∷ []) h p = omega arith
 no-two R (x ∷ y ∷ xs) h p = absurd (h x y (p .0 .0))
 
 module _ (f : ℕ → ℕ) (mask : ℕ) where
-  abbrev pub Apart : ℕ → ℕ → ℕ → Type 0
+  abbrev Apart : ℕ → ℕ → ℕ → Type 0
   Apart u x y = Agree u mask (f x) (f y) → ⊥
 
   pub pigeon : (u : ℕ) (xs : List ℕ) → Pairs (Apart u) xs → length xs ≤ 2 ^ count (on mask) u
