@@ -13,9 +13,9 @@ use Rattle.names.specs.Pack.{nameOf}
 use Rattle.sheet.specs.declared.Sheet.{Sheet}
 use Rattle.sheet.proofs.Sheet as sheet
 use Rattle.sheet.proofs.Arrays.{names-sized, outs-sized}
-use Rattle.netnames.specs.Listed.{maxNames, shown}
-use Rattle.netnames.specs.declared.Names.{Names}
-use Rattle.netnames.proofs.Names as names
+use Rattle.network.specs.Shown.{maxNames, shown}
+use Rattle.network.specs.declared.Names.{Names}
+use Rattle.network.proofs.Names as names
 use Rattle.netlines.proofs.Arrays.{items-counted}
 
 pub shown-counted : (n : Names) {vs : List Val} → Is names.the-row n vs → n .count ≤ maxNames → length (shown n) ≡ n .count

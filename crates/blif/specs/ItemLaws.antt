@@ -22,7 +22,7 @@ use Rattle.network.specs.Printer.{printDigits}
 use Rattle.emit.specs.Written.{itemRoom, Written}
 use Rattle.emit.specs.PutLaws.{put-none, put-next, put-same}
 use Rattle.netnames.specs.Listed.{underscore, zeroByte, oneDigit}
-use Rattle.netnames.specs.ShownLaws.{front-more}
+use Rattle.network.specs.ShownLaws.{front-more}
 use Rattle.netnames.specs.NumbersLaws.{digit-held}
 use Rattle.blif.specs.Printer.{cellName}
 use Rattle.emit.specs.Upto.{textsUpto}

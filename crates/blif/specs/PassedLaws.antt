@@ -27,9 +27,8 @@ use Rattle.network.specs.LineAnswer.{Stands}
 use Rattle.network.specs.NetworkFor.{nodeAt}
 use Rattle.network.specs.TableBoundLaws.{node-narrow}
 use Rattle.comparing.specs.DrawingLaws.{digit-stands}
-use Rattle.netnames.specs.Listed.{item}
-use Rattle.netlines.specs.KnownLaws.{held-name}
-use Rattle.netlines.specs.WrittenLaws.{bound-named}
+use Rattle.network.specs.Shown.{item}
+use Rattle.network.specs.HeldNameLaws.{held-name, bound-named}
 use Rattle.blif.specs.Printer.{cellName, rowLine, rowLines, block, lutBlocks, nodeBlocks, blifLines, printBlif}
 use Rattle.emit.specs.Upto.{textsUpto}
 use Rattle.blif.specs.Texts.{rowText, rowsText, blockText, digitsAt, lutText, nodeText, headText}

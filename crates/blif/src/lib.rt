@@ -20,7 +20,8 @@ ghost use Rattle.network.specs.Printer.{printDigits};
 ghost use Rattle.comparing.specs.Code.{isOne};
 ghost use Rattle.emit.specs.Upto.{textsUpto};
 ghost use Rattle.emit.specs.Written.{reach, itemRoom, Written};
-ghost use Rattle.netnames.specs.Listed.{oneDigit, shown};
+ghost use Rattle.network.specs.Shown.{shown};
+ghost use Rattle.netnames.specs.Listed.{oneDigit};
 ghost use Rattle.blif.specs.Printer.{cellName, rowLine, printBlif};
 ghost use Rattle.blif.specs.Export as spec;
 ghost use Rattle.blif.specs.Answer.{exportAnswer};
@@ -28,8 +29,8 @@ ghost use Rattle.blif.specs.Room.{headRoom, cellsRoom, rowRoom, rowsRoom
 ghost use Rattle.blif.specs.Texts.{cellText, digitsAt, rowsText, blockText, lutText, nodeText, headText};
 ghost use Rattle.blif.specs.Ready.{LutsReady, NodeReady, NodesReady, SomePassed, Passed};
 use design::Examined;
-use netnames::Names;
 use netsheet::NetworkSheet;
+use network::Names;
 use sheet::Sheet;
 
 // Export's answer: the refusal, or how many bytes were written.
@@ -259,8 +260,8 @@ fn put_blif(buf: &mut [u8], t: &[u8], k: Sheet, n: NetworkSheet) -> usize
 {
     let names = k.names;
     let places = k.bound;
-    let bs = netnames::bound_names(names, places, k.bounds);
-    let fs = netnames::free_names(names, k.inputs, bs);
+    let bs = network::bound_names(names, places, k.bounds);
+    let fs = network::free_names(names, k.inputs, bs);
     let p = put_head(buf, 0, k);
     let q = put_luts(buf, p, t, bs, n);
     let r = put_nodes(buf, q, t, fs, k, n);

@@ -71,7 +71,7 @@ designed x e h g f =
 
 module _ {x : sheets.Examined} {k : Sheet} (g : Designed x k) where
   pub designed-ranged : Ranged k
-  designed-ranged = holds-ranged (g .design) k (g .holds) (g .proper)
+  designed-ranged = holds-ranged (g .design) k (g .holds)
 
   pub designed-counts : Counts k
   designed-counts = proper-counts (g .design) k (g .holds) (g .proper)

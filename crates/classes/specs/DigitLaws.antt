@@ -7,15 +7,15 @@ use mathlib.Core.List.{List, [], _∷_, _++_, map, map-append, map-map}
 use Prim.Native.Nat.{ℕ, suc, _+_, _-_, _*_, _^_, _<_}
 use native.Mathlib.Decide.{decLt}
 use native.Mathlib.Omega.{arith}
-use native.Mathlib.Nat.{add-zero, mul-assoc, pow-suc}
+use native.Mathlib.Nat.{mul-assoc, pow-suc}
 use native.Mathlib.Numerals.{add-one}
 use lib.ListN.{length, length-map, length-append}
-use lib.Pow.{high, low, pow-pos}
+use lib.Pow.{high, low}
 use Rattle.bits.specs.LogicLaws.{true-false, either}
 use Rattle.bits.specs.Digit.{on}
-use Rattle.bits.specs.DigitLaws.{on-zero, on-above}
+use Rattle.bits.specs.DigitLaws.{on-above}
 use Rattle.bits.specs.Logic.{bit}
-use Rattle.bits.specs.ShiftLaws.{on-cut}
+use Rattle.bits.specs.ShiftLaws.{on-cut, on-shifted, on-below-shifted}
 use Rattle.names.specs.Name.{Name, sameName, among}
 use Rattle.rows.specs.Row.{rowOf}
 use Rattle.rows.specs.RowLaws.{row-lt}
@@ -34,22 +34,15 @@ module _ (b x y : ℕ) (l : x < 2 ^ b) where
   pub on-upper : (p : ℕ) → on (y * 2 ^ b + x) (b + p) ≡ on y p
   on-upper p = sym (on-high b (y * 2 ^ b + x) p) ∙ ap (λ (z : ℕ). on z p) (high y b l)
 
-on-multiple : (b y p : ℕ) → p < b → on (y * 2 ^ b) p ≡ false
-on-multiple b y p h =
-    ap (λ (z : ℕ). on z p) (sym (add-zero (y * 2 ^ b))) ∙ on-lower b 0 y (pow-pos b) p h ∙ on-zero p
-
-on-multiple-upper : (b y p : ℕ) → on (y * 2 ^ b) (b + p) ≡ on y p
-on-multiple-upper b y p = ap (λ (z : ℕ). on z (b + p)) (sym (add-zero (y * 2 ^ b))) ∙ on-upper b 0 y (pow-pos b) p
-
 -- each digit is a digit of one of the two
 on-add : (b x y p : ℕ) → x < 2 ^ b → bit (on (y * 2 ^ b + x) p) ≡ bit (on x p) + bit (on (y * 2 ^ b) p)
 on-add b x y p l =
     elim (decLt p b) as (λ _. bit (on (y * 2 ^ b + x) p) ≡ bit (on x p) + bit (on (y * 2 ^ b) p)) [
-      | yes h ↦ rw (on-lower b x y l p h, on-multiple b y p h) (omega arith)
+      | yes h ↦ rw (on-lower b x y l p h, on-below-shifted y b p h) (omega arith)
       | no g ↦ (let e : p ≡ b + (p - b) = omega arith in
           let none : on x p ≡ false = on-above b x p l (omega arith) in
           let both : on (y * 2 ^ b + x) p ≡ on y (p - b) = ap (on (y * 2 ^ b + x)) e ∙ on-upper b x y l (p - b) in
-          let upper : on (y * 2 ^ b) p ≡ on y (p - b) = ap (on (y * 2 ^ b)) e ∙ on-multiple-upper b y (p - b) in
+          let upper : on (y * 2 ^ b) p ≡ on y (p - b) = ap (on (y * 2 ^ b)) e ∙ on-shifted y b (p - b) in
           rw (both, upper, none) (omega arith))
     ]
 
@@ -62,7 +55,8 @@ pub gathered-lt : (l : List ℕ) (z : ℕ) → gathered l z < 2 ^ length l
 unfolding gathered
 gathered-lt l z = subst (λ (j : ℕ). rowOf (map (on z) l) < 2 ^ j) (length-map l (on z)) (row-lt (map (on z) l))
 
-row-last : (l : List Bool) (b : Bool) → rowOf (l ++ (b ∷ [])) ≡ 2 * rowOf l + bit b
+-- one value more, at the end
+pub row-last : (l : List Bool) (b : Bool) → rowOf (l ++ (b ∷ [])) ≡ 2 * rowOf l + bit b
 unfolding rowOf
 row-last [] b = omega arith
 row-last (a ∷ l) b =

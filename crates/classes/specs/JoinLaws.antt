@@ -6,20 +6,19 @@ use mathlib.Core.Bool.{Bool, true, false}
 use mathlib.Core.List.{List, [], _∷_, map}
 use Prim.Native.Nat.{ℕ, _+_, _*_, _%_, _^_, _≤_, _<_}
 use native.Mathlib.Omega.{arith}
-use native.Mathlib.Nat.{add-zero, add-mul}
-use lib.ListN.{length, length-map}
-use lib.Pow.{high, low, pow-mono}
+use native.Mathlib.Nat.{add-mul}
+use lib.ListN.{length, getD, length-map}
+use lib.Pow.{low, pow-mono}
 use Rattle.limits.specs.Limits.{maxInputs, maxRows}
 use Rattle.bits.specs.Logic.{pick, bit}
 use Rattle.bits.specs.LogicLaws.{true-false, either}
-use Rattle.bits.specs.Digit.{on, digit}
+use Rattle.bits.specs.Digit.{on}
 use Rattle.bits.specs.DigitLaws.{on-zero}
 use Rattle.bits.specs.ShiftLaws.{on-cut}
 use Rattle.names.specs.Name.{Name, sameName, among, distinct}
 use Rattle.names.specs.SameLaws.{same-name-self}
 use Rattle.rows.specs.Row.{rowOf, valuesOf}
-use Rattle.rows.specs.RowLaws.{row-lt, row-values}
-use Rattle.rows.specs.PartLaws.{on-high}
+use Rattle.rows.specs.RowLaws.{row-lt, row-values, values-row}
 use Rattle.formula.specs.Value.{onRow}
 use Rattle.classes.specs.Columns.{free, onParts, joinRow, vertexOf, freeRowOf, vertexCount, freeCount}
 use Rattle.classes.specs.Proper.{Parted}
@@ -27,15 +26,9 @@ use Rattle.classes.specs.FreeLaws.{map-agree, distinct-later, first-anot
 use Rattle.classes.specs.SameNameLaws.{Respects, row-same, parts-same}
 
 -- ---- names on a row
-on-bit : (b : Bool) → on (bit b) 0 ≡ b
-unfolding on digit
-on-bit true = refl
-on-bit false = refl
-
-on-top : (b : Bool) (n x : ℕ) → x < 2 ^ n → on (bit b * 2 ^ n + x) n ≡ b
-on-top b n x l =
-    ap (λ (k : ℕ). on (bit b * 2 ^ n + x) k) (sym (add-zero n)) ∙ sym (on-high n (bit b * 2 ^ n + x) 0)
-    ∙ ap (λ (z : ℕ). on z 0) (high (bit b) n l) ∙ on-bit b
+top-value : (b : Bool) (l : List Bool) (n : ℕ) → length l ≡ n → on (bit b * 2 ^ n + rowOf l) n ≡ b
+unfolding rowOf valuesOf
+top-value b l n e = rw (← e) (ap (λ (k : List Bool). getD k 0 false) (values-row (b ∷ l)))
 
 -- the digits above those of the names do not matter
 row-low : (ms : List Name) (n : Name) (k r : ℕ) → length ms ≤ k → onRow ms (r % 2 ^ k) n ≡ onRow ms r n
@@ -55,7 +48,7 @@ module _ (v : Name → Bool) (respects : Respects v) where
       let row : ℕ = bit (v m) * 2 ^ length ms + rowOf (map v ms) in
       rw k
       (⊎-elim
-      (λ s. rw s (on-top (v m) (length ms) (rowOf (map v ms)) lt ∙ respects m n s))
+      (λ s. rw s (top-value (v m) (map v ms) (length ms) k ∙ respects m n s))
       (λ s.
       let later : among n ms ≡ true = rw s at e in
       rw s

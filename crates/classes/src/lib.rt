@@ -1,11 +1,10 @@
 // Columns, classes and widths of a design: vertices are the rows of the bound inputs, and two of them are in one class
-// when their columns are equal. Rests on sheet for what a design says.
+// when their columns are equal. Rests on sheet for what a design says, and on rows for a table's value on a row.
 ghost use mathlib.Core.Path.{_≡_};
 ghost use Prim.Native.Nat.{_≤_, _<_};
 ghost use lib.ListN.{length};
-ghost use Rattle.limits.specs.Limits.{maxInputs, maxBound, maxRows, maxVertices, maxFreeRows, tableWords};
+ghost use Rattle.limits.specs.Limits.{maxInputs, maxBound, maxVertices, maxFreeRows};
 ghost use Rattle.bits.specs.Logic as logic;
-ghost use Rattle.rows.specs.Words.{rowOn};
 ghost use Rattle.sheet.specs.Examine.{Design};
 ghost use Rattle.sheet.specs.Known.{Holds};
 ghost use Rattle.classes.specs.Classes.{firstLike};
@@ -139,17 +138,15 @@ fn shape_of(k: Sheet) -> Shape
     }
 }
 
-// The value of a table on row r.
-fn value(t: &[u64], r: usize) -> bool
-    requires { ⌜ (length (now t) ≡ tableWords) × (r < maxRows) ⌝ }
-    ensures { λ v. ⌜ v ≡ rowOn (now (t .entry)) r ⌝ }
-{
-    bits::has(t[r / limits::WORD_ROWS], (r % limits::WORD_ROWS) as u32)
-}
-
 // Whether vertices x and y have equal columns.
-fn equal(t: &[u64], vertex: &[usize], free: &[usize], x: Vertex, y: Vertex) -> bool
-    requires { ⌜ (length (now t) ≡ tableWords) × Inside (now vertex) (now free) × (x .0 < length (now vertex)) × (y .0 < length (now vertex)) ⌝ }
+fn equal(
+    t: &[u64; limits::TABLE_WORDS],
+    vertex: &[usize],
+    free: &[usize],
+    x: Vertex,
+    y: Vertex,
+) -> bool
+    requires { ⌜ Inside (now vertex) (now free) × (x .0 < length (now vertex)) × (y .0 < length (now vertex)) ⌝ }
     ensures { λ r. ⌜ r ≡ alikeSeen (now (t .entry)) (now (vertex .entry)) (now (free .entry)) (x .0) (y .0) ⌝ }
 {
     let i = x.0;
@@ -158,8 +155,8 @@ fn equal(t: &[u64], vertex: &[usize], free: &[usize], x: Vertex, y: Vertex) -> b
     let b = vertex[j];
     let mut f = 0;
     while f < free.len() {
-        let row = free[f];
-        if value(t, a + row) != value(t, b + row) {
+        let z = free[f];
+        if rows::row(t, a + z) != rows::row(t, b + z) {
             return false;
         }
         f += 1;
@@ -168,8 +165,13 @@ fn equal(t: &[u64], vertex: &[usize], free: &[usize], x: Vertex, y: Vertex) -> b
 }
 
 // The first vertex with a column equal to that of x.
-fn first_equal(t: &[u64], vertex: &[usize], free: &[usize], x: Vertex) -> Vertex
-    requires { ⌜ (length (now t) ≡ tableWords) × Inside (now vertex) (now free) × (x .0 < length (now vertex)) ⌝ }
+fn first_equal(
+    t: &[u64; limits::TABLE_WORDS],
+    vertex: &[usize],
+    free: &[usize],
+    x: Vertex,
+) -> Vertex
+    requires { ⌜ Inside (now vertex) (now free) × (x .0 < length (now vertex)) ⌝ }
     ensures { λ r. ⌜ r .0 ≡ firstLike (alikeSeen (now (t .entry)) (now (vertex .entry)) (now (free .entry))) (x .0) ⌝ }
 {
     let i = x.0;
@@ -184,15 +186,15 @@ fn first_equal(t: &[u64], vertex: &[usize], free: &[usize], x: Vertex) -> Vertex
 }
 
 // The local classes of the output with the table t.
-fn local_classes(t: [u64; limits::TABLE_WORDS], vertex: &[usize], free: &[usize]) -> Locals
+fn local_classes(t: &[u64; limits::TABLE_WORDS], vertex: &[usize], free: &[usize]) -> Locals
     requires { ⌜ Inside (now vertex) (now free) × (length (now vertex) ≤ maxVertices) ⌝ }
-    ensures { λ r. ⌜ ClassesBy (alikeSeen t (now (vertex .entry)) (now (free .entry))) (length (now (vertex .entry))) (r .count) (localAt (r .classes)) ⌝ }
+    ensures { λ r. ⌜ ClassesBy (alikeSeen (now (t .entry)) (now (vertex .entry)) (now (free .entry))) (length (now (vertex .entry))) (r .count) (localAt (r .classes)) ⌝ }
 {
     let mut classes = [LocalClass(0); limits::MAX_VERTICES];
     let mut count = 0;
     let mut x = 0;
     while x < vertex.len() {
-        let first = first_equal(&t, vertex, free, Vertex(x));
+        let first = first_equal(t, vertex, free, Vertex(x));
         let y = first.0;
         if y < x {
             classes[x] = classes[y];
@@ -297,9 +299,9 @@ pub fn classes_of(k: Sheet) -> Classes
     let mut keys = [0usize; limits::MAX_VERTICES];
     let mut o = 0;
     while o < outputs {
-        let rows = k.tables[o];
-        let t = rows.words;
-        let l = local_classes(t, &vertex[..v], &free[..f]);
+        let table = k.tables[o];
+        let t = table.words;
+        let l = local_classes(&t, &vertex[..v], &free[..f]);
         keys = with_output(keys, l, v);
         widths[o] = width(l.count);
         locals[o] = l;

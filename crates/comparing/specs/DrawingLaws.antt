@@ -28,7 +28,7 @@ use Rattle.serving.specs.Tells.{node-at}
 use Rattle.serving.specs.Compose.{row-append}
 use Rattle.serving.specs.TheoremA.{parts-of}
 use Rattle.comparing.specs.Code.{isOne, oneAt, codeAt}
-use Rattle.comparing.specs.CodeLaws.{map-numbers}
+use Rattle.network.specs.NumbersLaws.{map-numbers}
 use Rattle.comparing.specs.Filling.{rowAt, placeAt, Ready, Filled}
 use Rattle.comparing.specs.Drawing.{Places, Drawing}
 

@@ -108,7 +108,7 @@ fn differs(words: &[u64; limits::TABLE_WORDS], digits: &[u8; limits::MAX_ROWS], 
     requires { ⌜ r < maxRows ⌝ }
     ensures { λ v. ⌜ v ≡ xorb (rowOn (now (words .entry)) r) (oneAt (now (digits .entry)) r) ⌝ }
 {
-    bits::has(words[r / limits::WORD_ROWS], (r % limits::WORD_ROWS) as u32) != (digits[r] == b'1')
+    rows::row(words, r) != (digits[r] == b'1')
 }
 
 // The comparison: the lowest output with a wrong value, and the lowest row that shows it.

@@ -15,6 +15,7 @@ use Rattle.cells.specs.Core.{Cell, Apart}
 use Rattle.classes.specs.Cases.{not-both}
 use Rattle.classes.specs.Columns.{alike, alikeUpto, alikeInAll, vertexCount}
 use Rattle.classes.specs.Classes.{globalCount}
+use Rattle.serving.specs.Compose.{head-same, tail-same}
 use Rattle.serving.specs.NetworkCore.{ServesDesign}
 use Rattle.serving.specs.ClassCodes.{Told, classes-told}
 use Rattle.serving.specs.FullReads.{unlike-conflict}
@@ -22,12 +23,6 @@ use Rattle.demands.specs.NeededCells.{AtLeast}
 
 abbrev tableOf : Cell → ℕ → Bool
 tableOf c = c .table
-
-head-same : (a b : Bool) (l m : List Bool) → a ∷ l ≡ b ∷ m → a ≡ b
-head-same a b l m e = cc
-
-tail-same : (a b : Bool) (l m : List Bool) → a ∷ l ≡ b ∷ m → l ≡ m
-tail-same a b l m e = cc
 
 apart-told : (o x y : ℕ) (l : List Cell) → Apart o x y l → Told tableOf l x y
 apart-told o x y [] a e = a

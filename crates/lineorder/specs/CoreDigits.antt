@@ -24,7 +24,9 @@ use Rattle.network.specs.RisingLaws.{rising-wider}
 use Rattle.network.specs.NetworkFor.{NetworkFor, nodeAt}
 use Rattle.network.specs.Value.{lutAt}
 use Rattle.serving.specs.NetworkCore.{has, cellsOf, networkCore}
-use Rattle.serving.specs.Build.{numbers, nodeBuilt, lutsBuilt, built}
+use Rattle.network.specs.NumbersLaws.{numbersFrom, numbers-from}
+use Rattle.serving.specs.Compose.{one-on}
+use Rattle.serving.specs.Build.{nodeBuilt, lutsBuilt, built}
 use Rattle.serving.specs.TheoremA.{built-node}
 use Rattle.lineorder.specs.NodeDigits.{equal-items}
 use Rattle.lineorder.specs.ReadingSets.{chosen}
@@ -49,14 +51,11 @@ tables-from w n (suc k) i (t ∷ ts) e f g =
     (ap (λ (s : List Bool). valuesUpto (λ x. getD s x false) n) (ap (λ (j : ℕ). getD (w .luts) j []) (sym (none-more i)) ∙ f 0 (omega arith))
     ∙ list-values t n (g 0 (omega arith)))
     (tables-from w n k (suc i) ts (let q : suc (length ts) ≡ suc k = e in omega arith)
-    (λ j h. ap (λ (m : ℕ). getD (w .luts) m []) (one-more i j) ∙ f (suc j) (omega arith))
+    (λ j h. ap (λ (m : ℕ). getD (w .luts) m []) (one-on i j) ∙ f (suc j) (omega arith))
     (λ j h. g (suc j) (omega arith)))
   where
     none-more : (i : ℕ) → i + 0 ≡ i
     none-more i = omega arith
-
-    one-more : (i j : ℕ) → suc i + j ≡ i + suc j
-    one-more i j = omega arith
 
 pub network-tables : (d : Design) (w : Network) → NetworkFor d w → tablesOf (vertexCount (d .bound)) (networkCore w) ≡ w .luts
 unfolding networkCore
@@ -152,8 +151,8 @@ network-reads d w o f h =
     chosen-from w o (length (w .luts)) 0 (f .node-fits o (subst (λ (n : ℕ). o < n) (sym (f .node-each)) h) .rises)
     (zero-add (length (w .luts))) (λ n _. refl)
 
-chosen-numbers : (o : ℕ) (rows codes : ℕ → ℕ) (k i : ℕ) → chosen i (readsOf o (cellsFrom k i rows codes)) ≡ numbers k i (rows o)
-unfolding chosen readsOf cellsFrom numbers
+chosen-numbers : (o : ℕ) (rows codes : ℕ → ℕ) (k i : ℕ) → chosen i (readsOf o (cellsFrom k i rows codes)) ≡ numbersFrom k i (rows o)
+unfolding chosen readsOf cellsFrom numbersFrom
 chosen-numbers o rows codes zero i = refl
 chosen-numbers o rows codes (suc k) i =
     ap (λ (l : List ℕ). pick (on (rows o) i) (i ∷ l) l) (chosen-numbers o rows codes k (suc i))
@@ -163,4 +162,4 @@ pub built-core-reads : (d : Design) (u : ℕ) (rows codes : ℕ → ℕ) (o : �
     → chosen 0 (readsOf o (coreOf u rows codes)) ≡ nodeAt (built d u rows codes .nodes) o .reads
 unfolding nodeBuilt
 built-core-reads d u rows codes o h =
-    chosen-numbers o rows codes u 0 ∙ sym (ap (λ (x : Node). x .reads) (built-node d u rows codes o h))
+    chosen-numbers o rows codes u 0 ∙ sym (numbers-from u (rows o)) ∙ sym (ap (λ (x : Node). x .reads) (built-node d u rows codes o h))

@@ -26,7 +26,8 @@ use Rattle.network.specs.FirstOfLaws.{fails-none}
 use Rattle.network.specs.Value.{lutAt, codeAt}
 use Rattle.cells.specs.Core.{ZeroFirst, coreOf, cellsFrom}
 use Rattle.serving.specs.NetworkCore.{ServesDesign}
-use Rattle.serving.specs.Build.{numbers, codeIn, entryAt, entry, nodeBuilt, built}
+use Rattle.network.specs.Numbers.{numbersOf}
+use Rattle.serving.specs.Build.{codeIn, entryAt, entry, nodeBuilt, built}
 use Rattle.serving.specs.Compose.{lut-built, tables-at}
 use Rattle.serving.specs.TheoremA.{built-luts, built-node, built-wellformed, built-within, built-computes, parts-of, columns-of}
 use Rattle.mapper.specs.Map.{Permitted}
@@ -55,20 +56,20 @@ module _ (d : Design) (f : WellFormed d) (u : ℕ) (rows codes : ℕ → ℕ) (s
 
   -- the codes of the built network are those of the vertices' numbers
   built-code : (o x : ℕ) → o < length (d .outputs) → x < vertexCount (d .bound)
-      → codeAt (built d u rows codes) (nodeAt (built d u rows codes .nodes) o .reads) x ≡ codeIn (numbers u 0 (rows o)) (codes x)
+      → codeAt (built d u rows codes) (nodeAt (built d u rows codes .nodes) o .reads) x ≡ codeIn (numbersOf u (rows o)) (codes x)
   unfolding nodeBuilt codeIn
   built-code o x h l =
       ap (λ (n : Node). rowOf (map (λ i. lutAt (built d u rows codes) i x) (n .reads))) (built-node d u rows codes o h)
       ∙ ap rowOf (tables-at d u rows codes (parts-of (d .inputs) (d .bound) (proper-of d f .parted)) (columns-of d) served o x l)
 
   entry-none : (o j : ℕ) → o < length (d .outputs)
-      → ((x : ℕ) → x < vertexCount (d .bound) → codeIn (numbers u 0 (rows o)) (codes x) ≡ j / freeCount (d .inputs) (d .bound) → ⊥)
-      → entry d codes o (numbers u 0 (rows o)) j ≡ false
+      → ((x : ℕ) → x < vertexCount (d .bound) → codeIn (numbersOf u (rows o)) (codes x) ≡ j / freeCount (d .inputs) (d .bound) → ⊥)
+      → entry d codes o (numbersOf u (rows o)) j ≡ false
   unfolding entry
   entry-none o j h n =
       ap (entryAt d o (j % freeCount (d .inputs) (d .bound)))
-      (fails-none (λ x. eqb (codeIn (numbers u 0 (rows o)) (codes x)) (j / freeCount (d .inputs) (d .bound))) (vertexCount (d .bound)) 0
-      (λ x _ l. ne-eqb (codeIn (numbers u 0 (rows o)) (codes x)) (j / freeCount (d .inputs) (d .bound)) (n x (below x l))))
+      (fails-none (λ x. eqb (codeIn (numbersOf u (rows o)) (codes x)) (j / freeCount (d .inputs) (d .bound))) (vertexCount (d .bound)) 0
+      (λ x _ l. ne-eqb (codeIn (numbersOf u (rows o)) (codes x)) (j / freeCount (d .inputs) (d .bound)) (n x (below x l))))
     where
       below : (x : ℕ) → x < 0 + vertexCount (d .bound) → x < vertexCount (d .bound)
       below x l = omega arith
@@ -92,7 +93,7 @@ module _ (d : Design) (f : WellFormed d) (u : ℕ) (rows codes : ℕ → ℕ) (s
   unfolding nodeBuilt
   built-unproduced o j h n =
       ap (λ (x : Node). getD (x .digits) j false) (built-node d u rows codes o h)
-      ∙ values-default (entry d codes o (numbers u 0 (rows o))) (2 ^ (length (numbers u 0 (rows o)) + length (free (d .inputs) (d .bound)))) j
+      ∙ values-default (entry d codes o (numbersOf u (rows o))) (2 ^ (length (numbersOf u (rows o)) + length (free (d .inputs) (d .bound)))) j
       (entry-none o j h (λ x l e. n x l (built-code o x h l ∙ e)))
 
   pub built-permitted : u ≤ maxCells

@@ -8,10 +8,10 @@ use lib.ListN.{length, take}
 use lib.Seq.{length-take-le}
 use mir.Val.{Val}
 use denote.Laws.{Is}
-use Rattle.netnames.specs.Listed.{maxNames}
-use Rattle.netnames.specs.declared.Names.{Names}
-use Rattle.netnames.proofs.Names as names
-use Rattle.netnames.proofs.Arrays.{list-sized}
+use Rattle.network.specs.Shown.{maxNames}
+use Rattle.network.specs.declared.Names.{Names}
+use Rattle.network.proofs.Names as names
+use Rattle.network.proofs.Arrays.{list-sized}
 
 pub items-counted : (n : Names) {vs : List Val} → Is names.the-row n vs → n .count ≤ maxNames → length (take (n .count) (n .list)) ≡ n .count
 items-counted n g few = length-take-le (n .count) (n .list) (omega (arith, few, list-sized n g))

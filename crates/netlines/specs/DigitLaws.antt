@@ -5,7 +5,7 @@ use mathlib.Core.List.{List, [], _∷_, _++_, map, map-append, append-nil, appen
 use mathlib.Core.Option.{Option, some, none}
 use Prim.Native.Nat.{ℕ, zero, suc, _+_, _*_, _/_, _%_, _^_, _≤_, _<_}
 use native.Mathlib.Omega.{arith}
-use native.Mathlib.Nat.{div-lt-iff-lt-mul, mul-le-mul, mod-eq-of-lt, one-mul, zero-mul, suc-mul, mul-suc, mul-comm, add-zero, add-suc}
+use native.Mathlib.Nat.{div-lt-iff-lt-mul, mul-le-mul, zero-mul, suc-mul, mul-suc, mul-comm, add-zero, add-suc}
 use native.Mathlib.Numerals.{add-one}
 use lib.Arith.{digits-div, digits-mod}
 use lib.Dec.{eqb, ltb}
@@ -64,15 +64,8 @@ digits-all {f} {n} {i = i} g l =
 code-below : (j n m : ℕ) → j < n → n ≤ maxCodes * m → j / m < maxCodes
 code-below j n m l h = let some-free : 0 < m = omega arith in div-lt-iff-lt-mul some-free .1 (omega arith)
 
--- a shift drops what is past a word
-abbrev word : ℕ
-word = 2 ^ 64
-
-pub power-shifted : (n : ℕ) → n ≤ maxCells → ((1 * 2 ^ n) % word ≡ 2 ^ n) × ((1 * 2 ^ n) % word ≤ maxCodes)
-power-shifted n h =
-    let a : 2 ^ n ≤ maxCodes = pow-mono h in
-    let b : (1 * 2 ^ n) % word ≡ 2 ^ n = ap (λ (x : ℕ). x % word) (one-mul (2 ^ n)) ∙ mod-eq-of-lt (omega arith) in
-    (b, omega arith)
+pub codes-few : (n c : ℕ) → c ≡ 2 ^ n → n ≤ maxCells → c ≤ maxCodes
+codes-few n c e h = let a : 2 ^ n ≤ maxCodes = pow-mono h in omega arith
 
 pub entries-few : (p m : ℕ) → p ≤ maxCodes → m ≤ maxFreeRows → p * m ≤ entriesRoom
 entries-few p m h g = mul-le-mul h g

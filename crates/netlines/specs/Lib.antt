@@ -7,5 +7,4 @@ pub mod RunningLaws
 pub mod TextLaws
 pub mod NodeLaws
 pub mod SheetLaws
-pub mod KnownLaws
 pub mod WrittenLaws

@@ -5,7 +5,7 @@ use lib.ListN.{length}
 use Rattle.limits.specs.Limits.{maxName, maxOutputs, maxCells, maxVertices, maxFreeRows, maxCodes}
 use Rattle.text.specs.Bytes.{bytes}
 use Rattle.emit.specs.Written.{itemRoom}
-use Rattle.netnames.specs.Listed.{maxNames}
+use Rattle.network.specs.Shown.{maxNames}
 
 -- the bytes of a quoted text
 abbrev size : String → ℕ

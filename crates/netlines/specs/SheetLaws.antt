@@ -17,7 +17,8 @@ use Rattle.classes.specs.Columns.{free, vertexCount}
 use Rattle.bits.specs.Values.{valuesUpto}
 use Rattle.network.specs.Network.{Node}
 use Rattle.network.specs.Printer.{printLut, printNode, printCount, networkLine, lutLines, nodeLines, networkLines, printNetwork}
-use Rattle.serving.specs.Build.{numbers, nodeBuilt, lutsBuilt, nodesBuilt, built}
+use Rattle.network.specs.Numbers.{numbersOf}
+use Rattle.serving.specs.Build.{nodeBuilt, lutsBuilt, nodesBuilt, built}
 use Rattle.emit.specs.UptoLaws.{textsFrom, upto-all, upto-same}
 use Rattle.netlines.specs.Lines.{ended, linesUpto, lastLines}
 
@@ -32,7 +33,7 @@ module _ (d : Design) (u : ℕ) (rows codes : ℕ → ℕ) where
 
   abbrev pub nodeLine : ℕ → List ℕ
   nodeLine o =
-      printNode (getD (outputNames (d .outputs)) o []) (free (d .inputs) (d .bound)) (nodeBuilt d codes o (numbers u 0 (rows o)))
+      printNode (getD (outputNames (d .outputs)) o []) (free (d .inputs) (d .bound)) (nodeBuilt d codes o (numbersOf u (rows o)))
 
   ended-luts : (k i : ℕ) → endedLines (lutLines (d .bound) i (lutsBuilt d codes k i)) ≡ textsFrom (ended lutLine) k i
   unfolding endedLines lutLines lutsBuilt textsFrom
@@ -50,7 +51,7 @@ module _ (d : Design) (u : ℕ) (rows codes : ℕ → ℕ) where
       = h 0 (omega arith) ∙ ap (λ (k : ℕ). getD (outputNames (d .outputs)) k []) (add-zero i) in
       let later : (j : ℕ) → j < length ns → getD ns j [] ≡ getD (outputNames (d .outputs)) (suc i + j) []
       = λ j l. h (suc j) (omega arith) ∙ ap (λ (k : ℕ). getD (outputNames (d .outputs)) k []) (add-suc i j ∙ sym (suc-add i j)) in
-      let x : Node = nodeBuilt d codes i (numbers u 0 (rows i)) in
+      let x : Node = nodeBuilt d codes i (numbersOf u (rows i)) in
       let fs : List Name = free (d .inputs) (d .bound) in
       ended-more (printNode n fs x) (nodeLines fs ns (nodesBuilt d u rows codes (length ns) (suc i)))
       ∙ ap₂ (λ (m : Name) (t : List ℕ). (printNode m fs x ++ (newline ∷ [])) ++ t) name (ended-nodes ns (suc i) later)

@@ -1,5 +1,5 @@
 -- What the code puts down for a design that it holds is the design's network sheet. Assumes nothing.
-use mathlib.Core.Path.{_≡_, sym, ap, ap₂, _∙_}
+use mathlib.Core.Path.{_≡_, ap, ap₂, _∙_}
 use mathlib.Core.List.{List, [], _++_, map}
 use Prim.Native.Nat.{ℕ, _≤_, _<_}
 use lib.ListN.{length, getD, take}
@@ -17,20 +17,15 @@ use Rattle.classes.specs.Answer.{ShapeIs}
 use Rattle.classes.specs.declared.Shape.{Shape}
 use Rattle.network.specs.Network.{Node}
 use Rattle.network.specs.Printer.{printLut, printNode, printNetwork}
-use Rattle.serving.specs.Build.{numbers, nodeBuilt, built}
-use Rattle.netnames.specs.Listed.{item}
+use Rattle.network.specs.Numbers.{numbersOf}
+use Rattle.serving.specs.Build.{nodeBuilt, built}
+use Rattle.network.specs.Shown.{item}
 use Rattle.netlines.specs.Lines.{linesUpto, lastLines, nodeBy}
-use Rattle.netlines.specs.KnownLaws.{held-name, names-placed}
+use Rattle.network.specs.HeldNameLaws.{held-name, bound-named}
 use Rattle.netlines.specs.NodeLaws.{node-is}
 use Rattle.netlines.specs.SheetLaws.{lutLine, nodeLine, lines-same, sheet-lines}
 
 module _ (d : Design) (k : Sheet) (h : Holds d k) (p : Proper d) where
-  pub bound-named : map (λ (q : ℕ). nameOf (item (k .names) q)) (take (k .bounds) (k .bound)) ≡ d .bound
-  bound-named =
-      ap (map (λ (q : ℕ). nameOf (item (k .names) q))) (h .bound-placed)
-      ∙ names-placed (k .names) (k .inputs) (d .inputs) (d .bound) (h .inputs-named) (sym (h .inputs-counted))
-      (p .parted .inputs-distinct) (p .parted .bound-inputs)
-
   output-named : (o : ℕ) → o < k .outputs → nameOf (item (k .outs) o) ≡ getD (outputNames (d .outputs)) o []
   output-named o l = held-name (k .outs) (k .outputs) o l ∙ ap (λ (ns : List Name). getD ns o []) (h .outputs-named)
 
@@ -50,21 +45,21 @@ module _ (d : Design) (k : Sheet) (h : Holds d k) (p : Proper d) where
         → free-names ≡ free (map nameOf (take (k .inputs) (k .names))) bs
         → bytes "(network 1)\n"
         ++ (linesUpto (λ (i : ℕ). printLut bs i (valuesUpto (λ (x : ℕ). on (codes x) i) (sh .vertices))) u
-        ++ (linesUpto (λ (o : ℕ). printNode (nameOf (item (k .outs) o)) free-names (nodeBy (tableAt (k .tables) o) vs fs codes (numbers u 0 (rows o)))) (k .outputs)
+        ++ (linesUpto (λ (o : ℕ). printNode (nameOf (item (k .outs) o)) free-names (nodeBy (tableAt (k .tables) o) vs fs codes (numbersOf u (rows o)))) (k .outputs)
         ++ lastLines u))
         ≡ printNetwork d (built d u rows codes)
     sheet-written u rows codes bs free-names eb ef =
-        let bound-is : bs ≡ d .bound = eb ∙ bound-named in
+        let bound-is : bs ≡ d .bound = eb ∙ bound-named d k h p in
         let free-is : free-names ≡ free (d .inputs) (d .bound) = ef ∙ ap₂ free (h .inputs-named) bound-is in
         let lut : (i : ℕ) → printLut bs i (valuesUpto (λ (x : ℕ). on (codes x) i) (sh .vertices)) ≡ lutLine d u rows codes i
         = λ i. ap₂ (λ (ns : List Name) (n : ℕ). printLut ns i (valuesUpto (λ (x : ℕ). on (codes x) i) n)) bound-is (s .vertices) in
         let luts = lines-same (λ (i : ℕ). printLut bs i (valuesUpto (λ (x : ℕ). on (codes x) i) (sh .vertices))) (lutLine d u rows codes) u (λ i l. lut i) in
         let put : ℕ → List ℕ
-        = λ o. printNode (nameOf (item (k .outs) o)) free-names (nodeBy (tableAt (k .tables) o) vs fs codes (numbers u 0 (rows o))) in
+        = λ o. printNode (nameOf (item (k .outs) o)) free-names (nodeBy (tableAt (k .tables) o) vs fs codes (numbersOf u (rows o))) in
         let node : (o : ℕ) → o < k .outputs → put o ≡ nodeLine d u rows codes o
         = λ o l.
-        ap₂ (λ (n : Name) (x : Node). printNode n free-names x) (output-named o l) (node-same codes o (numbers u 0 (rows o)) l)
-        ∙ ap (λ (ns : List Name). printNode (getD (outputNames (d .outputs)) o []) ns (nodeBuilt d codes o (numbers u 0 (rows o)))) free-is in
+        ap₂ (λ (n : Name) (x : Node). printNode n free-names x) (output-named o l) (node-same codes o (numbersOf u (rows o)) l)
+        ∙ ap (λ (ns : List Name). printNode (getD (outputNames (d .outputs)) o []) ns (nodeBuilt d codes o (numbersOf u (rows o)))) free-is in
         let nodes = lines-same put (nodeLine d u rows codes) (k .outputs) node in
         ap₂ (λ (a b : List ℕ). bytes "(network 1)\n" ++ (a ++ (b ++ lastLines u)))
         luts

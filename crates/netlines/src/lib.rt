@@ -1,9 +1,8 @@
 // The lines of a network sheet put into a lent buffer from a place on: from what is known of a design, the shared tables as
 // codes of the vertices, and for each output a mask of the tables that it reads. Each function takes the slice and the place
 // as a number; the writer's methods stand over those that are public. Rests on emit for texts and on netnames for names.
-ghost use mathlib.Core.Path.{_≡_};
 ghost use mathlib.Core.List.{_++_, _∷_, []};
-ghost use Prim.Native.Nat.{ℕ, _+_, _*_, _≤_, _<_, _^_};
+ghost use Prim.Native.Nat.{ℕ, _+_, _*_, _≤_, _<_};
 ghost use lib.ListN.{length};
 ghost use Rattle.limits.specs.Limits.{maxInputs, maxOutputs, maxCells, maxVertices, maxCodes};
 ghost use Rattle.bits.specs.Digit.{on};
@@ -13,15 +12,16 @@ ghost use Rattle.names.specs.Pack.{nameOf};
 ghost use Rattle.sheet.specs.Known.{tableAt};
 ghost use Rattle.bits.specs.Values.{valuesUpto};
 ghost use Rattle.network.specs.Printer.{ledAll, printDigits, lutHead, printLut, nodeHead, printNode};
-ghost use Rattle.serving.specs.Build.{numbers};
+ghost use Rattle.network.specs.Numbers.{numbersOf};
 ghost use Rattle.emit.specs.Written.{reach, Written};
-ghost use Rattle.netnames.specs.Listed.{maxNames, oneDigit, shown, item};
+ghost use Rattle.network.specs.Shown.{maxNames, shown, item};
+ghost use Rattle.netnames.specs.Listed.{oneDigit};
 ghost use Rattle.netlines.specs.Lines.{headLine, linesUpto, lastLines, cellOn, cellBy, nodeBy, Laid, Bounded};
 ghost use Rattle.netlines.specs.Running.{VertexRow, rowAt};
 ghost use Rattle.netlines.specs.Room.{headRoom, listRoom, lutHeadRoom, lutRoom, lutsRoom, nodeHeadRoom, nodeRoom, nodesRoom, endRoom};
 ghost use mathlib.Core.Bool.{true, false};
 use limits::Vertex;
-use netnames::Names;
+use network::Names;
 use sheet::Sheet;
 
 // The first line, of an edition.
@@ -143,20 +143,20 @@ fn put_zeros(buf: &mut [u8], at: usize, n: usize) -> usize
 fn put_column(
     buf: &mut [u8],
     at: usize,
-    t: [u64; limits::TABLE_WORDS],
+    t: &[u64; limits::TABLE_WORDS],
     start: usize,
     bound: usize,
     free: usize,
     n: usize,
 ) -> usize
     requires { ⌜ (at + n ≤ reach) × VertexRow start bound free ⌝ }
-    ensures { λ r. ⌜ ((v : VertexRow start bound free) → Written n (now (buf .entry)) (now (buf .exit)) at r (printDigits (valuesUpto (λ (z : ℕ). rowOn t (rowAt v z)) n))) ⌝ }
+    ensures { λ r. ⌜ ((v : VertexRow start bound free) → Written n (now (buf .entry)) (now (buf .exit)) at r (printDigits (valuesUpto (λ (z : ℕ). rowOn (now (t .entry)) (rowAt v z)) n))) ⌝ }
 {
     let mut p = at;
     let mut row = start;
     let mut z = 0;
     while z < n {
-        p = emit::put_digit(buf, p, rows::row(&t, row));
+        p = emit::put_digit(buf, p, rows::row(t, row));
         row = rows::step(row, bound, free);
         z += 1;
     }
@@ -168,13 +168,14 @@ fn put_column(
 fn put_code<'a>(
     buf: &mut [u8],
     at: usize,
-    t: [u64; limits::TABLE_WORDS],
+    t: &'a [u64; limits::TABLE_WORDS],
     vertex: &'a [usize],
     free: &'a [usize],
     x: Vertex,
 ) -> usize
     requires { ⌜ (at + length (now free) ≤ reach) × Laid (length (now vertex)) (length (now free)) (now vertex) (now free) ⌝ }
-    ensures { λ r. ⌜ Written (length (now (free .entry))) (now (buf .entry)) (now (buf .exit)) at r (printDigits (valuesUpto (cellOn t (now (vertex .entry)) (now (free .entry)) (x .0)) (length (now (free .entry))))) ⌝ }
+    ensures { λ r. ⌜ Written (length (now (free .entry))) (now (buf .entry)) (now (buf .exit)) at r
+        (printDigits (valuesUpto (cellOn (now (t .entry)) (now (vertex .entry)) (now (free .entry)) (x .0)) (length (now (free .entry))))) ⌝ }
 {
     let i = x.0;
     let v = vertex.len();
@@ -189,14 +190,15 @@ fn put_code<'a>(
 fn put_entries<'a>(
     buf: &mut [u8],
     at: usize,
-    t: [u64; limits::TABLE_WORDS],
+    t: &'a [u64; limits::TABLE_WORDS],
     vertex: &'a [usize],
     free: &'a [usize],
     firsts: [Vertex; limits::MAX_CODES],
     count: usize,
 ) -> usize
     requires { ⌜ (at + count * length (now free) ≤ reach) × (count ≤ maxCodes) × Laid (length (now vertex)) (length (now free)) (now vertex) (now free) ⌝ }
-    ensures { λ r. ⌜ Written (count * length (now (free .entry))) (now (buf .entry)) (now (buf .exit)) at r (printDigits (valuesUpto (cellBy t (now (vertex .entry)) (now (free .entry)) firsts) (count * length (now (free .entry))))) ⌝ }
+    ensures { λ r. ⌜ Written (count * length (now (free .entry))) (now (buf .entry)) (now (buf .exit)) at r
+        (printDigits (valuesUpto (cellBy (now (t .entry)) (now (vertex .entry)) (now (free .entry)) firsts) (count * length (now (free .entry))))) ⌝ }
 {
     let mut p = at;
     let mut c = 0;
@@ -208,14 +210,6 @@ fn put_entries<'a>(
     p
 }
 
-// How many codes n tables have.
-fn power(n: usize) -> usize
-    requires { ⌜ n ≤ maxCells ⌝ }
-    ensures { λ r. ⌜ (r ≡ 2 ^ n) × (r ≤ maxCodes) ⌝ }
-{
-    1 << n
-}
-
 // The line of an output that reads the tables of the mask.
 fn put_node<'a>(
     buf: &mut [u8],
@@ -225,15 +219,16 @@ fn put_node<'a>(
     u: usize,
     mask: u8,
     codes: [u8; limits::MAX_VERTICES],
-    t: [u64; limits::TABLE_WORDS],
+    t: &'a [u64; limits::TABLE_WORDS],
     vertex: &'a [usize],
     free: &'a [usize],
 ) -> usize
     requires { ⌜ (at + nodeRoom ≤ reach) × (fs .count ≤ maxInputs) × (u ≤ maxCells) × Bounded (now vertex) (now free) ⌝ }
-    ensures { λ r. ⌜ Written nodeRoom (now (buf .entry)) (now (buf .exit)) at r (printNode (nameOf name) (shown fs) (nodeBy t (now (vertex .entry)) (now (free .entry)) (item codes) (numbers u 0 mask)) ++ (newline ∷ [])) ⌝ }
+    ensures { λ r. ⌜ Written nodeRoom (now (buf .entry)) (now (buf .exit)) at r
+        (printNode (nameOf name) (shown fs) (nodeBy (now (t .entry)) (now (vertex .entry)) (now (free .entry)) (item codes) (numbersOf u mask)) ++ (newline ∷ [])) ⌝ }
 {
     let reads = netnames::read_names(u, mask);
-    let count = power(reads.count);
+    let count = bits::power(reads.count);
     let firsts = netnames::firsts(u, mask, codes, vertex.len());
     let p = put_node_head(buf, at, name);
     let q = put_list(buf, p, netnames::joined(reads, fs));
@@ -254,7 +249,9 @@ pub fn put_nodes<'a>(
     free: &'a [usize],
 ) -> usize
     requires { ⌜ (at + nodesRoom ≤ reach) × (k .outputs ≤ maxOutputs) × (fs .count ≤ maxInputs) × (u ≤ maxCells) × Bounded (now vertex) (now free) ⌝ }
-    ensures { λ r. ⌜ Written nodesRoom (now (buf .entry)) (now (buf .exit)) at r (linesUpto (λ (o : ℕ). printNode (nameOf (item (k .outs) o)) (shown fs) (nodeBy (tableAt (k .tables) o) (now (vertex .entry)) (now (free .entry)) (item codes) (numbers u 0 (item rows o)))) (k .outputs)) ⌝ }
+    ensures { λ r. ⌜ Written nodesRoom (now (buf .entry)) (now (buf .exit)) at r
+        (linesUpto (λ (o : ℕ). printNode (nameOf (item (k .outs) o)) (shown fs)
+        (nodeBy (tableAt (k .tables) o) (now (vertex .entry)) (now (free .entry)) (item codes) (numbersOf u (item rows o)))) (k .outputs)) ⌝ }
 {
     let outputs = k.outputs;
     let outs = k.outs;
@@ -264,7 +261,7 @@ pub fn put_nodes<'a>(
     while o < outputs {
         let table = tables[o];
         let t = table.words;
-        p = put_node(buf, p, outs[o], fs, u, rows[o], codes, t, vertex, free);
+        p = put_node(buf, p, outs[o], fs, u, rows[o], codes, &t, vertex, free);
         o += 1;
     }
     p

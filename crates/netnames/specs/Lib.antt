@@ -1,6 +1,4 @@
 -- What the lines of a network sheet list, and laws about these.
 pub mod Listed
-pub mod ShownLaws
-pub mod FreeNameLaws
 pub mod NumbersLaws
 pub mod FirstLaws

@@ -1,20 +1,13 @@
--- What the code lists, by the definitions: names in a row, and the first vertex of each code. Assumes nothing.
+-- What the code lists, by the definitions: names of one digit, and the first vertex of each code. Assumes nothing.
 use mathlib.Core.Path.{_≡_}
-use mathlib.Core.List.{List, map}
+use mathlib.Core.List.{List}
 use mathlib.Core.Option.{Option, some, none}
-use Prim.Native.Nat.{ℕ, _+_, _≤_, _<_}
+use Prim.Native.Nat.{ℕ, _≤_, _<_}
 use lib.Dec.{eqb}
-use lib.ListN.{length, getD, take}
-use Rattle.limits.specs.Limits.{maxInputs, maxCells, maxVertices, maxCodes}
-use Rattle.names.specs.Name.{Name}
-use Rattle.names.specs.Pack.{nameOf}
+use lib.ListN.{length, getD}
+use Rattle.limits.specs.Limits.{maxVertices, maxCodes}
 use Rattle.limits.specs.declared.Vertex.{Vertex}
 use Rattle.network.specs.Check.{firstOf}
-use Rattle.netnames.specs.declared.Names.{Names}
-
--- the most names of a list: a node lists the shared tables that it reads, then the free inputs
-abbrev pub maxNames : ℕ
-maxNames = maxCells + maxInputs
 
 -- the bytes `_` and `0`; one digit writes the numbers below 10
 abbrev pub underscore : ℕ
@@ -26,16 +19,8 @@ zeroByte = 0x30
 abbrev pub oneDigit : ℕ
 oneDigit = 10
 
--- what stands at a place of an array
-abbrev pub item : List ℕ → ℕ → ℕ
-item l i = getD l i 0
-
 abbrev pub vertexAt : List Vertex → ℕ → ℕ
 vertexAt l i = getD l i (record { 0 = 0 }) .0
-
--- the names in a row
-abbrev pub shown : Names → List Name
-shown n = map nameOf (take (n .count) (n .list))
 
 -- the number of a vertex, or a number that no vertex has
 abbrev pub FirstIs : Option ℕ → ℕ → Type 0

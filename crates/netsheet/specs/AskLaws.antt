@@ -8,7 +8,6 @@ use native.Mathlib.Omega.{arith}
 use native.Mathlib.Numerals.{add-one}
 use lib.Dec.{ltb}
 use lib.ListN.{length, getD, take, length-append, length-map}
-use lib.Seq.{getD-take}
 use borrow.Author.Tests.{lt-ltb, le-ltb, ltb-true, ltb-false}
 use Rattle.bits.specs.Logic.{pick}
 use Rattle.text.specs.Bytes.{same}
@@ -28,7 +27,7 @@ use Rattle.network.specs.declared.Table.{Table}
 use Rattle.netsheet.specs.Answer.{frees}
 use Rattle.netsheet.specs.Named.{NamedIs}
 use Rattle.netsheet.specs.Reading.{placeOf, moved, lutAdded, afterNode, nodeAdded, PlaceFits, Safe, PartOf, HeldBy, Staged, Known, StepIs, maybeLut}
-use Rattle.netsheet.specs.NamedLaws.{name-at}
+use Rattle.network.specs.HeldNameLaws.{held-name}
 use Rattle.netsheet.specs.HeldLaws.{held-lut, held-node}
 use Rattle.netsheet.specs.declared.Named.{Named}
 use Rattle.netsheet.specs.declared.Place.{Place}
@@ -77,8 +76,7 @@ module _ (l t : List ℕ) (at : ℕ) (d : Design) (w : Network) (k : Named) (s r
 
     output-name : getD (outputNames (d .outputs)) o [] ≡ nameOf (getD (k .outs) o 0)
     output-name =
-        ap (λ (ns : List Name). getD ns o []) (sym (n .outs-named)) ∙ sym (name-at (take (k .outputs) (k .outs)) o)
-        ∙ ap nameOf (getD-take (k .outputs) (k .outs) o 0 (omega (arith, n .outs-counted)))
+        ap (λ (ns : List Name). getD ns o []) (sym (n .outs-named)) ∙ sym (held-name (k .outs) (k .outputs) o (omega (arith, n .outs-counted)))
 
     by-names : askNode d w o l ≡ nodeStep d w o asked
     unfolding askNode

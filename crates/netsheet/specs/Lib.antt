@@ -2,7 +2,6 @@
 pub mod Answer
 pub mod Named
 pub mod Reading
-pub mod FillLaws
 pub mod NamedLaws
 pub mod HeldLaws
 pub mod AskLaws

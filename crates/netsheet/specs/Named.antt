@@ -1,8 +1,8 @@
 -- The names of a design that the lines of a network sheet repeat, as the code holds them. Assumes nothing.
 use mathlib.Core.Path.{_≡_}
-use mathlib.Core.List.{List, map}
-use Prim.Native.Nat.{ℕ, _≤_, _<_}
-use lib.ListN.{length, getD, take}
+use mathlib.Core.List.{map}
+use Prim.Native.Nat.{_≤_}
+use lib.ListN.{length, take}
 use Rattle.limits.specs.Limits.{maxInputs, maxBound, maxOutputs}
 use Rattle.names.specs.Pack.{nameOf}
 use Rattle.sheet.specs.Examine.{Design, outputNames}
@@ -10,20 +10,13 @@ use Rattle.sheet.specs.Known.{Holds}
 use Rattle.sheet.specs.declared.Sheet.{Sheet}
 use Rattle.classes.specs.Columns.{free}
 use Rattle.classes.specs.Proper.{Proper}
-use Rattle.netsheet.specs.declared.Frees.{Frees}
 use Rattle.netsheet.specs.declared.Named.{Named}
 
--- the counts of a sheet, and the places of its bound inputs, within their ranges
+-- the counts of a sheet within their ranges
 pub record Ranged (k : Sheet) : Type 0 where
   pub few-inputs : k .inputs ≤ maxInputs
   pub few-bound : k .bounds ≤ maxBound
   pub few-outputs : k .outputs ≤ maxOutputs
-  pub placed : (i : ℕ) → i < k .bounds → getD (k .bound) i 0 < k .inputs
-
--- the names ns but those of bs
-pub record FreesAre (ns bs : List ℕ) (r : Frees) : Type 0 where
-  pub few : r .count ≤ length ns
-  pub named : map nameOf (take (r .count) (r .list)) ≡ free (map nameOf ns) (map nameOf bs)
 
 pub record Counts (k : Named) : Type 0 where
   pub few-bound : k .bounds ≤ maxBound

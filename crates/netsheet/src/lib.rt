@@ -3,8 +3,8 @@
 ghost use mathlib.Core.Path.{_≡_};
 ghost use mathlib.Core.List.{List, map};
 ghost use Prim.Native.Nat.{ℕ, _+_, _≤_, _<_, _^_};
-ghost use lib.ListN.{length, getD, take};
-ghost use Rattle.limits.specs.Limits.{maxInputs, maxBound, maxOutputs, maxCells, maxNetwork};
+ghost use lib.ListN.{length, take};
+ghost use Rattle.limits.specs.Limits.{maxOutputs, maxCells, maxNetwork};
 ghost use Rattle.names.specs.Pack.{nameOf};
 ghost use Rattle.sheet.specs.Examine.{Design};
 ghost use Rattle.sheet.specs.Known.{Holds};
@@ -13,9 +13,8 @@ ghost use Rattle.network.specs.Network.{Network};
 ghost use Rattle.network.specs.LineAnswer.{TableIs};
 ghost use Rattle.network.specs.Examine as spec;
 ghost use Rattle.netsheet.specs.Answer.{BadLine, NetworkIs};
-ghost use Rattle.netsheet.specs.Named.{Ranged, Counts, FreesAre, NamedFor, NamedIs};
+ghost use Rattle.netsheet.specs.Named.{Ranged, Counts, NamedFor, NamedIs};
 ghost use Rattle.netsheet.specs.Reading.{placeOf, isOver, fresh, moved, lutAdded, afterNode, nodeAdded, Safe, PartOf, HeldBy, Known, StepIs, maybeLut};
-use names::Position;
 use network::NodeLine;
 use network::Table;
 use sheet::Sheet;
@@ -32,7 +31,7 @@ pub struct NetworkSheet {
 }
 
 // Which line is wanted: a node line has the number of its output.
-pub enum Place {
+enum Place {
     Network,
     Luts,
     Node(usize),
@@ -42,67 +41,23 @@ pub enum Place {
 }
 
 // What the lines so far say, and the place of the next; after a bad line it is not ok.
-pub struct Reading {
-    pub ok: bool,
-    pub place: Place,
-    pub luts: usize,
-    pub lutat: [usize; limits::MAX_CELLS],
-    pub reads: [u8; limits::MAX_OUTPUTS],
-    pub nodeat: [usize; limits::MAX_OUTPUTS],
-}
-
-// The free inputs' names, with their count.
-pub struct Frees {
-    pub count: usize,
-    pub list: [u64; limits::MAX_INPUTS],
+struct Reading {
+    ok: bool,
+    place: Place,
+    luts: usize,
+    lutat: [usize; limits::MAX_CELLS],
+    reads: [u8; limits::MAX_OUTPUTS],
+    nodeat: [usize; limits::MAX_OUTPUTS],
 }
 
 // The names of a design that the lines of a network sheet repeat: bound inputs, free inputs and outputs.
-pub struct Named {
-    pub bounds: usize,
-    pub bound: [u64; limits::MAX_BOUND],
-    pub frees: usize,
-    pub free: [u64; limits::MAX_INPUTS],
-    pub outputs: usize,
-    pub outs: [u64; limits::MAX_OUTPUTS],
-}
-
-// The names at some places.
-fn bound_names(names: &[u64], places: &[usize]) -> [u64; limits::MAX_BOUND]
-    requires { ⌜ (length (now places) ≤ maxBound) × ((i : ℕ) → i < length (now places) → getD (now places) i 0 < length (now names)) ⌝ }
-    ensures { λ r. ⌜ (length r ≡ maxBound) × (take (length (now (places .entry))) r ≡ map (λ (p : ℕ). getD (now (names .entry)) p 0) (now (places .entry))) ⌝ }
-{
-    let mut list = [0u64; limits::MAX_BOUND];
-    let mut i = 0;
-    while i < places.len() {
-        let p = places[i];
-        list[i] = names[p];
-        i += 1;
-    }
-    list
-}
-
-// The names that are not among the bound ones.
-fn free_names(names: &[u64], bound: &[u64]) -> Frees
-    requires { ⌜ length (now names) ≤ maxInputs ⌝ }
-    ensures { λ r. ⌜ FreesAre (now (names .entry)) (now (bound .entry)) r ⌝ }
-{
-    let mut list = [0u64; limits::MAX_INPUTS];
-    let mut count: usize = 0;
-    let mut i = 0;
-    while i < names.len() {
-        let v = names[i];
-        let p = names::find(bound, v);
-        match p {
-            Position::At(_) => {}
-            Position::Nowhere => {
-                list[count] = v;
-                count += 1;
-            }
-        }
-        i += 1;
-    }
-    Frees { count, list }
+struct Named {
+    bounds: usize,
+    bound: [u64; network::MAX_NAMES],
+    frees: usize,
+    free: [u64; network::MAX_NAMES],
+    outputs: usize,
+    outs: [u64; limits::MAX_OUTPUTS],
 }
 
 // The names that the lines repeat.
@@ -110,18 +65,17 @@ fn names_of(k: Sheet) -> Named
     requires { ⌜ Ranged k ⌝ }
     ensures { λ r. ⌜ NamedFor k r ⌝ }
 {
-    let n = k.inputs;
-    let b = k.bounds;
     let names = k.names;
     let places = k.bound;
-    let bound = bound_names(&names[..n], &places[..b]);
-    let f = free_names(&names[..n], &bound[..b]);
-    let free = f.list;
+    let bs = network::bound_names(names, places, k.bounds);
+    let fs = network::free_names(names, k.inputs, bs);
+    let bound = bs.list;
+    let free = fs.list;
     let outs = k.outs;
     Named {
-        bounds: b,
+        bounds: bs.count,
         bound,
-        frees: f.count,
+        frees: fs.count,
         free,
         outputs: k.outputs,
         outs,
@@ -215,7 +169,8 @@ fn with_node(s: Reading, o: usize, mask: u8, p: usize, outputs: usize) -> Readin
 // The node line of output o, which stands from at on.
 fn ask_node(l: &[u8], at: usize, k: Named, s: Reading, o: usize) -> Reading
     requires { ⌜ Counts k × (s .luts ≤ maxCells) × (o < maxOutputs) × (at + length (now l) ≤ maxNetwork) ⌝ }
-    ensures { λ r. ⌜ (Safe r) × ((t : List ℕ) (d : Design) (w : Network) → PartOf t at (now (l .entry)) → NamedIs d k → HeldBy d t w s → length (w .nodes) ≡ o → o < length (d .outputs) → StepIs d t (spec.askNode d w o (now (l .entry))) r) ⌝ }
+    ensures { λ r. ⌜ (Safe r) × ((t : List ℕ) (d : Design) (w : Network)
+        → PartOf t at (now (l .entry)) → NamedIs d k → HeldBy d t w s → length (w .nodes) ≡ o → o < length (d .outputs) → StepIs d t (spec.askNode d w o (now (l .entry))) r) ⌝ }
 {
     let f = k.frees;
     let free = k.free;
@@ -243,7 +198,8 @@ fn lut_line(l: &[u8], k: Named, u: usize) -> Table
 // A lut line or the first node, which stands from at on.
 fn ask_lut(l: &[u8], at: usize, k: Named, s: Reading) -> Reading
     requires { ⌜ Counts k × (s .luts ≤ maxCells) × (at + length (now l) ≤ maxNetwork) ⌝ }
-    ensures { λ r. ⌜ (Safe r) × ((t : List ℕ) (d : Design) (w : Network) → PartOf t at (now (l .entry)) → NamedIs d k → HeldBy d t w s → length (w .nodes) ≡ 0 → 0 < length (d .outputs) → StepIs d t (spec.askLut d w (now (l .entry))) r) ⌝ }
+    ensures { λ r. ⌜ (Safe r) × ((t : List ℕ) (d : Design) (w : Network)
+        → PartOf t at (now (l .entry)) → NamedIs d k → HeldBy d t w s → length (w .nodes) ≡ 0 → 0 < length (d .outputs) → StepIs d t (spec.askLut d w (now (l .entry))) r) ⌝ }
 {
     let r = lut_line(l, k, s.luts);
     match r {
@@ -255,7 +211,8 @@ fn ask_lut(l: &[u8], at: usize, k: Named, s: Reading) -> Reading
 // One line by the place that it stands at; it stands from at on.
 fn ask_line(l: &[u8], at: usize, k: Named, s: Reading) -> Reading
     requires { ⌜ Counts k × Safe s × (at + length (now l) ≤ maxNetwork) ⌝ }
-    ensures { λ r. ⌜ (Safe r) × ((t : List ℕ) (d : Design) (w : Network) → PartOf t at (now (l .entry)) → NamedIs d k → Known d t w s → 0 < length (d .outputs) → StepIs d t (spec.askLine d (placeOf (s .place)) w (now (l .entry))) r) ⌝ }
+    ensures { λ r. ⌜ (Safe r) × ((t : List ℕ) (d : Design) (w : Network)
+        → PartOf t at (now (l .entry)) → NamedIs d k → Known d t w s → 0 < length (d .outputs) → StepIs d t (spec.askLine d (placeOf (s .place)) w (now (l .entry))) r) ⌝ }
 {
     let p = s.place;
     match p {

@@ -36,6 +36,10 @@ pub mod Computing
 pub mod Worked
 pub mod WorkedBound
 pub mod Numbers
+pub mod Shown
+pub mod ShownLaws
+pub mod FreeNameLaws
+pub mod HeldNameLaws
 pub mod LineAnswer
 pub mod ChainLaws
 pub mod GivenLaws

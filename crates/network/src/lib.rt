@@ -1,15 +1,17 @@
-// The lines of a network sheet, each read beside a design: a lut line, a node line and the count line. Digits are not
-// copied: a line's answer is the place where they stand. Rests on cursor for the items of a line.
+// The names that the lines of a network sheet list, and its lines, each read beside a design: a lut line, a node line and the
+// count line. Digits are not copied: a line's answer is the place where they stand. Rests on cursor for the items of a line.
 ghost use mathlib.Core.Path.{_≡_};
 ghost use mathlib.Core.Bool.{true};
-ghost use mathlib.Core.List.{map};
-ghost use Prim.Native.Nat.{_+_, _≤_, _<_, _^_};
-ghost use lib.ListN.{length, drop};
-ghost use Rattle.limits.specs.Limits.{maxInputs, maxCells};
+ghost use mathlib.Core.List.{[], _∷_, _++_, map};
+ghost use Prim.Native.Nat.{ℕ, _+_, _≤_, _<_, _^_};
+ghost use lib.ListN.{length, getD, take, drop};
+ghost use Rattle.limits.specs.Limits.{maxInputs, maxBound, maxCells};
 ghost use Rattle.text.specs.Bytes.{eat, same, whole};
 ghost use Rattle.names.specs.Pack.{nameOf};
 ghost use Rattle.cursor.specs.Item.{MovedIs};
 ghost use Rattle.sheet.specs.Lines.{closed};
+ghost use Rattle.classes.specs.Columns.{free};
+ghost use Rattle.network.specs.Shown.{maxNames, item, shown};
 ghost use Rattle.network.specs.Printer.{led, lutName, printCount};
 ghost use Rattle.network.specs.Given.{readGiven, readItem, readGivens};
 ghost use Rattle.network.specs.Reader.{readDigits, readInputs, readLutHead, readReads, readLut, readNodeHead, readNode};
@@ -17,6 +19,7 @@ ghost use Rattle.network.specs.LineAnswer.{eatDigit, eatDigits, TableIs,
 use cursor::Cursor;
 use cursor::Moved;
 use cursor::NameRead;
+use names::Position;
 
 // Where the digits of a line stand in it.
 pub enum Table {
@@ -31,10 +34,92 @@ pub enum NodeLine {
 }
 
 // The shared tables of a node's list: a mask, how many they are, and the place after them.
-pub struct Reads {
-    pub mask: u8,
+struct Reads {
+    mask: u8,
+    count: usize,
+    next: Cursor,
+}
+
+// The most names of a list: a node lists the shared tables that it reads, then the free inputs.
+pub const MAX_NAMES: usize = limits::MAX_CELLS + limits::MAX_INPUTS;
+
+// Names in a row: how many, and the numbers that hold them.
+pub struct Names {
     pub count: usize,
-    pub next: Cursor,
+    pub list: [u64; MAX_NAMES],
+}
+
+// The names ns, and the name v after them.
+pub fn pushed(ns: Names, v: u64) -> Names
+    requires { ⌜ ns .count < maxNames ⌝ }
+    ensures { λ r. ⌜ (shown r ≡ shown ns ++ (nameOf v ∷ [])) × (r .count ≡ ns .count + 1) ⌝ }
+{
+    let at = ns.count;
+    let mut list = ns.list;
+    list[at] = v;
+    Names {
+        count: at + 1,
+        list,
+    }
+}
+
+pub fn no_names() -> Names
+    ensures { λ r. ⌜ (shown r ≡ []) × (r .count ≡ 0) ⌝ }
+{
+    Names {
+        count: 0,
+        list: [0; MAX_NAMES],
+    }
+}
+
+// The name at a place among the inputs.
+fn input_name(names: [u64; limits::MAX_INPUTS], p: usize) -> u64
+    ensures { λ r. ⌜ r ≡ getD names p 0 ⌝ }
+{
+    if limits::MAX_INPUTS <= p {
+        return 0;
+    }
+    names[p]
+}
+
+// The names at the first n places of a list.
+pub fn bound_names(
+    names: [u64; limits::MAX_INPUTS],
+    places: [usize; limits::MAX_BOUND],
+    n: usize,
+) -> Names
+    requires { ⌜ n ≤ maxBound ⌝ }
+    ensures { λ r. ⌜ (shown r ≡ map (λ (p : ℕ). nameOf (item names p)) (take n places)) × (r .count ≡ n) ⌝ }
+{
+    let mut r = no_names();
+    let mut i = 0;
+    while i < n {
+        r = pushed(r, input_name(names, places[i]));
+        i += 1;
+    }
+    r
+}
+
+// The first n names without those of bs.
+pub fn free_names(names: [u64; limits::MAX_INPUTS], n: usize, bs: Names) -> Names
+    requires { ⌜ (n ≤ maxInputs) × (bs .count ≤ maxNames) ⌝ }
+    ensures { λ r. ⌜ (shown r ≡ free (map nameOf (take n names)) (shown bs)) × (r .count ≤ n) ⌝ }
+{
+    let list = bs.list;
+    let count = bs.count;
+    let mut r = no_names();
+    let mut i = 0;
+    while i < n {
+        let p = names::find(&list[..count], names[i]);
+        match p {
+            Position::At(_) => {}
+            Position::Nowhere => {
+                r = pushed(r, names[i]);
+            }
+        }
+        i += 1;
+    }
+    r
 }
 
 // A name that is the same as v.

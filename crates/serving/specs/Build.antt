@@ -6,7 +6,6 @@ use mathlib.Core.Option.{Option, some, none}
 use Prim.Native.Nat.{ℕ, zero, suc, _+_, _/_, _%_, _^_}
 use lib.Dec.{eqb}
 use lib.ListN.{length}
-use Rattle.bits.specs.Logic.{pick}
 use Rattle.bits.specs.Digit.{on}
 use Rattle.rows.specs.Row.{rowOf}
 use Rattle.sheet.specs.Examine.{Design}
@@ -14,13 +13,7 @@ use Rattle.classes.specs.Columns.{free, vertexCount, freeCount, valueAt}
 use Rattle.bits.specs.Values.{valuesUpto}
 use Rattle.network.specs.Network.{Network, Node}
 use Rattle.network.specs.Check.{firstOf}
-
--- the digits of a mask that are 1, among the k from i on, rising
-unfoldable pub numbers : ℕ → ℕ → ℕ → List ℕ
-numbers zero i mask = []
-numbers (suc k) i mask =
-    let later = numbers k (suc i) mask in
-    pick (on mask i) (i ∷ later) later
+use Rattle.network.specs.Numbers.{numbersOf}
 
 -- the code of a vertex in the tables of a list, the first highest; table i is digit i of the vertex's number
 unfoldable pub codeIn : List ℕ → ℕ → ℕ
@@ -46,7 +39,7 @@ lutsBuilt d codes (suc k) i = valuesUpto (λ x. on (codes x) i) (vertexCount (d 
 
 unfoldable pub nodesBuilt : Design → ℕ → (ℕ → ℕ) → (ℕ → ℕ) → ℕ → ℕ → List Node
 nodesBuilt d u rows codes zero o = []
-nodesBuilt d u rows codes (suc k) o = nodeBuilt d codes o (numbers u 0 (rows o)) ∷ nodesBuilt d u rows codes k (suc o)
+nodesBuilt d u rows codes (suc k) o = nodeBuilt d codes o (numbersOf u (rows o)) ∷ nodesBuilt d u rows codes k (suc o)
 
 -- the network of u tables: the tables that output o reads are the digits of rows o, table i at vertex x is digit i of codes x
 unfoldable pub built : Design → ℕ → (ℕ → ℕ) → (ℕ → ℕ) → Network

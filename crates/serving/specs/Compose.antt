@@ -25,13 +25,15 @@ use Rattle.bits.specs.Values.{valuesUpto}
 use Rattle.bits.specs.ValuesLaws.{values-at}
 use Rattle.network.specs.Network.{Node}
 use Rattle.network.specs.Check.{firstOf}
+use Rattle.network.specs.Numbers.{numbersOf}
+use Rattle.network.specs.NumbersLaws.{map-numbers, numbersFrom, numbers-from}
 use Rattle.network.specs.Value.{networkOn}
 use Rattle.cells.specs.Core.{Apart, coreOf, cellsFrom}
 use Rattle.serving.specs.NetworkCore.{nodeOf, ServesDesign}
 use Rattle.network.specs.Value.{lutAt}
 use Rattle.serving.specs.Parts.{Parts, Columns}
 use Rattle.serving.specs.Tells.{node-at}
-use Rattle.serving.specs.Build.{numbers, codeIn, entryAt, entry, nodeBuilt, lutsBuilt, nodesBuilt, built}
+use Rattle.serving.specs.Build.{codeIn, entryAt, entry, nodeBuilt, lutsBuilt, nodesBuilt, built}
 
 -- ---- rows of two lists of values
 pub row-append : (a b : List Bool) → rowOf (a ++ b) ≡ rowOf a * 2 ^ length b + rowOf b
@@ -74,15 +76,15 @@ first-found f (suc k) i x a b e =
     after i x a n = omega arith
 
 -- ---- the parts of the built network
+pub one-on : (i k : ℕ) → suc i + k ≡ i + suc k
+one-on i k = omega arith
+
 pub lut-built : (d : Design) (codes : ℕ → ℕ) (k j i x : ℕ) → i < k → x < vertexCount (d .bound) → getD (getD (lutsBuilt d codes k j) i []) x false ≡ on (codes x) (j + i)
 unfolding lutsBuilt
 lut-built d codes zero j i x h a = absurd (omega arith)
 lut-built d codes (suc k) j zero x h a = values-at (λ y. on (codes y) j) (vertexCount (d .bound)) x a ∙ ap (on (codes x)) (sym (add-zero j))
 lut-built d codes (suc k) j (suc i) x h a =
-    lut-built d codes k (suc j) i x (omega arith) a ∙ ap (on (codes x)) (shift j i)
-  where
-    shift : (j i : ℕ) → suc j + i ≡ j + suc i
-    shift j i = omega arith
+    lut-built d codes k (suc j) i x (omega arith) a ∙ ap (on (codes x)) (one-on j i)
 
 pub luts-length : (d : Design) (codes : ℕ → ℕ) (k j : ℕ) → length (lutsBuilt d codes k j) ≡ k
 unfolding lutsBuilt
@@ -90,64 +92,34 @@ luts-length d codes zero j = refl
 luts-length d codes (suc k) j = ap suc (luts-length d codes k (suc j))
 
 pub node-built : (d : Design) (u : ℕ) (rows codes : ℕ → ℕ) (k j o : ℕ) → o < k → getD (nodesBuilt d u rows codes k j) o (record { reads = []; digits = [] }) ≡ nodeBuilt d codes (j + o)
-    (numbers u 0 (rows (j + o)))
+    (numbersOf u (rows (j + o)))
 unfolding nodesBuilt
 node-built d u rows codes zero j o h = absurd (omega arith)
-node-built d u rows codes (suc k) j zero h = ap (λ (n : ℕ). nodeBuilt d codes n (numbers u 0 (rows n))) (sym (add-zero j))
+node-built d u rows codes (suc k) j zero h = ap (λ (n : ℕ). nodeBuilt d codes n (numbersOf u (rows n))) (sym (add-zero j))
 node-built d u rows codes (suc k) j (suc o) h =
-    node-built d u rows codes k (suc j) o (omega arith) ∙ ap (λ (n : ℕ). nodeBuilt d codes n (numbers u 0 (rows n))) (shift j o)
-  where
-    shift : (j i : ℕ) → suc j + i ≡ j + suc i
-    shift j i = omega arith
-
--- the numbers of a mask are digits of it, below the bound
-data Each (P : ℕ → Type 0) : List ℕ → Type 0 where
-  each-none : Each P []
-  each-more : {i : ℕ} {is : List ℕ} → P i → Each P is → Each P (i ∷ is)
-
-map-each : {P : ℕ → Type 0} (f g : ℕ → Bool) {is : List ℕ} → ((i : ℕ) → P i → f i ≡ g i) → Each P is → map f is ≡ map g is
-map-each f g h each-none = refl
-map-each f g h (each-more p e) = ap₂ (λ (b : Bool) (l : List Bool). b ∷ l) (h _ p) (map-each f g h e)
-
-each-also : {P Q : ℕ → Type 0} {is : List ℕ} → ((i : ℕ) → P i → Q i) → Each P is → Each Q is
-each-also h each-none = each-none
-each-also h (each-more p e) = each-more (h _ p) (each-also h e)
-
-each-pick : (P : ℕ → Type 0) (b : Bool) (i : ℕ) (is : List ℕ) → (b ≡ true → P i) → Each P is → Each P (pick b (i ∷ is) is)
-each-pick P true i is h e = each-more (h refl) e
-each-pick P false i is h e = e
-
-numbers-below : (k i mask : ℕ) → Each (λ n. n < i + k) (numbers k i mask)
-unfolding numbers
-numbers-below zero i mask = each-none
-numbers-below (suc k) i mask =
-    each-pick (λ n. n < i + suc k) (on mask i) i (numbers k (suc i) mask) (λ _. omega arith)
-    (each-also (λ n (h : n < suc i + k). wider n i k h) (numbers-below k (suc i) mask))
-  where
-    wider : (n i k : ℕ) → n < suc i + k → n < i + suc k
-    wider n i k h = omega arith
+    node-built d u rows codes k (suc j) o (omega arith) ∙ ap (λ (n : ℕ). nodeBuilt d codes n (numbersOf u (rows n))) (one-on j o)
 
 -- ---- one code: no table that the output reads tells the vertices apart
-head-same : (a b : Bool) (l m : List Bool) → a ∷ l ≡ b ∷ m → a ≡ b
+pub head-same : (a b : Bool) (l m : List Bool) → a ∷ l ≡ b ∷ m → a ≡ b
 head-same a b l m e = ap (λ (x : List Bool). getD x 0 false) e
 
-tail-same : (a b : Bool) (l m : List Bool) → a ∷ l ≡ b ∷ m → l ≡ m
+pub tail-same : (a b : Bool) (l m : List Bool) → a ∷ l ≡ b ∷ m → l ≡ m
 tail-same a b l m e = cc
 
 apart-here : (o x y : ℕ) (rows codes : ℕ → ℕ) (k i : ℕ) (b : Bool) → on (rows o) i ≡ b
-    → map (on (codes x)) (pick b (i ∷ numbers k (suc i) (rows o)) (numbers k (suc i) (rows o))) ≡ map (on (codes y)) (pick b (i ∷ numbers k (suc i) (rows o)) (numbers k (suc i) (rows o)))
-    → (map (on (codes x)) (numbers k (suc i) (rows o)) ≡ map (on (codes y)) (numbers k (suc i) (rows o)) → Apart o x y (cellsFrom k (suc i) rows codes) → ⊥)
+    → map (on (codes x)) (pick b (i ∷ numbersFrom k (suc i) (rows o)) (numbersFrom k (suc i) (rows o))) ≡ map (on (codes y)) (pick b (i ∷ numbersFrom k (suc i) (rows o)) (numbersFrom k (suc i) (rows o)))
+    → (map (on (codes x)) (numbersFrom k (suc i) (rows o)) ≡ map (on (codes y)) (numbersFrom k (suc i) (rows o)) → Apart o x y (cellsFrom k (suc i) rows codes) → ⊥)
     → ((on (rows o) i ≡ true) × (on (codes x) i ≡ on (codes y) i → ⊥)) ⊎ Apart o x y (cellsFrom k (suc i) rows codes)
     → ⊥
 apart-here o x y rows codes k i true r e ih a =
     ⊎-elim
-    (λ p. p .1 (head-same (on (codes x) i) (on (codes y) i) (map (on (codes x)) (numbers k (suc i) (rows o))) (map (on (codes y)) (numbers k (suc i) (rows o))) e))
-    (ih (tail-same (on (codes x) i) (on (codes y) i) (map (on (codes x)) (numbers k (suc i) (rows o))) (map (on (codes y)) (numbers k (suc i) (rows o))) e))
+    (λ p. p .1 (head-same (on (codes x) i) (on (codes y) i) (map (on (codes x)) (numbersFrom k (suc i) (rows o))) (map (on (codes y)) (numbersFrom k (suc i) (rows o))) e))
+    (ih (tail-same (on (codes x) i) (on (codes y) i) (map (on (codes x)) (numbersFrom k (suc i) (rows o))) (map (on (codes y)) (numbersFrom k (suc i) (rows o))) e))
     a
 apart-here o x y rows codes k i false r e ih a = ⊎-elim (λ p. true-false (sym (p .0) ∙ r)) (ih e) a
 
-not-apart : (o x y : ℕ) (rows codes : ℕ → ℕ) (k i : ℕ) → map (on (codes x)) (numbers k i (rows o)) ≡ map (on (codes y)) (numbers k i (rows o)) → Apart o x y (cellsFrom k i rows codes) → ⊥
-unfolding numbers cellsFrom
+not-apart : (o x y : ℕ) (rows codes : ℕ → ℕ) (k i : ℕ) → map (on (codes x)) (numbersFrom k i (rows o)) ≡ map (on (codes y)) (numbersFrom k i (rows o)) → Apart o x y (cellsFrom k i rows codes) → ⊥
+unfolding numbersFrom cellsFrom
 not-apart o x y rows codes zero i e a = a
 not-apart o x y rows codes (suc k) i e a =
     apart-here o x y rows codes k i (on (rows o) i) refl e (not-apart o x y rows codes k (suc i)) a
@@ -164,19 +136,20 @@ module _ (d : Design) (u : ℕ) (rows codes : ℕ → ℕ) (p : Parts (d .inputs
     (serves : ServesDesign d (coreOf u rows codes)) where
   -- vertices with one code in the tables that o reads have one column
   one-code : (o x y : ℕ) → o < length (d .outputs) → x < vertexCount (d .bound) → y < vertexCount (d .bound)
-      → codeIn (numbers u 0 (rows o)) (codes x) ≡ codeIn (numbers u 0 (rows o)) (codes y) → (z : ℕ)
+      → codeIn (numbersOf u (rows o)) (codes x) ≡ codeIn (numbersOf u (rows o)) (codes y) → (z : ℕ)
       → z < freeCount (d .inputs) (d .bound) → valueAt d (d .bound) o x z ≡ valueAt d (d .bound) o y z
   one-code o x y h a b e z c =
-      q .agree-at o x y (λ f. not-apart o x y rows codes u 0 (code-values (numbers u 0 (rows o)) (codes x) (codes y) e) (serves .tells o x y h a b f)) z c
+      let values = code-values (numbersOf u (rows o)) (codes x) (codes y) e in
+      q .agree-at o x y (λ f. not-apart o x y rows codes u 0 (rw (numbers-from u (rows o)) at values) (serves .tells o x y h a b f)) z c
 
   -- the entry at a vertex's code and a free row is the vertex's value there
   entry-right : (o x z j : ℕ) → o < length (d .outputs) → x < vertexCount (d .bound)
       → z < freeCount (d .inputs) (d .bound)
-      → j ≡ codeIn (numbers u 0 (rows o)) (codes x) * freeCount (d .inputs) (d .bound) + z
-      → entry d codes o (numbers u 0 (rows o)) j ≡ valueAt d (d .bound) o x z
+      → j ≡ codeIn (numbersOf u (rows o)) (codes x) * freeCount (d .inputs) (d .bound) + z
+      → entry d codes o (numbersOf u (rows o)) j ≡ valueAt d (d .bound) o x z
   unfolding entry
   entry-right o x z j h a c e =
-      let is = numbers u 0 (rows o) in
+      let is = numbersOf u (rows o) in
       let fl = length (free (d .inputs) (d .bound)) in
       let hi : j / freeCount (d .inputs) (d .bound) ≡ codeIn is (codes x) = ap (λ (n : ℕ). n / freeCount (d .inputs) (d .bound)) e ∙ high (codeIn is (codes x)) fl c in
       let lo : j % freeCount (d .inputs) (d .bound) ≡ z = ap (λ (n : ℕ). n % freeCount (d .inputs) (d .bound)) e ∙ low (codeIn is (codes x)) fl c in
@@ -185,23 +158,22 @@ module _ (d : Design) (u : ℕ) (rows codes : ℕ → ℕ) (p : Parts (d .inputs
       ap₂ (λ (r : ℕ) (t : Option ℕ). entryAt d o r t) lo (f .is)
       ∙ one-code o (f .at) x h (omega (arith, f .below)) a (eqb-true (codeIn is (codes (f .at))) (j / freeCount (d .inputs) (d .bound)) (f .passes) ∙ hi) z c
 
-  pub tables-at : (o x : ℕ) → x < vertexCount (d .bound) → map (λ i. lutAt (built d u rows codes) i x) (numbers u 0 (rows o)) ≡ map (on (codes x)) (numbers u 0 (rows o))
+  pub tables-at : (o x : ℕ) → x < vertexCount (d .bound) → map (λ i. lutAt (built d u rows codes) i x) (numbersOf u (rows o)) ≡ map (on (codes x)) (numbersOf u (rows o))
   unfolding built
   tables-at o x a =
-      map-each (λ i. lutAt (built d u rows codes) i x) (on (codes x))
-      (λ i (h : i < 0 + u). lut-built d codes u 0 i x (omega arith) a ∙ ap (on (codes x)) (zero-add i))
-      (numbers-below u 0 (rows o))
+      map-numbers (λ i. lutAt (built d u rows codes) i x) (on (codes x)) u (rows o)
+      (λ i h. lut-built d codes u 0 i x h a ∙ ap (on (codes x)) (zero-add i))
 
-  node-is : (o : ℕ) → o < length (d .outputs) → nodeOf (built d u rows codes) o ≡ nodeBuilt d codes o (numbers u 0 (rows o))
+  node-is : (o : ℕ) → o < length (d .outputs) → nodeOf (built d u rows codes) o ≡ nodeBuilt d codes o (numbersOf u (rows o))
   unfolding built
-  node-is o h = node-built d u rows codes (length (d .outputs)) 0 o h ∙ ap (λ (n : ℕ). nodeBuilt d codes n (numbers u 0 (rows n))) (zero-add o)
+  node-is o h = node-built d u rows codes (length (d .outputs)) 0 o h ∙ ap (λ (n : ℕ). nodeBuilt d codes n (numbersOf u (rows n))) (zero-add o)
 
   -- the network has each output's value at every vertex and free row
   at-parts : (o x z : ℕ) → o < length (d .outputs) → x < vertexCount (d .bound) → z < freeCount (d .inputs) (d .bound)
       → networkOn d (built d u rows codes) o (joinRow (d .inputs) (d .bound) x z) ≡ valueAt d (d .bound) o x z
   unfolding nodeBuilt codeIn
   at-parts o x z h a c =
-      let is = numbers u 0 (rows o) in
+      let is = numbersOf u (rows o) in
       let fl = length (free (d .inputs) (d .bound)) in
       let vs = map (on (codes x)) is in
       let js = rowOf (vs ++ valuesOf fl z) in

@@ -23,14 +23,17 @@ use Rattle.classes.specs.Proper.{Proper, Parted}
 use Rattle.classes.specs.JoinLaws.{join-lt, join-parts, vertex-of-join, free-row-of-join}
 use Rattle.classes.specs.ColumnLaws.{conflict-differ, no-conflict-agree}
 use Rattle.network.specs.Network.{Network, Node}
+use Rattle.network.specs.Numbers.{numbersOf}
+use Rattle.network.specs.NumbersLaws.{numbersFrom, numbers-from}
+use Rattle.network.specs.RisingLaws.{rising-wider}
 use Rattle.network.specs.Reads.{Rising, rising-none, rising-more}
 use Rattle.network.specs.NetworkFor.{NetworkFor, NodeFits, nodeAt}
 use Rattle.network.specs.Answers.{WithinLimits, Computes, readCount}
 use Rattle.serving.specs.NetworkCore.{has, networkCore, ServesDesign}
 use Rattle.serving.specs.Parts.{Parts, Columns}
 use Rattle.serving.specs.Tells.{network-serves}
-use Rattle.serving.specs.Build.{numbers, nodeBuilt, lutsBuilt, nodesBuilt, built, entry}
-use Rattle.serving.specs.Compose.{built-right, luts-length, node-built}
+use Rattle.serving.specs.Build.{nodeBuilt, lutsBuilt, nodesBuilt, built, entry}
+use Rattle.serving.specs.Compose.{built-right, luts-length, node-built, one-on}
 use Rattle.bits.specs.ValuesLaws.{values-length}
 
 -- ---- rows and columns of a design
@@ -77,31 +80,24 @@ drawn-serves d w p f l c =
 -- ---- from a core to its network
 rising-pick : (b : Bool) (k i : ℕ) (is : List ℕ) → Rising (suc i) (i + suc k) is → Rising i (i + suc k) (pick b (i ∷ is) is)
 rising-pick true k i is r = rising-more {i = i} {u = i + suc k} {j = i} (omega arith) (omega arith) r
-rising-pick false k i is r = lower r
-  where
-    lower : {u : ℕ} {js : List ℕ} → Rising (suc i) u js → Rising i u js
-    lower rising-none = rising-none
-    lower (rising-more {j = j} a b r) = rising-more {i = i} {j = j} (omega arith) b r
+rising-pick false k i is r = rising-wider i (i + suc k) (omega arith) (omega arith) r
 
-numbers-rise : (k i mask : ℕ) → Rising i (i + k) (numbers k i mask)
-unfolding numbers
+numbers-rise : (k i mask : ℕ) → Rising i (i + k) (numbersFrom k i mask)
+unfolding numbersFrom
 numbers-rise zero i mask = rising-none
 numbers-rise (suc k) i mask =
-    rising-pick (on mask i) k i (numbers k (suc i) mask)
-    (subst (λ (u : ℕ). Rising (suc i) u (numbers k (suc i) mask)) (shift i k) (numbers-rise k (suc i) mask))
-  where
-    shift : (i k : ℕ) → suc i + k ≡ i + suc k
-    shift i k = omega arith
+    rising-pick (on mask i) k i (numbersFrom k (suc i) mask)
+    (subst (λ (u : ℕ). Rising (suc i) u (numbersFrom k (suc i) mask)) (one-on i k) (numbers-rise k (suc i) mask))
 
 pick-length : (b : Bool) (i : ℕ) (is : List ℕ) → length (pick b (i ∷ is) is) ≡ bit b + length is
 pick-length true i is = omega arith
 pick-length false i is = omega arith
 
-pub numbers-reading : (o : ℕ) (rows codes : ℕ → ℕ) (k i : ℕ) → length (numbers k i (rows o)) ≡ reading o (cellsFrom k i rows codes)
-unfolding numbers reading cellsFrom
+pub numbers-reading : (o : ℕ) (rows codes : ℕ → ℕ) (k i : ℕ) → length (numbersFrom k i (rows o)) ≡ reading o (cellsFrom k i rows codes)
+unfolding numbersFrom reading cellsFrom
 numbers-reading o rows codes zero i = refl
 numbers-reading o rows codes (suc k) i =
-    pick-length (on (rows o) i) i (numbers k (suc i) (rows o))
+    pick-length (on (rows o) i) i (numbersFrom k (suc i) (rows o))
     ∙ ap (λ (n : ℕ). bit (on (rows o) i) + n) (numbers-reading o rows codes k (suc i))
 
 lut-length : (d : Design) (codes : ℕ → ℕ) (k j i : ℕ) → i < k → length (getD (lutsBuilt d codes k j) i []) ≡ 2 ^ length (d .bound)
@@ -124,16 +120,16 @@ module _ (d : Design) (u : ℕ) (rows codes : ℕ → ℕ) where
   unfolding built
   built-nodes = nodes-length d u rows codes (length (d .outputs)) 0
 
-  pub built-node : (o : ℕ) → o < length (d .outputs) → nodeAt (built d u rows codes .nodes) o ≡ nodeBuilt d codes o (numbers u 0 (rows o))
+  pub built-node : (o : ℕ) → o < length (d .outputs) → nodeAt (built d u rows codes .nodes) o ≡ nodeBuilt d codes o (numbersOf u (rows o))
   unfolding built
-  built-node o h = node-built d u rows codes (length (d .outputs)) 0 o h ∙ ap (λ (n : ℕ). nodeBuilt d codes n (numbers u 0 (rows n))) (zero-add o)
+  built-node o h = node-built d u rows codes (length (d .outputs)) 0 o h ∙ ap (λ (n : ℕ). nodeBuilt d codes n (numbersOf u (rows n))) (zero-add o)
 
-  node-fitting : (o : ℕ) → NodeFits (free (d .inputs) (d .bound)) u (nodeBuilt d codes o (numbers u 0 (rows o)))
+  node-fitting : (o : ℕ) → NodeFits (free (d .inputs) (d .bound)) u (nodeBuilt d codes o (numbersOf u (rows o)))
   unfolding nodeBuilt
   node-fitting o =
       record {
-        rises = subst (λ (n : ℕ). Rising 0 n (numbers u 0 (rows o))) (zero-add u) (numbers-rise u 0 (rows o));
-        counted = values-length (entry d codes o (numbers u 0 (rows o))) (2 ^ (length (numbers u 0 (rows o)) + length (free (d .inputs) (d .bound))));
+        rises = subst (λ (n : ℕ). Rising 0 n (numbersOf u (rows o))) (zero-add u) (rw (numbers-from u (rows o)) (numbers-rise u 0 (rows o)));
+        counted = values-length (entry d codes o (numbersOf u (rows o))) (2 ^ (length (numbersOf u (rows o)) + length (free (d .inputs) (d .bound))));
       }
 
   pub built-wellformed : u ≤ maxCells → NetworkFor d (built d u rows codes)
@@ -150,7 +146,7 @@ module _ (d : Design) (u : ℕ) (rows codes : ℕ → ℕ) where
 
   pub built-reads : (o : ℕ) → o < length (d .outputs) → readCount (built d u rows codes) o ≡ reading o (coreOf u rows codes)
   unfolding nodeBuilt
-  built-reads o h = ap (λ (x : Node). length (x .reads)) (built-node o h) ∙ numbers-reading o rows codes u 0
+  built-reads o h = ap (λ (x : Node). length (x .reads)) (built-node o h) ∙ ap length (numbers-from u (rows o)) ∙ numbers-reading o rows codes u 0
 
   pub built-within : u ≤ d .limit → ServesDesign d (coreOf u rows codes) → WithinLimits d (built d u rows codes)
   built-within h s =

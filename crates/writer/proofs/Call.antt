@@ -74,7 +74,8 @@ module _ (κ : Lft) where
           split ! $ rewrite ! 1 (λ (z : Writer). ‵ (Owned z w′)) (e .moved) refl $ at-once ! $ says ! (e .short) $ join ! $ done !))
 
   -- the step: the token and the writer h come first, and then the token and the writer after the text
-  module _ {M : Type 1} {𝓤 : URA M} {H : Heap 𝓤} {A : Atoms 𝓤} {K : Type 0} {W : Given 𝓤 H A} {Γ : List (Item 𝓤)} {E : Env 𝓤 H} {C : Calls 𝓤 H} {f : Name} {xs : List Operand} {Λ : Loops 𝓤 H} {o : Post 𝓤 H} {d : Place} where
+  module _ {M : Type 1} {𝓤 : URA M} {H : Heap 𝓤} {A : Atoms 𝓤} {K : Type 0} {W : Given 𝓤 H A} {Γ : List (Item 𝓤)}
+      {E : Env 𝓤 H} {C : Calls 𝓤 H} {f : Name} {xs : List Operand} {Λ : Loops 𝓤 H} {o : Post 𝓤 H} {d : Place} where
     pub appends : K → FmC 𝓤 H (W .laws) C → {rest : Stmts} (q : Share) (k : Kind) → Triple 𝓤 (C f) (Method k 𝓤 H A) → (h : Writer) (v : k .R .Denot) (w : Val)
         → Is (k .R) v (k .plain .val v ∷ []) → k .need (h .at) v
         → Opds K W (raw (Method k 𝓤 H A .pre (bound q k h v 𝓤 H A w)) ∷ Γ) E xs (w ∷ k .plain .val v ∷ [])

@@ -60,7 +60,8 @@ module _ (k : Kind) (b o : ℕ) (ys : List ℕ) (n : ℕ) (v : k .R .Denot) wher
         move ! (1 ∷ 0 ∷ []) $ fjoin ! $ done !
 
   -- the step: the slice and the token come first, before the call and after it
-  module _ {M : Type 1} {𝓤 : URA M} {H : Heap 𝓤} {A : Atoms 𝓤} {K : Type 0} {W : Given 𝓤 H A} {Γ : List (Item 𝓤)} {E : Env 𝓤 H} {C : Calls 𝓤 H} {f : Name} {xs : List Operand} {Λ : Loops 𝓤 H} {p : Post 𝓤 H} {d : Place} where
+  module _ {M : Type 1} {𝓤 : URA M} {H : Heap 𝓤} {A : Atoms 𝓤} {K : Type 0} {W : Given 𝓤 H A} {Γ : List (Item 𝓤)}
+      {E : Env 𝓤 H} {C : Calls 𝓤 H} {f : Name} {xs : List Operand} {Λ : Loops 𝓤 H} {p : Post 𝓤 H} {d : Place} where
     pub lends : K → FmC 𝓤 H (W .laws) C → {rest : Stmts} → Triple 𝓤 (C f) (Covered k 𝓤 H A) → (κ : Lft) (q : Share) (γ : GName)
         → n < 2 ^ 64 → Is (k .R) v (k .plain .val v ∷ []) → Room u8 (length ys) → k .need n v
         → ((ν : ℕ) (δ : GName) → Opds K W (raw (Covered k 𝓤 H A .pre (loaned 𝓤 H A ν δ)) ∷ ‵ (Loan b o κ (ν ∷ []) q γ δ ys) ∷ Γ) E xs (machine b o ys ∷ vint w64 n ∷ k .plain .val v ∷ []))
@@ -71,9 +72,11 @@ module _ (k : Kind) (b o : ℕ) (ys : List ℕ) (n : ℕ) (v : k .R .Denot) wher
         use2 W (later (some (λ (δ : GName). ‵ (Bytes (ν ∷ []) δ ys) ⊛ ‵ (Loan b o κ (ν ∷ []) q γ δ ys)))) (lend b o 𝓤 H A W (named 0) (named 0) κ (ν ∷ []) q γ ys) $ await t tt $ pick t (λ δ. split t $
         move t (2 ∷ 0 ∷ []) $ use2 W (raw (Covered k 𝓤 H A .pre (loaned 𝓤 H A ν δ))) (asks 𝓤 H A W ν δ n-fits v-is need) $
         calls-at t fm (Covered k 𝓤 H A) known (loaned 𝓤 H A ν δ) (operands ν δ) (λ w.
-        use1 W (later (some (λ (r : ℕ). ((‵ (flft (ν ∷ []) fullShare) ⊛ ‵ ftrue) ⊛ ‵ (usize .own r (w ∷ []))) ⊛ raw (ensured 𝓤 H A (covered k) (covered-clauses k 𝓤) (ν ∷ [], tt) (args δ) tt r)))) (id⊢ 𝓤 _) $ await t tt $ pick t (λ r.
+        use1 W (later (some (λ (r : ℕ). ((‵ (flft (ν ∷ []) fullShare) ⊛ ‵ ftrue) ⊛ ‵ (usize .own r (w ∷ []))) ⊛ raw (ensured 𝓤 H A (covered k) (covered-clauses k 𝓤) (ν ∷ [], tt) (args δ) tt r))))
+        (id⊢ 𝓤 _) $ await t tt $ pick t (λ r.
         -- [the token of ν and the result; what is ensured, at some last bytes; the loan]
-        split t $ move t (1 ∷ []) $ use1 W (some (λ (zs : List ℕ × (Unit {0} × (Unit {0} × Unit {0}))). ‵ (lasts (covered k) (ν ∷ [], tt) (args δ) zs) ⊛ raw (fact 𝓤 (Put r (zs .0))))) (id⊢ 𝓤 _) $ pick t (λ zs.
+        split t $ move t (1 ∷ []) $ use1 W (some (λ (zs : List ℕ × (Unit {0} × (Unit {0} × Unit {0}))). ‵ (lasts (covered k) (ν ∷ [], tt) (args δ) zs) ⊛ raw (fact 𝓤 (Put r (zs .0)))))
+        (id⊢ 𝓤 _) $ pick t (λ zs.
         split t $ move t (1 ∷ []) $ heard t (Put r (zs .0)) (λ e. fsplit t $ fsplit t $ move t (1 ∷ []) $ feqL t (λ l.
         -- [the last bytes; nothing; the token of ν and the result; the loan]
         move t (2 ∷ []) $ split t $ move t (1 ∷ []) $ facts t usize (Is usize) (shows 𝓤 H A usize) r (w ∷ []) (λ is.

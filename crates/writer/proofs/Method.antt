@@ -84,7 +84,8 @@ module _ (k : Kind) where
       exits : (r : ℕ) (zs : List ℕ) → r < 2 ^ 64 → Put k b o ys n v r zs → ent 𝓤 (sep 𝓤 (sem 𝓤 H A (Bytes k b o ys n v κ γ zs)) (A .lft κ q)) (Post (mach r))
       exits r zs r-fits e =
           qed W (‵ (Bytes k b o ys n v κ γ zs) ∷ ‵ (flft κ q) ∷ []) ∵ move ! (1 ∷ 0 ∷ []) $
-          suffices ! _ (ends-at 𝓤 H A (method k) stayed (method-clauses k 𝓤) W (((κ, tt), (q, tt), tt, a, vals), tt) (mach r) (record { out = bytes-at b o γ zs; at = r }) ((tt, tt), (tt, tt)) ((tt, (tt, tt)), (tt, tt))) $
+          suffices ! _ (ends-at 𝓤 H A (method k) stayed (method-clauses k 𝓤) W (((κ, tt), (q, tt), tt, a, vals), tt) (mach r)
+          (record { out = bytes-at b o γ zs; at = r }) ((tt, tt), (tt, tt)) ((tt, (tt, tt)), (tt, tt))) $
           says ! (record { moved = λ i. record { out = bytes-at b o γ (e .bytes i); at = e .place i }; short = e .short }) $
           nothing ! $ move ! (1 ∷ 0 ∷ []) $ join ! $ frame ! $
           nothing ! $ owned ! usize (Is usize) (uint-makes 𝓤 H A W w64) r _ (refl, r-fits) $ fjoin ! $ move ! (1 ∷ 0 ∷ []) $ fjoin ! $
@@ -94,7 +95,8 @@ module _ (k : Kind) where
           nothing ! $ owned ! (k .R) (Is (k .R)) (k .plain .had 𝓤 H A W) v _ v-is $ fjoin ! $ move ! (1 ∷ 0 ∷ []) $ fjoin ! $ done !
 
       module _ (key : Name) (C : Calls 𝓤 H) (Λ : Loops 𝓤 H) (fm : FmC 𝓤 H (W .laws) C) (known : Triple 𝓤 (C key) (Covered k 𝓤 H A)) where
-        walk : Is (T.the-row α) h (mach n ∷ []) → Room u8 (length ys) → k .need n v → ent 𝓤 (onEntry 𝓤 H A (method k .signature) (κ, tt) (q, tt) a vals) (WpFn 𝓤 H C Λ (body-of (k .plain .ty) key) (mach n ∷ k .plain .val v ∷ []) Post)
+        walk : Is (T.the-row α) h (mach n ∷ []) → Room u8 (length ys) → k .need n v
+            → ent 𝓤 (onEntry 𝓤 H A (method k .signature) (κ, tt) (q, tt) a vals) (WpFn 𝓤 H C Λ (body-of (k .plain .ty) key) (mach n ∷ k .plain .val v ∷ []) Post)
         walk g room need =
             qed W ((‵ (flft κ q) ⊛ ‵ ftrue) ∷ ‵ (owns (T.the-row α ∷ k .R ∷ []) a vals) ∷ []) ∵ enter ! C Λ (body-of (k .plain .ty) key) (mach n ∷ k .plain .val v ∷ []) _ $
             alloc1 ! (λ l₀. alloc1 ! (λ l₁. alloc1 ! (λ l₂. alloc1 ! (λ l₃. alloc1 ! (λ l₄. alloc1 ! (λ l₅. alloc1 ! (λ l₆. alloc1 ! (λ l₇. alloc1 ! (λ l₈. alloc0 ! $ params1 ! $
@@ -102,17 +104,28 @@ module _ (k : Kind) where
             -- [_8; …; _0; …; the token; what the parameters own]: the place and the slice are taken out of the writer
             assigns ! (of-opd ! (load ! (from ! (fld ! refl (stop !))) (look-in ! 14 (sub ! 1 refl (whole !))))) (from ! (stop !)) (init ! 10 refl (tt, record { fits = n-fits })) $
             assigns ! (addr ! (from ! (fld ! refl (fld ! refl (hop ! (look-in ! 14 (sub ! 0 refl (sub ! 0 refl (whole !)))) (stop !)))))) (from ! (stop !)) (init ! 6 refl (tt, tt)) $
-            assigns ! (agg ! (and-then ! (load ! (from ! (stop !)) (look ! 6 refl)) (and-then ! (load ! (from ! (fld ! refl (fld ! refl (stop !)))) (look-in ! 14 (sub ! 1 refl (sub ! 0 refl (whole !))))) (no-more !)))) (from ! (stop !)) (init ! 4 refl (tt, (tt, (record { fits = room .0 }, tt)))) $
-            move ! (19 ∷ []) $ fsplit ! $ use1 W (given (mach n ∷ [] ≡ mach n ∷ []) (‵ (all-own (T.the-type α .parts) (T′.the-laws α) (bytes-at b o γ ys, (n, tt))))) (own-open 𝓤 H A W (T.the-type α) (T′.the-laws α) (bytes-at b o γ ys, (n, tt)) (mach n)) $ learn ! (λ _. fsplit ! $
+            assigns ! (agg ! (and-then ! (load ! (from ! (stop !)) (look ! 6 refl))
+            (and-then ! (load ! (from ! (fld ! refl (fld ! refl (stop !)))) (look-in ! 14 (sub ! 1 refl (sub ! 0 refl (whole !))))) (no-more !))))
+            (from ! (stop !)) (init ! 4 refl (tt, (tt, (record { fits = room .0 }, tt)))) $
+            move ! (19 ∷ []) $ fsplit ! $ use1 W (given (mach n ∷ [] ≡ mach n ∷ []) (‵ (all-own (T.the-type α .parts) (T′.the-laws α) (bytes-at b o γ ys, (n, tt)))))
+            (own-open 𝓤 H A W (T.the-type α) (T′.the-laws α) (bytes-at b o γ ys, (n, tt)) (mach n)) $ learn ! (λ _. fsplit ! $
             -- [what the slice owns; the token; nothing; what the place and the data own; _8; …; _0; …]
             move ! (21 ∷ []) $ split ! $ move ! (2 ∷ 0 ∷ []) $
-            lends k b o ys n v ! fm known κ q γ n-fits v-is room need (λ ν δ. and-then ! (load ! (from ! (stop !)) (look ! 9 refl)) (and-then ! (load ! (from ! (stop !)) (look ! 15 refl)) (and-then ! (load ! (from ! (stop !)) (look ! 17 refl)) (no-more !)))) (λ r zs r-fits e.
+            lends k b o ys n v ! fm known κ q γ n-fits v-is room need
+            (λ ν δ. and-then ! (load ! (from ! (stop !)) (look ! 9 refl)) (and-then ! (load ! (from ! (stop !)) (look ! 15 refl)) (and-then ! (load ! (from ! (stop !)) (look ! 17 refl)) (no-more !))))
+            (λ r zs r-fits e.
             land ! (from ! (stop !)) (init ! 13 refl (tt, record { fits = r-fits })) $
             assigns ! (addr ! (from ! (fld ! refl (fld ! refl (hop ! (look-in ! 19 (sub ! 0 refl (sub ! 0 refl (whole !)))) (stop !)))))) (from ! (stop !)) (init ! 7 refl (tt, tt)) $
-            assigns ! (agg ! (and-then ! (load ! (from ! (stop !)) (look ! 7 refl)) (and-then ! (load ! (from ! (fld ! refl (fld ! refl (stop !)))) (look-in ! 19 (sub ! 1 refl (sub ! 0 refl (whole !))))) (no-more !)))) (from ! (stop !)) (init ! 5 refl (tt, (tt, (record { fits = room .0 }, tt)))) $
-            assigns ! (agg ! (and-then ! (load ! (from ! (stop !)) (look ! 5 refl)) (and-then ! (load ! (from ! (stop !)) (look ! 13 refl)) (no-more !)))) (from ! (stop !)) (init ! 21 refl (tt, ((tt, (record { fits = room .0 }, tt)), (record { fits = r-fits }, tt)))) $
-            returns ! (look ! 21 refl) $ forget ! 5 refl $ forget ! 7 refl $ forget ! 9 refl $ forget ! 11 refl $ forget ! 13 refl $ forget ! 15 refl $ forget ! 17 refl $ forget ! 19 refl $ forget ! 21 refl $
-            move ! (21 ∷ 22 ∷ []) $ free1 ! $ move ! (19 ∷ 20 ∷ []) $ free1 ! $ move ! (17 ∷ 18 ∷ []) $ free1 ! $ move ! (15 ∷ 16 ∷ []) $ free1 ! $ move ! (13 ∷ 14 ∷ []) $ free1 ! $ move ! (11 ∷ 12 ∷ []) $ free1 ! $ move ! (9 ∷ 10 ∷ []) $ free1 ! $ move ! (7 ∷ 8 ∷ []) $ free1 ! $ move ! (5 ∷ 6 ∷ []) $ free1 ! $ free0 ! $
+            assigns ! (agg ! (and-then ! (load ! (from ! (stop !)) (look ! 7 refl))
+            (and-then ! (load ! (from ! (fld ! refl (fld ! refl (stop !)))) (look-in ! 19 (sub ! 1 refl (sub ! 0 refl (whole !))))) (no-more !))))
+            (from ! (stop !)) (init ! 5 refl (tt, (tt, (record { fits = room .0 }, tt)))) $
+            assigns ! (agg ! (and-then ! (load ! (from ! (stop !)) (look ! 5 refl)) (and-then ! (load ! (from ! (stop !)) (look ! 13 refl)) (no-more !))))
+            (from ! (stop !)) (init ! 21 refl (tt, ((tt, (record { fits = room .0 }, tt)), (record { fits = r-fits }, tt)))) $
+            returns ! (look ! 21 refl) $ forget ! 5 refl $ forget ! 7 refl $ forget ! 9 refl $ forget ! 11 refl $
+            forget ! 13 refl $ forget ! 15 refl $ forget ! 17 refl $ forget ! 19 refl $ forget ! 21 refl $
+            move ! (21 ∷ 22 ∷ []) $ free1 ! $ move ! (19 ∷ 20 ∷ []) $ free1 ! $ move ! (17 ∷ 18 ∷ []) $ free1 ! $ move ! (15 ∷ 16 ∷ []) $ free1 ! $
+            move ! (13 ∷ 14 ∷ []) $ free1 ! $ move ! (11 ∷ 12 ∷ []) $ free1 ! $ move ! (9 ∷ 10 ∷ []) $ free1 ! $ move ! (7 ∷ 8 ∷ []) $ free1 ! $
+            move ! (5 ∷ 6 ∷ []) $ free1 ! $ free0 ! $
             keep ! (0 ∷ 1 ∷ []) $ by ! (exits r zs r-fits e))))))))))))
 
     pub method-meets : (key : Name) (𝓣 : Tables 𝓤 H) → Triple 𝓤 (𝓣 .C key) (Covered k 𝓤 H A)
@@ -125,4 +138,5 @@ module _ (k : Kind) where
         (λ κs. (LL.tells (T.the-type (namedLft 1 0 tt κs)) (T′.the-laws (namedLft 1 0 tt κs)), (k .plain .tells, tt)))
         (λ κs qs bounds a g are. needs 𝓤 (k .need (a .0 .at) (a .1 .0)) _ (λ need.
         let fields = LL.owed (T.the-type (namedLft 1 0 tt κs)) (T′.the-laws (namedLft 1 0 tt κs)) (a .0) _ (are .0) in
-        walk (κs .0) (qs .0) (a .0 .out .ptr .0) (a .0 .out .ptr .1) (a .0 .out .name) (a .0 .out .now) (a .0 .at) (a .1 .0) (fields .1 .0 .1) (are .1 .0) key (𝓣 .C) (𝓣 .Λ) (fmOf 𝓤 H (W .laws) 𝓣) known (are .0) (fields .0 .0 .1) need)))
+        walk (κs .0) (qs .0) (a .0 .out .ptr .0) (a .0 .out .ptr .1) (a .0 .out .name) (a .0 .out .now) (a .0 .at) (a .1 .0)
+        (fields .1 .0 .1) (are .1 .0) key (𝓣 .C) (𝓣 .Λ) (fmOf 𝓤 H (W .laws) 𝓣) known (are .0) (fields .0 .0 .1) need)))

@@ -11,7 +11,7 @@ use Rattle.classes.specs.Proper.{Proper}
 use Rattle.classes.specs.Answer.{ShapeIs}
 use Rattle.network.specs.Printer.{printNetwork}
 use Rattle.serving.specs.Build.{built}
-use Rattle.netnames.specs.Listed.{shown, item}
+use Rattle.network.specs.Shown.{shown, item}
 use Rattle.netlines.specs.Lines.{headLine}
 use Rattle.netlines.specs.WrittenLaws.{sheet-written}
 use Rattle.writer.specs.declared.Plan.{Plan}

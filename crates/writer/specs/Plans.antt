@@ -8,8 +8,8 @@ use Rattle.names.specs.Pack.{nameOf}
 use Rattle.sheet.specs.Known.{tableAt}
 use Rattle.bits.specs.Values.{valuesUpto}
 use Rattle.network.specs.Printer.{printLut, printNode}
-use Rattle.serving.specs.Build.{numbers}
-use Rattle.netnames.specs.Listed.{maxNames, shown, item}
+use Rattle.network.specs.Numbers.{numbersOf}
+use Rattle.network.specs.Shown.{maxNames, shown, item}
 use Rattle.netlines.specs.Lines.{headLine, linesUpto, lastLines, nodeBy, Fitting}
 use Rattle.writer.specs.declared.Plan.{Plan}
 
@@ -31,7 +31,7 @@ nodeLines p =
     (λ (o : ℕ).
     printNode (nameOf (item (p .sheet .outs) o)) (shown (p .free))
     (nodeBy (tableAt (p .sheet .tables) o) (take (p .shape .vertices) (p .shape .vertex)) (take (p .shape .frees) (p .shape .free)) (item (p .codes))
-    (numbers (p .tables) 0 (item (p .rows) o))))
+    (numbersOf (p .tables) (item (p .rows) o))))
     (p .sheet .outputs)
 
 -- the edition of network sheets

@@ -13,13 +13,14 @@ ghost use Rattle.classes.specs.Answer.{ShapeIs};
 ghost use Rattle.network.specs.Printer.{printNetwork};
 ghost use Rattle.serving.specs.Build.{built};
 ghost use Rattle.emit.specs.Written.{reach, Written};
-ghost use Rattle.netnames.specs.Listed.{oneDigit, item};
+ghost use Rattle.network.specs.Shown.{item};
+ghost use Rattle.netnames.specs.Listed.{oneDigit};
 ghost use Rattle.netlines.specs.Room.{headRoom, lutsRoom, nodesRoom, endRoom, sheetRoom};
 ghost use Rattle.netlines.specs.Lines.{headLine, lastLines, Fitting};
 ghost use Rattle.writer.specs.Plans.{Fit, lutLines, nodeLines, allLines};
 ghost use Rattle.writer.specs.Appended.{Appended};
 use classes::Shape;
-use netnames::Names;
+use network::Names;
 use sheet::Sheet;
 
 // The edition of network sheets.
@@ -153,12 +154,14 @@ pub fn put_network(
     codes: [u8; limits::MAX_VERTICES],
 ) -> usize
     requires { ⌜ (k .inputs ≤ maxInputs) × (k .bounds ≤ maxBound) × (k .outputs ≤ maxOutputs) × (u ≤ maxCells) × Fitting sh ⌝ }
-    ensures { λ r. ⌜ ((d : Design) → Holds d k → Proper d → ShapeIs d sh → (r ≡ length (printNetwork d (built d u (item rows) (item codes)))) × (now (buf .exit) ≡ sets (now (buf .entry)) 0 (printNetwork d (built d u (item rows) (item codes))))) ⌝ }
+    ensures { λ r. ⌜ ((d : Design) → Holds d k → Proper d → ShapeIs d sh
+        → (r ≡ length (printNetwork d (built d u (item rows) (item codes))))
+        × (now (buf .exit) ≡ sets (now (buf .entry)) 0 (printNetwork d (built d u (item rows) (item codes))))) ⌝ }
 {
     let names = k.names;
     let places = k.bound;
-    let bound = netnames::bound_names(names, places, k.bounds);
-    let free = netnames::free_names(names, k.inputs, bound);
+    let bound = network::bound_names(names, places, k.bounds);
+    let free = network::free_names(names, k.inputs, bound);
     put_sheet(
         buf,
         Plan {

@@ -3,7 +3,7 @@ use mathlib.Core.Path.{refl, sym}
 use native.Mathlib.Omega.{arith}
 use borrow.Author.Needs.{needs}
 use Rattle.emit.specs.PutLaws.{put-same}
-use Rattle.netnames.proofs.Arrays.{list-sized}
+use Rattle.network.proofs.Arrays.{list-sized}
 use Rattle.netlines.proofs.Arrays.{items-counted}
 use Rattle.blif.proofs.put_listed.Statement.{statement}
 use Rattle.blif.proofs.put_listed.Tie as tie

@@ -5,7 +5,7 @@ use borrow.Author.Needs.{needs}
 use Rattle.names.specs.Pack.{nameOf}
 use Rattle.names.specs.Name.{Name}
 use Rattle.emit.specs.PutLaws.{put-next, put-then}
-use Rattle.netnames.specs.Listed.{shown}
+use Rattle.network.specs.Shown.{shown}
 use Rattle.blif.specs.Texts.{digitsAt, blockText}
 use Rattle.blif.specs.BlockLaws.{block-text}
 use Rattle.blif.proofs.Arrays.{shown-counted}

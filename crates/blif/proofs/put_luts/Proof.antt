@@ -5,7 +5,7 @@ use native.Mathlib.Omega.{arith}
 use borrow.Author.Needs.{needs}
 use Rattle.emit.specs.UptoLaws.{Texts, texts-none, texts-put, texts-all}
 use Rattle.emit.specs.PutLaws.{put-length}
-use Rattle.netnames.specs.Listed.{shown}
+use Rattle.network.specs.Shown.{shown}
 use Rattle.blif.specs.Texts.{lutText}
 use Rattle.blif.specs.Room.{blockRoom}
 use Rattle.blif.proofs.put_luts.Statement.{statement}

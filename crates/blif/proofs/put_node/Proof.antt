@@ -8,7 +8,7 @@ use borrow.Author.Needs.{needs}
 use Rattle.names.specs.Pack.{nameOf}
 use Rattle.network.specs.Numbers.{numbersOf}
 use Rattle.emit.specs.PutLaws.{put-next, put-then}
-use Rattle.netnames.specs.Listed.{shown}
+use Rattle.network.specs.Shown.{shown}
 use Rattle.blif.specs.Texts.{digitsAt}
 use Rattle.blif.specs.Printer.{cellName}
 use Rattle.blif.specs.BlockLaws.{block-text-two, two-counted}

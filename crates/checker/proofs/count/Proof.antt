@@ -5,7 +5,7 @@ use Prim.Native.Nat.{ℕ, _≤_, _-_}
 use native.Mathlib.Omega.{arith}
 use lib.ListN.{length}
 use Rattle.network.specs.Numbers.{numbersOf}
-use Rattle.comparing.specs.CodeLaws.{count-none, count-with, count-without, count-most}
+use Rattle.network.specs.NumbersLaws.{count-none, count-hit, count-miss, count-most}
 use borrow.Author.Needs.{needs}
 use Rattle.checker.proofs.count.Statement.{statement}
 use Rattle.checker.proofs.count.Tie as tie
@@ -45,8 +45,8 @@ loop-again c =
     let told = c .before .has .ensures in
     let turn = c .before .before .loop-test .taken in
     ⊎-elim
-    (λ w. (omega arith, w .1 ∙ count-with (head .loop .i) mask (head .loop .n) (head .loop .inv .1) (sym told ∙ w .0 .taken)))
-    (λ w. (omega arith, w .1 ∙ count-without (head .loop .i) mask (head .loop .n) (head .loop .inv .1) (sym told ∙ w .0 .left)))
+    (λ w. (omega arith, w .1 ∙ count-hit (head .loop .i) mask (head .loop .n) (head .loop .inv .1) (sym told ∙ w .0 .taken)))
+    (λ w. (omega arith, w .1 ∙ count-miss (head .loop .i) mask (head .loop .n) (head .loop .inv .1) (sym told ∙ w .0 .left)))
     (c .if1 .came)
 
 returns : tie.Need-returns Inv-loop μ-loop

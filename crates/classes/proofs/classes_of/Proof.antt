@@ -3,7 +3,8 @@ use mathlib.Core.Path.{sym}
 use Prim.Native.Nat.{_-_}
 use native.Mathlib.Omega.{arith}
 use borrow.Author.Needs.{needs}
-use Rattle.classes.proofs.Outputs.{Outlined, outlined-none, outlined-more, outlined-all, vertex-fits, free-fits, vertex-part, free-part, few-part, parts-inside, few-classes, output-keyable, keys-fit, keys-part}
+use Rattle.classes.proofs.Outputs.{Outlined, outlined-none, outlined-more, outlined-all, few-classes, output-keyable, keys-fit, keys-part}
+use Rattle.classes.proofs.Outputs.{vertex-fits, free-fits, vertex-part, free-part, few-part, parts-inside}
 use Rattle.classes.proofs.classes_of.Statement.{statement}
 use Rattle.classes.proofs.classes_of.Tie as tie
 
@@ -19,36 +20,36 @@ shape-of-requires c κs = c .pre
 loop-holds : tie.Need-loop-holds Inv-loop μ-loop
 loop-holds c = outlined-none (c .before .before .shape-of .ensures) _
 
-mul-rows : tie.Need-mul-rows Inv-loop μ-loop
-mul-rows c = search needs
+mul-table : tie.Need-mul-table Inv-loop μ-loop
+mul-table c = search needs
 
-element-copy-out-rows : tie.Need-element-copy-out-rows Inv-loop μ-loop
-element-copy-out-rows c = omega (arith, c .loop-test .taken, c .before .before .before .before .before .pre .few-outputs)
+element-copy-out-table : tie.Need-element-copy-out-table Inv-loop μ-loop
+element-copy-out-table c = omega (arith, c .loop-test .taken, c .before .before .before .before .before .pre .few-outputs)
 
 array-share-prefix-vertex : tie.Need-array-share-prefix-vertex Inv-loop μ-loop
-array-share-prefix-vertex c = vertex-fits (c .before .before .before .before .before .before .shape-of .ensures)
+array-share-prefix-vertex c = vertex-fits (c .before .before .before .before .before .before .before .shape-of .ensures)
 
 slice-aggregate-local-classes : tie.Need-slice-aggregate-local-classes Inv-loop μ-loop
 slice-aggregate-local-classes c =
-    let at-shape-of = c .before .before .before .before .before .before .before in
+    let at-shape-of = c .before .before .before .before .before .before .before .before in
     sym (vertex-part (at-shape-of .shape-of .ensures))
 
 array-share-prefix-free : tie.Need-array-share-prefix-free Inv-loop μ-loop
-array-share-prefix-free c = free-fits (c .before .before .before .before .before .before .before .shape-of .ensures)
+array-share-prefix-free c = free-fits (c .before .before .before .before .before .before .before .before .shape-of .ensures)
 
 slice-aggregate-local-classes-2 : tie.Need-slice-aggregate-local-classes-2 Inv-loop μ-loop
 slice-aggregate-local-classes-2 c =
-    let at-shape-of = c .before .before .before .before .before .before .before .before in
+    let at-shape-of = c .before .before .before .before .before .before .before .before .before in
     sym (free-part (at-shape-of .shape-of .ensures))
 
 local-classes-requires : tie.Need-local-classes-requires Inv-loop μ-loop
 local-classes-requires c κs =
-    let at-shape-of = c .before .before .before .before .before .before .before .before in
+    let at-shape-of = c .before .before .before .before .before .before .before .before .before in
     (parts-inside (at-shape-of .shape-of .ensures), few-part (at-shape-of .shape-of .ensures))
 
 with-output-requires : tie.Need-with-output-requires Inv-loop μ-loop
 with-output-requires c κs =
-    let turn = c .before .before .before .before .before in
+    let turn = c .before .before .before .before .before .before in
     let head = turn .before in
     let at-shape-of = head .before .before .before in
     let start = at-shape-of .before in (
@@ -59,7 +60,7 @@ with-output-requires c κs =
 
 width-requires : tie.Need-width-requires Inv-loop μ-loop
 width-requires c κs =
-    let turn = c .before .before .before .before .before .before in
+    let turn = c .before .before .before .before .before .before .before in
     let head = turn .before in
     let at-shape-of = head .before .before .before in
     let start = at-shape-of .before in
@@ -71,7 +72,7 @@ mul-widths c = search needs
 
 array-write-widths : tie.Need-array-write-widths Inv-loop μ-loop
 array-write-widths c =
-    let turn = c .before .before .before .before .before .before .before in
+    let turn = c .before .before .before .before .before .before .before .before in
     let start = turn .before .before .before .before .before in
     omega (arith, turn .loop-test .taken, start .pre .few-outputs)
 
@@ -80,23 +81,23 @@ mul-locals c = search needs
 
 array-set-from-locals : tie.Need-array-set-from-locals Inv-loop μ-loop
 array-set-from-locals c =
-    let turn = c .before .before .before .before .before .before .before in
+    let turn = c .before .before .before .before .before .before .before .before in
     let start = turn .before .before .before .before .before in
     omega (arith, turn .loop-test .taken, start .pre .few-outputs)
 
 add-o : tie.Need-add-o Inv-loop μ-loop
 add-o c =
-    let turn = c .before .before .before .before .before .before .before in
+    let turn = c .before .before .before .before .before .before .before .before in
     let start = turn .before .before .before .before .before in
     omega (arith, turn .loop-test .taken, start .pre .few-outputs)
 
 loop-less : tie.Need-loop-less Inv-loop μ-loop
-loop-less c = (let a = c .before .before .before .before .before .before .before .loop-test .taken in omega arith)
+loop-less c = (let a = c .before .before .before .before .before .before .before .before .loop-test .taken in omega arith)
 
 loop-again : tie.Need-loop-again Inv-loop μ-loop
 loop-again c =
     let at-local-classes = c .before .before in
-    let turn = at-local-classes .before .before .before .before .before in
+    let turn = at-local-classes .before .before .before .before .before .before in
     let head = turn .before in
     let at-shape-of = head .before .before .before in
     let start = at-shape-of .before in
@@ -135,8 +136,8 @@ classes-of-spec =
     μ-loop
     shape-of-requires
     loop-holds
-    mul-rows
-    element-copy-out-rows
+    mul-table
+    element-copy-out-table
     array-share-prefix-vertex
     slice-aggregate-local-classes
     array-share-prefix-free

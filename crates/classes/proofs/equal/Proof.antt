@@ -29,48 +29,48 @@ shared-slice-read-b c = search needs
 loop-holds : tie.Need-loop-holds Inv-loop μ-loop
 loop-holds c = agreeing-none
 
-mul-row : tie.Need-mul-row Inv-loop μ-loop
-mul-row c = search needs
+mul-z : tie.Need-mul-z Inv-loop μ-loop
+mul-z c = search needs
 
-shared-slice-read-row : tie.Need-shared-slice-read-row Inv-loop μ-loop
-shared-slice-read-row c = search needs
+shared-slice-read-z : tie.Need-shared-slice-read-z Inv-loop μ-loop
+shared-slice-read-z c = search needs
 
-add-value : tie.Need-add-value Inv-loop μ-loop
-add-value c =
+add-row : tie.Need-add-row Inv-loop μ-loop
+add-row c =
     let head = c .before .before in
-    let start = head .before .before .before .before .before .before in
-    omega (arith, start .pre .1 .each (start .args .x .0) (head .loop .f) (start .pre .2) (c .before .loop-test .taken))
+    let start = head .before .before .before .before .before in
+    omega (arith, start .pre .0 .each (start .args .x .0) (head .loop .f) (start .pre .1) (c .before .loop-test .taken))
 
-value-requires : tie.Need-value-requires Inv-loop μ-loop
-value-requires c κs =
+row-requires : tie.Need-row-requires Inv-loop μ-loop
+row-requires c κs =
     let head = c .before .before in
-    let start = head .before .before .before .before .before .before in
-    (start .pre .0, start .pre .1 .each (start .args .x .0) (head .loop .f) (start .pre .2) (c .before .loop-test .taken))
+    let start = head .before .before .before .before .before in
+    (start .pre .0 .each (start .args .x .0) (head .loop .f) (start .pre .1) (c .before .loop-test .taken))
 
-add-value-2 : tie.Need-add-value-2 Inv-loop μ-loop
-add-value-2 c =
+add-row-2 : tie.Need-add-row-2 Inv-loop μ-loop
+add-row-2 c =
     let turn = c .before .before in
     let head = turn .before in
-    let start = head .before .before .before .before .before .before in
-    omega (arith, start .pre .1 .each (start .args .y .0) (head .loop .f) (start .pre .3) (turn .loop-test .taken))
+    let start = head .before .before .before .before .before in
+    omega (arith, start .pre .0 .each (start .args .y .0) (head .loop .f) (start .pre .2) (turn .loop-test .taken))
 
-value-requires-2 : tie.Need-value-requires-2 Inv-loop μ-loop
-value-requires-2 c κs =
+row-requires-2 : tie.Need-row-requires-2 Inv-loop μ-loop
+row-requires-2 c κs =
     let turn = c .before .before in
     let head = turn .before in
-    let start = head .before .before .before .before .before .before in
-    (start .pre .0, start .pre .1 .each (start .args .y .0) (head .loop .f) (start .pre .3) (turn .loop-test .taken))
+    let start = head .before .before .before .before .before in
+    (start .pre .0 .each (start .args .y .0) (head .loop .f) (start .pre .2) (turn .loop-test .taken))
 
 returns : tie.Need-returns Inv-loop μ-loop
 returns c =
-    let at-value = c .before .before in
-    let turn = at-value .before .before in
+    let at-row = c .before .before in
+    let turn = at-row .before .before in
     let head = turn .before in
-    let start = head .before .before .before .before .before .before in
+    let start = head .before .before .before .before .before in
     differing (head .loop .inv) (turn .loop-test .taken)
     (read-differ (start .args .t .now) (start .args .vertex .now) (start .args .free .now)
     (start .args .x .0) (start .args .y .0) (head .loop .f)
-    (at-value .value .ensures) (c .before .value2 .ensures) (c .if1 .taken))
+    (at-row .row .ensures) (c .before .row2 .ensures) (c .if1 .taken))
 
 add-f : tie.Need-add-f Inv-loop μ-loop
 add-f c = search needs
@@ -80,14 +80,14 @@ loop-less c = search needs
 
 loop-again : tie.Need-loop-again Inv-loop μ-loop
 loop-again c =
-    let at-value = c .before .before in
-    let turn = at-value .before .before in
+    let at-row = c .before .before in
+    let turn = at-row .before .before in
     let head = turn .before in
-    let start = head .before .before .before .before .before .before in
+    let start = head .before .before .before .before .before in
     agreeing-more (head .loop .inv) (turn .loop-test .taken)
     (read-agree (start .args .t .now) (start .args .vertex .now) (start .args .free .now)
     (start .args .x .0) (start .args .y .0) (head .loop .f)
-    (at-value .value .ensures) (c .before .value2 .ensures) (c .if1 .left))
+    (at-row .row .ensures) (c .before .row2 .ensures) (c .if1 .left))
 
 returns-2 : tie.Need-returns-2 Inv-loop μ-loop
 returns-2 c = agreeing-all (c .before .loop .inv) (c .loop-test .left)
@@ -103,12 +103,12 @@ equal-spec =
     mul-b
     shared-slice-read-b
     loop-holds
-    mul-row
-    shared-slice-read-row
-    add-value
-    value-requires
-    add-value-2
-    value-requires-2
+    mul-z
+    shared-slice-read-z
+    add-row
+    row-requires
+    add-row-2
+    row-requires-2
     returns
     add-f
     loop-less

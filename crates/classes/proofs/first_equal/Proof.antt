@@ -19,8 +19,8 @@ loop-holds c = unlike-none
 
 equal-requires : tie.Need-equal-requires Inv-loop μ-loop
 equal-requires c κs =
-    let start = c .before .before .before .before .before in
-    (start .pre .0, start .pre .1, (let a = start .pre .2 in let b = c .loop-test .taken in omega arith), start .pre .2)
+    let start = c .before .before .before .before in
+    (start .pre .0, (let a = start .pre .1 in let b = c .loop-test .taken in omega arith), start .pre .1)
 
 returns : tie.Need-returns Inv-loop μ-loop
 returns c =

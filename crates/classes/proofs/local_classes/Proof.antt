@@ -13,20 +13,17 @@ use Rattle.classes.proofs.local_classes.Statement.{statement}
 use Rattle.classes.proofs.local_classes.Tie as tie
 
 abbrev Inv-loop : tie.InvT-loop
-Inv-loop vertex free t classes₀ count₀ x₀ classes count x =
+Inv-loop t vertex free classes₀ count₀ x₀ classes count x =
     (x ≤ length vertex) × Numbered (λ (l : LocalClass). l .0) (record { 0 = 0 }) (alikeSeen t vertex free) classes x count
 
 abbrev μ-loop : tie.MeasureT-loop
-μ-loop vertex free t classes₀ count₀ x₀ classes count x = length vertex - x
+μ-loop t vertex free classes₀ count₀ x₀ classes count x = length vertex - x
 
 loop-holds : tie.Need-loop-holds Inv-loop μ-loop
 loop-holds c = (search needs, numbered-none (search needs))
 
-slice-aggregate-first-equal : tie.Need-slice-aggregate-first-equal Inv-loop μ-loop
-slice-aggregate-first-equal c = search needs
-
 first-equal-requires : tie.Need-first-equal-requires Inv-loop μ-loop
-first-equal-requires c κs = (search needs, c .before .before .before .before .before .pre .0, c .before .loop-test .taken)
+first-equal-requires c κs = (c .before .before .before .before .pre .0, c .loop-test .taken)
 
 mul-classes : tie.Need-mul-classes Inv-loop μ-loop
 mul-classes c = search needs
@@ -48,7 +45,7 @@ array-set-from-classes-2 c = search needs
 
 add-count : tie.Need-add-count Inv-loop μ-loop
 add-count c =
-    let turn = c .before .before .before in
+    let turn = c .before .before in
     let head = turn .before in
     let start = head .before .before .before in
     omega (arith, numbered-few (head .loop .inv .1), turn .loop-test .taken, start .pre .1)
@@ -61,12 +58,12 @@ loop-less c = search needs
 
 loop-again : tie.Need-loop-again Inv-loop μ-loop
 loop-again c =
-    let turn = c .before .before .before in
+    let turn = c .before .before in
     let head = turn .before in
     let start = head .before .before .before in
     let l = turn .loop-test .taken in
     let m = start .pre .1 in
-    let columns = seen (start .args .t1) (start .args .vertex .now) (start .args .free .now) in
+    let columns = seen (start .args .t .now) (start .args .vertex .now) (start .args .free .now) in
     let equivalence = same-column columns (length (start .args .free .now)) in (
       omega arith,
       ⊎-elim
@@ -86,7 +83,6 @@ local-classes-spec =
     Inv-loop
     μ-loop
     loop-holds
-    slice-aggregate-first-equal
     first-equal-requires
     mul-classes
     array-copy-out-classes

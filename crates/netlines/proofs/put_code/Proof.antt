@@ -20,7 +20,7 @@ returns c =
     let test = zeros .before .before in
     let args = test .before .before .before .before .args in
     put-same (zeros .put-zeros .ensures)
-    (ap printDigits (zero-entries (args .t) (args .vertex .now) (args .free .now) (args .x .0) (test .if1 .taken)))
+    (ap printDigits (zero-entries (args .t .now) (args .vertex .now) (args .free .now) (args .x .0) (test .if1 .taken)))
     (omega arith)
 
 mul-put-column : tie.Need-mul-put-column
@@ -68,7 +68,7 @@ returns-2 c =
     let laid = start .pre .1 in
     let x = start .args .x .0 in
     put-same (column .put-column .ensures (vertex-row laid x (test .if1 .left)))
-    (ap printDigits (column-entries laid (start .args .t) x (test .if1 .left)))
+    (ap printDigits (column-entries laid (start .args .t .now) x (test .if1 .left)))
     (omega arith)
 
 pub put-code-spec : {M : Type 1} → statement M

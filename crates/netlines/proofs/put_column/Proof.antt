@@ -10,23 +10,23 @@ use Rattle.netlines.proofs.put_column.Statement.{statement}
 use Rattle.netlines.proofs.put_column.Tie as tie
 
 abbrev Inv-loop : tie.InvT-loop
-Inv-loop buf₀ at start bound free n t p₀ row₀ z₀ buf p row z = (v : VertexRow start bound free) → Running v t n buf₀ buf at p row z
+Inv-loop buf₀ at t start bound free n p₀ row₀ z₀ buf p row z = (v : VertexRow start bound free) → Running v t n buf₀ buf at p row z
 
 abbrev μ-loop : tie.MeasureT-loop
-μ-loop buf₀ at start bound free n t p₀ row₀ z₀ buf p row z = n - z
+μ-loop buf₀ at t start bound free n p₀ row₀ z₀ buf p row z = n - z
 
 loop-holds : tie.Need-loop-holds Inv-loop μ-loop
 loop-holds c = λ v. running-start v
 
 row-requires : tie.Need-row-requires Inv-loop μ-loop
 row-requires c κs =
-    let head = c .before .before .before in
+    let head = c .before .before in
     let v = head .before .before .pre .1 in
     omega (arith, head .loop .inv v .runs, row-small v (head .loop .z))
 
 put-digit-requires : tie.Need-put-digit-requires Inv-loop μ-loop
 put-digit-requires c κs =
-    let turn = c .before .before .before in
+    let turn = c .before .before in
     let head = turn .before in
     let pre = head .before .before .pre in
     let so-far = head .loop .inv (pre .1) .put .so-far in
@@ -34,7 +34,7 @@ put-digit-requires c κs =
 
 step-requires : tie.Need-step-requires Inv-loop μ-loop
 step-requires c κs =
-    let head = c .before .before .before .before .before .before .before in
+    let head = c .before .before .before .before .before .before in
     let v = head .before .before .pre .1 in
     (omega (arith, head .loop .inv v .runs, row-small v (head .loop .z)), bound-small v)
 
@@ -48,7 +48,7 @@ loop-again : tie.Need-loop-again Inv-loop μ-loop
 loop-again c = λ v.
     let put = c .before .before .before in
     let row = put .before .row in
-    let turn = put .before .before .before .before in
+    let turn = put .before .before .before in
     running-step v (turn .before .loop .inv v) (turn .loop-test .taken) (put .put-digit .ensures) (row .ensures) (c .step .ensures)
 
 same-length : tie.Need-same-length Inv-loop μ-loop

@@ -66,7 +66,7 @@ returns c =
     let frees = length (args .free .now) in
     let room : frees * args .count ≤ args .count * frees = omega (arith, mul-comm frees (args .count)) in
     texts-all (head .loop .inv) (c .loop-test .left) room
-    (cells-by-codes (args .t) (args .vertex .now) (args .free .now) _ (args .count))
+    (cells-by-codes (args .t .now) (args .vertex .now) (args .free .now) _ (args .count))
 
 pub put-entries-spec : {M : Type 1} → statement M
 put-entries-spec =

@@ -3,7 +3,7 @@ use mathlib.Core.Path.{refl, sym}
 use native.Mathlib.Omega.{arith}
 use borrow.Author.Needs.{needs}
 use Rattle.emit.specs.PutLaws.{put-next}
-use Rattle.netnames.proofs.Arrays.{list-sized}
+use Rattle.network.proofs.Arrays.{list-sized}
 use Rattle.netlines.proofs.Arrays.{items-counted}
 use Rattle.netlines.proofs.put_list.Statement.{statement}
 use Rattle.netlines.proofs.put_list.Tie as tie

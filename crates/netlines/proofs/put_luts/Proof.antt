@@ -3,7 +3,7 @@ use mathlib.Core.Path.{refl}
 use Prim.Native.Nat.{ℕ, _-_}
 use native.Mathlib.Omega.{arith}
 use borrow.Author.Needs.{needs}
-use Rattle.netnames.specs.Listed.{shown, item}
+use Rattle.network.specs.Shown.{shown, item}
 use Rattle.emit.specs.PutLaws.{put-length}
 use Rattle.network.specs.Printer.{printLut}
 use Rattle.bits.specs.Values.{valuesUpto}

@@ -4,7 +4,7 @@ use native.Mathlib.Omega.{arith}
 use lib.ListN.{length}
 use Rattle.emit.specs.PutLaws.{put-next, put-then, put-length}
 use Rattle.netlines.specs.TextLaws.{node-line}
-use Rattle.netlines.specs.DigitLaws.{entries-few}
+use Rattle.netlines.specs.DigitLaws.{codes-few, entries-few}
 use Rattle.netlines.proofs.put_node.Statement.{statement}
 use Rattle.netlines.proofs.put_node.Tie as tie
 
@@ -40,12 +40,13 @@ put-entries-requires c κs =
     let list = c .before .before .before in
     let head = list .before .before .before .before .before in
     let power = head .before .before .before .power in
-    let start = head .before .before .before .before .before .before .before .before in
-    let frees = length (start .args .free .now) in
-    let few = entries-few (power .result) frees (power .ensures .1) (start .pre .3 .few-free) in
+    let reads = head .before .before .before .before in
+    let start = reads .before .before .before .before in
+    let codes = codes-few _ (power .result) (power .ensures) (omega (arith, start .pre .2, reads .read-names .ensures .2)) in
+    let few = entries-few (power .result) (length (start .args .free .now)) codes (start .pre .3 .few-free) in
     let a = head .put-node-head .ensures in
     let b = list .put-list .ensures in
-    (omega (arith, start .pre .0, a .place, a .short, b .place, b .short), power .ensures .1, start .pre .3 .laid)
+    (omega (arith, start .pre .0, a .place, a .short, b .place, b .short), codes, start .pre .3 .laid)
 
 slice-aggregate-put-text : tie.Need-slice-aggregate-put-text
 slice-aggregate-put-text c = refl
@@ -56,8 +57,10 @@ put-text-requires c κs =
     let list = entries .before .before .before .before in
     let head = list .before .before .before .before .before in
     let power = head .before .before .before .power in
-    let start = head .before .before .before .before .before .before .before .before in
-    let few = entries-few (power .result) (length (start .args .free .now)) (power .ensures .1) (start .pre .3 .few-free) in
+    let reads = head .before .before .before .before in
+    let start = reads .before .before .before .before in
+    let codes = codes-few _ (power .result) (power .ensures) (omega (arith, start .pre .2, reads .read-names .ensures .2)) in
+    let few = entries-few (power .result) (length (start .args .free .now)) codes (start .pre .3 .few-free) in
     let a = head .put-node-head .ensures in
     let b = list .put-list .ensures in
     let d = entries .put-entries .ensures in
@@ -81,10 +84,11 @@ returns c =
     let power = found .before .power in
     let reads = found .before .before in
     let start = reads .before .before .before .before in
-    let few = entries-few (power .result) (length (start .args .free .now)) (power .ensures .1) (start .pre .3 .few-free) in
+    let codes = codes-few _ (power .result) (power .ensures) (omega (arith, start .pre .2, reads .read-names .ensures .2)) in
+    let few = entries-few (power .result) (length (start .args .free .now)) codes (start .pre .3 .few-free) in
     put-next (head .put-node-head .ensures) (put-then (list .put-list .ensures) (put-then (entries .put-entries .ensures) (text .put-text .ensures)))
     (node-line _ _ _ _ _ _ _ _ _ _ _ _ (list .before .joined .ensures .0) (reads .read-names .ensures .0) (found .firsts .ensures)
-    (start .pre .3 .few-vertices) (power .ensures .0) (reads .read-names .ensures .1) (power .ensures .1))
+    (start .pre .3 .few-vertices) (power .ensures) (reads .read-names .ensures .1) codes)
     (omega arith)
 
 pub put-node-spec : {M : Type 1} → statement M

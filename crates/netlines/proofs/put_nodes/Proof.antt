@@ -3,9 +3,9 @@ use mathlib.Core.Path.{refl}
 use Prim.Native.Nat.{ℕ, _-_}
 use native.Mathlib.Omega.{arith}
 use borrow.Author.Needs.{needs}
-use Rattle.netnames.specs.Listed.{shown, item}
+use Rattle.network.specs.Shown.{shown, item}
 use Rattle.emit.specs.PutLaws.{put-length}
-use Rattle.serving.specs.Build.{numbers}
+use Rattle.network.specs.Numbers.{numbersOf}
 use Rattle.network.specs.Printer.{printNode}
 use Rattle.sheet.specs.Known.{tableAt}
 use Rattle.names.specs.Pack.{nameOf}
@@ -19,7 +19,7 @@ abbrev Inv-loop : tie.InvT-loop
 Inv-loop buf₀ at fs u codes vertex free rows outputs outs tables p₀ o₀ buf p o =
     Texts
     (ended
-    (λ (j : ℕ). printNode (nameOf (item outs j)) (shown fs) (nodeBy (tableAt tables j) vertex free (item codes) (numbers u 0 (item rows j)))))
+    (λ (j : ℕ). printNode (nameOf (item outs j)) (shown fs) (nodeBy (tableAt tables j) vertex free (item codes) (numbersOf u (item rows j)))))
     nodeRoom outputs buf₀ buf at p o
 
 abbrev μ-loop : tie.MeasureT-loop
@@ -45,9 +45,9 @@ array-read-put-node-2 c = search needs
 
 put-node-requires : tie.Need-put-node-requires Inv-loop μ-loop
 put-node-requires c κs =
-    let loop-test = c .before .before .before .loop-test in
-    let loop = c .before .before .before .before .loop in
-    let pre = c .before .before .before .before .before .before .before .before .before .before .pre in
+    let loop-test = c .before .before .before .before .loop-test in
+    let loop = c .before .before .before .before .before .loop in
+    let pre = c .before .before .before .before .before .before .before .before .before .before .before .pre in
     (omega (arith, pre .0, pre .1, loop-test .taken, loop .inv .so-far .place, loop .inv .so-far .short), pre .2, pre .3, pre .4)
 
 add-o : tie.Need-add-o Inv-loop μ-loop
@@ -59,8 +59,8 @@ loop-less c = search needs
 loop-again : tie.Need-loop-again Inv-loop μ-loop
 loop-again c =
     let put-node = c .before .before .put-node in
-    let loop-test = c .before .before .before .before .before .before .loop-test in
-    let loop = c .before .before .before .before .before .before .before .loop in
+    let loop-test = c .before .before .before .before .before .before .before .loop-test in
+    let loop = c .before .before .before .before .before .before .before .before .loop in
     texts-put (loop .inv) (loop-test .taken) (put-node .ensures)
 
 same-length : tie.Need-same-length Inv-loop μ-loop

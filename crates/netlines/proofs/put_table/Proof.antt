@@ -3,7 +3,7 @@ use mathlib.Core.Path.{ap, _∙_}
 use Prim.Native.Nat.{ℕ, _-_}
 use native.Mathlib.Omega.{arith}
 use borrow.Author.Needs.{needs}
-use Rattle.netnames.specs.Listed.{item}
+use Rattle.network.specs.Shown.{item}
 use Rattle.emit.specs.PutLaws.{put-length}
 use Rattle.bits.specs.Digit.{on}
 use Rattle.netlines.specs.DigitLaws.{Digits, digits-none, digits-put, digits-all}

@@ -1,14 +1,15 @@
 -- `firsts`: each turn puts one vertex down at its code. Assumes nothing.
 use Prim.Native.Nat.{ℕ}
 use borrow.Author.Needs.{needs}
-use Rattle.serving.specs.Build.{numbers, codeIn}
+use Rattle.network.specs.Numbers.{numbersOf}
+use Rattle.serving.specs.Build.{codeIn}
 use Rattle.netnames.specs.FirstLaws.{Filling, filling-none, filling-more, filling-all}
-use Rattle.netnames.specs.Listed.{item}
+use Rattle.network.specs.Shown.{item}
 use Rattle.netnames.proofs.firsts.Statement.{statement}
 use Rattle.netnames.proofs.firsts.Tie as tie
 
 abbrev Inv-loop : tie.InvT-loop
-Inv-loop u mask vertices codes r₀ x₀ r x = Filling (λ (y : ℕ). codeIn (numbers u 0 mask) (item codes y)) vertices x r
+Inv-loop u mask vertices codes r₀ x₀ r x = Filling (λ (y : ℕ). codeIn (numbersOf u mask) (item codes y)) vertices x r
 
 abbrev μ-loop : tie.MeasureT-loop
 μ-loop u mask vertices codes r₀ x₀ r x = x

@@ -4,9 +4,9 @@ use Prim.Native.Nat.{_-_, _+_}
 use native.Mathlib.Omega.{arith}
 use borrow.Author.Needs.{needs}
 use Rattle.names.specs.Pack.{nameOf}
-use Rattle.netnames.specs.ShownLaws.{Growing, growing-none, growing-more, growing-all}
-use Rattle.netnames.specs.Listed.{shown}
-use Rattle.netnames.proofs.Arrays.{list-sized}
+use Rattle.network.specs.ShownLaws.{Growing, growing-none, growing-more, growing-all}
+use Rattle.network.specs.Shown.{shown}
+use Rattle.network.proofs.Arrays.{list-sized}
 use Rattle.netnames.proofs.joined.Statement.{statement}
 use Rattle.netnames.proofs.joined.Tie as tie
 

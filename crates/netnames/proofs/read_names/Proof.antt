@@ -4,8 +4,8 @@ use mathlib.Core.Logic.{⊎-elim}
 use Prim.Native.Nat.{_-_, _+_}
 use borrow.Author.Needs.{needs}
 use Rattle.netnames.specs.NumbersLaws.{Reading, reading-none, reading-without, reading-with, reading-all, digit-read}
-use Rattle.netnames.specs.declared.Names.{Names}
-use Rattle.netnames.specs.Listed.{shown}
+use Rattle.network.specs.declared.Names.{Names}
+use Rattle.network.specs.Shown.{shown}
 use Rattle.netnames.proofs.read_names.Statement.{statement}
 use Rattle.netnames.proofs.read_names.Tie as tie
 

@@ -79,7 +79,8 @@ returns-2 : tie.Need-returns-2
 returns-2 c =
     let a = c .before .before .before .before .args in (
       c .ask-lut .ensures .0,
-      λ t d w q n kn some-outputs. luts-line (a .l .now) t d w (a .s) (c .ask-lut .result) kn (c .before .enum-told2 .given .1) (λ none-yet. c .ask-lut .ensures .1 t d w q n (kn .held) none-yet some-outputs),
+      λ t d w q n kn some-outputs. luts-line (a .l .now) t d w (a .s) (c .ask-lut .result) kn (c .before .enum-told2 .given .1)
+          (λ none-yet. c .ask-lut .ensures .1 t d w q n (kn .held) none-yet some-outputs),
     )
 
 returns-3 : tie.Need-returns-3

@@ -46,7 +46,8 @@ returns c =
     let line = rw (r .given .1) at (lut-line .ensures) in
     let few = lut-few (map nameOf (take (a .k .bounds) (a .k .bound))) (a .s .luts) (a .l .now) line in (
       safe-lut (a .s) (c .with-lut .result) _ (c .with-lut .ensures) few,
-      λ t d w q n h none-yet some-outputs. lut-good (a .l .now) t (a .at) d w (a .k) (a .s) (c .with-lut .result) q n h line (c .with-lut .ensures) few (lutat-sized (a .s) (good .1 .1 .1 .0)) none-yet,
+      λ t d w q n h none-yet some-outputs. lut-good (a .l .now) t (a .at) d w (a .k) (a .s) (c .with-lut .result) q n h
+          line (c .with-lut .ensures) few (lutat-sized (a .s) (good .1 .1 .1 .0)) none-yet,
     )
 
 returns-2 : tie.Need-returns-2

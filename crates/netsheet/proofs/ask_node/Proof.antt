@@ -65,7 +65,9 @@ returns c =
     let owned = c .before .before .before .before .before .before .before .before .before .good in
     let line = rw (r .given .1) at (read-node .ensures) in (
       safe-node (a .s) (c .with-node .result) _ _ _ _ (c .with-node .ensures) (pre .1) (pre .0 .few-outputs),
-      λ t d w q n h here below. node-good (a .l .now) t (a .at) d w (a .k) (a .s) (c .with-node .result) q n h (a .o) here below line (c .with-node .ensures) (reads-sized (a .s) (owned .1 .1 .1 .0)) (nodeat-sized (a .s) (owned .1 .1 .1 .0)) (pre .2),
+      λ t d w q n h here below. node-good (a .l .now) t (a .at) d w (a .k) (a .s) (c .with-node .result) q n h
+          (a .o) here below line (c .with-node .ensures)
+          (reads-sized (a .s) (owned .1 .1 .1 .0)) (nodeat-sized (a .s) (owned .1 .1 .1 .0)) (pre .2),
     )
 
 returns-2 : tie.Need-returns-2

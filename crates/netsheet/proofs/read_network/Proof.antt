@@ -85,7 +85,8 @@ returns-4 c =
     let ask-line = c .before .before .before .ask-line in
     let names-of = c .before .before .before .before .before .before .before .before .before .before .names-of in
     let end = c .before .before .before .before .before .before .line-end in
-    λ d h p o. walk-bad (loop .inv) (end .result) (loop-test .taken) (end .ensures) (if3 .left) (ask-line .result) (ask-line .ensures .1) (not-true _ (c .before .if4 .taken)) (c .bad-line4 .result) (c .bad-line4 .ensures) d (names-of .ensures .right d h p) o
+    λ d h p o. walk-bad (loop .inv) (end .result) (loop-test .taken) (end .ensures) (if3 .left) (ask-line .result) (ask-line .ensures .1)
+    (not-true _ (c .before .if4 .taken)) (c .bad-line4 .result) (c .bad-line4 .ensures) d (names-of .ensures .right d h p) o
 
 add-at : tie.Need-add-at Inv-loop μ-loop
 add-at c = omega (arith, c .before .before .before .before .before .line-end .ensures .inside)

@@ -8,12 +8,12 @@ use lib.Seq.{length-take-le}
 use lib.ListN.{length, take}
 use borrow.Author.Needs.{needs}
 use Rattle.names.specs.Pack.{nameOf}
-use Rattle.netnames.specs.declared.Names.{Names}
-use Rattle.netnames.specs.FreeNameLaws.{Freeing, freeing-none, freeing-bound, freeing-free, freeing-all}
-use Rattle.netnames.specs.Listed.{shown}
-use Rattle.netnames.proofs.Arrays.{list-sized}
-use Rattle.netnames.proofs.free_names.Statement.{statement}
-use Rattle.netnames.proofs.free_names.Tie as tie
+use Rattle.network.specs.declared.Names.{Names}
+use Rattle.network.specs.FreeNameLaws.{Freeing, freeing-none, freeing-bound, freeing-free, freeing-all}
+use Rattle.network.specs.Shown.{shown}
+use Rattle.network.proofs.Arrays.{list-sized}
+use Rattle.network.proofs.free_names.Statement.{statement}
+use Rattle.network.proofs.free_names.Tie as tie
 
 abbrev Inv-loop : tie.InvT-loop
 Inv-loop n names list count r₀ i₀ r i = Freeing names (map nameOf (take count list)) n i (r .count) (shown r)

@@ -4,9 +4,9 @@ use mathlib.Core.List.{List}
 use lib.ListN.{length, length-map}
 use mir.Val.{Val}
 use denote.Laws.{Is}
-use Rattle.netnames.specs.Listed.{maxNames}
-use Rattle.netnames.specs.declared.Names.{Names}
-use Rattle.netnames.proofs.Names as names
+use Rattle.network.specs.Shown.{maxNames}
+use Rattle.network.specs.declared.Names.{Names}
+use Rattle.network.proofs.Names as names
 
 pub list-sized : (n : Names) {vs : List Val} → Is names.the-row n vs → length (n .list) ≡ maxNames
 list-sized n g = sym (length-map (n .list) _) ∙ g .1 .1 .1 .0 .1 .0 .1

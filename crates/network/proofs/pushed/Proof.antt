@@ -2,10 +2,10 @@
 use mathlib.Core.Path.{refl}
 use native.Mathlib.Omega.{arith}
 use borrow.Author.Needs.{needs}
-use Rattle.netnames.specs.ShownLaws.{named-more}
-use Rattle.netnames.proofs.Arrays.{list-sized}
-use Rattle.netnames.proofs.pushed.Statement.{statement}
-use Rattle.netnames.proofs.pushed.Tie as tie
+use Rattle.network.specs.ShownLaws.{named-more}
+use Rattle.network.proofs.Arrays.{list-sized}
+use Rattle.network.proofs.pushed.Statement.{statement}
+use Rattle.network.proofs.pushed.Tie as tie
 
 mul-list : tie.Need-mul-list
 mul-list c = search needs

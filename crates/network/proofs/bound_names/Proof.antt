@@ -5,10 +5,10 @@ use Prim.Native.Nat.{ℕ, _-_}
 use native.Mathlib.Omega.{arith}
 use borrow.Author.Needs.{needs}
 use Rattle.names.specs.Pack.{nameOf}
-use Rattle.netnames.specs.ShownLaws.{Growing, growing-none, growing-more, growing-all}
-use Rattle.netnames.specs.Listed.{shown, item}
-use Rattle.netnames.proofs.bound_names.Statement.{statement}
-use Rattle.netnames.proofs.bound_names.Tie as tie
+use Rattle.network.specs.ShownLaws.{Growing, growing-none, growing-more, growing-all}
+use Rattle.network.specs.Shown.{shown, item}
+use Rattle.network.proofs.bound_names.Statement.{statement}
+use Rattle.network.proofs.bound_names.Tie as tie
 
 abbrev Inv-loop : tie.InvT-loop
 Inv-loop names n places r₀ i₀ r i = Growing (λ (p : ℕ). nameOf (item names p)) [] places n i (shown r) × (r .count ≡ i)
@@ -22,14 +22,14 @@ no-names-requires c κs = search needs
 loop-holds : tie.Need-loop-holds Inv-loop μ-loop
 loop-holds c = (growing-none (c .no-names .ensures .0), c .no-names .ensures .1)
 
-mul-name-at : tie.Need-mul-name-at Inv-loop μ-loop
-mul-name-at c = search needs
+mul-input-name : tie.Need-mul-input-name Inv-loop μ-loop
+mul-input-name c = search needs
 
-array-read-name-at : tie.Need-array-read-name-at Inv-loop μ-loop
-array-read-name-at c = search needs
+array-read-input-name : tie.Need-array-read-input-name Inv-loop μ-loop
+array-read-input-name c = search needs
 
-name-at-requires : tie.Need-name-at-requires Inv-loop μ-loop
-name-at-requires c κs = search needs
+input-name-requires : tie.Need-input-name-requires Inv-loop μ-loop
+input-name-requires c κs = search needs
 
 pushed-requires : tie.Need-pushed-requires Inv-loop μ-loop
 pushed-requires c κs = omega (arith, c .before .before .before .before .pre)
@@ -42,10 +42,10 @@ loop-less c = search needs
 
 loop-again : tie.Need-loop-again Inv-loop μ-loop
 loop-again c =
-    let name-at = c .before .name-at in
+    let input-name = c .before .input-name in
     let loop-test = c .before .before .loop-test in
     let loop = c .before .before .before .loop in
-    (growing-more (loop .inv .0) (loop-test .taken) (omega arith) (c .pushed .ensures .0) (ap nameOf (name-at .ensures)), omega arith)
+    (growing-more (loop .inv .0) (loop-test .taken) (omega arith) (c .pushed .ensures .0) (ap nameOf (input-name .ensures)), omega arith)
 
 returns : tie.Need-returns Inv-loop μ-loop
 returns c = (growing-all (c .before .loop .inv .0) (c .loop-test .left), omega (arith, c .before .loop .inv .0 .within))
@@ -58,9 +58,9 @@ bound-names-spec =
     μ-loop
     no-names-requires
     loop-holds
-    mul-name-at
-    array-read-name-at
-    name-at-requires
+    mul-input-name
+    array-read-input-name
+    input-name-requires
     pushed-requires
     add-i
     loop-less

@@ -13,7 +13,7 @@ use Rattle.names.specs.LookupLaws.{found-among, nowhere-among}
 use Rattle.names.specs.declared.Position.{Position}
 use Rattle.names.specs.declared.Position.the-variants.{At, Nowhere}
 use Rattle.classes.specs.Columns.{free}
-use Rattle.netnames.specs.ShownLaws.{front-more}
+use Rattle.network.specs.ShownLaws.{front-more}
 
 picked : (b : Bool) (n : Name) (r s : List Name) → pick b (r ++ s) (n ∷ (r ++ s)) ≡ pick b r (n ∷ r) ++ s
 picked true n r s = refl
