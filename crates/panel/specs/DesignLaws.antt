@@ -16,7 +16,7 @@ use Rattle.names.specs.Name.{Name, distinct}
 use Rattle.names.specs.Spelled.{spelledBy}
 use Rattle.names.specs.Names.{allNames}
 use Rattle.sheet.specs.Lines.{readBound, readLimit}
-use Rattle.sheet.specs.Examine.{Design, Examined, refused, valid, at-bound, next, within, askIn, sized}
+use Rattle.sheet.specs.Examine.{Design, Examined, refused, valid, at-bound, next, within, askIn, sized, withInputs, withBound, withLimit}
 use Rattle.sheet.specs.WellFormed.{RightBound, RightOutputs, WellFormed}
 use Rattle.sheet.specs.LineRightLaws.{no-output-wrong}
 use Rattle.cubes.specs.Cube.{Cube}
@@ -75,7 +75,7 @@ panel-right : (p b : List ℕ) (x : Pla) (bs : List Name) (n : ℕ) (e : Design)
     → RightOutputs (e .inputs) (e .outputs)
     → RightBound (e .inputs) (map (spelledBy (e .inputs)) bs)
     → n ≤ maxLimit
-    → PairRight p b (valid (record { inputs = e .inputs; bound = map (spelledBy (e .inputs)) bs; limit = n; outputs = e .outputs }))
+    → PairRight p b (valid (withLimit (withBound e (map (spelledBy (e .inputs)) bs)) n))
 panel-right p b x bs n e h s t w once i o r c l = (
   record {
     text = x;
@@ -117,7 +117,7 @@ unfolding askIn
 names-right p b x bs n h s t =
     let w = pla-print-of-read p x (h .is-read) .writable in
     let P = PairRight p b in
-    let d : Design = record { inputs = x .inputs; bound = []; limit = 0; outputs = [] } in
+    let d = withInputs nothing (x .inputs) in
     ask-walk P
     ((3, within 1 maxInputs (length (x .inputs))) ∷ (4, distinct (x .inputs)) ∷ [])
     (next at-bound d) inputNamesLine (λ _ e. askOutputs e (outputsOf x) (askBoard bs n))

@@ -2,9 +2,9 @@
 // and their number are kept. Rests on cubes for a cube's line, on cursor for the items of the other lines, and on sheet for
 // lines of names.
 ghost use mathlib.Core.Path.{_≡_};
-ghost use mathlib.Core.Bool.{true, false};
+ghost use mathlib.Core.Bool.{false};
 ghost use mathlib.Core.List.{[], _∷_};
-ghost use Prim.Native.Nat.{_+_, _-_, _≤_, _<_};
+ghost use Prim.Native.Nat.{_+_, _≤_, _<_};
 ghost use lib.ListN.{length, drop};
 ghost use Rattle.limits.specs.Limits.{maxPla, maxPlaDigits};
 ghost use Rattle.text.specs.Bytes.{eat, after, whole, space};

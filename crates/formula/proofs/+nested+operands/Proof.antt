@@ -1,6 +1,5 @@
 -- `nested` and `operands`: what opens a formula decides; the loop keeps what the operands so far come to. What is left of the
 -- text falls at each call. Assumes nothing.
-use mathlib.Core.Bool.{Bool}
 use mathlib.Core.List.{map}
 use mathlib.Core.Path.{_∙_, subst}
 use native.Mathlib.Omega.{arith}
