@@ -117,7 +117,7 @@ module _ (b : List ℕ) (sizes : true ≡ sized b) where
           abbrev second : List ℕ
           second = take (end - (e + 1)) (drop (e + 1) b)
 
-          pub second-inside : end < length b
+          second-inside : end < length b
           second-inside = line-at b (e + 1) end more (sym sizes) y .0
 
           second-read : readBoard (lines b) ≡ afterLimit (bound-is .0) (readLimit second) (lines (drop (end + 1) b))

@@ -67,7 +67,7 @@ module _ (d : Design) (ps : List Output) (names : outputNames (d .outputs) ≡ o
   few-same : globalCount d (d .bound) ≤ maxClasses → globalCount (withOutputs d ps) (d .bound) ≤ maxClasses
   few-same h = subst (λ (n : ℕ). n ≤ maxClasses) (global-same d ps names values (d .bound)) h
 
-  pub outcome-same : {b : List ℕ} {a : MapAnswer} {b' : List ℕ} → OutcomeFor d b a b' → OutcomeFor (withOutputs d ps) b a b'
+  outcome-same : {b : List ℕ} {a : MapAnswer} {b' : List ℕ} → OutcomeFor d b a b' → OutcomeFor (withOutputs d ps) b a b'
   outcome-same (too-many-classes h) =
       too-many-classes (subst (λ (n : ℕ). maxClasses < n) (global-same d ps names values (d .bound)) h)
   outcome-same (no-network h n) =

@@ -30,7 +30,7 @@ served-with d ps names values v =
       computes = computes-same d ps names values (v .network) (v .computes);
     }
 
-pub served-same : {d e : Design} → SameTables d e → Served d → Served e
+served-same : {d e : Design} → SameTables d e → Served d → Served e
 served-same {d = d} {e = e} h v = subst Served (second-is h) (served-with d (e .outputs) (h .same-outputs) (second-values h) v)
 
 -- ---- the parts with the same set of outputs
@@ -41,7 +41,7 @@ module _ {d e : Design} (h : SameTables d e) (s : ℕ) where
       ∙ ap (λ (ns : List Name). selected s 0 ns) (h .same-outputs)
       ∙ sym (selected-map (λ (o : Output). o .name) s 0 (e .outputs))
 
-  pub parts-same : SameTables (part s d) (part s e)
+  parts-same : SameTables (part s d) (part s e)
   unfolding part
   parts-same =
       record {

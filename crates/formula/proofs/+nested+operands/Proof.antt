@@ -15,8 +15,9 @@ use Rattle.formula.specs.Reader.{readFormula}
 use Rattle.formula.specs.Part.{PartIs, readSoFar}
 use Rattle.formula.specs.Skim.{left}
 use Rattle.formula.specs.TurnLaws.{byte-falls, formula-left}
-use Rattle.formula.specs.Walk.{WalkOf, then, part-read, walk-start, walk-step, walk-closed, walk-short, unread-is, joined-read}
-use Rattle.formula.specs.Opened.{name-opened, digit-opened, not-opened, gate-opened, un-opened, opened-falls, name-is, digit-is, not-is, gate-is, nothing-is}
+use Rattle.formula.specs.Walk.{WalkOf, then}
+use Rattle.formula.specs.WalkLaws.{part-read, walk-start, walk-step, walk-closed, walk-short, unread-is, joined-read}
+use Rattle.formula.specs.OpenedLaws.{name-opened, digit-opened, not-opened, gate-opened, un-opened, opened-falls, name-is, digit-is, not-is, gate-is, nothing-is}
 use borrow.Author.Needs.{needs}
 use Prim.Native.Nat.{ℕ, _<_}
 use borrow.Fn.Kinds.{In, Out}

@@ -10,7 +10,7 @@ use Rattle.cursor.specs.Opening as spec
 use Rattle.cursor.specs.Item.{from, gateOf}
 use Rattle.cursor.specs.MovedLaws.{moved-to, moved-nowhere}
 use Rattle.formula.specs.Reader.{readFormula}
-use Rattle.formula.specs.Opened.{name-opened, digit-opened, not-opened, gate-opened, un-opened, opened-falls}
+use Rattle.formula.specs.OpenedLaws.{name-opened, digit-opened, not-opened, gate-opened, un-opened, opened-falls}
 use Rattle.formula.specs.Skim.{spelling, skimmedSoFar, left}
 use Rattle.formula.specs.SkimLaws.{then, skimmed-is, skim-name, skim-digit, skim-not, skim-gate, skim-nothing, ending, ending-more, skim-closed, skim-short}
 use Rattle.formula.specs.TurnLaws.{byte-falls, formula-left}
