@@ -11,12 +11,13 @@ use lib.ListN.{length}
 use borrow.Author.Tests.{leb-true}
 use Rattle.bits.specs.Logic.{pick}
 use Rattle.limits.specs.Limits.{maxInputs, maxLimit, maxOutputs}
+use Rattle.platext.specs.TextReadLaws.{pla-print-of-read}
 use Rattle.text.specs.Line.{lines}
 use Rattle.names.specs.Name.{Name, distinct}
 use Rattle.names.specs.Spelled.{spelledBy}
 use Rattle.names.specs.Names.{allNames}
 use Rattle.sheet.specs.Lines.{readBound, readLimit}
-use Rattle.sheet.specs.Examine.{Design, Examined, refused, valid, at-bound, next, within, askIn, sized, withInputs, withBound, withLimit}
+use Rattle.sheet.specs.Examine.{Design, Examined, refused, valid, at-bound, next, within, askIn, sized, withInputs, withBound, withLimit, nothing}
 use Rattle.sheet.specs.WellFormed.{RightBound, RightOutputs, WellFormed}
 use Rattle.sheet.specs.LineRightLaws.{no-output-wrong}
 use Rattle.cubes.specs.Cube.{Cube}
@@ -25,7 +26,6 @@ use Rattle.platext.specs.Text.{Pla, Answer, bad-line, pla, readPla}
 use Rattle.panel.specs.Questions as text
 use Rattle.panel.specs.Questions.{tooMany, zerosAndOnes, otherMark, refusedAt, furtherAsked, examineText}
 use Rattle.platext.specs.Writable.{Writable}
-use Rattle.platext.specs.TextLaws.{pla-print-of-read}
 use Rattle.panel.specs.Board.{Board, misspelled, board, boundLine, limitLine, afterLimit, afterBound, readBoard}
 use Rattle.panel.specs.Examine.{outputsFrom, outputsOf, askOutputs, askNames, askBoard, withBoard, besideText, examine}
 use Rattle.panel.specs.WalkLaws.{ask-walk, outputs-writable, outputs-walk, board-walk}

@@ -6,7 +6,6 @@ use mathlib.Core.Option.{Option, some, none}
 use Prim.Native.Nat.{ℕ, suc}
 use lib.Dec.{leb, ltb}
 use lib.ListN.{length}
-use borrow.Author.Tests.{leb-true}
 use Rattle.bits.specs.Logic.{pick}
 use Rattle.bits.specs.LogicLaws.{and-left, and-right}
 use Rattle.limits.specs.Limits.{maxInputs, maxBound, maxLimit, maxOutputs, maxDepth, maxSheet}
@@ -28,7 +27,7 @@ use Rattle.sheet.specs.Printer.{designLines, printDesign}
 use Rattle.sheet.specs.Written.{Writes}
 use Rattle.sheet.specs.ExaminationLaws.{valid-well-formed}
 use Rattle.sheet.specs.PlainLaws.{plain-ends}
-use Rattle.sheet.specs.AskedLaws.{refused-valid, valid-is, asked}
+use Rattle.sheet.specs.AskedLaws.{refused-valid, valid-is, asked, within-high}
 
 -- the lines from a place on, of the design d
 abbrev outLines : List Output → List (List ℕ)
@@ -238,7 +237,6 @@ unfolding examine sized printDesign
 design-print-of-read s d h =
     let counted = within 1 maxSheet (length s) in
     let (i, f) = sized-said (sized s) (askLines at-design nothing 1 (lines s)) d h in
-    let fits = and-right (leb 1 (length s)) (leb (length s) maxSheet) (and-left counted (plainLines s) i) in
     let ends = plain-ends s (and-right counted (plainLines s) i) in
     let said = lines-said (lines s) d f in
     record {
@@ -246,5 +244,5 @@ design-print-of-read s d h =
       written = said .written;
       same-bound = said .same-bound;
       is-print = ended-of-lines s ends ∙ ap endedLines (said .lines-are);
-      fits = leb-true (length s) maxSheet fits;
+      fits = within-high 1 maxSheet (length s) (and-left counted (plainLines s) i);
     }

@@ -4,7 +4,7 @@ use mathlib.Core.Path.{_≡_, refl}
 use mathlib.Core.Bool.{Bool, true, false, not, _&&_}
 use mathlib.Core.List.{List, [], _∷_, map}
 use mathlib.Core.Option.{Option, some, none}
-use Prim.Native.Nat.{ℕ, _≤_}
+use Prim.Native.Nat.{ℕ}
 use native.Mathlib.Omega.{arith}
 use lib.Dec.{leb, ltb}
 use lib.ListN.{length, length-map}
@@ -22,7 +22,7 @@ use Rattle.sheet.specs.LineInverse.{in-inverse, out-inverse}
 use Rattle.sheet.specs.Examine.{Design, Place, at-design, at-in, at-bound, at-limit, at-out, over, Step, no-to, next, withInputs, withBound, withLimit}
 use Rattle.sheet.specs.Examine.{ask, within, askIn, askBound, askLimit, askOut, askEnd, askLine, outputNames, newName, withOutput}
 use Rattle.sheet.specs.WellFormed.{LineQuestion, StepRight, RightBound, RightOutputs, HasInputs, HasBound, HasLimit, Reached}
-use Rattle.sheet.specs.AskedLaws.{AllYes}
+use Rattle.sheet.specs.AskedLaws.{AllYes, within-low, within-high}
 use Rattle.sheet.specs.FurtherOutputLaws.{outputs-more}
 
 -- ---- questions in turn
@@ -43,12 +43,6 @@ pick-right true t u h k = h
 pick-right false t u h k = k
 
 -- ---- each line
-within-low : (a b n : ℕ) → within a b n ≡ true → a ≤ n
-within-low a b n e = leb-true a n (and-left (leb a n) (leb n b) e)
-
-within-high : (a b n : ℕ) → within a b n ≡ true → n ≤ b
-within-high a b n e = leb-true n b (and-right (leb a n) (leb n b) e)
-
 in-right : (d : Design) (l : List ℕ) (x : Option (List Name)) → readIn l ≡ x → d .outputs ≡ [] → StepRight (askIn d x)
 unfolding askIn
 in-right d l none e r = record { low = omega arith; high = omega arith }
