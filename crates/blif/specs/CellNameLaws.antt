@@ -11,9 +11,9 @@ use Rattle.text.specs.Numerals.{stops}
 use Rattle.text.specs.NumberLaws.{read-printed}
 use Rattle.text.specs.EatLaws.{found-item}
 use Rattle.text.specs.Bytes.{bytes, found}
-use Rattle.names.specs.Name.{Name, nameByte, isName, sameName, among}
+use Rattle.names.specs.Name.{Name, isName, sameName, among}
 use Rattle.names.specs.Names.{allNames}
-use Rattle.names.specs.IsNameLaws.{underscore-no-name-byte, name-byte-inside}
+use Rattle.names.specs.IsNameLaws.{name-no-underscore}
 use Rattle.names.specs.SameNamesLaws.{same-is-name}
 use Rattle.sheet.specs.Examine.{Design, outputNames}
 use Rattle.sheet.specs.WellFormed.{WellFormed}
@@ -38,8 +38,7 @@ cells-apart i j h k e =
 pub cell-no-name : (i : ℕ) → isName (cellName i) ≡ false
 unfolding cellName
 cell-no-name i =
-    false-unless (isName (cellName i))
-    (λ h. not-both (nameByte underscore) (name-byte-inside (bytes "CC") underscore (printNumber i) h) underscore-no-name-byte)
+    false-unless (isName (cellName i)) (λ h. name-no-underscore (bytes "CC") underscore (printNumber i) h refl)
 
 pub name-no-cell : (n : Name) (i : ℕ) → isName n ≡ true → sameName n (cellName i) ≡ false
 name-no-cell n i h =

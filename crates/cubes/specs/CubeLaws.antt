@@ -17,12 +17,12 @@ use Rattle.cubes.specs.Spelled.{CubeWritten}
 use Rattle.cubes.specs.Cube.{printCube, readLiterals, readBytes, readCube}
 
 -- ---- one literal
-pub literal-read-of-print : (a : Literal) → literalOf (literalByte a) ≡ some a
+literal-read-of-print : (a : Literal) → literalOf (literalByte a) ≡ some a
 literal-read-of-print is-zero = refl
 literal-read-of-print is-one = refl
 literal-read-of-print any = refl
 
-pub literal-print-of-read : (b : ℕ) (a : Literal) → literalOf b ≡ some a → b ≡ literalByte a
+literal-print-of-read : (b : ℕ) (a : Literal) → literalOf b ≡ some a → b ≡ literalByte a
 literal-print-of-read b a e = go (eqb b 0x30) (eqb b 0x31) (eqb b 0x2D) (eqb-true b 0x30) (eqb-true b 0x31) (eqb-true b 0x2D) e
   where
     go : (x y z : Bool)
@@ -159,7 +159,7 @@ cube-read-of-print i o l c w =
     (ap (λ (r : Read (List Literal)). after r (spaceAfter o)) literals
     ∙ ap (λ (r : Read (List ℕ)). after r (λ ns u. found (record { literals = ls; marks = ns }) u)) marks)
 
-pub cube-print-length : (c : Cube) → length (printCube c) ≡ length (c .literals) + 1 + length (c .marks)
+cube-print-length : (c : Cube) → length (printCube c) ≡ length (c .literals) + 1 + length (c .marks)
 unfolding printCube
 cube-print-length c =
     omega (arith, length-append (map literalByte (c .literals)) (space ∷ c .marks), length-map (c .literals) literalByte)

@@ -33,7 +33,7 @@ module _ (s : List ℕ) (at e : ℕ) (w : WordEnd s at e) where
 
   module _ (v : ℕ) (h : e - at ≤ maxName) (p : v ≡ pack (take (e - at) (drop at s))) where
     -- a word of at most maxName bytes is what its number holds
-    pub word-held : nameOf v ≡ word (drop at s)
+    word-held : nameOf v ≡ word (drop at s)
     word-held = ap nameOf (p ∙ ap pack (w .is-word)) ∙ word-back (drop at s) (rw word-length h)
 
     pub operator-held : (o : Operator) → operatorOf o ≡ operator (nameOf v) → operatorOf o ≡ operator (word (drop at s))

@@ -51,10 +51,10 @@ module _ (s : List ℕ) (at e : ℕ) (n : NumeralsEnd s at e) where
       (λ j l. rw (getD-drop at s j 0) (n .numerals .each (at + j) (omega arith) (omega arith)))
       (λ l. rw (getD-drop at s (e - at) 0, end) (n .stops (omega arith)))
 
-  pub numerals-are : take (e - at) (drop at s) ≡ numerals (drop at s)
+  numerals-are : take (e - at) (drop at s) ≡ numerals (drop at s)
   numerals-are = parts .0
 
-  pub numerals-rest : drop e s ≡ afterNumerals (drop at s)
+  numerals-rest : drop e s ≡ afterNumerals (drop at s)
   numerals-rest =
       let end : at + (e - at) ≡ e = omega arith in
       rw end at (sym (drop-drop (e - at) at s) ∙ parts .1)

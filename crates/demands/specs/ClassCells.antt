@@ -53,7 +53,7 @@ module _ (d : Design) (l : List Cell) (s : ServesDesign d l) where
       (λ u. absurd (apart-told m x y l (s .tells m x y h a b (unlike-conflict d (d .bound) m x y u)) e))
       (either (alike d (d .bound) m x y)))
 
-  pub globals-coded : globalCount d (d .bound) ≤ 2 ^ length l
+  globals-coded : globalCount d (d .bound) ≤ 2 ^ length l
   unfolding globalCount
   globals-coded =
       classes-told (alikeInAll d (d .bound)) tableOf l (vertexCount (d .bound))

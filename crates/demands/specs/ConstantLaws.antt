@@ -7,7 +7,7 @@ use mathlib.Core.List.{List, [], _∷_}
 use mathlib.Core.Logic.{⊎-elim}
 use Prim.Native.Nat.{ℕ, zero, suc, _+_, _≤_, _<_, Ordering}
 use native.Mathlib.Omega.{arith}
-use native.Mathlib.Nat.{zero-add}
+use native.Mathlib.Nat.{add-zero, zero-add, add-suc, suc-add}
 use native.Mathlib.Decide.{ℕ-discrete}
 use lib.ListN.{length}
 use Rattle.bits.specs.LogicLaws.{true-false}
@@ -50,15 +50,9 @@ moved-zero x y (c ∷ l) n z = (ap (c .table) (seen-other x y 0 (λ e. n (sym e)
 same-at : (w : Network) (x y k i j : ℕ) → Same x y (cellsOf w k i) → j < k → lutAt w (i + j) x ≡ lutAt w (i + j) y
 unfolding cellsOf
 same-at w x y zero i j s h = absurd (omega arith)
-same-at w x y (suc k) i zero s h = subst (λ (n : ℕ). lutAt w n x ≡ lutAt w n y) (none-more i) (s .0)
-  where
-    none-more : (i : ℕ) → i ≡ i + 0
-    none-more i = omega arith
+same-at w x y (suc k) i zero s h = subst (λ (n : ℕ). lutAt w n x ≡ lutAt w n y) (sym (add-zero i)) (s .0)
 same-at w x y (suc k) i (suc j) s h =
-    subst (λ (n : ℕ). lutAt w n x ≡ lutAt w n y) (one-more i j) (same-at w x y k (suc i) j (s .1) (omega arith))
-  where
-    one-more : (i j : ℕ) → suc i + j ≡ i + suc j
-    one-more i j = omega arith
+    subst (λ (n : ℕ). lutAt w n x ≡ lutAt w n y) (suc-add i j ∙ sym (add-suc i j)) (same-at w x y k (suc i) j (s .1) (omega arith))
 
 same-tables : (w : Network) (x y i : ℕ) → Same x y (networkCore w) → i < length (w .luts) → lutAt w i x ≡ lutAt w i y
 unfolding networkCore

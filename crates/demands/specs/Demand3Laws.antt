@@ -52,7 +52,7 @@ nine-eight e =
     let z : _≡_ {A = ℕ} 9 8 = cc in
     omega arith
 
-pub mapped-count : {u n v m : ℕ} → mapped u n ≡ mapped v m → u ≡ v
+mapped-count : {u n v m : ℕ} → mapped u n ≡ mapped v m → u ≡ v
 mapped-count e = cc
 
 pub mapped-length : {u n v m : ℕ} → mapped u n ≡ mapped v m → n ≡ m
@@ -65,7 +65,7 @@ module _ (d : Design) (f : WellFormed d) where
     permitted-drawn =
         printed-drawn d w (design-named d f) (p .wellformed) (p .within) (print-fits d w f (p .wellformed) (p .within))
 
-    pub permitted-same : checkOf (valid d) (printNetwork d w) ≡ same
+    permitted-same : checkOf (valid d) (printNetwork d w) ≡ same
     permitted-same =
         printed-same d w (design-named d f) (p .wellformed) (p .within) (print-fits d w f (p .wellformed) (p .within)) (p .computes)
 

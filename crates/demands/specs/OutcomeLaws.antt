@@ -5,10 +5,6 @@ use Prim.Native.Nat.{ℕ}
 use Rattle.sheet.specs.Examine.{Design, Examined, refused, valid}
 use Rattle.mapper.specs.Map.{MapAnswer, OutcomeFor, RefusedSheet, OutcomeOf}
 
--- ---- what the examination answered
-pub valid-same : {d e : Design} → valid d ≡ valid e → d ≡ e
-valid-same q = cc
-
 module _ {x : Examined} {b : List ℕ} {a : MapAnswer} {b' : List ℕ} where
   pub outcome-for : (d : Design) → x ≡ valid d → OutcomeOf x b a b' → OutcomeFor d b a b'
   outcome-for d e o = subst (λ (y : Examined). OutcomeOf y b a b') e o

@@ -119,7 +119,7 @@ module _ (s t : List ℕ) (d : Design) (w : Network) (x : Fewest s t d w) where
   inside : WithinLimits d w
   inside = drawn-within d w named t (x .drawn)
 
-  pub drawn-computes : Computes d w
+  drawn-computes : Computes d w
   drawn-computes = compared-same d w (x .right)
 
   pub count-of : (v : Network) → Permitted d v → length (v .luts) ≡ length (w .luts)
@@ -150,7 +150,7 @@ module _ (s t : List ℕ) (d : Design) (w : Network) (x : Fewest s t d w) where
   says-short k (buffer-short v h p n) = (refl, refl)
   says-short k (written v h p n) = let g = length-of v (p .permitted) in absurd (omega (arith, g, n, k))
 
-  pub maps-fewest : Maps s (length (w .luts)) (length t)
+  maps-fewest : Maps s (length (w .luts)) (length t)
   maps-fewest =
       record {
         answers = λ b a b' k o. says-mapped k (outcome-for d e o);
@@ -171,7 +171,7 @@ module _ (s t : List ℕ) (d : Design) (w : Network) (x : Fewest s t d w) where
       }
 
   -- where it passes the test, it is the first
-  pub tested-first : (n : ℕ) (ks : List Ask) → Plain d w → Tested d n w ks → First d w
+  tested-first : (n : ℕ) (ks : List Ask) → Plain d w → Tested d n w ks → First d w
   tested-first n ks p k = first-tested d formed n w ks (plain-permitted p) k
 
   -- ---- where the sheet is its network's print, and no other is first, the sheet is what is written

@@ -2,11 +2,11 @@
 use mathlib.Core.Path.{_≡_, refl, sym, _∙_, subst}
 use mathlib.Core.List.{[]}
 use native.Mathlib.Omega.{arith}
+use Rattle.sheet.specs.AskedLaws.{valid-is}
 use Rattle.sheet.specs.Examine.{Design, valid, examine, refused}
 use Rattle.classes.specs.Classes.{localCount, globalCount}
 use Rattle.classes.specs.Width.{width}
 use Rattle.demands.specs.Computing.{computing}
-use Rattle.demands.specs.OutcomeLaws.{valid-same}
 use Rattle.demands.specs.Designs.{designD, designG}
 use Rattle.demands.specs.Worked.{Worked, sheetD, sheetG, sheetK}
 use Rattle.demands.specs.WorkedLaws.{refuses-sheet}
@@ -56,12 +56,12 @@ worked =
       sheet-d-2 = d-refused;
       sheet-d-3 = d-printed;
       bytes-d = refl;
-      classes-d = λ d e. subst (λ (x : Design). globalCount x (x .bound) ≡ 4) (valid-same (sym d-said ∙ e)) d-classes;
+      classes-d = λ d e. subst (λ (x : Design). globalCount x (x .bound) ≡ 4) (valid-is (sym d-said ∙ e)) d-classes;
       sheet-e = e-printed;
       bytes-e = refl;
       sheet-f = f-printed;
-      classes-g = λ d e. subst (λ (x : Design). localCount x (x .bound) 0 ≡ 3) (valid-same (sym g-said ∙ e)) g-classes;
-      width-g = λ d e. subst (λ (x : Design). width x (x .bound) 0 ≡ 2) (valid-same (sym g-said ∙ e)) g-width;
+      classes-g = λ d e. subst (λ (x : Design). localCount x (x .bound) 0 ≡ 3) (valid-is (sym g-said ∙ e)) g-classes;
+      width-g = λ d e. subst (λ (x : Design). width x (x .bound) 0 ≡ 2) (valid-is (sym g-said ∙ e)) g-width;
       sheet-g-1 = g-refused;
       sheet-h = h-printed;
       bytes-h = refl;

@@ -5,7 +5,7 @@ use mathlib.Core.Bool.{Bool, true, _&&_}
 use mathlib.Core.List.{List, [], _∷_}
 use Prim.Native.Nat.{ℕ, zero, suc, _+_, _≤_, _<_}
 use native.Mathlib.Omega.{arith}
-use native.Mathlib.Nat.{zero-add}
+use native.Mathlib.Nat.{add-zero, zero-add, add-suc, suc-add}
 use lib.ListN.{length, getD}
 use Rattle.names.specs.Name.{Name}
 use Rattle.sheet.specs.Examine.{Design}
@@ -34,14 +34,8 @@ module _ (d : Design) (bs : List Name) where
   column-at : (o k x i : ℕ) → i < k → getD (columnsFrom d bs o k x) i [] ≡ column d bs o (x + i)
   unfolding columnsFrom
   column-at o zero x i h = absurd (omega arith)
-  column-at o (suc k) x zero h = ap (column d bs o) (none-more x)
-    where
-      none-more : (x : ℕ) → x ≡ x + 0
-      none-more x = omega arith
-  column-at o (suc k) x (suc i) h = column-at o k (suc x) i (omega arith) ∙ ap (column d bs o) (one-more x i)
-    where
-      one-more : (x i : ℕ) → suc x + i ≡ x + suc i
-      one-more x i = omega arith
+  column-at o (suc k) x zero h = ap (column d bs o) (sym (add-zero x))
+  column-at o (suc k) x (suc i) h = column-at o k (suc x) i (omega arith) ∙ ap (column d bs o) (suc-add x i ∙ sym (add-suc x i))
 
   module _ (cs : List (List (List Bool))) (n : ℕ) where
     is-written : (o x : ℕ) → columnsFrom d bs o n 0 ≡ getD cs o [] → x < n → column d bs o x ≡ written cs o x

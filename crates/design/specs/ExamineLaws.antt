@@ -34,7 +34,7 @@ pub not-sized : (s : List ℕ) (e : Examined) → false ≡ sized s → RefusedA
 unfolding spec.examine
 not-sized s e f h = subst (λ (b : Bool). ExaminedIs (pick b (askLines at-design nothing 1 (lines s)) (spec.refused 1 0)) e) f h
 
-pub is-sized : (s : List ℕ) → true ≡ sized s → spec.examine s ≡ askLines at-design nothing 1 (lines s)
+is-sized : (s : List ℕ) → true ≡ sized s → spec.examine s ≡ askLines at-design nothing 1 (lines s)
 unfolding spec.examine
 is-sized s f = ap (λ (b : Bool). pick b (askLines at-design nothing 1 (lines s)) (spec.refused 1 0)) (sym f)
 

@@ -12,11 +12,12 @@ pub mod Onto
 pub mod GateLaws
 pub mod ValueLaws
 pub mod InputLaws
-pub mod Within
-pub mod Inverse
+pub mod WithinLaws
+pub mod InverseLaws
 pub mod ReaderLaws
-pub mod Lookup
+pub mod LookupLaws
 pub mod TurnLaws
 pub mod SkimLaws
 pub mod Walk
-pub mod Opened
+pub mod WalkLaws
+pub mod OpenedLaws

@@ -16,7 +16,7 @@ use Rattle.cursor.specs.OpeningLaws.{opening-shorter}
 use Rattle.formula.specs.Tree.{Formula, input, constant, negation, gate, Operands, none, more}
 use Rattle.formula.specs.Printer.{print, spelled}
 use Rattle.formula.specs.Reader.{spaceNext, rest, closeNot, closeGate, finish, readWithin, operandsWithin, readFormula, readOperands}
-use Rattle.formula.specs.Within.{formula-within}
+use Rattle.formula.specs.WithinLaws.{formula-within}
 
 -- ---- the text after an item is shorter
 print-long : (f : Formula) → spelled f ≡ true → 0 < length (print f)

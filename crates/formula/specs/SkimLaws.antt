@@ -104,7 +104,7 @@ ending-more b (found _ t) v e =
     ap (λ (o : Read Operands). after o (λ fs u. closing b fs u)) (operand-after t v e) ∙ one-more b (readFormula v)
 ending-more b bad v e = absurd (bad-found (sym e))
 
-pub ending-over : (b : Bool) (x : Read (Unit {0})) → bad ≡ after x (λ _ t. eat (space ∷ []) t)
+ending-over : (b : Bool) (x : Read (Unit {0})) → bad ≡ after x (λ _ t. eat (space ∷ []) t)
     → ending b x ≡ pick b (after x (λ _ t. eat (closeBracket ∷ []) t)) bad
 ending-over b (found _ t) e = ap (λ (o : Read Operands). after o (λ fs u. closing b fs u)) (no-operand-after t e) ∙ none-closing b t
   where

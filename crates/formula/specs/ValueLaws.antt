@@ -16,17 +16,17 @@ onto-snoc [] f os = refl
 onto-snoc (e ∷ fs) f os = ap (more e) (onto-snoc fs f os)
 
 -- ---- of a list
-pub values-onto : (v : Name → Bool) (fs : List Formula) → values v (onto fs none) ≡ map (value v) fs
+values-onto : (v : Name → Bool) (fs : List Formula) → values v (onto fs none) ≡ map (value v) fs
 unfolding values
 values-onto v [] = refl
 values-onto v (f ∷ fs) = ap (λ (l : List Bool). value v f ∷ l) (values-onto v fs)
 
-pub depths-onto : (fs : List Formula) → depths (onto fs none) ≡ largest (map depth fs)
+depths-onto : (fs : List Formula) → depths (onto fs none) ≡ largest (map depth fs)
 unfolding depths
 depths-onto [] = refl
 depths-onto (f ∷ fs) = ap (max (depth f)) (depths-onto fs)
 
-pub knows-onto : (ns : List Name) (fs : List Formula) → knowsAll ns (onto fs none) ≡ every (map (knows ns) fs)
+knows-onto : (ns : List Name) (fs : List Formula) → knowsAll ns (onto fs none) ≡ every (map (knows ns) fs)
 unfolding knowsAll
 knows-onto ns [] = refl
 knows-onto ns (f ∷ fs) = ap (λ (b : Bool). knows ns f && b) (knows-onto ns fs)

@@ -279,7 +279,8 @@ fn nested(s: &[u8], inputs: &[u64], c: Cursor, left: usize) -> Part
 // The operands of a gate after the first, and its closing bracket.
 fn operands(s: &[u8], inputs: &[u64], g: Gate, first: Part, left: usize) -> Part
     requires { ⌜ left ≤ maxDepth ⌝ }
-    ensures { λ r. ⌜ ((q : Read Formula) → PartIs left (now (s .entry)) (map nameOf (now (inputs .entry))) q first → PartIs (suc left) (now (s .entry)) (map nameOf (now (inputs .entry))) (gateOn (gateOf g) q) r) ⌝ }
+    ensures { λ r. ⌜ ((q : Read Formula) → PartIs left (now (s .entry)) (map nameOf (now (inputs .entry))) q first
+        → PartIs (suc left) (now (s .entry)) (map nameOf (now (inputs .entry))) (gateOn (gateOf g) q) r) ⌝ }
 {
     let mut sum = first;
     let mut enough = false;

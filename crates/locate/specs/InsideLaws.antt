@@ -63,10 +63,10 @@ inside-at b s p x rest q =
           ∙ take-append-seam x rest;
     }
 
-pub end-inside : (b : Bool) (s : List ℕ) → Inside s (atEnd b s)
+end-inside : (b : Bool) (s : List ℕ) → Inside s (atEnd b s)
 end-inside b s = record { within = omega arith; bytes = refl }
 
-pub line-inside : (b : Bool) (s : List ℕ) (l : ℕ) → Inside s (partOf b s l)
+line-inside : (b : Bool) (s : List ℕ) (l : ℕ) → Inside s (partOf b s l)
 unfolding startOf textOf
 line-inside b s l = go (hasLine s l) refl
   where

@@ -20,7 +20,7 @@ module _ (lo hi b : ℕ) where
   above h g = rw (le-leb _ _ h, lt-leb _ _ g) refl
 
 module _ (b : ℕ) where
-  pub is-small : 0x61 ≤ b → b ≤ 0x7A → small b ≡ true
+  is-small : 0x61 ≤ b → b ≤ 0x7A → small b ≡ true
   is-small h g = inside 0x61 0x7A b h g
 
   pub is-capital : 0x41 ≤ b → b ≤ 0x5A → capital b ≡ true

@@ -41,7 +41,7 @@ module _ (b : ℕ) where
       both : (0x41 ≤ b) × (b ≤ 0x5A) → letter (b + 0x20) ≡ letter b
       both (l, h) = letter-small (b + 0x20) (omega arith) (omega arith) ∙ sym (letter-capital b l h)
 
-  pub lower-numeral : numeral (lower b) ≡ numeral b
+  lower-numeral : numeral (lower b) ≡ numeral b
   lower-numeral = by-case (λ (c : ℕ). numeral c ≡ numeral b) (λ e. both (capital-between b e)) refl
     where
       both : (0x41 ≤ b) × (b ≤ 0x5A) → numeral (b + 0x20) ≡ numeral b

@@ -16,7 +16,6 @@ use Rattle.text.specs.Solid.{solid}
 use Rattle.text.specs.SolidLaws.{solid-more}
 use Rattle.names.specs.Case.{small, capital}
 use Rattle.names.specs.Name.{Name, among, operatorWords, letter, nameByte, allNameBytes, startsWithLetter, isName}
-use Rattle.names.specs.ByteLaws.{letter-amid}
 use Rattle.names.specs.CaseLaws.{small-between, capital-between}
 
 pub is-name : (n : Name) → startsWithLetter n ≡ true → allNameBytes n ≡ true → length n ≤ maxName → among n operatorWords ≡ false → isName n ≡ true
@@ -52,10 +51,6 @@ letter-between b e =
     (λ c. omega (arith, capital-between b c))
     (or-cases (small b) (capital b) e)
 
--- the byte 0x5F, `_`, begins no name
-pub letter-no-underscore : (b : ℕ) → letter b ≡ true → b ≡ 0x5F → ⊥
-letter-no-underscore b l e = true-false (sym l ∙ letter-amid b (omega arith) (omega arith))
-
 pub name-byte-between : (b : ℕ) → nameByte b ≡ true → (0x30 ≤ b) × (b ≤ 0x7A)
 unfolding nameByte
 name-byte-between b e =
@@ -75,7 +70,7 @@ pub name-solid : (n : Name) → isName n ≡ true → solid n ≡ true
 name-solid n h = bytes-solid n (name-bytes n h)
 
 -- `_` and `\`, which stand between the capitals and the small letters
-pub underscore-no-name-byte : nameByte 0x5F ≡ false
+underscore-no-name-byte : nameByte 0x5F ≡ false
 unfolding nameByte letter numeral
 underscore-no-name-byte = refl
 
@@ -87,8 +82,8 @@ byte-inside : (s : List ℕ) (b : ℕ) (t : List ℕ) → allNameBytes (s ++ (b 
 byte-inside [] b t h = and-left (nameByte b) (allNameBytes t) h
 byte-inside (c ∷ s) b t h = byte-inside s b t (and-right (nameByte c) (allNameBytes (s ++ (b ∷ t))) h)
 
-pub name-byte-inside : (s : List ℕ) (b : ℕ) (t : List ℕ) → isName (s ++ (b ∷ t)) ≡ true → nameByte b ≡ true
-name-byte-inside s b t h = byte-inside s b t (name-bytes (s ++ (b ∷ t)) h)
+pub name-no-underscore : (s : List ℕ) (b : ℕ) (t : List ℕ) → isName (s ++ (b ∷ t)) ≡ true → b ≡ 0x5F → ⊥
+name-no-underscore s b t h e = true-false (sym (byte-inside s b t (name-bytes (s ++ (b ∷ t)) h)) ∙ ap nameByte e ∙ underscore-no-name-byte)
 
 -- ---- what is no name
 module _ (n : Name) where

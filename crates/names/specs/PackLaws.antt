@@ -36,7 +36,7 @@ pack-unpacked (suc k) v h =
           ∙ ap (λ (m : ℕ). v % 256 + 256 * m) rest ∙ split
     ]
 
-pub pack-name-of : (v : ℕ) → v < 2 ^ 64 → pack (nameOf v) ≡ v
+pack-name-of : (v : ℕ) → v < 2 ^ 64 → pack (nameOf v) ≡ v
 unfolding nameOf
 pack-name-of v h = pack-unpacked maxName v h
 

@@ -17,7 +17,7 @@ module _ (m n : Name) where
   unfolding sameName
   same-name-lowered e = same-equal (lowered m) (lowered n) e
 
-  pub lowered-same-name : lowered m ≡ lowered n → sameName m n ≡ true
+  lowered-same-name : lowered m ≡ lowered n → sameName m n ≡ true
   unfolding sameName
   lowered-same-name e = equal-same (lowered m) (lowered n) e
 

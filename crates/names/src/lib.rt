@@ -17,7 +17,7 @@ pub const BASE: u64 = 256;
 const CASE: u8 = 32;
 
 // Whether a byte may stand in a name.
-pub fn name_byte(b: u8) -> bool
+fn name_byte(b: u8) -> bool
     ensures { λ r. ⌜ r ≡ nameByte b ⌝ }
 {
     match b {

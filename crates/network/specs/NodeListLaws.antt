@@ -9,7 +9,7 @@ use Rattle.bits.specs.LogicLaws.{true-false, and-left}
 use Rattle.text.specs.Bytes.{bad, eat, bytes}
 use Rattle.names.specs.Name.{Name, isName}
 use Rattle.names.specs.Names.{allNames}
-use Rattle.names.specs.IsNameLaws.{name-starts, letter-no-underscore}
+use Rattle.names.specs.IsNameLaws.{name-starts, name-no-underscore}
 use Rattle.network.specs.Printer.{led, ledAll, lutName}
 use Rattle.network.specs.Reader.{none-of}
 use Rattle.network.specs.Reads.{still, restOf}
@@ -46,11 +46,11 @@ list-split fs is t =
     ∙ append-assoc reads (ledAll (none-of is) fs) (bytes ") " ++ t)
     ∙ ap (λ (u : List ℕ). reads ++ u) (sym (append-assoc (ledAll (none-of is) fs) (bytes ") ") t))
 
--- ---- a name begins with a letter, which is no underscore
+-- ---- a name has no underscore
 name-underscore : (n : Name) (t : List ℕ) → isName n ≡ true → eat (bytes "_") (n ++ t) ≡ bad
 unfolding eat
 name-underscore [] t h = absurd (true-false (sym (name-starts [] h)))
-name-underscore (b ∷ n) t h = rw (ne-eqb 0x5F b (λ e. letter-no-underscore b (name-starts (b ∷ n) h) (sym e))) refl
+name-underscore (b ∷ n) t h = rw (ne-eqb 0x5F b (λ e. name-no-underscore [] b n h (sym e))) refl
 
 led-underscore : (first : Bool) (n : Name) (t : List ℕ)
     → isName n ≡ true

@@ -13,6 +13,7 @@ use Rattle.limits.specs.Limits.{maxOutputs}
 use Rattle.bits.specs.LogicLaws.{or-false}
 use Rattle.rows.specs.Words.{Rowwise, rowOn}
 use Rattle.sheet.specs.Known.{tableAt}
+use Rattle.sheet.specs.OutputLaws.{words-of}
 use Rattle.sheet.specs.declared.Rows.{Rows}
 use Rattle.panel.specs.Held.{withRows, Added}
 
@@ -26,9 +27,6 @@ pub record AddedUpTo (ts : List Rows) (rows marks : List ℕ) (o : ℕ) (next : 
   pub size : length next ≡ maxOutputs
   pub done : (j : ℕ) → j < o → Rowwise (withRows (tableAt ts j) rows (getD marks j 0)) (tableAt next j)
   pub kept : (j : ℕ) → o ≤ j → tableAt next j ≡ tableAt ts j
-
-abbrev words-of : Rows → List ℕ
-words-of t = t .words
 
 module _ (ts : List Rows) (rows marks : List ℕ) where
   pub added-none : length ts ≡ maxOutputs → AddedUpTo ts rows marks 0 ts

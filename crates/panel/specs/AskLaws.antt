@@ -2,7 +2,7 @@
 -- comes to, or a design for the next. Assumes nothing.
 use mathlib.Core.Path.{_≡_, refl, sym, ap, _∙_, subst}
 use mathlib.Core.Bool.{Bool, true, false}
-use mathlib.Core.List.{List, []}
+use mathlib.Core.List.{List}
 use mathlib.Core.Option.{Option, some}
 use Prim.Native.Nat.{ℕ}
 use native.Mathlib.Omega.{arith}
@@ -13,7 +13,7 @@ use Rattle.limits.specs.Limits.{maxInputs}
 use Rattle.names.specs.Name.{Name, distinct}
 use Rattle.sheet.specs.Lines.{readBound, readLimit}
 use Rattle.sheet.specs.Examine as spec
-use Rattle.sheet.specs.Examine.{Design, Step, refused, no-to, next, at-bound, at-limit, askLine, askIn, askBound, askLimit, follow, within, nothing}
+use Rattle.sheet.specs.Examine.{Design, Step, refused, no-to, next, at-bound, at-limit, askLine, askIn, askBound, askLimit, follow, within, nothing, withInputs}
 use Rattle.sheet.specs.Known.{Holds, StepIs}
 use Rattle.sheet.specs.declared.Sheet.{Sheet}
 use Rattle.sheet.specs.declared.Rows.{Rows}
@@ -88,7 +88,7 @@ module _ (d : Design) (bs : List Name) (n : ℕ) (l : List ℕ) (a : Asked) (e :
 
 -- ---- the inputs' names
 abbrev pub designOf : Pla → Design
-designOf x = record { inputs = x .inputs; bound = []; limit = 0; outputs = [] }
+designOf x = withInputs nothing (x .inputs)
 
 -- the names of the inputs pass
 pub record InputsPassed (x : Pla) (k : Sheet) : Type 0 where

@@ -5,9 +5,7 @@ use mathlib.Core.List.{List, [], _∷_}
 use mathlib.Core.Option.{Option, some, none}
 use Prim.Native.Nat.{ℕ, _+_, _-_, _≤_, _<_}
 use native.Mathlib.Omega.{arith}
-use lib.Dec.{leb}
 use lib.ListN.{length, take, drop, length-drop}
-use borrow.Author.Tests.{leb-true}
 use Rattle.bits.specs.LogicLaws.{true-false, and-left}
 use Rattle.limits.specs.Limits.{maxSheet}
 use Rattle.text.specs.Line.{lines}
@@ -18,6 +16,7 @@ use Rattle.names.specs.Name.{Name}
 use Rattle.cursor.specs.declared.NameList.{NameList}
 use Rattle.sheet.specs.Lines.{readBound, readLimit}
 use Rattle.sheet.specs.Examine.{sized, plainLines, within}
+use Rattle.sheet.specs.AskedLaws.{within-low}
 use Rattle.sheet.specs.Known.{LineIs, LimitIs}
 use Rattle.sheet.specs.declared.LimitLine.{LimitLine}
 use Rattle.design.specs.SizeLaws.{sized-last}
@@ -31,9 +30,7 @@ board-not-sized b r f h = subst (λ (t : Bool). BoardIs b t (readBoard (lines b)
 
 sized-filled : (b : List ℕ) → sized b ≡ true → 1 ≤ length b
 unfolding sized
-sized-filled b e =
-    leb-true 1 (length b)
-    (and-left (leb 1 (length b)) (leb (length b) maxSheet) (and-left (within 1 maxSheet (length b)) (plainLines b) e))
+sized-filled b e = within-low 1 maxSheet (length b) (and-left (within 1 maxSheet (length b)) (plainLines b) e)
 
 -- ---- the lines
 -- the line of a place, in a text that ends in 0x0A
@@ -117,7 +114,7 @@ module _ (b : List ℕ) (sizes : true ≡ sized b) where
           abbrev second : List ℕ
           second = take (end - (e + 1)) (drop (e + 1) b)
 
-          pub second-inside : end < length b
+          second-inside : end < length b
           second-inside = line-at b (e + 1) end more (sym sizes) y .0
 
           second-read : readBoard (lines b) ≡ afterLimit (bound-is .0) (readLimit second) (lines (drop (end + 1) b))

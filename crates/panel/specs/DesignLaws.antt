@@ -11,12 +11,13 @@ use lib.ListN.{length}
 use borrow.Author.Tests.{leb-true}
 use Rattle.bits.specs.Logic.{pick}
 use Rattle.limits.specs.Limits.{maxInputs, maxLimit, maxOutputs}
+use Rattle.platext.specs.TextReadLaws.{pla-print-of-read}
 use Rattle.text.specs.Line.{lines}
 use Rattle.names.specs.Name.{Name, distinct}
 use Rattle.names.specs.Spelled.{spelledBy}
 use Rattle.names.specs.Names.{allNames}
 use Rattle.sheet.specs.Lines.{readBound, readLimit}
-use Rattle.sheet.specs.Examine.{Design, Examined, refused, valid, at-bound, next, within, askIn, sized}
+use Rattle.sheet.specs.Examine.{Design, Examined, refused, valid, at-bound, next, within, askIn, sized, withInputs, withBound, withLimit, nothing}
 use Rattle.sheet.specs.WellFormed.{RightBound, RightOutputs, WellFormed}
 use Rattle.sheet.specs.LineRightLaws.{no-output-wrong}
 use Rattle.cubes.specs.Cube.{Cube}
@@ -25,7 +26,6 @@ use Rattle.platext.specs.Text.{Pla, Answer, bad-line, pla, readPla}
 use Rattle.panel.specs.Questions as text
 use Rattle.panel.specs.Questions.{tooMany, zerosAndOnes, otherMark, refusedAt, furtherAsked, examineText}
 use Rattle.platext.specs.Writable.{Writable}
-use Rattle.platext.specs.TextLaws.{pla-print-of-read}
 use Rattle.panel.specs.Board.{Board, misspelled, board, boundLine, limitLine, afterLimit, afterBound, readBoard}
 use Rattle.panel.specs.Examine.{outputsFrom, outputsOf, askOutputs, askNames, askBoard, withBoard, besideText, examine}
 use Rattle.panel.specs.WalkLaws.{ask-walk, outputs-writable, outputs-walk, board-walk}
@@ -75,7 +75,7 @@ panel-right : (p b : List ℕ) (x : Pla) (bs : List Name) (n : ℕ) (e : Design)
     → RightOutputs (e .inputs) (e .outputs)
     → RightBound (e .inputs) (map (spelledBy (e .inputs)) bs)
     → n ≤ maxLimit
-    → PairRight p b (valid (record { inputs = e .inputs; bound = map (spelledBy (e .inputs)) bs; limit = n; outputs = e .outputs }))
+    → PairRight p b (valid (withLimit (withBound e (map (spelledBy (e .inputs)) bs)) n))
 panel-right p b x bs n e h s t w once i o r c l = (
   record {
     text = x;
@@ -117,7 +117,7 @@ unfolding askIn
 names-right p b x bs n h s t =
     let w = pla-print-of-read p x (h .is-read) .writable in
     let P = PairRight p b in
-    let d : Design = record { inputs = x .inputs; bound = []; limit = 0; outputs = [] } in
+    let d = withInputs nothing (x .inputs) in
     ask-walk P
     ((3, within 1 maxInputs (length (x .inputs))) ∷ (4, distinct (x .inputs)) ∷ [])
     (next at-bound d) inputNamesLine (λ _ e. askOutputs e (outputsOf x) (askBoard bs n))

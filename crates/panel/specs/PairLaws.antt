@@ -12,6 +12,7 @@ use borrow.Author.Tests.{le-leb, lt-leb}
 use Rattle.bits.specs.Logic.{pick}
 use Rattle.bits.specs.LogicLaws.{true-false}
 use Rattle.limits.specs.Limits.{maxInputs, maxOutputs}
+use Rattle.platext.specs.TextReadLaws.{pla-print-of-read}
 use Rattle.text.specs.Line.{lines}
 use Rattle.names.specs.Name.{Name}
 use Rattle.sheet.specs.Examine as sheets
@@ -21,7 +22,6 @@ use Rattle.design.specs.declared.Examined.{Examined}
 use Rattle.platext.specs.Lines.{inputsLine, outputsLine, firstCube}
 use Rattle.platext.specs.Text.{Pla, Answer, bad-line, pla, readPla}
 use Rattle.platext.specs.Reading.{ReadAs, TextIs}
-use Rattle.platext.specs.TextLaws.{pla-print-of-read}
 use Rattle.platext.specs.declared.PlaText.{PlaText}
 use Rattle.panel.specs.Questions as text
 use Rattle.panel.specs.Questions.{tooMany, otherMark, refusedAt, furtherAsked, examineText}

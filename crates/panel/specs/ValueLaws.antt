@@ -7,6 +7,7 @@ use mathlib.Core.Logic.{_↔_}
 use Prim.Native.Nat.{ℕ, zero, suc, _+_, _<_}
 use native.Mathlib.Omega.{arith}
 use lib.ListN.{length}
+use Rattle.platext.specs.TextReadLaws.{pla-print-of-read}
 use Rattle.names.specs.Name.{Name}
 use Rattle.formula.specs.Tree.{Formula}
 use Rattle.formula.specs.Value.{value, onRow}
@@ -19,7 +20,6 @@ use Rattle.cubes.specs.CoverLaws.{covered-on, on-covered}
 use Rattle.cubes.specs.Terms.{coverFormula}
 use Rattle.cubes.specs.TermsLaws.{cover-value}
 use Rattle.platext.specs.Text.{Pla}
-use Rattle.platext.specs.TextLaws.{pla-print-of-read}
 use Rattle.platext.specs.WritableLaws.{cube-fits-at}
 use Rattle.panel.specs.Examine.{outputsFrom}
 use Rattle.panel.specs.Panel.{Panel}

@@ -18,7 +18,7 @@ use Rattle.names.specs.Names.{allNames}
 use Rattle.formula.specs.Tree.{depth, knows}
 use Rattle.sheet.specs.Lines.{Output}
 use Rattle.sheet.specs.Kinds.{OutputWritable}
-use Rattle.sheet.specs.Examine.{Design, Examined, refused, valid, Place, at-limit, at-out, Step, no-to, next, ask, within}
+use Rattle.sheet.specs.Examine.{Design, Examined, refused, valid, Place, at-limit, at-out, Step, no-to, next, ask, within, withBound, withLimit}
 use Rattle.sheet.specs.Examine.{askOut, askBound, askLimit, outputNames, newName, withOutput, follow}
 use Rattle.sheet.specs.WellFormed.{RightBound, RightOutputs}
 use Rattle.sheet.specs.AskedLaws.{AllYes}
@@ -120,12 +120,11 @@ pub board-walk : (P : Examined → Type 0) (bs : List Name) (n : ℕ) (d : Desig
     → Refusable P limitLine
     → (RightBound (d .inputs) (map (spelledBy (d .inputs)) bs)
     → n ≤ maxLimit
-    → P (valid (record { inputs = d .inputs; bound = map (spelledBy (d .inputs)) bs; limit = n; outputs = d .outputs })))
+    → P (valid (withLimit (withBound d (map (spelledBy (d .inputs)) bs)) n)))
     → P (askBoard bs n d)
 unfolding askBound askLimit
 board-walk P bs n d h k f =
-    let spelled = map (spelledBy (d .inputs)) bs in
-    let e : Design = record { inputs = d .inputs; bound = spelled; limit = d .limit; outputs = d .outputs } in
+    let e = withBound d (map (spelledBy (d .inputs)) bs) in
     ask-walk P
     ((3, within 1 maxBound (length bs)) ∷ (4, distinct bs) ∷ (5, allAmong bs (d .inputs)) ∷ [])
     (next at-limit e) boundLine (λ _ g. follow (askLimit g (some n)) limitLine (λ _ f. valid f))
@@ -133,6 +132,6 @@ board-walk P bs n d h k f =
     (λ y.
     ask-walk P
     ((3, leb n maxLimit) ∷ [])
-    (next at-out (record { inputs = d .inputs; bound = spelled; limit = n; outputs = d .outputs })) limitLine (λ _ f. valid f)
+    (next at-out (withLimit e n)) limitLine (λ _ f. valid f)
     k (omega arith)
     (λ z. f (bound-names-right (d .inputs) bs (y .0) (y .1 .0) (y .1 .1 .0)) (leb-true n maxLimit (z .0))))

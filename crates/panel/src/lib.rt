@@ -39,12 +39,12 @@ const BOUND_LINE: usize = 1;
 const LIMIT_LINE: usize = 2;
 
 // The second text: the question that was answered "no" and its line, or where its lines end.
-pub struct BoardLines {
-    pub ok: bool,
-    pub number: usize,
-    pub line: usize,
-    pub bound: usize,
-    pub limit: usize,
+struct BoardLines {
+    ok: bool,
+    number: usize,
+    line: usize,
+    bound: usize,
+    limit: usize,
 }
 
 // A "no" to question q at a line.

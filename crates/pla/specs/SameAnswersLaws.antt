@@ -10,7 +10,7 @@ use Rattle.limits.specs.Limits.{maxClasses}
 use Rattle.order.specs.Order.{before}
 use Rattle.sheet.specs.Lines.{Output}
 use Rattle.sheet.specs.Examine as sheets
-use Rattle.sheet.specs.Examine.{Design, Examined, valid, outputNames}
+use Rattle.sheet.specs.Examine.{Design, Examined, valid, outputNames, withOutputs}
 use Rattle.design.specs.Tabulate.{tableOf}
 use Rattle.classes.specs.Classes.{globalCount}
 use Rattle.network.specs.Network.{Network}
@@ -21,7 +21,7 @@ use Rattle.network.specs.Check.{checkOf}
 use Rattle.mapper.specs.Map.{Permitted, First, MapAnswer, mapped, OutcomeFor, too-many-classes, no-network, buffer-short, written}
 use Rattle.panel.specs.Examine as panels
 use Rattle.pla.specs.SameTables.{SameTables, SameAnswers}
-use Rattle.pla.specs.SameTablesLaws.{withOutputs, SameValues, global-same, print-same, table-same, check-same}
+use Rattle.pla.specs.SameTablesLaws.{SameValues, global-same, print-same, table-same, check-same}
 use Rattle.pla.specs.SameNetworksLaws.{formed-same, within-same, is-output, computes-same, values-back}
 use Rattle.pla.specs.SameNetworksLaws.{second-is, second-values, tables-back}
 use Rattle.pla.specs.SameCauseLaws.{cause-same}
@@ -67,7 +67,7 @@ module _ (d : Design) (ps : List Output) (names : outputNames (d .outputs) ≡ o
   few-same : globalCount d (d .bound) ≤ maxClasses → globalCount (withOutputs d ps) (d .bound) ≤ maxClasses
   few-same h = subst (λ (n : ℕ). n ≤ maxClasses) (global-same d ps names values (d .bound)) h
 
-  pub outcome-same : {b : List ℕ} {a : MapAnswer} {b' : List ℕ} → OutcomeFor d b a b' → OutcomeFor (withOutputs d ps) b a b'
+  outcome-same : {b : List ℕ} {a : MapAnswer} {b' : List ℕ} → OutcomeFor d b a b' → OutcomeFor (withOutputs d ps) b a b'
   outcome-same (too-many-classes h) =
       too-many-classes (subst (λ (n : ℕ). maxClasses < n) (global-same d ps names values (d .bound)) h)
   outcome-same (no-network h n) =

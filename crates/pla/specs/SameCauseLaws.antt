@@ -7,7 +7,7 @@ use lib.ListN.{length}
 use Rattle.limits.specs.Limits.{maxClasses}
 use Rattle.names.specs.Name.{Name}
 use Rattle.sheet.specs.Lines.{Output}
-use Rattle.sheet.specs.Examine.{Design, outputNames}
+use Rattle.sheet.specs.Examine.{Design, outputNames, withOutputs}
 use Rattle.sheet.specs.Value.{outputOn}
 use Rattle.classes.specs.Classes.{globalCount}
 use Rattle.subsets.specs.Subset.{selected, size, memberAt, SomeOf}
@@ -17,7 +17,7 @@ use Rattle.selection.specs.PartLaws.{part-count}
 use Rattle.selection.specs.PartColumnLaws.{part-value}
 use Rattle.mapper.specs.Cause.{Served, Cause, CauseAnswer, CauseFor, too-many-classes, mapped, refused-by-8}
 use Rattle.pla.specs.SameTables.{SameTables}
-use Rattle.pla.specs.SameTablesLaws.{withOutputs, SameValues, global-same}
+use Rattle.pla.specs.SameTablesLaws.{SameValues, global-same}
 use Rattle.pla.specs.SameNetworksLaws.{formed-same, within-same, computes-same, second-is, second-values, counts-same, tables-back}
 
 -- ---- the same network serves both
@@ -30,7 +30,7 @@ served-with d ps names values v =
       computes = computes-same d ps names values (v .network) (v .computes);
     }
 
-pub served-same : {d e : Design} → SameTables d e → Served d → Served e
+served-same : {d e : Design} → SameTables d e → Served d → Served e
 served-same {d = d} {e = e} h v = subst Served (second-is h) (served-with d (e .outputs) (h .same-outputs) (second-values h) v)
 
 -- ---- the parts with the same set of outputs
@@ -41,7 +41,7 @@ module _ {d e : Design} (h : SameTables d e) (s : ℕ) where
       ∙ ap (λ (ns : List Name). selected s 0 ns) (h .same-outputs)
       ∙ sym (selected-map (λ (o : Output). o .name) s 0 (e .outputs))
 
-  pub parts-same : SameTables (part s d) (part s e)
+  parts-same : SameTables (part s d) (part s e)
   unfolding part
   parts-same =
       record {

@@ -6,13 +6,13 @@ use Prim.Native.Nat.{ℕ, _^_, _≤_, _<_}
 use lib.ListN.{length}
 use Rattle.names.specs.Name.{Name}
 use Rattle.sheet.specs.Lines.{Output}
-use Rattle.sheet.specs.Examine.{Design, outputNames}
+use Rattle.sheet.specs.Examine.{Design, outputNames, withInputs, withBound, withLimit, withOutputs}
 use Rattle.sheet.specs.Value.{outputOn}
 use Rattle.network.specs.Network.{Network}
 use Rattle.network.specs.NetworkFor.{NetworkFor}
 use Rattle.network.specs.Answers.{WithinLimits, Computes, readCount}
 use Rattle.pla.specs.SameTables.{SameTables}
-use Rattle.pla.specs.SameTablesLaws.{withOutputs, SameValues, count-same, value-same, budget-same, network-same}
+use Rattle.pla.specs.SameTablesLaws.{SameValues, count-same, value-same, budget-same, network-same}
 
 -- ---- two designs that differ in their formulas alone: what is asked of a network
 module _ (d : Design) (ps : List Output) (names : outputNames (d .outputs) ≡ outputNames ps) (values : SameValues d ps) where
@@ -51,9 +51,9 @@ module _ {d e : Design} (h : SameTables d e) where
   -- the second is the first with the second's outputs
   pub second-is : withOutputs d (e .outputs) ≡ e
   second-is =
-      ap (λ (ns : List Name). record { inputs = ns; bound = d .bound; limit = d .limit; outputs = e .outputs }) (h .same-inputs)
-      ∙ ap (λ (bs : List Name). record { inputs = e .inputs; bound = bs; limit = d .limit; outputs = e .outputs }) (h .same-bound)
-      ∙ ap (λ (n : ℕ). record { inputs = e .inputs; bound = e .bound; limit = n; outputs = e .outputs }) (h .same-limit)
+      ap (withInputs (withOutputs d (e .outputs))) (h .same-inputs)
+      ∙ ap (withBound (withLimit e (d .limit))) (h .same-bound)
+      ∙ ap (withLimit e) (h .same-limit)
 
   pub second-values : SameValues d (e .outputs)
   second-values o r k l = h .same-values o r k l ∙ ap (λ (x : Design). outputOn x o r) (sym second-is)

@@ -18,7 +18,7 @@ use Rattle.rows.specs.DigitLaws.{digits-same}
 use Rattle.names.specs.Name.{Name}
 use Rattle.formula.specs.Value.{value, onRow}
 use Rattle.sheet.specs.Lines.{Output, endLine}
-use Rattle.sheet.specs.Examine.{Design, valid, outputNames, within}
+use Rattle.sheet.specs.Examine.{Design, valid, outputNames, within, withOutputs}
 use Rattle.sheet.specs.Value.{outputOn}
 use Rattle.design.specs.Tabulate.{written, untouched, tableOf, tableDigits, rowCount}
 use Rattle.classes.specs.Columns.{free, joinRow, valueAt, column, sameValues, alike, alikeUpto, alikeInAll, vertexCount, freeCount}
@@ -49,9 +49,6 @@ first-of-same f g (suc k) i h =
     (first-of-same f g k (suc i) (λ j a b. h j (omega arith) (omega arith)))
 
 -- ---- a design with other outputs
-abbrev pub withOutputs : Design → List Output → Design
-withOutputs d ps = record { inputs = d .inputs; bound = d .bound; limit = d .limit; outputs = ps }
-
 abbrev pub SameValues : Design → List Output → Type 0
 SameValues d ps = (o r : ℕ) → o < length (d .outputs) → r < 2 ^ length (d .inputs) → outputOn d o r ≡ outputOn (withOutputs d ps) o r
 

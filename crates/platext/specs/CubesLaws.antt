@@ -83,7 +83,7 @@ module _ (s : List ℕ) (at i o : ℕ) where
         w .is h e f ∙ as-line h (lines (drop start s))
         ∙ ap₂ (λ (a b : ℕ). nextLine (endsLine s) (firstCube + cubes) (readCubeLine a b) (onward h) (lines (drop start s))) e f
 
-    pub stopped-here : {r : CubesRead} (p : ℕ) → Stopped s start (readCubeLine i o) → r ≡ CubesRead.Bad (firstCube + cubes)
+    stopped-here : {r : CubesRead} (p : ℕ) → Stopped s start (readCubeLine i o) → r ≡ CubesRead.Bad (firstCube + cubes)
         → (h : Head) → Fits i o p h → CubesAre s at h (readCubes (endsLine s) h [] firstCube (lines (drop at s))) r
     stopped-here {r} p x e h f =
         subst (λ (a : Answer). CubesAre s at h a r)

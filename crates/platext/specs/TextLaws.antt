@@ -8,15 +8,12 @@ use lib.ListN.{length}
 use Rattle.limits.specs.Limits.{maxPla}
 use Rattle.platext.specs.Text.{Pla, pla, readPla}
 use Rattle.platext.specs.Writable.{Writes}
-use Rattle.platext.specs.TextReadLaws.{pla-is, said-printed}
+use Rattle.platext.specs.TextReadLaws.{pla-is, pla-print-of-read}
 use Rattle.platext.specs.TextPrintLaws.{printed-said}
 
 pub pla-read-of-print : (t : List ℕ) (x : Pla) → Writes t x → readPla t ≡ pla x
 pla-read-of-print t x w =
     ap readPla (w .is-print) ∙ printed-said x (w .writable) (subst (λ (s : List ℕ). length s ≤ maxPla) (w .is-print) (w .fits))
-
-pub pla-print-of-read : (t : List ℕ) (x : Pla) → readPla t ≡ pla x → Writes t x
-pla-print-of-read = said-printed
 
 pub pla-spelled : (t : List ℕ) (x : Pla) → (readPla t ≡ pla x) ↔ Writes t x
 pla-spelled t x = (pla-print-of-read t x, pla-read-of-print t x)

@@ -57,7 +57,7 @@ cubes-read h (d ∷ ds) cs n (one-more f fs) e =
     (cubes-read h ds (cs ++ (d ∷ [])) (suc n) fs (ap length all ∙ e) ∙ ap (saying h) all)
 
 -- ---- every line
-pub lines-read : (x : Pla) → Writable x → readLines true (plaLines x) ≡ pla x
+lines-read : (x : Pla) → Writable x → readLines true (plaLines x) ≡ pla x
 unfolding readLines plaLines
 lines-read x w =
     let ns = x .inputs in

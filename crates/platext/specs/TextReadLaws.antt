@@ -5,9 +5,9 @@ use mathlib.Core.List.{List, [], _∷_, _++_, map, append-assoc, append-nil}
 use mathlib.Core.Option.{Option, some, none}
 use Prim.Native.Nat.{ℕ, suc}
 use native.Mathlib.Omega.{arith}
-use lib.Dec.{eqb, leb}
+use lib.Dec.{eqb}
 use lib.ListN.{length}
-use borrow.Author.Tests.{eqb-true, leb-true}
+use borrow.Author.Tests.{eqb-true}
 use Rattle.bits.specs.Logic.{pick}
 use Rattle.bits.specs.LogicLaws.{and-left, and-right}
 use Rattle.limits.specs.Limits.{maxPla}
@@ -19,6 +19,7 @@ use Rattle.text.specs.LineLaws.{unbroken-tail, unbroken-back, lines-all-unbroke
 use Rattle.text.specs.EndedLaws.{ended-of-lines}
 use Rattle.names.specs.Name.{Name}
 use Rattle.sheet.specs.Examine.{within}
+use Rattle.sheet.specs.AskedLaws.{within-high}
 use Rattle.cubes.specs.Cube.{literalByte, Cube, printCube, readCube}
 use Rattle.cubes.specs.CubeLaws.{cube-print-of-read}
 use Rattle.platext.specs.Lines.{inputsLine, outputsLine, inputNamesLine, outputNamesLine, cubesLine, firstCube}
@@ -236,13 +237,13 @@ sized-said : (b : Bool) (y : Answer) (x : Pla) → pick b y (bad-line 0) ≡ pla
 sized-said true y x h = (refl, h)
 sized-said false y x h = absurd (bad-pla h)
 
-pub said-printed : (t : List ℕ) (x : Pla) → readPla t ≡ pla x → Writes t x
+pub pla-print-of-read : (t : List ℕ) (x : Pla) → readPla t ≡ pla x → Writes t x
 unfolding readPla printPla
-said-printed t x e =
+pla-print-of-read t x e =
     let (sized, said) = sized-said (within 1 maxPla (length t)) (readLines (endsLine t) (lines t)) x e in
     let s = lines-said (endsLine t) (lines t) x (lines-all-unbroken t) said in
     record {
       writable = s .writable;
       is-print = ended-of-lines t (s .ended-last) ∙ ap endedLines (s .lines-are);
-      fits = leb-true (length t) maxPla (and-right (leb 1 (length t)) (leb (length t) maxPla) sized);
+      fits = within-high 1 maxPla (length t) sized;
     }

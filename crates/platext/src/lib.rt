@@ -2,9 +2,9 @@
 // and their number are kept. Rests on cubes for a cube's line, on cursor for the items of the other lines, and on sheet for
 // lines of names.
 ghost use mathlib.Core.Path.{_≡_};
-ghost use mathlib.Core.Bool.{true, false};
+ghost use mathlib.Core.Bool.{false};
 ghost use mathlib.Core.List.{[], _∷_};
-ghost use Prim.Native.Nat.{_+_, _-_, _≤_, _<_};
+ghost use Prim.Native.Nat.{_+_, _≤_, _<_};
 ghost use lib.ListN.{length, drop};
 ghost use Rattle.limits.specs.Limits.{maxPla, maxPlaDigits};
 ghost use Rattle.text.specs.Bytes.{eat, after, whole, space};
@@ -37,42 +37,42 @@ const CUBES_LINE: usize = 5;
 pub const FIRST_CUBE: usize = 6;
 
 // A line from a place on: whether 0x0A ends it, and where.
-pub struct Line {
-    pub ok: bool,
-    pub end: usize,
+struct Line {
+    ok: bool,
+    end: usize,
 }
 
 // The number that a line has.
-pub enum Count {
+enum Count {
     Number(usize),
     Bad,
 }
 
 // A line `.i N`, `.o N` or `.p N`: whether it is spelled right, its number, and where the next line starts.
-pub struct CountLine {
-    pub ok: bool,
-    pub count: usize,
-    pub next: usize,
+struct CountLine {
+    ok: bool,
+    count: usize,
+    next: usize,
 }
 
 // A line `.ilb names` or `.ob names`, and where the next line starts.
-pub struct NamedLine {
-    pub list: NameList,
-    pub next: usize,
+struct NamedLine {
+    list: NameList,
+    next: usize,
 }
 
 // The lines before the cubes: the first bad one, or what they say and where the next line starts.
-pub struct HeadRead {
-    pub ok: bool,
-    pub line: usize,
-    pub inputs: NameList,
-    pub outputs: NameList,
-    pub cubes: usize,
-    pub next: usize,
+struct HeadRead {
+    ok: bool,
+    line: usize,
+    inputs: NameList,
+    outputs: NameList,
+    cubes: usize,
+    next: usize,
 }
 
 // The cubes: the first bad line, or that there is none.
-pub enum CubesRead {
+enum CubesRead {
     Bad(usize),
     Right,
 }

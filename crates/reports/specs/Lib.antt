@@ -6,6 +6,7 @@ pub mod NumberLaws
 pub mod CauseReportLaws
 pub mod LineReportLaws
 pub mod RefusalLaws
+pub mod FoundLaws
 pub mod SheetStopLaws
 pub mod NetworkStopLaws
 pub mod LimitStopLaws

@@ -60,7 +60,7 @@ module _ (b : Bool) (d : Design) (t : List ℕ) (w : Network) (l : ℕ) (named :
   there =
       line-stands d w (lines t) l (spells-lines d named w t (network-spelling-of-read d t w r named .1)) (offending-some d w l o .offends)
 
-  pub limit-has-line : hasLine t l ≡ true
+  limit-has-line : hasLine t l ≡ true
   limit-has-line =
       let (i, j) = stands-some d w l (lineAt (lines t) l) there in
       let k = line-there (lines t) l j in

@@ -3,7 +3,7 @@
 use mathlib.Core.Path.{_≡_, refl, sym, ap, _∙_}
 use mathlib.Core.Bool.{Bool, true, false, not, _||_}
 use mathlib.Core.Logic.{_⊎_, inl, inr, ⊎-elim}
-use mathlib.Core.List.{List, [], _∷_, _++_}
+use mathlib.Core.List.{List, [], _∷_}
 use Prim.Native.Nat.{ℕ, suc, _+_, _<_}
 use native.Mathlib.Omega.{arith}
 use lib.ListN.{length}
@@ -16,61 +16,18 @@ use Rattle.network.specs.Network.{Network}
 use Rattle.network.specs.Examine.{Place, at-network, at-luts, at-node, at-count, at-end, over, Step, misspelled, next, bad-line, nothing, askLine, atEnd, follow, askLines, readNetwork}
 use Rattle.network.specs.StepLaws.{bad-network}
 use Rattle.locate.specs.Located.{hasLine, partOf}
-use Rattle.locate.specs.LineLaws.{has-some, has-within, text-of, is-line}
+use Rattle.locate.specs.LineLaws.{has-some, has-within}
+use Rattle.reports.specs.FoundLaws.{Found, found-here, found-later, found-line, found-text}
 use Rattle.reports.specs.Stopped.{thenNetwork, passNetwork, NetworkStop}
 
 line-is : {m n : ℕ} → bad-line m ≡ bad-line n → m ≡ n
 line-is e = cc
 
 module _ (d : Design) (ended : Bool) where
-  -- ---- among some lines, the first of which has the number n
-  record Found (p : Place) (w : Network) (n : ℕ) (ls : List (List ℕ)) (l : ℕ) : Type 0 where
-    before : List (List ℕ)
-    text : List ℕ
-    after : List (List ℕ)
-    split : ls ≡ before ++ (text ∷ after)
-    counts : n + length before ≡ l
-    place : Place
-    known : Network
-    passed : passNetwork d p w before ≡ next place known
-    stops : (askLine d place known text ≡ misspelled) ⊎ ((after ≡ []) × (ended ≡ false))
-
-  found-here : (p : Place) (w : Network) (n : ℕ) (x : List ℕ) (ls : List (List ℕ)) (l : ℕ)
-      → (askLine d p w x ≡ misspelled) ⊎ ((ls ≡ []) × (ended ≡ false))
-      → n ≡ l
-      → Found p w n (x ∷ ls) l
-  unfolding passNetwork
-  found-here p w n x ls l s e =
-      record {
-        before = [];
-        text = x;
-        after = ls;
-        split = refl;
-        counts = omega arith;
-        place = p;
-        known = w;
-        passed = refl;
-        stops = s;
-      }
-
-  found-later : (p p′ : Place) (w w′ : Network) (n : ℕ) (x : List ℕ) (ls : List (List ℕ)) (l : ℕ)
-      → askLine d p w x ≡ next p′ w′
-      → Found p′ w′ (suc n) ls l
-      → Found p w n (x ∷ ls) l
-  unfolding passNetwork
-  found-later p p′ w w′ n x ls l s f =
-      let c = f .counts in
-      record {
-        before = x ∷ f .before;
-        text = f .text;
-        after = f .after;
-        split = ap (λ (ms : List (List ℕ)). x ∷ ms) (f .split);
-        counts = omega arith;
-        place = f .place;
-        known = f .known;
-        passed = ap (λ (t : Step). thenNetwork t (λ a b. passNetwork d a b (f .before))) s ∙ f .passed;
-        stops = f .stops;
-      }
+  -- line l among the lines ls, the first of which has the number n, is misspelled, or the last without 0x0A
+  abbrev NetworkFound : Place → Network → ℕ → List (List ℕ) → ℕ → Type 0
+  NetworkFound p w n ls l =
+      Found (passNetwork d) next (λ p′ w′ x after. (askLine d p′ w′ x ≡ misspelled) ⊎ ((after ≡ []) × (ended ≡ false))) p w n ls l
 
   -- past the last line no line is left
   not-at-end : (p : Place) (w : Network) (n l : ℕ) → atEnd p w n ≡ bad-line l → l < n + 0 → ⊥
@@ -92,45 +49,44 @@ module _ (d : Design) (ended : Bool) where
 
   -- a line, where the lines after it are done
   module _ (p : Place) (w : Network) (n : ℕ) (x : List ℕ) (ls : List (List ℕ)) (l : ℕ)
-      (later : (p′ : Place) (w′ : Network) → askLines d ended p′ w′ (suc n) ls ≡ bad-line l → Found p′ w′ (suc n) ls l) where
+      (later : (p′ : Place) (w′ : Network) → askLines d ended p′ w′ (suc n) ls ≡ bad-line l → NetworkFound p′ w′ (suc n) ls l) where
     by-step : (t : Step)
         → askLine d p w x ≡ t
         → follow t n (λ p′ w′. askLines d ended p′ w′ (suc n) ls) ≡ bad-line l
-        → Found p w n (x ∷ ls) l
-    by-step misspelled s f = found-here p w n x ls l (inl s) (line-is f)
-    by-step (next p′ w′) s f = found-later p p′ w w′ n x ls l s (later p′ w′ f)
+        → NetworkFound p w n (x ∷ ls) l
+    unfolding passNetwork
+    by-step misspelled s f = found-here refl (inl s) (line-is f)
+    by-step (next p′ w′) s f = found-later (λ ms. ap (λ (t : Step). thenNetwork t (λ a b. passNetwork d a b ms)) s) (later p′ w′ f)
 
     by-end : (b : Bool)
         → ended || not (isLast ls) ≡ b
         → follow (pick b (askLine d p w x) misspelled) n (λ p′ w′. askLines d ended p′ w′ (suc n) ls) ≡ bad-line l
-        → Found p w n (x ∷ ls) l
+        → NetworkFound p w n (x ∷ ls) l
+    unfolding passNetwork
     by-end true s f = by-step (askLine d p w x) refl f
-    by-end false s f = found-here p w n x ls l (inr (unended ls s)) (line-is f)
+    by-end false s f = found-here refl (inr (unended ls s)) (line-is f)
 
   find : (ls : List (List ℕ)) (p : Place) (w : Network) (n l : ℕ)
       → askLines d ended p w n ls ≡ bad-line l
       → l < n + length ls
-      → Found p w n ls l
+      → NetworkFound p w n ls l
   unfolding askLines
   find [] p w n l e h = absurd (not-at-end p w n l e h)
   find (x ∷ ls) p w n l e h = by-end p w n x ls l (λ p′ w′ f. find ls p′ w′ (suc n) l f (omega arith)) (ended || not (isLast ls)) refl e
 
 -- ---- a network sheet
 found-stop : (b : Bool) (d : Design) (t : List ℕ) (l : ℕ)
-    → Found d (endsLine t) at-network nothing 1 (lines t) l
+    → NetworkFound d (endsLine t) at-network nothing 1 (lines t) l
     → NetworkStop d t l (partOf b t l)
 found-stop b d t l f =
-    let c = f .counts in
-    let n : length (f .before) + 1 ≡ l = omega arith in
-    let x = text-of t l (f .before) (f .text) (f .after) (f .split) n in
     record {
       before = f .before;
       after = f .after;
-      line = is-line t l (f .before) (f .text) (f .after) (f .split) n b;
+      line = found-line t l f b;
       place = f .place;
       known = f .known;
       passed = f .passed;
-      bad = ⊎-elim (λ s. inl (ap (askLine d (f .place) (f .known)) x ∙ s)) (λ s. inr s) (f .stops);
+      bad = ⊎-elim (λ s. inl (ap (askLine d (f .place) (f .known)) (found-text t l f) ∙ s)) (λ s. inr s) (f .stops);
     }
 
 pub network-stop : (b : Bool) (d : Design) (t : List ℕ) (l : ℕ)

@@ -90,7 +90,7 @@ module _ {most : ℕ} (enough : sheetNumbers ≤ most) where
   pair-number (check.refused-pair q l) b h = h
   pair-number (check.pair d w) b h = put-number (printBlif d w) b
 
-  pub export-of-number : (x : Examined) (t b : List ℕ) → Within most x → ExportNumber most (exportOf x t b .answer)
+  export-of-number : (x : Examined) (t b : List ℕ) → Within most x → ExportNumber most (exportOf x t b .answer)
   unfolding checkOf exportOf
   export-of-number x t b h = pair-number (examinePair x t) b (check-of-number x t h)
 

@@ -2,7 +2,7 @@
 -- Assumes nothing.
 use mathlib.Core.Path.{_≡_, refl, sym, ap, _∙_}
 use mathlib.Core.Bool.{Bool, true, false}
-use mathlib.Core.List.{List, [], _∷_, _++_}
+use mathlib.Core.List.{List, [], _∷_}
 use Prim.Native.Nat.{ℕ, suc, _+_, _≤_, _<_}
 use native.Mathlib.Omega.{arith}
 use lib.ListN.{length}
@@ -12,7 +12,8 @@ use Rattle.sheet.specs.Examine.{Design, refused, Place, at-design, at-in, at-bo
 use Rattle.sheet.specs.Examine.{askLine, atEnd, follow, askLines, sized, examine}
 use Rattle.sheet.specs.AskedLaws.{refused-valid}
 use Rattle.locate.specs.Located.{hasLine, partOf}
-use Rattle.locate.specs.LineLaws.{has-within, text-of, is-line}
+use Rattle.locate.specs.LineLaws.{has-within}
+use Rattle.reports.specs.FoundLaws.{Found, found-here, found-later, found-line, found-text}
 use Rattle.reports.specs.Stopped.{thenSheet, passSheet, SheetStop}
 
 number-is : {q q′ l l′ : ℕ} → refused q l ≡ refused q′ l′ → q ≡ q′
@@ -21,54 +22,9 @@ number-is e = cc
 line-is : {q q′ l l′ : ℕ} → refused q l ≡ refused q′ l′ → l ≡ l′
 line-is e = cc
 
--- ---- among some lines, the first of which has the number n
-record Found (p : Place) (d : Design) (n : ℕ) (ls : List (List ℕ)) (q l : ℕ) : Type 0 where
-  before : List (List ℕ)
-  text : List ℕ
-  after : List (List ℕ)
-  split : ls ≡ before ++ (text ∷ after)
-  counts : n + length before ≡ l
-  place : Place
-  known : Design
-  passed : passSheet p d before ≡ next place known
-  stops : askLine place known text ≡ no-to q
-
-found-here : (p : Place) (d : Design) (n : ℕ) (x : List ℕ) (ls : List (List ℕ)) (q l : ℕ)
-    → askLine p d x ≡ no-to q
-    → n ≡ l
-    → Found p d n (x ∷ ls) q l
-unfolding passSheet
-found-here p d n x ls q l s e =
-    record {
-      before = [];
-      text = x;
-      after = ls;
-      split = refl;
-      counts = omega arith;
-      place = p;
-      known = d;
-      passed = refl;
-      stops = s;
-    }
-
-found-later : (p p′ : Place) (d d′ : Design) (n : ℕ) (x : List ℕ) (ls : List (List ℕ)) (q l : ℕ)
-    → askLine p d x ≡ next p′ d′
-    → Found p′ d′ (suc n) ls q l
-    → Found p d n (x ∷ ls) q l
-unfolding passSheet
-found-later p p′ d d′ n x ls q l s f =
-    let c = f .counts in
-    record {
-      before = x ∷ f .before;
-      text = f .text;
-      after = f .after;
-      split = ap (λ (ms : List (List ℕ)). x ∷ ms) (f .split);
-      counts = omega arith;
-      place = f .place;
-      known = f .known;
-      passed = ap (λ (t : Step). thenSheet t (λ a b. passSheet a b (f .before))) s ∙ f .passed;
-      stops = f .stops;
-    }
+-- line l among the lines ls, the first of which has the number n, is refused by q
+abbrev SheetFound : Place → Design → ℕ → List (List ℕ) → ℕ → ℕ → Type 0
+SheetFound p d n ls q l = Found passSheet next (λ p′ d′ x _. askLine p′ d′ x ≡ no-to q) p d n ls l
 
 -- past the last line no line is left
 not-at-end : (p : Place) (d : Design) (n q l : ℕ) → atEnd p d n ≡ refused q l → l < n + 0 → ⊥
@@ -79,32 +35,30 @@ not-at-end at-limit d n q l e h = omega (arith, line-is e)
 not-at-end at-out d n q l e h = omega (arith, line-is e)
 not-at-end over d n q l e h = refused-valid (sym e)
 
-find : (ls : List (List ℕ)) (p : Place) (d : Design) (n q l : ℕ) → askLines p d n ls ≡ refused q l → l < n + length ls → Found p d n ls q l
-unfolding askLines
+find : (ls : List (List ℕ)) (p : Place) (d : Design) (n q l : ℕ) → askLines p d n ls ≡ refused q l → l < n + length ls → SheetFound p d n ls q l
+unfolding askLines passSheet
 find [] p d n q l e h = absurd (not-at-end p d n q l e h)
 find (x ∷ ls) p d n q l e h = go (askLine p d x) refl (λ p′ d′ f. find ls p′ d′ (suc n) q l f (omega arith)) e
   where
     go : (t : Step)
         → askLine p d x ≡ t
-        → ((p′ : Place) (d′ : Design) → askLines p′ d′ (suc n) ls ≡ refused q l → Found p′ d′ (suc n) ls q l)
+        → ((p′ : Place) (d′ : Design) → askLines p′ d′ (suc n) ls ≡ refused q l → SheetFound p′ d′ (suc n) ls q l)
         → follow t n (λ p′ d′. askLines p′ d′ (suc n) ls) ≡ refused q l
-        → Found p d n (x ∷ ls) q l
-    go (no-to r) s later f = found-here p d n x ls q l (s ∙ ap no-to (number-is f)) (line-is f)
-    go (next p′ d′) s later f = found-later p p′ d d′ n x ls q l s (later p′ d′ f)
+        → SheetFound p d n (x ∷ ls) q l
+    go (no-to r) s later f = found-here refl (s ∙ ap no-to (number-is f)) (line-is f)
+    go (next p′ d′) s later f = found-later (λ ms. ap (λ (t : Step). thenSheet t (λ a b. passSheet a b ms)) s) (later p′ d′ f)
 
 -- ---- a design sheet
-found-stop : (b : Bool) (s : List ℕ) (q l : ℕ) → Found at-design nothing 1 (lines s) q l → SheetStop s q l (partOf b s l)
+found-stop : (b : Bool) (s : List ℕ) (q l : ℕ) → SheetFound at-design nothing 1 (lines s) q l → SheetStop s q l (partOf b s l)
 found-stop b s q l f =
-    let c = f .counts in
-    let n : length (f .before) + 1 ≡ l = omega arith in
     record {
       before = f .before;
       after = f .after;
-      line = is-line s l (f .before) (f .text) (f .after) (f .split) n b;
+      line = found-line s l f b;
       place = f .place;
       known = f .known;
       passed = f .passed;
-      refused = ap (askLine (f .place) (f .known)) (text-of s l (f .before) (f .text) (f .after) (f .split) n) ∙ f .stops;
+      refused = ap (askLine (f .place) (f .known)) (found-text s l f) ∙ f .stops;
     }
 
 pub sheet-stop : (b : Bool) (s : List ℕ) (q l : ℕ) → examine s ≡ refused q l → 2 ≤ q → hasLine s l ≡ true → SheetStop s q l (partOf b s l)

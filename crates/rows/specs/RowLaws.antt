@@ -61,7 +61,7 @@ length-values zero r = refl
 length-values (suc n) r = ap suc (length-values n r)
 
 -- of a number past the last row, the digits above the n lowest are lost
-pub row-values-mod : (n r : ℕ) → rowOf (valuesOf n r) ≡ r % 2 ^ n
+row-values-mod : (n r : ℕ) → rowOf (valuesOf n r) ≡ r % 2 ^ n
 unfolding rowOf valuesOf on digit
 row-values-mod zero r = omega arith
 row-values-mod (suc n) r =

@@ -11,7 +11,7 @@ use Rattle.limits.specs.Limits.{maxRows, tableWords}
 use Rattle.bits.specs.Digit.{on}
 use Rattle.rows.specs.Words.{rowOn, Rowwise, WordOf}
 
-pub row-word : (ws : List ℕ) (w k : ℕ) → k < 64 → rowOn ws (w * 64 + k) ≡ on (getD ws w 0) k
+row-word : (ws : List ℕ) (w k : ℕ) → k < 64 → rowOn ws (w * 64 + k) ≡ on (getD ws w 0) k
 unfolding rowOn
 row-word ws w k h = ap₂ (λ (i j : ℕ). on (getD ws i 0) j) (digits-div w h) (digits-mod w h)
 

@@ -12,9 +12,9 @@ use Rattle.text.specs.EndedLaws.{ended-append-length}
 use Rattle.names.specs.Name.{Name}
 use Rattle.names.specs.Spelled.{sameNames}
 use Rattle.sheet.specs.Lines.{designLine, endLine, printIn, printBound, printLimit, printOut}
-use Rattle.sheet.specs.Examine.{Design, valid, examine}
+use Rattle.sheet.specs.Examine.{Design, valid, examine, withBound}
 use Rattle.sheet.specs.Printer.{designLines, printDesign}
-use Rattle.sheet.specs.Written.{writtenAs, Writes}
+use Rattle.sheet.specs.Written.{Writes}
 use Rattle.sheet.specs.DesignReadLaws.{design-print-of-read}
 use Rattle.sheet.specs.DesignPrintLaws.{print-lines, design-read-of-print}
 use Rattle.subsets.specs.Subset.{selected, SomeOf}
@@ -70,17 +70,17 @@ part-print-most s d =
 
 -- ---- the sheet
 module _ (t : List ℕ) (d : Design) (s : ℕ) (w : Writes t d) where
-  pub only-outs-printed : onlyOuts s (length (d .outputs)) t ≡ printDesign (writtenAs (part s d) (w .written))
+  pub only-outs-printed : onlyOuts s (length (d .outputs)) t ≡ printDesign (withBound (part s d) (w .written))
   unfolding onlyOuts printDesign part
   only-outs-printed =
       ap (λ (ls : List (List ℕ)). endedLines (kept s (length (d .outputs)) ls))
       (ap lines (w .is-print) ∙ print-lines d (w .written) (w .well-formed) (w .same-bound))
-      ∙ ap endedLines (part-lines s (writtenAs d (w .written)))
+      ∙ ap endedLines (part-lines s (withBound d (w .written)))
 
   only-outs-fits : length (onlyOuts s (length (d .outputs)) t) ≤ maxSheet
   unfolding part
   only-outs-fits =
-      let all = writtenAs d (w .written) in
+      let all = withBound d (w .written) in
       let whole : length (printDesign all) ≤ maxSheet = subst (λ (u : List ℕ). length u ≤ maxSheet) (w .is-print) (w .fits) in
       let most : length (printDesign (part s all)) ≤ length (printDesign all) = part-print-most s all in
       subst (λ (u : List ℕ). length u ≤ maxSheet) (sym only-outs-printed) (omega arith)

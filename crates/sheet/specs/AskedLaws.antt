@@ -3,10 +3,13 @@
 use mathlib.Core.Path.{_≡_, refl, ap, _∙_}
 use mathlib.Core.Bool.{Bool, true, false}
 use mathlib.Core.List.{List, [], _∷_}
-use Prim.Native.Nat.{ℕ, suc}
+use Prim.Native.Nat.{ℕ, suc, _≤_}
 use native.Mathlib.Omega.{arith}
+use lib.Dec.{leb}
+use borrow.Author.Tests.{leb-true}
 use Rattle.bits.specs.Logic.{pick}
-use Rattle.sheet.specs.Examine.{Design, Examined, refused, valid, Place, Step, no-to, next, ask, askLine, askLines, follow}
+use Rattle.bits.specs.LogicLaws.{and-left, and-right}
+use Rattle.sheet.specs.Examine.{Design, Examined, refused, valid, Place, Step, no-to, next, ask, within, askLine, askLines, follow}
 
 abbrev pub AllYes : List (ℕ × Bool) → Type 0
 AllYes [] = Unit {0}
@@ -43,3 +46,10 @@ asked (q ∷ qs) t n k d h = go (q .1) (asked qs t n k d) h
         → follow t n k ≡ valid d
     go true f h = f h
     go false f h = absurd (refused-valid h)
+
+-- ---- whether a count is within its bounds
+pub within-low : (low high n : ℕ) → within low high n ≡ true → low ≤ n
+within-low low high n e = leb-true low n (and-left (leb low n) (leb n high) e)
+
+pub within-high : (low high n : ℕ) → within low high n ≡ true → n ≤ high
+within-high low high n e = leb-true n high (and-right (leb low n) (leb n high) e)

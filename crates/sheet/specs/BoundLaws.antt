@@ -14,7 +14,7 @@ use Rattle.names.specs.Spelled.{spelledBy}
 use Rattle.names.specs.Pack.{nameOf}
 use Rattle.cursor.specs.declared.NameList.{NameList}
 use Rattle.sheet.specs.Lines.{readBound}
-use Rattle.sheet.specs.Examine.{Design, Step, no-to, next, at-limit, ask, askBound}
+use Rattle.sheet.specs.Examine.{Design, Step, no-to, next, at-limit, ask, askBound, withBound}
 use Rattle.sheet.specs.Known.{Holds, Refused, StepIs, LineIs, PlacesAre}
 use Rattle.sheet.specs.Value.{outputOn}
 use Rattle.sheet.specs.LineLaws.{namesAfter}
@@ -27,12 +27,12 @@ use Rattle.sheet.specs.declared.Sheet.{Sheet}
 use Rattle.sheet.specs.declared.Asked.{Asked}
 
 -- the design with the bound inputs ns, spelled as its inputs are
-abbrev pub withBound : Design → List Name → Design
-withBound d ns = record { inputs = d .inputs; bound = map (spelledBy (d .inputs)) ns; limit = d .limit; outputs = d .outputs }
+abbrev pub withSpelled : Design → List Name → Design
+withSpelled d ns = withBound d (map (spelledBy (d .inputs)) ns)
 
 -- question 5 and what follows
 abbrev pub afterFour : Design → List Name → Step
-afterFour d ns = ask ((5, allAmong ns (d .inputs)) ∷ []) (next at-limit (withBound d ns))
+afterFour d ns = ask ((5, allAmong ns (d .inputs)) ∷ []) (next at-limit (withSpelled d ns))
 
 pub bound-asks : (d : Design) → AsksList maxBound (afterFour d) (askBound d)
 unfolding askBound
@@ -64,13 +64,13 @@ module _ {d : Design} {k : Sheet} (h : Holds d k) (n : ℕ) (vs : List ℕ) (p :
       subst (λ (ms : List Name). PlacesAre ms (d .inputs) p) named
       (subst (λ (is : List Name). PlacesAre (map nameOf (take n vs)) is p) (h .inputs-named) a)
 
-  five : (t : Bool) → p .ok ≡ t → afterFour d ns ≡ pick t (next at-limit (withBound d ns)) (no-to 5)
-  five t e = ap (λ (b : Bool). pick b (next at-limit (withBound d ns)) (no-to 5)) (sym (places .all) ∙ e)
+  five : (t : Bool) → p .ok ≡ t → afterFour d ns ≡ pick t (next at-limit (withSpelled d ns)) (no-to 5)
+  five t e = ap (λ (b : Bool). pick b (next at-limit (withSpelled d ns)) (no-to 5)) (sym (places .all) ∙ e)
 
   pub bound-unknown : (r : Asked) → p .ok ≡ false → Refused 5 r → StepIs (afterFour d ns) r
   bound-unknown r e f = subst (λ (s : Step). StepIs s r) (sym (five false e)) f
 
-  holds-bound : n ≤ maxBound → p .ok ≡ true → Holds (withBound d ns) (boundInto k n (p .list))
+  holds-bound : n ≤ maxBound → p .ok ≡ true → Holds (withSpelled d ns) (boundInto k n (p .list))
   unfolding outputOn
   holds-bound few e =
       record {

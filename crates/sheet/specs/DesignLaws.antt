@@ -10,10 +10,10 @@ use Rattle.limits.specs.Limits.{maxSheet}
 use Rattle.names.specs.Name.{Name}
 use Rattle.names.specs.Spelled.{sameNames}
 use Rattle.names.specs.SameNamesLaws.{same-names-self, same-names-back, same-names-through}
-use Rattle.sheet.specs.Examine.{Design, valid, examine}
+use Rattle.sheet.specs.Examine.{Design, valid, examine, withBound}
 use Rattle.sheet.specs.WellFormed.{WellFormed}
 use Rattle.sheet.specs.Printer.{printDesign}
-use Rattle.sheet.specs.Written.{writtenAs, Writes}
+use Rattle.sheet.specs.Written.{Writes}
 use Rattle.sheet.specs.AskedLaws.{valid-is}
 use Rattle.sheet.specs.DesignReadLaws.{design-print-of-read}
 use Rattle.sheet.specs.DesignPrintLaws.{design-read-of-print}
@@ -32,8 +32,8 @@ pub record SpelledApart (s t : List ℕ) (d : Design) : Type 0 where
   pub first : List Name
   pub second : List Name
   pub same-bound : sameNames first second ≡ true
-  pub first-print : s ≡ printDesign (writtenAs d first)
-  pub second-print : t ≡ printDesign (writtenAs d second)
+  pub first-print : s ≡ printDesign (withBound d first)
+  pub second-print : t ≡ printDesign (withBound d second)
 
 -- two sheets that say the same differ in that alone, and two designs that are written alike are alike
 pub one-sheet : (s t : List ℕ) (d : Design) → examine s ≡ valid d → examine t ≡ valid d → SpelledApart s t d

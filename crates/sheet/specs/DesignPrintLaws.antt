@@ -25,11 +25,11 @@ use Rattle.names.specs.AllNamesLaws.{all-named}
 use Rattle.formula.specs.Tree.{constant, depth, knows}
 use Rattle.sheet.specs.Lines.{Output, designLine, endLine, printIn, printBound, printLimit, printOut, readOut}
 use Rattle.sheet.specs.LineInverse.{in-inverse, bound-inverse, limit-inverse, out-inverse}
-use Rattle.sheet.specs.Examine.{Design, refused, valid, at-design, at-in, at-bound, at-limit, at-out, over, no-to, next}
+use Rattle.sheet.specs.Examine.{Design, refused, valid, at-design, at-in, at-bound, at-limit, at-out, over, no-to, next, withInputs, withBound, withLimit, withOutputs}
 use Rattle.sheet.specs.Examine.{within, askIn, askBound, askLimit, askOut, askEnd, askLine, askLines, outputNames, newName, withOutput, plainLines, sized, nothing, examine}
 use Rattle.sheet.specs.WellFormed.{RightInputs, RightBound, RightOutput, RightOutputs, WellFormed, outputAt}
 use Rattle.sheet.specs.Printer.{designLines, printDesign}
-use Rattle.sheet.specs.Written.{writtenAs, Writes}
+use Rattle.sheet.specs.Written.{Writes}
 use Rattle.sheet.specs.Visible.{visible, allVisible}
 use Rattle.sheet.specs.VisibleLaws.{in-visible, bound-visible, limit-visible, out-visible}
 use Rattle.sheet.specs.PlainLaws.{all-visible-unbroken, ended-plain}
@@ -44,12 +44,6 @@ not-yes true h = sym h
 not-yes false h = refl
 
 -- ---- the lines before the `out` lines
-abbrev withInputs : Design → List Name → Design
-withInputs e ns = record { inputs = ns; bound = e .bound; limit = e .limit; outputs = e .outputs }
-
-abbrev withLimit : Design → ℕ → Design
-withLimit e m = record { inputs = e .inputs; bound = e .bound; limit = m; outputs = e .outputs }
-
 in-read : (e : Design) (ns : List Name) → RightInputs ns → askLine at-in e (printIn ns) ≡ next at-bound (withInputs e ns)
 unfolding askLine askIn
 in-read e ns r =
@@ -70,15 +64,15 @@ module _ (e : Design) (ms ks : List Name) (i : RightInputs (e .inputs)) (r : Rig
       let as-many = same-names-length ms ks s in
       within-yes 1 maxBound (length ks) (omega (arith, as-many, r .filled)) (omega (arith, as-many, r .few))
 
-  bound-read : askLine at-bound e (printBound ks) ≡ next at-limit (writtenAs e ms)
+  bound-read : askLine at-bound e (printBound ks) ≡ next at-limit (withBound e ms)
   unfolding askLine askBound
   bound-read =
       let ns = e .inputs in
       ap (askBound e) (bound-inverse .read-of-print (printBound ks) ks bound-named refl)
       ∙ all-yes ((3, within 1 maxBound (length ks)) ∷ (4, distinct ks) ∷ (5, allAmong ks ns) ∷ [])
-      (next at-limit (writtenAs e (map (spelledBy ns) ks)))
+      (next at-limit (withBound e (map (spelledBy ns) ks)))
       (bound-within, (sym (respelled-distinct ms ks s) ∙ r .once, (sym (respelled-among ms ks ns s) ∙ bound-known, tt)))
-      ∙ ap (λ (xs : List Name). next at-limit (writtenAs e xs)) (spelled-all-of-same ns ms ks (i .once) (r .known) s)
+      ∙ ap (λ (xs : List Name). next at-limit (withBound e xs)) (spelled-all-of-same ns ms ks (i .once) (r .known) s)
 
 limit-read : (e : Design) (m : ℕ) → m ≤ maxLimit → askLine at-limit e (printLimit m) ≡ next at-out (withLimit e m)
 unfolding askLine askLimit
@@ -133,9 +127,6 @@ end-read e n h =
     (ap (λ (b : Bool). pick b (askEnd e) (askOut e (readOut endLine))) (same-self endLine)
     ∙ all-yes ((3, leb 1 (length (e .outputs))) ∷ []) (next over e) (le-leb 1 (length (e .outputs)) h, tt))
 
-abbrev withOutputs : Design → List Output → Design
-withOutputs e os = record { inputs = e .inputs; bound = e .bound; limit = e .limit; outputs = os }
-
 outs-read : (os : List Output) (e : Design) (n : ℕ)
     → RightOutputs (e .inputs) (e .outputs ++ os)
     → 1 ≤ length (e .outputs ++ os)
@@ -154,11 +145,11 @@ outs-read (o ∷ os) e n r h =
 lines-read : (d : Design) (ks : List Name)
     → WellFormed d
     → sameNames (d .bound) ks ≡ true
-    → askLines at-design nothing 1 (designLines (writtenAs d ks)) ≡ valid d
+    → askLines at-design nothing 1 (designLines (withBound d ks)) ≡ valid d
 unfolding askLine designLines
 lines-read d ks w s =
     let ins = withInputs nothing (d .inputs) in
-    let bounds = writtenAs ins (d .bound) in
+    let bounds = withBound ins (d .bound) in
     let limits = withLimit bounds (d .limit) in
     let outs = map printOut (d .outputs) ++ (endLine ∷ []) in
     line-next at-design at-in nothing nothing 1 designLine (printIn (d .inputs) ∷ printBound ks ∷ printLimit (d .limit) ∷ outs)
@@ -183,7 +174,7 @@ outs-visible ns (o ∷ os) h =
     (outs-visible ns os (λ i l. h (suc i) (omega arith)))
 
 module _ (d : Design) (ks : List Name) (w : WellFormed d) (e : sameNames (d .bound) ks ≡ true) where
-  lines-visible : allVisible (designLines (writtenAs d ks)) ≡ true
+  lines-visible : allVisible (designLines (withBound d ks)) ≡ true
   unfolding allVisible designLines visible
   lines-visible =
       let outs = map printOut (d .outputs) ++ (endLine ∷ []) in
@@ -195,23 +186,23 @@ module _ (d : Design) (ks : List Name) (w : WellFormed d) (e : sameNames (d .bou
       (limit-visible (d .limit))
       (outs-visible (d .inputs) (d .outputs) (w .outputs-right .each))))
 
-  pub print-lines : lines (printDesign (writtenAs d ks)) ≡ designLines (writtenAs d ks)
+  pub print-lines : lines (printDesign (withBound d ks)) ≡ designLines (withBound d ks)
   unfolding printDesign
-  print-lines = lines-of-ended (designLines (writtenAs d ks)) (all-visible-unbroken (designLines (writtenAs d ks)) lines-visible)
+  print-lines = lines-of-ended (designLines (withBound d ks)) (all-visible-unbroken (designLines (withBound d ks)) lines-visible)
 
-  module _ (h : length (printDesign (writtenAs d ks)) ≤ maxSheet) where
-    print-sized : sized (printDesign (writtenAs d ks)) ≡ true
+  module _ (h : length (printDesign (withBound d ks)) ≤ maxSheet) where
+    print-sized : sized (printDesign (withBound d ks)) ≡ true
     unfolding sized printDesign designLines
     print-sized =
-        let s = printDesign (writtenAs d ks) in
+        let s = printDesign (withBound d ks) in
         and-both (within 1 maxSheet (length s)) (plainLines s)
         (within-yes 1 maxSheet (length s) (ended-some designLine _) h)
         (ended-plain designLine _ lines-visible)
 
-    print-valid : examine (printDesign (writtenAs d ks)) ≡ valid d
+    print-valid : examine (printDesign (withBound d ks)) ≡ valid d
     unfolding examine
     print-valid =
-        let s = printDesign (writtenAs d ks) in
+        let s = printDesign (withBound d ks) in
         ap (λ (b : Bool). pick b (askLines at-design nothing 1 (lines s)) (refused 1 0)) print-sized
         ∙ ap (askLines at-design nothing 1) print-lines
         ∙ lines-read d ks w e

@@ -6,7 +6,6 @@ use mathlib.Core.Option.{Option, some, none}
 use Prim.Native.Nat.{ℕ, suc}
 use lib.Dec.{leb, ltb}
 use lib.ListN.{length}
-use borrow.Author.Tests.{leb-true}
 use Rattle.bits.specs.Logic.{pick}
 use Rattle.bits.specs.LogicLaws.{and-left, and-right}
 use Rattle.limits.specs.Limits.{maxInputs, maxBound, maxLimit, maxOutputs, maxDepth, maxSheet}
@@ -23,11 +22,12 @@ use Rattle.sheet.specs.Lines.{Output, designLine, endLine, printIn, prin
 use Rattle.sheet.specs.LineInverse.{in-inverse, bound-inverse, limit-inverse, out-inverse}
 use Rattle.sheet.specs.Examine.{Design, Examined, refused, valid, Place, at-design, at-in, at-bound, at-limit, at-out, over, no-to, next}
 use Rattle.sheet.specs.Examine.{within, askIn, askBound, askLimit, askOut, askEnd, askLine, askLines, newName, withOutput, follow, plainLines, sized, nothing, examine}
+use Rattle.sheet.specs.Examine.{withInputs, withBound, withLimit, withOutputs}
 use Rattle.sheet.specs.Printer.{designLines, printDesign}
-use Rattle.sheet.specs.Written.{writtenAs, Writes}
+use Rattle.sheet.specs.Written.{Writes}
 use Rattle.sheet.specs.ExaminationLaws.{valid-well-formed}
 use Rattle.sheet.specs.PlainLaws.{plain-ends}
-use Rattle.sheet.specs.AskedLaws.{refused-valid, valid-is, asked}
+use Rattle.sheet.specs.AskedLaws.{refused-valid, valid-is, asked, within-high}
 
 -- the lines from a place on, of the design d
 abbrev outLines : List Output → List (List ℕ)
@@ -56,14 +56,11 @@ over-said e d n [] h = (refl, valid-is h)
 over-said e d n (l ∷ ls) h = absurd (refused-valid h)
 
 -- ---- `out` lines, and `(end)`
-abbrev withOutputs : Design → List Output → Design
-withOutputs e os = record { inputs = e .inputs; bound = e .bound; limit = e .limit; outputs = e .outputs ++ os }
-
 -- what the lines say, where e is said before
 record OutsSaid (e : Design) (ls : List (List ℕ)) (d : Design) : Type 0 where
   pub os : List Output
   pub lines-are : ls ≡ outLines os
-  pub said : withOutputs e os ≡ d
+  pub said : withOutputs e (e .outputs ++ os) ≡ d
 
 end-said : (e d : Design) (n : ℕ) (l : List ℕ) (ls : List (List ℕ))
     → l ≡ endLine
@@ -75,7 +72,7 @@ end-said e d n l ls q h =
     record {
       os = [];
       lines-are = ap₂ firstThen q i;
-      said = ap (λ (os : List Output). record { inputs = e .inputs; bound = e .bound; limit = e .limit; outputs = os }) (append-nil (e .outputs)) ∙ j;
+      said = ap (withOutputs e) (append-nil (e .outputs)) ∙ j;
     }
 
 one-out-said : (e d : Design) (l : List ℕ) (ls : List (List ℕ)) (o : Output)
@@ -87,9 +84,7 @@ one-out-said e d l ls o r s =
       os = o ∷ s .os;
       lines-are = ap₂ firstThen (out-inverse .print-of-read l o r .1) (s .lines-are);
       said =
-          ap (λ (os : List Output). record { inputs = e .inputs; bound = e .bound; limit = e .limit; outputs = os })
-          (sym (append-assoc (e .outputs) (o ∷ []) (s .os)))
-          ∙ s .said;
+          ap (withOutputs e) (sym (append-assoc (e .outputs) (o ∷ []) (s .os))) ∙ s .said;
     }
 
 out-by : (x : Option Output) (e d : Design) (n : ℕ) (l : List ℕ) (ls : List (List ℕ))
@@ -132,7 +127,7 @@ record LimitSaid (e : Design) (ls : List (List ℕ)) (d : Design) : Type 0 where
 record LinesSaid (linesOf : Design → List (List ℕ)) (ls : List (List ℕ)) (d : Design) : Type 0 where
   pub written : List Name
   pub same-bound : sameNames (d .bound) written ≡ true
-  pub lines-are : ls ≡ linesOf (writtenAs d written)
+  pub lines-are : ls ≡ linesOf (withBound d written)
 
 record BoundSaid (e : Design) (ls : List (List ℕ)) (d : Design) : Type 0 where
   pub said : LinesSaid boundLines ls d
@@ -143,7 +138,7 @@ module _ (e d : Design) (n : ℕ) (l : List ℕ) (ls : List (List ℕ)) (first :
   unfolding askLimit
   limit-by none r h = absurd (refused-valid h)
   limit-by (some m) r h =
-      let e′ : Design = record { inputs = e .inputs; bound = e .bound; limit = m; outputs = e .outputs } in
+      let e′ = withLimit e m in
       let s = outs-said ls e′ d (suc n) (asked ((3, leb m maxLimit) ∷ []) (next at-out e′) n (later n ls) d h) in
       let os : s .os ≡ d .outputs
       = ap (λ (xs : List Output). xs ++ s .os) (sym first) ∙ ap (λ (x : Design). x .outputs) (s .said) in
@@ -169,7 +164,7 @@ module _ (e d : Design) (n : ℕ) (l : List ℕ) (ls : List (List ℕ)) (first :
   unfolding askBound
   bound-by none r h = absurd (refused-valid h)
   bound-by (some ms) r h =
-      let e′ : Design = writtenAs e (map (spelledBy (e .inputs)) ms) in
+      let e′ = withBound e (map (spelledBy (e .inputs)) ms) in
       let qs : List (ℕ × Bool)
       = (3, within 1 maxBound (length ms)) ∷ (4, distinct ms) ∷ (5, allAmong ms (e .inputs)) ∷ [] in
       let s = limit-said ls e′ d (suc n) first (asked qs (next at-limit e′) n (later n ls) d h) in
@@ -197,7 +192,7 @@ module _ (e d : Design) (n : ℕ) (l : List ℕ) (ls : List (List ℕ)) (first :
   unfolding askIn
   in-by none r h = absurd (refused-valid h)
   in-by (some ns) r h =
-      let e′ : Design = record { inputs = ns; bound = e .bound; limit = e .limit; outputs = e .outputs } in
+      let e′ = withInputs e ns in
       let qs : List (ℕ × Bool) = (3, within 1 maxInputs (length ns)) ∷ (4, distinct ns) ∷ [] in
       let s = bound-said ls e′ d (suc n) first (asked qs (next at-bound e′) n (later n ls) d h) in
       record {
@@ -242,7 +237,6 @@ unfolding examine sized printDesign
 design-print-of-read s d h =
     let counted = within 1 maxSheet (length s) in
     let (i, f) = sized-said (sized s) (askLines at-design nothing 1 (lines s)) d h in
-    let fits = and-right (leb 1 (length s)) (leb (length s) maxSheet) (and-left counted (plainLines s) i) in
     let ends = plain-ends s (and-right counted (plainLines s) i) in
     let said = lines-said (lines s) d f in
     record {
@@ -250,5 +244,5 @@ design-print-of-read s d h =
       written = said .written;
       same-bound = said .same-bound;
       is-print = ended-of-lines s ends ∙ ap endedLines (said .lines-are);
-      fits = leb-true (length s) maxSheet fits;
+      fits = within-high 1 maxSheet (length s) (and-left counted (plainLines s) i);
     }

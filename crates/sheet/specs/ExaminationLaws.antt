@@ -9,7 +9,8 @@ use native.Mathlib.Omega.{arith}
 use lib.ListN.{length}
 use Rattle.bits.specs.Logic.{pick}
 use Rattle.text.specs.Line.{lines}
-use Rattle.sheet.specs.Examine.{Design, Examined, refused, valid, Place, at-design, at-in, at-bound, at-limit, at-out, over, Step, no-to, next, askLine, askLines, atEnd, follow, sized, nothing, examine}
+use Rattle.sheet.specs.Examine.{Design, Examined, refused, valid, Step, no-to, next, askLine, askLines, atEnd, follow, sized, nothing, examine}
+use Rattle.sheet.specs.Examine.{Place, at-design, at-in, at-bound, at-limit, at-out, over}
 use Rattle.sheet.specs.WellFormed.{LineQuestion, StepRight, ExaminedRight, WellFormed, Reached, RightRefusal}
 use Rattle.sheet.specs.LineRightLaws.{line-right}
 

@@ -23,6 +23,19 @@ pub record Design : Type 0 where
   pub limit : ℕ
   pub outputs : List Output
 
+-- the design with another part
+abbrev pub withInputs : Design → List Name → Design
+withInputs d ns = record { inputs = ns; bound = d .bound; limit = d .limit; outputs = d .outputs }
+
+abbrev pub withBound : Design → List Name → Design
+withBound d ns = record { inputs = d .inputs; bound = ns; limit = d .limit; outputs = d .outputs }
+
+abbrev pub withLimit : Design → ℕ → Design
+withLimit d n = record { inputs = d .inputs; bound = d .bound; limit = n; outputs = d .outputs }
+
+abbrev pub withOutputs : Design → List Output → Design
+withOutputs d os = record { inputs = d .inputs; bound = d .bound; limit = d .limit; outputs = os }
+
 pub data Examined : Type 0 where
   refused : ℕ → ℕ → Examined
   valid : Design → Examined
@@ -48,20 +61,17 @@ within low high n = leb low n && leb n high
 unfoldable pub askIn : Design → Option (List Name) → Step
 askIn d none = no-to 2
 askIn d (some ns) =
-    ask ((3, within 1 maxInputs (length ns)) ∷ (4, distinct ns) ∷ [])
-    (next at-bound (record { inputs = ns; bound = d .bound; limit = d .limit; outputs = d .outputs }))
+    ask ((3, within 1 maxInputs (length ns)) ∷ (4, distinct ns) ∷ []) (next at-bound (withInputs d ns))
 
 unfoldable pub askBound : Design → Option (List Name) → Step
 askBound d none = no-to 2
 askBound d (some ns) =
     ask ((3, within 1 maxBound (length ns)) ∷ (4, distinct ns) ∷ (5, allAmong ns (d .inputs)) ∷ [])
-    (next at-limit (record { inputs = d .inputs; bound = map (spelledBy (d .inputs)) ns; limit = d .limit; outputs = d .outputs }))
+    (next at-limit (withBound d (map (spelledBy (d .inputs)) ns)))
 
 unfoldable pub askLimit : Design → Option ℕ → Step
 askLimit d none = no-to 2
-askLimit d (some n) =
-    ask ((3, leb n maxLimit) ∷ [])
-    (next at-out (record { inputs = d .inputs; bound = d .bound; limit = n; outputs = d .outputs }))
+askLimit d (some n) = ask ((3, leb n maxLimit) ∷ []) (next at-out (withLimit d n))
 
 abbrev pub outputNames : List Output → List Name
 outputNames os = map (λ (o : Output). o .name) os
@@ -71,7 +81,7 @@ abbrev pub newName : Design → Name → Bool
 newName d n = not (among n (d .inputs)) && not (among n (outputNames (d .outputs)))
 
 abbrev pub withOutput : Design → Output → Design
-withOutput d o = record { inputs = d .inputs; bound = d .bound; limit = d .limit; outputs = d .outputs ++ (o ∷ []) }
+withOutput d o = withOutputs d (d .outputs ++ (o ∷ []))
 
 unfoldable pub askOut : Design → Option Output → Step
 askOut d none = no-to 2

@@ -16,7 +16,7 @@ use Rattle.sheet.specs.Examine.{Design, Place, at-design, at-in, at-boun
 use Rattle.sheet.specs.Known.{Fits, StepFits}
 use Rattle.sheet.specs.ListLaws.{AsksList}
 use Rattle.sheet.specs.InLaws.{in-asks}
-use Rattle.sheet.specs.BoundLaws.{withBound, bound-asks}
+use Rattle.sheet.specs.BoundLaws.{withSpelled, bound-asks}
 
 pick-fits : (t : Bool) (a b : Step) → StepFits a → StepFits b → StepFits (pick t a b)
 pick-fits true a b f g = f
@@ -57,7 +57,7 @@ unfolding askLine
 line-fits at-design d l f = pick-fits (same l designLine) (next at-in d) (no-to 2) f tt
 line-fits at-in d l f = list-fits (in-asks d) (λ ns. tt) (readIn l)
 line-fits at-bound d l f =
-    list-fits (bound-asks d) (λ ns. ask-fits ((5, allAmong ns (d .inputs)) ∷ []) (next at-limit (withBound d ns)) tt) (readBound l)
+    list-fits (bound-asks d) (λ ns. ask-fits ((5, allAmong ns (d .inputs)) ∷ []) (next at-limit (withSpelled d ns)) tt) (readBound l)
 line-fits at-limit d l f = limit-fits d (readLimit l)
 line-fits at-out d l f = pick-fits (same l endLine) (askEnd d) (askOut d (readOut l)) (end-fits d) (out-fits d (readOut l))
 line-fits over d l f = tt

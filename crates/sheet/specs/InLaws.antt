@@ -10,7 +10,7 @@ use Rattle.names.specs.Name.{Name}
 use Rattle.names.specs.Pack.{nameOf}
 use Rattle.cursor.specs.declared.NameList.{NameList}
 use Rattle.sheet.specs.Lines.{readIn}
-use Rattle.sheet.specs.Examine.{Design, next, at-bound, askIn}
+use Rattle.sheet.specs.Examine.{Design, next, at-bound, askIn, withInputs}
 use Rattle.sheet.specs.Known.{position, Holds, Fresh, Onward, LineIs}
 use Rattle.sheet.specs.LineLaws.{namesAfter}
 use Rattle.sheet.specs.ListLaws.{AsksList}
@@ -18,10 +18,6 @@ use Rattle.sheet.specs.OnwardLaws.{Passed, passed-onward}
 use Rattle.sheet.specs.declared.Place.{Place}
 use Rattle.sheet.specs.declared.Sheet.{Sheet}
 use Rattle.sheet.specs.declared.Asked.{Asked}
-
--- the design with the inputs ns
-abbrev pub withInputs : Design → List Name → Design
-withInputs d ns = record { inputs = ns; bound = d .bound; limit = d .limit; outputs = d .outputs }
 
 pub in-asks : (d : Design) → AsksList maxInputs (λ (ns : List Name). next at-bound (withInputs d ns)) (askIn d)
 unfolding askIn

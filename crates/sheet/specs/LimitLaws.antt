@@ -13,7 +13,7 @@ use Rattle.text.specs.Number.{readNumberOf, readNumber}
 use Rattle.cursor.specs.Item.{At, from}
 use Rattle.cursor.specs.declared.Cursor.{Cursor}
 use Rattle.sheet.specs.Lines.{readLimit}
-use Rattle.sheet.specs.Examine.{Design, askLimit}
+use Rattle.sheet.specs.Examine.{Design, askLimit, withLimit}
 use Rattle.sheet.specs.Known.{Holds, Refused, StepIs, LimitIs, closesAt}
 use Rattle.sheet.specs.Value.{outputOn}
 use Rattle.sheet.specs.OnwardLaws.{Passed, passed-onward}
@@ -46,10 +46,6 @@ module _ (l : List ℕ) where
     limit-unclosed t = rw (limit-number, t) refl
 
 -- ---- question 3
--- the design with the limit n
-abbrev pub withLimit : Design → ℕ → Design
-withLimit d n = record { inputs = d .inputs; bound = d .bound; limit = n; outputs = d .outputs }
-
 -- the sheet with the limit n
 abbrev pub limitInto : Sheet → ℕ → Sheet
 limitInto k n =

@@ -21,7 +21,7 @@ use Rattle.names.specs.NamesLaws.{names-read-of-print, names-print-of-read}
 use Rattle.formula.specs.Tree.{Formula}
 use Rattle.formula.specs.Printer.{print}
 use Rattle.formula.specs.Reader.{readFormula}
-use Rattle.formula.specs.Inverse.{formula-stops-read, formula-front-found}
+use Rattle.formula.specs.InverseLaws.{formula-stops-read, formula-front-found}
 use Rattle.sheet.specs.Lines.{Output, designLine, endLine, printIn, printBound, printLimit, printOut, readIn, readBound, readLimit, readOut, readOutput}
 use Rattle.sheet.specs.Kinds.{Kind, design-line, in-line, bound-line, limit-line, out-line, end-line, Said, OutputWritable, Writable, printLine, readFixed, readLine}
 use Rattle.sheet.specs.Spelling.{Inverse}

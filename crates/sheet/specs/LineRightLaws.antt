@@ -4,7 +4,7 @@ use mathlib.Core.Path.{_≡_, refl}
 use mathlib.Core.Bool.{Bool, true, false, not, _&&_}
 use mathlib.Core.List.{List, [], _∷_, map}
 use mathlib.Core.Option.{Option, some, none}
-use Prim.Native.Nat.{ℕ, _≤_}
+use Prim.Native.Nat.{ℕ}
 use native.Mathlib.Omega.{arith}
 use lib.Dec.{leb, ltb}
 use lib.ListN.{length, length-map}
@@ -19,10 +19,10 @@ use Rattle.names.specs.SpelledLaws.{spelled-all-stand, spelled-distinct}
 use Rattle.formula.specs.Tree.{depth, knows}
 use Rattle.sheet.specs.Lines.{Output, designLine, endLine, readIn, readBound, readLimit, readOut}
 use Rattle.sheet.specs.LineInverse.{in-inverse, out-inverse}
-use Rattle.sheet.specs.Examine.{Design, Place, at-design, at-in, at-bound, at-limit, at-out, over, Step, no-to, next}
+use Rattle.sheet.specs.Examine.{Design, Place, at-design, at-in, at-bound, at-limit, at-out, over, Step, no-to, next, withInputs, withBound, withLimit}
 use Rattle.sheet.specs.Examine.{ask, within, askIn, askBound, askLimit, askOut, askEnd, askLine, outputNames, newName, withOutput}
 use Rattle.sheet.specs.WellFormed.{LineQuestion, StepRight, RightBound, RightOutputs, HasInputs, HasBound, HasLimit, Reached}
-use Rattle.sheet.specs.AskedLaws.{AllYes}
+use Rattle.sheet.specs.AskedLaws.{AllYes, within-low, within-high}
 use Rattle.sheet.specs.FurtherOutputLaws.{outputs-more}
 
 -- ---- questions in turn
@@ -43,18 +43,12 @@ pick-right true t u h k = h
 pick-right false t u h k = k
 
 -- ---- each line
-within-low : (a b n : ℕ) → within a b n ≡ true → a ≤ n
-within-low a b n e = leb-true a n (and-left (leb a n) (leb n b) e)
-
-within-high : (a b n : ℕ) → within a b n ≡ true → n ≤ b
-within-high a b n e = leb-true n b (and-right (leb a n) (leb n b) e)
-
 in-right : (d : Design) (l : List ℕ) (x : Option (List Name)) → readIn l ≡ x → d .outputs ≡ [] → StepRight (askIn d x)
 unfolding askIn
 in-right d l none e r = record { low = omega arith; high = omega arith }
 in-right d l (some ns) e r =
     ask-right ((3, within 1 maxInputs (length ns)) ∷ (4, distinct ns) ∷ [])
-    (next at-bound (record { inputs = ns; bound = d .bound; limit = d .limit; outputs = d .outputs }))
+    (next at-bound (withInputs d ns))
     (omega arith)
     (λ y.
     record {
@@ -87,7 +81,7 @@ unfolding askBound
 bound-right d none r = record { low = omega arith; high = omega arith }
 bound-right d (some ns) r =
     ask-right ((3, within 1 maxBound (length ns)) ∷ (4, distinct ns) ∷ (5, allAmong ns (d .inputs)) ∷ [])
-    (next at-limit (record { inputs = d .inputs; bound = map (spelledBy (d .inputs)) ns; limit = d .limit; outputs = d .outputs }))
+    (next at-limit (withBound d (map (spelledBy (d .inputs)) ns)))
     (omega arith)
     (λ y.
     record {
@@ -105,7 +99,7 @@ unfolding askLimit
 limit-right d none r = record { low = omega arith; high = omega arith }
 limit-right d (some n) r =
     ask-right ((3, leb n maxLimit) ∷ [])
-    (next at-out (record { inputs = d .inputs; bound = d .bound; limit = n; outputs = d .outputs }))
+    (next at-out (withLimit d n))
     (omega arith)
     (λ y.
     record {

@@ -6,20 +6,15 @@ use mathlib.Core.List.{List, [], _∷_}
 use mathlib.Core.Option.{Option, some, none}
 use Prim.Native.Nat.{ℕ, _≤_}
 use native.Mathlib.Omega.{arith}
-use lib.Dec.{leb}
 use lib.ListN.{length}
-use borrow.Author.Tests.{leb-true}
 use Rattle.bits.specs.Logic.{pick}
-use Rattle.bits.specs.LogicLaws.{and-right}
 use Rattle.limits.specs.Limits.{maxInputs}
 use Rattle.names.specs.Name.{Name, distinct}
 use Rattle.cursor.specs.declared.NameList.{NameList}
 use Rattle.sheet.specs.Examine.{Step, no-to, ask, within}
+use Rattle.sheet.specs.AskedLaws.{within-high}
 use Rattle.sheet.specs.Known.{Listed, keptNames, firstNo, Refused, StepIs, LineIs}
 use Rattle.sheet.specs.declared.Asked.{Asked}
-
-pub within-high : (low high n : ℕ) → within low high n ≡ true → n ≤ high
-within-high low high n e = leb-true n high (and-right (leb low n) (leb n high) e)
 
 -- f asks questions 2 to 4 of a line of names; rest is what follows
 pub record AsksList (high : ℕ) (rest : List Name → Step) (f : Option (List Name) → Step) : Type 0 where

@@ -35,7 +35,7 @@ outputInto k v ws =
       tables = set (k .tables) (k .outputs) (record { words = ws });
     }
 
-abbrev words-of : Rows → List ℕ
+abbrev pub words-of : Rows → List ℕ
 words-of t = t .words
 
 module _ (d : Design) (o : Output) where

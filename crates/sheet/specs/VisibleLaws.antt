@@ -27,7 +27,7 @@ use Rattle.sheet.specs.Visible.{visible}
 within-visible : (b : ℕ) → 0x20 ≤ b → b ≤ 0x7E → within 0x20 0x7E b ≡ true
 within-visible b l h = and-both (leb 0x20 b) (leb b 0x7E) (le-leb 0x20 b l) (le-leb b 0x7E h)
 
-pub visible-append : (l m : List ℕ) → visible l ≡ true → visible m ≡ true → visible (l ++ m) ≡ true
+visible-append : (l m : List ℕ) → visible l ≡ true → visible m ≡ true → visible (l ++ m) ≡ true
 unfolding visible
 visible-append [] m h k = k
 visible-append (b ∷ l) m h k =

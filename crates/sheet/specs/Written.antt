@@ -8,18 +8,14 @@ use lib.ListN.{length}
 use Rattle.limits.specs.Limits.{maxSheet}
 use Rattle.names.specs.Name.{Name}
 use Rattle.names.specs.Spelled.{sameNames}
-use Rattle.sheet.specs.Examine.{Design}
+use Rattle.sheet.specs.Examine.{Design, withBound}
 use Rattle.sheet.specs.WellFormed.{WellFormed}
 use Rattle.sheet.specs.Printer.{printDesign}
-
--- the design d with the bound names ms
-abbrev pub writtenAs : Design → List Name → Design
-writtenAs d ms = record { inputs = d .inputs; bound = ms; limit = d .limit; outputs = d .outputs }
 
 -- the sheet s writes the design d, with the names `written` on its `bound` line
 pub record Writes (s : List ℕ) (d : Design) : Type 0 where
   pub well-formed : WellFormed d
   pub written : List Name
   pub same-bound : sameNames (d .bound) written ≡ true
-  pub is-print : s ≡ printDesign (writtenAs d written)
+  pub is-print : s ≡ printDesign (withBound d written)
   pub fits : length s ≤ maxSheet

@@ -62,12 +62,12 @@ pub struct Asked {
 
 // An `out` line: whether it is spelled right, and then its name, its formula's depth as far as it matters, whether the
 // formula's names are inputs, and its table.
-pub struct OutLine {
-    pub ok: bool,
-    pub name: u64,
-    pub depth: usize,
-    pub known: bool,
-    pub rows: [u64; limits::TABLE_WORDS],
+struct OutLine {
+    ok: bool,
+    name: u64,
+    depth: usize,
+    known: bool,
+    rows: [u64; limits::TABLE_WORDS],
 }
 
 // The number of a `limit` line.
@@ -77,9 +77,9 @@ pub enum LimitLine {
 }
 
 // The places of names among others, where all of them have one.
-pub struct Places {
-    pub ok: bool,
-    pub list: [usize; limits::MAX_BOUND],
+struct Places {
+    ok: bool,
+    list: [usize; limits::MAX_BOUND],
 }
 
 // A "no" to question q.

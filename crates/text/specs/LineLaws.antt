@@ -15,7 +15,7 @@ use Rattle.text.specs.Line.{lines, onto}
 use Rattle.text.specs.Unbroken.{unbroken, allUnbroken}
 
 -- ---- texts with no 0x0A
-pub unbroken-head : (b : ℕ) (l : List ℕ) → unbroken (b ∷ l) ≡ true → eqb b newline ≡ false
+unbroken-head : (b : ℕ) (l : List ℕ) → unbroken (b ∷ l) ≡ true → eqb b newline ≡ false
 unfolding unbroken
 unbroken-head b l u = not-true (eqb b newline) (and-left (not (eqb b newline)) (unbroken l) u)
 

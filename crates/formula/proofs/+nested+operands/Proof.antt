@@ -1,6 +1,5 @@
 -- `nested` and `operands`: what opens a formula decides; the loop keeps what the operands so far come to. What is left of the
 -- text falls at each call. Assumes nothing.
-use mathlib.Core.Bool.{Bool}
 use mathlib.Core.List.{map}
 use mathlib.Core.Path.{_∙_, subst}
 use native.Mathlib.Omega.{arith}
@@ -16,11 +15,12 @@ use Rattle.formula.specs.Reader.{readFormula}
 use Rattle.formula.specs.Part.{PartIs, readSoFar}
 use Rattle.formula.specs.Skim.{left}
 use Rattle.formula.specs.TurnLaws.{byte-falls, formula-left}
-use Rattle.formula.specs.Walk.{WalkOf, then, part-read, walk-start, walk-step, walk-closed, walk-short, unread-is, joined-read}
-use Rattle.formula.specs.Opened.{name-opened, digit-opened, not-opened, gate-opened, un-opened, opened-falls, name-is, digit-is, not-is, gate-is, nothing-is}
+use Rattle.formula.specs.Walk.{WalkOf, then}
+use Rattle.formula.specs.WalkLaws.{part-read, walk-start, walk-step, walk-closed, walk-short, unread-is, joined-read}
+use Rattle.formula.specs.OpenedLaws.{name-opened, digit-opened, not-opened, gate-opened, un-opened, opened-falls, name-is, digit-is, not-is, gate-is, nothing-is}
 use borrow.Author.Needs.{needs}
 use Prim.Native.Nat.{ℕ, _<_}
-use borrow.Fn.Kinds.{In}
+use borrow.Fn.Kinds.{In, Out}
 use borrow.Fn.PlainCycle.{Measures, is, falls, and}
 use Rattle.formula.proofs.nested.Reads as nested
 use Rattle.formula.proofs.nested.Kinds as nested-kinds
@@ -60,305 +60,211 @@ abbrev operands-below : ℕ → In 2 operands-kinds.ps
 operands-below t =
     and 2 operands-kinds.ps (falls 2 operands-kinds.ps _<_ μ-operands t) operands.Pre
 
-abbrev nested-claims : ℕ → nested-lts.Claims
-nested-claims t = (
-  skim-reads.Asked,
-  skim-reads.Learnt,
-  unread-reads.Asked,
-  unread-reads.Learnt,
-  opening-reads.Asked,
-  opening-reads.Learnt,
-  input-reads.Asked,
-  input-reads.Learnt,
-  constant-reads.Asked,
-  constant-reads.Learnt,
-  nested-below t,
-  nested.Post,
-  negated-reads.Asked,
-  negated-reads.Learnt,
-  closed-reads.Asked,
-  closed-reads.Learnt,
-  operands-below t,
-  operands.Post,
-  none-reads.Asked,
-  none-reads.Learnt,
-)
-
-abbrev operands-claims : ℕ → operands-lts.Claims
-operands-claims t = (
-  followed-reads.Asked,
-  followed-reads.Learnt,
-  nested-below t,
-  nested.Post,
-  joined-reads.Asked,
-  joined-reads.Learnt,
-  closed-reads.Asked,
-  closed-reads.Learnt,
-  none-reads.Asked,
-  none-reads.Learnt,
-)
-
-nested-skim-requires : (t : ℕ) → nested-lts.Need-skim-requires (nested-claims t) (nested-at t) nested.Post
-nested-skim-requires t c κs = omega arith
-
-nested-unread-requires : (t : ℕ) → nested-lts.Need-unread-requires (nested-claims t) (nested-at t) nested.Post
-nested-unread-requires t c κs = search needs
-
-nested-returns : (t : ℕ) → nested-lts.Need-returns (nested-claims t) (nested-at t) nested.Post
-nested-returns t c =
-    let a = c .before .before .before .before .before .args in
-    let m = c .before .skim in
-    unread-is (a .left) (a .s .now) (map nameOf (a .inputs .now)) (readFormula (from (a .s .now) (a .c))) (m .result) (c .unread .result) (c .before .before .if1 .taken)
-    (m .ensures) (c .unread .ensures)
-
-nested-opening-requires : (t : ℕ) → nested-lts.Need-opening-requires (nested-claims t) (nested-at t) nested.Post
-nested-opening-requires t c κs = omega arith
-
-nested-enum-known-o : (t : ℕ) → nested-lts.Need-enum-known-o (nested-claims t) (nested-at t) nested.Post
-nested-enum-known-o t c = search needs
-
-nested-input-requires : (t : ℕ) → nested-lts.Need-input-requires (nested-claims t) (nested-at t) nested.Post
-nested-input-requires t c κs = search needs
-
-nested-enum-known-o-2 : (t : ℕ) → nested-lts.Need-enum-known-o-2 (nested-claims t) (nested-at t) nested.Post
-nested-enum-known-o-2 t c = search needs
-
-nested-constant-requires : (t : ℕ) → nested-lts.Need-constant-requires (nested-claims t) (nested-at t) nested.Post
-nested-constant-requires t c κs = search needs
-
-nested-enum-known-o-3 : (t : ℕ) → nested-lts.Need-enum-known-o-3 (nested-claims t) (nested-at t) nested.Post
-nested-enum-known-o-3 t c = search needs
-
-nested-sub-nested : (t : ℕ) → nested-lts.Need-sub-nested (nested-claims t) (nested-at t) nested.Post
-nested-sub-nested t c = omega arith
-
-nested-nested-requires : (t : ℕ) → nested-lts.Need-nested-requires (nested-claims t) (nested-at t) nested.Post
-nested-nested-requires t c κs =
-    let a = c .before .before .before .before .before .before .before .args in
-    let o = c .before .before .before .opening in
-    let g = c .before .o3 .given in
-    let h = not-opened (a .s .now) (a .c .at) (o .result) (o .ensures) (g .0 .0) (g .1) in
-    omega (arith, h .inside, opened-falls (a .s .now) (a .c .at) spec.not-opens (g .0 .0) h)
-
-nested-negated-requires : (t : ℕ) → nested-lts.Need-negated-requires (nested-claims t) (nested-at t) nested.Post
-nested-negated-requires t c κs = search needs
-
-nested-closed-requires : (t : ℕ) → nested-lts.Need-closed-requires (nested-claims t) (nested-at t) nested.Post
-nested-closed-requires t c κs = search needs
-
-nested-enum-known-o-4 : (t : ℕ) → nested-lts.Need-enum-known-o-4 (nested-claims t) (nested-at t) nested.Post
-nested-enum-known-o-4 t c = search needs
-
-nested-sub-nested-2 : (t : ℕ) → nested-lts.Need-sub-nested-2 (nested-claims t) (nested-at t) nested.Post
-nested-sub-nested-2 t c = omega arith
-
-nested-nested-requires-2 : (t : ℕ) → nested-lts.Need-nested-requires-2 (nested-claims t) (nested-at t) nested.Post
-nested-nested-requires-2 t c κs =
-    let a = c .before .before .before .before .before .before .before .args in
-    let o = c .before .before .before .opening in
-    let g = c .before .o4 .given in
-    let h = gate-opened (a .s .now) (a .c .at) (o .result) (o .ensures) (g .0 .0) (g .0 .1 .0) (g .1) in
-    omega (arith, h .inside, opened-falls (a .s .now) (a .c .at) (spec.gate-opens (gateOf (g .0 .0))) (g .0 .1 .0) h)
-
-nested-sub-operands : (t : ℕ) → nested-lts.Need-sub-operands (nested-claims t) (nested-at t) nested.Post
-nested-sub-operands t c = omega arith
-
-nested-operands-requires : (t : ℕ) → nested-lts.Need-operands-requires (nested-claims t) (nested-at t) nested.Post
-nested-operands-requires t c κs =
-    let a = c .before .before .before .before .before .before .before .before .args in
-    let o = c .before .before .before .before .opening in
-    let g = c .before .before .o4 .given in
-    let u = from (a .s .now) (g .0 .1 .0) in
-    let f = c .nested2 in
-    let h = gate-opened (a .s .now) (a .c .at) (o .result) (o .ensures) (g .0 .0) (g .0 .1 .0) (g .1) in
-    let l = opened-falls (a .s .now) (a .c .at) (spec.gate-opens (gateOf (g .0 .0))) (g .0 .1 .0) h in
-    let e = part-read (a .left - 1) (a .s .now) (map nameOf (a .inputs .now)) (readFormula u) (f .result) (f .ensures) in
-    omega (arith, c .before .before .before .before .before .before .before .before .pre .1 .1, l, formula-left u (readSoFar (a .s .now) (f .result)) e)
-
-nested-enum-told : (t : ℕ) → nested-lts.Need-enum-told (nested-claims t) (nested-at t) nested.Post
-nested-enum-told t c = search needs
-
-nested-none-requires : (t : ℕ) → nested-lts.Need-none-requires (nested-claims t) (nested-at t) nested.Post
-nested-none-requires t c κs = search needs
-
-nested-returns-2 : (t : ℕ) → nested-lts.Need-returns-2 (nested-claims t) (nested-at t) nested.Post
-nested-returns-2 t c =
-    let a = c .before .before .before .before .before .before .before .before .args in
-    let o = c .before .before .before .before .opening in
-    let g = c .before .before .o .given in
-    name-is (a .left) (a .s .now) (map nameOf (a .inputs .now)) (a .c .at) (g .0 .1 .0) (c .input .result) (nameOf (g .0 .0))
-    (name-opened (a .s .now) (a .c .at) (o .result) (o .ensures) (g .0 .0) (g .0 .1 .0) (g .1)) (c .input .ensures)
-
-nested-returns-3 : (t : ℕ) → nested-lts.Need-returns-3 (nested-claims t) (nested-at t) nested.Post
-nested-returns-3 t c =
-    let a = c .before .before .before .before .before .before .before .before .args in
-    let o = c .before .before .before .before .opening in
-    let g = c .before .before .o2 .given in
-    digit-is (a .left) (a .s .now) (map nameOf (a .inputs .now)) (a .c .at) (g .0 .1 .0) (c .constant .result) (g .0 .0)
-    (digit-opened (a .s .now) (a .c .at) (o .result) (o .ensures) (g .0 .0) (g .0 .1 .0) (g .1)) (c .constant .ensures)
-
-nested-returns-4 : (t : ℕ) → nested-lts.Need-returns-4 (nested-claims t) (nested-at t) nested.Post
-nested-returns-4 t c =
-    let a = c .before .before .before .before .before .before .before .before .before .before .args in
-    let o = c .before .before .before .before .before .before .opening in
-    let g = c .before .before .before .before .o3 .given in
-    let f = c .before .before .nested in
-    let n = c .before .negated in
-    let some = c .before .before .before .before .before .before .before .if1 .left in
-    not-is (a .left - 1) (a .left) (omega (arith, some)) (a .s .now) (map nameOf (a .inputs .now)) (a .c .at) (g .0 .0) (c .closed .result) (f .result) (n .result)
-    (omega (arith, c .before .before .before .before .before .before .before .before .before .before .pre .1 .1))
-    (not-opened (a .s .now) (a .c .at) (o .result) (o .ensures) (g .0 .0) (g .1)) (f .ensures) (n .ensures) (c .closed .ensures)
-
-nested-returns-5 : (t : ℕ) → nested-lts.Need-returns-5 (nested-claims t) (nested-at t) nested.Post
-nested-returns-5 t c =
-    let a = c .before .before .before .before .before .before .before .before .before .args in
-    let o = c .before .before .before .before .before .opening in
-    let g = c .before .before .before .o4 .given in
-    let some = c .before .before .before .before .before .before .if1 .left in
-    gate-is (a .left - 1) (a .left) (omega (arith, some)) (a .s .now) (map nameOf (a .inputs .now)) (a .c .at) (g .0 .1 .0) (c .operands .result) (gateOf (g .0 .0))
-    (gate-opened (a .s .now) (a .c .at) (o .result) (o .ensures) (g .0 .0) (g .0 .1 .0) (g .1))
-    (c .operands .ensures (readFormula (from (a .s .now) (g .0 .1 .0))) (c .before .nested2 .ensures))
-
-nested-returns-6 : (t : ℕ) → nested-lts.Need-returns-6 (nested-claims t) (nested-at t) nested.Post
-nested-returns-6 t c =
-    let a = c .before .before .before .before .before .before .before .args in
-    let o = c .before .before .before .opening in
-    nothing-is (a .left) (a .s .now) (map nameOf (a .inputs .now)) (a .c .at) (c .none .result)
-    (un-opened (a .s .now) (a .c .at) (o .result) (o .ensures) (c .before .enum-told .given .1)) (c .none .ensures)
-
-abbrev operands-Inv-loop : operands-lts.InvT-loop
-operands-Inv-loop s inputs g k sum₀ enough₀ sum enough =
+abbrev Inv-loop : operands-lts.InvT-loop
+Inv-loop s inputs g k sum₀ enough₀ sum enough =
     (left (readSoFar s sum) ≤ left (readSoFar s sum₀))
     × ((q : Read Formula) → PartIs k s (map nameOf inputs) q sum₀ → WalkOf k s (map nameOf inputs) (gateOf g) q sum enough)
 
-abbrev operands-μ-loop : operands-lts.MeasureT-loop
-operands-μ-loop s inputs g k sum₀ enough₀ sum enough = left (readSoFar s sum)
+abbrev μ-loop : operands-lts.MeasureT-loop
+μ-loop s inputs g k sum₀ enough₀ sum enough = left (readSoFar s sum)
 
-operands-loop-holds : (t : ℕ) → operands-lts.Need-loop-holds (operands-claims t) (operands-at t) operands.Post operands-Inv-loop operands-μ-loop
-operands-loop-holds t c =
-    let a = c .before .before .args in
-    (omega arith, λ q h. walk-start (a .left) (a .s .now) (map nameOf (a .inputs .now)) (gateOf (a .g)) q (a .first) h)
+module _ (t : ℕ) where
+  -- what is known of the functions called, where t bytes are left: those of this file promise it where fewer are left
+  abbrev nested-claims : nested-lts.Claims
+  nested-claims = (
+    skim-reads.Asked,
+    skim-reads.Learnt,
+    unread-reads.Asked,
+    unread-reads.Learnt,
+    opening-reads.Asked,
+    opening-reads.Learnt,
+    input-reads.Asked,
+    input-reads.Learnt,
+    constant-reads.Asked,
+    constant-reads.Learnt,
+    nested-below t,
+    nested.Post,
+    negated-reads.Asked,
+    negated-reads.Learnt,
+    closed-reads.Asked,
+    closed-reads.Learnt,
+    operands-below t,
+    operands.Post,
+    none-reads.Asked,
+    none-reads.Learnt,
+  )
 
-operands-followed-requires : (t : ℕ) → operands-lts.Need-followed-requires (operands-claims t) (operands-at t) operands.Post operands-Inv-loop operands-μ-loop
-operands-followed-requires t c κs = search needs
+  abbrev operands-claims : operands-lts.Claims
+  operands-claims = (
+    followed-reads.Asked,
+    followed-reads.Learnt,
+    nested-below t,
+    nested.Post,
+    joined-reads.Asked,
+    joined-reads.Learnt,
+    closed-reads.Asked,
+    closed-reads.Learnt,
+    none-reads.Asked,
+    none-reads.Learnt,
+  )
 
-operands-enum-known-m : (t : ℕ) → operands-lts.Need-enum-known-m (operands-claims t) (operands-at t) operands.Post operands-Inv-loop operands-μ-loop
-operands-enum-known-m t c = search needs
+  -- ---- nested
+  abbrev Nested : (nested-lts.Claims → In 2 nested-kinds.ps → Out 2 nested-kinds.ps nested-kinds.r → Type 0) → Type 0
+  Nested need = need nested-claims (nested-at t) nested.Post
 
-operands-nested-requires : (t : ℕ) → operands-lts.Need-nested-requires (operands-claims t) (operands-at t) operands.Post operands-Inv-loop operands-μ-loop
-operands-nested-requires t c κs =
-    let s = c .before .before .before .before .before .before .before .args .s .now in
-    let i = c .before .before .before .before .loop in
-    let m = c .before .before .before .followed in
-    let g = c .before .m .given in
-    let h = moved-to s (m .result) (then s (i .sum) space) (m .ensures) (g .0 .0) (g .1) in
-    omega (arith, h .inside, i .inv .0, byte-falls space (readSoFar s (i .sum)) (from s (g .0 .0)) (h .is))
+  skimmed : Nested nested-lts.Need-returns
+  skimmed c =
+      let a = c .before .before .before .before .before .args in
+      let m = c .before .skim in
+      unread-is (a .left) (a .s .now) (map nameOf (a .inputs .now)) (readFormula (from (a .s .now) (a .c))) (m .result) (c .unread .result) (c .before .before .if1 .taken)
+      (m .ensures) (c .unread .ensures)
 
-operands-joined-requires : (t : ℕ) → operands-lts.Need-joined-requires (operands-claims t) (operands-at t) operands.Post operands-Inv-loop operands-μ-loop
-operands-joined-requires t c κs = search needs
+  not-inner : Nested nested-lts.Need-nested-requires
+  not-inner c κs =
+      let a = c .before .before .before .before .before .before .before .args in
+      let o = c .before .before .before .opening in
+      let g = c .before .o3 .given in
+      let h = not-opened (a .s .now) (a .c .at) (o .result) (o .ensures) (g .0 .0) (g .1) in
+      omega (arith, h .inside, opened-falls (a .s .now) (a .c .at) spec.not-opens (g .0 .0) h)
 
-operands-loop-less : (t : ℕ) → operands-lts.Need-loop-less (operands-claims t) (operands-at t) operands.Post operands-Inv-loop operands-μ-loop
-operands-loop-less t c =
-    let a = c .before .before .before .before .before .before .before .before .before .args in
-    let i = c .before .before .before .before .before .before .loop in
-    let m = c .before .before .before .before .before .followed in
-    let g = c .before .before .before .m .given in
-    let u = from (a .s .now) (g .0 .0) in
-    let f = c .before .nested in
-    let h = moved-to (a .s .now) (m .result) (then (a .s .now) (i .sum) space) (m .ensures) (g .0 .0) (g .1) in
-    let e = joined-read (a .s .now) (gateOf (a .g)) (i .sum) (f .result) (c .joined .result) (c .joined .ensures) in
-    let r = e ∙ part-read (a .left) (a .s .now) (map nameOf (a .inputs .now)) (readFormula u) (f .result) (f .ensures) in
-    omega (arith, formula-left u (readSoFar (a .s .now) (c .joined .result)) r, byte-falls space (readSoFar (a .s .now) (i .sum)) u (h .is))
+  gate-first : Nested nested-lts.Need-nested-requires-2
+  gate-first c κs =
+      let a = c .before .before .before .before .before .before .before .args in
+      let o = c .before .before .before .opening in
+      let g = c .before .o4 .given in
+      let h = gate-opened (a .s .now) (a .c .at) (o .result) (o .ensures) (g .0 .0) (g .0 .1 .0) (g .1) in
+      omega (arith, h .inside, opened-falls (a .s .now) (a .c .at) (spec.gate-opens (gateOf (g .0 .0))) (g .0 .1 .0) h)
 
-operands-loop-again : (t : ℕ) → operands-lts.Need-loop-again (operands-claims t) (operands-at t) operands.Post operands-Inv-loop operands-μ-loop
-operands-loop-again t c =
-    let a = c .before .before .before .before .before .before .before .before .before .args in
-    let i = c .before .before .before .before .before .before .loop in
-    let m = c .before .before .before .before .before .followed in
-    let g = c .before .before .before .m .given in
-    let u = from (a .s .now) (g .0 .0) in
-    let f = c .before .nested in
-    let j = c .joined in
-    let h = moved-to (a .s .now) (m .result) (then (a .s .now) (i .sum) space) (m .ensures) (g .0 .0) (g .1) in
-    let e = joined-read (a .s .now) (gateOf (a .g)) (i .sum) (f .result) (j .result) (j .ensures) in
-    let r = e ∙ part-read (a .left) (a .s .now) (map nameOf (a .inputs .now)) (readFormula u) (f .result) (f .ensures) in (
-      omega (arith, i .inv .0, formula-left u (readSoFar (a .s .now) (j .result)) r, byte-falls space (readSoFar (a .s .now) (i .sum)) u (h .is)),
-      λ q x.
-          walk-step (a .left) (a .s .now) (map nameOf (a .inputs .now)) (gateOf (a .g)) q (i .sum) (f .result) (j .result) (i .enough) u (i .inv .1 q x) (h .is)
-          (f .ensures) (j .ensures),
-    )
+  gate-rest : Nested nested-lts.Need-operands-requires
+  gate-rest c κs =
+      let start = c .before .before .before .before .before .before .before .before in
+      let a = start .args in
+      let f = c .nested2 in
+      let u = from (a .s .now) (c .before .before .o4 .given .0 .1 .0) in
+      let e = part-read (a .left - 1) (a .s .now) (map nameOf (a .inputs .now)) (readFormula u) (f .result) (f .ensures) in
+      omega (arith, start .pre .1 .1, gate-first (c .before) κs .0, formula-left u (readSoFar (a .s .now) (f .result)) e)
 
-operands-enum-told : (t : ℕ) → operands-lts.Need-enum-told (operands-claims t) (operands-at t) operands.Post operands-Inv-loop operands-μ-loop
-operands-enum-told t c = search needs
+  name-read : Nested nested-lts.Need-returns-2
+  name-read c =
+      let a = c .before .before .before .before .before .before .before .before .args in
+      let o = c .before .before .before .before .opening in
+      let g = c .before .before .o .given in
+      name-is (a .left) (a .s .now) (map nameOf (a .inputs .now)) (a .c .at) (g .0 .1 .0) (c .input .result) (nameOf (g .0 .0))
+      (name-opened (a .s .now) (a .c .at) (o .result) (o .ensures) (g .0 .0) (g .0 .1 .0) (g .1)) (c .input .ensures)
 
-operands-closed-requires : (t : ℕ) → operands-lts.Need-closed-requires (operands-claims t) (operands-at t) operands.Post operands-Inv-loop operands-μ-loop
-operands-closed-requires t c κs = search needs
+  digit-read : Nested nested-lts.Need-returns-3
+  digit-read c =
+      let a = c .before .before .before .before .before .before .before .before .args in
+      let o = c .before .before .before .before .opening in
+      let g = c .before .before .o2 .given in
+      digit-is (a .left) (a .s .now) (map nameOf (a .inputs .now)) (a .c .at) (g .0 .1 .0) (c .constant .result) (g .0 .0)
+      (digit-opened (a .s .now) (a .c .at) (o .result) (o .ensures) (g .0 .0) (g .0 .1 .0) (g .1)) (c .constant .ensures)
 
-operands-none-requires : (t : ℕ) → operands-lts.Need-none-requires (operands-claims t) (operands-at t) operands.Post operands-Inv-loop operands-μ-loop
-operands-none-requires t c κs = search needs
+  not-read : Nested nested-lts.Need-returns-4
+  not-read c =
+      let start = c .before .before .before .before .before .before .before .before .before .before in
+      let a = start .args in
+      let some = c .before .before .before .before .before .before .before .if1 .left in
+      let o = c .before .before .before .before .before .before .opening in
+      let g = c .before .before .before .before .o3 .given in
+      let f = c .before .before .nested in
+      let n = c .before .negated in
+      not-is (a .left - 1) (a .left) (omega (arith, some)) (a .s .now) (map nameOf (a .inputs .now)) (a .c .at) (g .0 .0) (c .closed .result) (f .result) (n .result)
+      (omega (arith, start .pre .1 .1)) (not-opened (a .s .now) (a .c .at) (o .result) (o .ensures) (g .0 .0) (g .1)) (f .ensures) (n .ensures) (c .closed .ensures)
 
-operands-returns : (t : ℕ) → operands-lts.Need-returns (operands-claims t) (operands-at t) operands.Post operands-Inv-loop operands-μ-loop
-operands-returns t c =
-    let a = c .before .before .before .before .before .before .before .before .args in
-    let i = c .before .before .before .before .before .loop in
-    let m = c .before .before .before .before .followed in
-    let n = moved-nowhere (a .s .now) (m .result) (then (a .s .now) (i .sum) space) (m .ensures) (c .before .before .enum-told .given .1) in
-    λ q h. walk-closed (a .left) (a .s .now) (map nameOf (a .inputs .now)) (gateOf (a .g)) q (i .sum) (c .closed .result)
-    (c .before .before .before .before .before .before .before .before .pre .1)
-    (subst (λ (b : Bool). WalkOf (a .left) (a .s .now) (map nameOf (a .inputs .now)) (gateOf (a .g)) q (i .sum) b) (c .before .if1 .taken) (i .inv .1 q h)) n (c .closed .ensures)
+  gate-read : Nested nested-lts.Need-returns-5
+  gate-read c =
+      let a = c .before .before .before .before .before .before .before .before .before .args in
+      let some = c .before .before .before .before .before .before .if1 .left in
+      let o = c .before .before .before .before .before .opening in
+      let g = c .before .before .before .o4 .given in
+      gate-is (a .left - 1) (a .left) (omega (arith, some)) (a .s .now) (map nameOf (a .inputs .now)) (a .c .at) (g .0 .1 .0) (c .operands .result) (gateOf (g .0 .0))
+      (gate-opened (a .s .now) (a .c .at) (o .result) (o .ensures) (g .0 .0) (g .0 .1 .0) (g .1))
+      (c .operands .ensures (readFormula (from (a .s .now) (g .0 .1 .0))) (c .before .nested2 .ensures))
 
-operands-returns-2 : (t : ℕ) → operands-lts.Need-returns-2 (operands-claims t) (operands-at t) operands.Post operands-Inv-loop operands-μ-loop
-operands-returns-2 t c =
-    let a = c .before .before .before .before .before .before .before .before .args in
-    let i = c .before .before .before .before .before .loop in
-    let m = c .before .before .before .before .followed in
-    let n = moved-nowhere (a .s .now) (m .result) (then (a .s .now) (i .sum) space) (m .ensures) (c .before .before .enum-told .given .1) in
-    λ q h. walk-short (a .left) (a .s .now) (map nameOf (a .inputs .now)) (gateOf (a .g)) q (i .sum) (c .none .result)
-    (subst (λ (b : Bool). WalkOf (a .left) (a .s .now) (map nameOf (a .inputs .now)) (gateOf (a .g)) q (i .sum) b) (c .before .if1 .left) (i .inv .1 q h)) n (c .none .ensures)
+  nothing-read : Nested nested-lts.Need-returns-6
+  nothing-read c =
+      let a = c .before .before .before .before .before .before .before .args in
+      let o = c .before .before .before .opening in
+      nothing-is (a .left) (a .s .now) (map nameOf (a .inputs .now)) (a .c .at) (c .none .result)
+      (un-opened (a .s .now) (a .c .at) (o .result) (o .ensures) (c .before .enum-told .given .1)) (c .none .ensures)
+
+  -- ---- operands
+  abbrev Walked : (operands-lts.Claims → In 2 operands-kinds.ps → Out 2 operands-kinds.ps operands-kinds.r → operands-lts.InvT-loop → operands-lts.MeasureT-loop
+      → Type 0) → Type 0
+  Walked need = need operands-claims (operands-at t) operands.Post Inv-loop μ-loop
+
+  start-holds : Walked operands-lts.Need-loop-holds
+  start-holds c =
+      let a = c .before .before .args in
+      (omega arith, λ q h. walk-start (a .left) (a .s .now) (map nameOf (a .inputs .now)) (gateOf (a .g)) q (a .first) h)
+
+  one-inner : Walked operands-lts.Need-nested-requires
+  one-inner c κs =
+      let s = c .before .before .before .before .before .before .before .args .s .now in
+      let i = c .before .before .before .before .loop in
+      let m = c .before .before .before .followed in
+      let g = c .before .m .given in
+      let h = moved-to s (m .result) (then s (i .sum) space) (m .ensures) (g .0 .0) (g .1) in
+      omega (arith, h .inside, i .inv .0, byte-falls space (readSoFar s (i .sum)) (from s (g .0 .0)) (h .is))
+
+  more-less : Walked operands-lts.Need-loop-less
+  more-less c =
+      let a = c .before .before .before .before .before .before .before .before .before .args in
+      let i = c .before .before .before .before .before .before .loop in
+      let m = c .before .before .before .before .before .followed in
+      let g = c .before .before .before .m .given in
+      let u = from (a .s .now) (g .0 .0) in
+      let f = c .before .nested in
+      let h = moved-to (a .s .now) (m .result) (then (a .s .now) (i .sum) space) (m .ensures) (g .0 .0) (g .1) in
+      let e = joined-read (a .s .now) (gateOf (a .g)) (i .sum) (f .result) (c .joined .result) (c .joined .ensures) in
+      let r = e ∙ part-read (a .left) (a .s .now) (map nameOf (a .inputs .now)) (readFormula u) (f .result) (f .ensures) in
+      omega (arith, formula-left u (readSoFar (a .s .now) (c .joined .result)) r, byte-falls space (readSoFar (a .s .now) (i .sum)) u (h .is))
+
+  more-holds : Walked operands-lts.Need-loop-again
+  more-holds c =
+      let a = c .before .before .before .before .before .before .before .before .before .args in
+      let i = c .before .before .before .before .before .before .loop in
+      let m = c .before .before .before .before .before .followed in
+      let g = c .before .before .before .m .given in
+      let f = c .before .nested in
+      let j = c .joined in
+      let h = moved-to (a .s .now) (m .result) (then (a .s .now) (i .sum) space) (m .ensures) (g .0 .0) (g .1) in (
+        omega (arith, i .inv .0, more-less c),
+        λ q x.
+            walk-step (a .left) (a .s .now) (map nameOf (a .inputs .now)) (gateOf (a .g)) q (i .sum) (f .result) (j .result) (i .enough) (from (a .s .now) (g .0 .0))
+            (i .inv .1 q x) (h .is) (f .ensures) (j .ensures),
+      )
+
+  closed-read : Walked operands-lts.Need-returns
+  closed-read c =
+      let start = c .before .before .before .before .before .before .before .before in
+      let a = start .args in
+      let i = c .before .before .before .before .before .loop in
+      let m = c .before .before .before .before .followed in
+      let n = moved-nowhere (a .s .now) (m .result) (then (a .s .now) (i .sum) space) (m .ensures) (c .before .before .enum-told .given .1) in
+      let w = WalkOf (a .left) (a .s .now) (map nameOf (a .inputs .now)) (gateOf (a .g)) in
+      λ q h. walk-closed (a .left) (a .s .now) (map nameOf (a .inputs .now)) (gateOf (a .g)) q (i .sum) (c .closed .result) (start .pre .1)
+      (subst (w q (i .sum)) (c .before .if1 .taken) (i .inv .1 q h)) n (c .closed .ensures)
+
+  short-read : Walked operands-lts.Need-returns-2
+  short-read c =
+      let a = c .before .before .before .before .before .before .before .before .args in
+      let i = c .before .before .before .before .before .loop in
+      let m = c .before .before .before .before .followed in
+      let n = moved-nowhere (a .s .now) (m .result) (then (a .s .now) (i .sum) space) (m .ensures) (c .before .before .enum-told .given .1) in
+      let w = WalkOf (a .left) (a .s .now) (map nameOf (a .inputs .now)) (gateOf (a .g)) in
+      λ q h. walk-short (a .left) (a .s .now) (map nameOf (a .inputs .now)) (gateOf (a .g)) q (i .sum) (c .none .result)
+      (subst (w q (i .sum)) (c .before .if1 .left) (i .inv .1 q h)) n (c .none .ensures)
 
 pub +nested+operands-spec : {M : Type 1} → statement M
-+nested+operands-spec = close μ-nested μ-operands (λ t. nested-lts.spec (nested-claims t)
-    (nested-at t)
-    nested.Post
-    (nested-skim-requires t)
-    (nested-unread-requires t)
-    (nested-returns t)
-    (nested-opening-requires t)
-    (nested-enum-known-o t)
-    (nested-input-requires t)
-    (nested-enum-known-o-2 t)
-    (nested-constant-requires t)
-    (nested-enum-known-o-3 t)
-    (nested-sub-nested t)
-    (nested-nested-requires t)
-    (nested-negated-requires t)
-    (nested-closed-requires t)
-    (nested-enum-known-o-4 t)
-    (nested-sub-nested-2 t)
-    (nested-nested-requires-2 t)
-    (nested-sub-operands t)
-    (nested-operands-requires t)
-    (nested-enum-told t)
-    (nested-none-requires t)
-    (nested-returns-2 t)
-    (nested-returns-3 t)
-    (nested-returns-4 t)
-    (nested-returns-5 t)
-    (nested-returns-6 t))
-    λ t. operands-lts.spec (operands-claims t)
-    (operands-at t)
-    operands.Post
-    operands-Inv-loop
-    operands-μ-loop
-    (operands-loop-holds t)
-    (operands-followed-requires t)
-    (operands-enum-known-m t)
-    (operands-nested-requires t)
-    (operands-joined-requires t)
-    (operands-loop-less t)
-    (operands-loop-again t)
-    (operands-enum-told t)
-    (operands-closed-requires t)
-    (operands-none-requires t)
-    (operands-returns t)
-    (operands-returns-2 t)
++nested+operands-spec =
+    close μ-nested μ-operands
+    (λ t.
+    nested-lts.spec (nested-claims t) (nested-at t) nested.Post (λ c κs. omega arith) (λ c κs. search needs) (skimmed t) (λ c κs. omega arith)
+    (λ c. search needs) (λ c κs. search needs) (λ c. search needs) (λ c κs. search needs) (λ c. search needs) (λ c. omega arith) (not-inner t)
+    (λ c κs. search needs) (λ c κs. search needs) (λ c. search needs) (λ c. omega arith) (gate-first t) (λ c. omega arith) (gate-rest t)
+    (λ c. search needs) (λ c κs. search needs) (name-read t) (digit-read t) (not-read t) (gate-read t) (nothing-read t))
+    λ t.
+    operands-lts.spec (operands-claims t) (operands-at t) operands.Post Inv-loop μ-loop (start-holds t) (λ c κs. search needs) (λ c. search needs)
+    (one-inner t) (λ c κs. search needs) (more-less t) (more-holds t) (λ c. search needs) (λ c κs. search needs) (λ c κs. search needs) (closed-read t) (short-read t)

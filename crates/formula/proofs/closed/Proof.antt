@@ -3,7 +3,8 @@ use mathlib.Core.Path.{refl}
 use borrow.Author.Needs.{needs}
 use Rattle.text.specs.Bytes.{closeBracket}
 use Rattle.cursor.specs.MovedLaws.{moved-to, moved-nowhere}
-use Rattle.formula.specs.Walk.{then, closed-at, unclosed}
+use Rattle.formula.specs.Walk.{then}
+use Rattle.formula.specs.WalkLaws.{closed-at, unclosed}
 use Rattle.formula.proofs.closed.Statement.{statement}
 use Rattle.formula.proofs.closed.Tie as tie
 

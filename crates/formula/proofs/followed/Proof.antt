@@ -1,6 +1,6 @@
 -- `followed`: a byte is read where something was read before it. Assumes nothing.
 use borrow.Author.Needs.{needs}
-use Rattle.formula.specs.Walk.{followed-by, followed-by-nothing}
+use Rattle.formula.specs.WalkLaws.{followed-by, followed-by-nothing}
 use Rattle.formula.proofs.followed.Statement.{statement}
 use Rattle.formula.proofs.followed.Tie as tie
 

@@ -1,5 +1,5 @@
 -- `input`: the name's place among the inputs decides. Assumes nothing.
-use Rattle.formula.specs.Lookup.{found-inside, found-row, found-among, nowhere-among, nowhere-row}
+use Rattle.formula.specs.LookupLaws.{found-inside, found-row, found-among, nowhere-among, nowhere-row}
 use Rattle.rows.specs.WordLaws.{rowwise-same}
 use mathlib.Core.Path.{sym, refl}
 use native.Mathlib.Omega.{arith}

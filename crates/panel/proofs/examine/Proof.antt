@@ -2,10 +2,10 @@
 use mathlib.Core.Path.{sym}
 use borrow.Author.Needs.{needs}
 use borrow.Author.Tests.{not-true, not-false}
+use Rattle.platext.specs.TextReadLaws.{pla-print-of-read}
 use Rattle.text.specs.Line.{lines}
 use Rattle.sheet.specs.Examine.{sized}
 use Rattle.platext.specs.Lines.{firstCube}
-use Rattle.platext.specs.TextLaws.{pla-print-of-read}
 use Rattle.panel.specs.Questions.{otherMark}
 use Rattle.panel.specs.Board.{readBoard}
 use Rattle.panel.specs.Held.{OtherIs}

@@ -7,8 +7,9 @@ use lib.ListN.{length}
 use lib.Seq.{length-take-le}
 use borrow.Author.Tests.{not-true, not-false}
 use borrow.Author.Needs.{needs}
+use Rattle.sheet.specs.AskedLaws.{within-high}
 use Rattle.sheet.specs.Examine.{within}
-use Rattle.sheet.specs.ListLaws.{within-high, no-to-two, no-to-three, no-to-four, no-to-none}
+use Rattle.sheet.specs.ListLaws.{no-to-two, no-to-three, no-to-four, no-to-none}
 use Rattle.sheet.proofs.Lists.{list-sized}
 use Rattle.sheet.proofs.first_no.Statement.{statement}
 use Rattle.sheet.proofs.first_no.Tie as tie

@@ -123,7 +123,7 @@ mutual
       (opening-print-of-read s (b .0) (b .1) (b .2))
       (λ g v d. formula-within k (b .1) g v d) (λ w gs v d. operands-within k w gs v d) f t (b .3)
 
-  pub operands-within : (k : ℕ) (s : List ℕ) (fs : Operands) (t : List ℕ) → operandsWithin k s ≡ found fs t → OperandsFront s fs t
+  operands-within : (k : ℕ) (s : List ℕ) (fs : Operands) (t : List ℕ) → operandsWithin k s ≡ found fs t → OperandsFront s fs t
   operands-within zero s fs t e = absurd (bad-found e)
   operands-within (suc k) s fs t e =
       operands-by (spaceNext s) s (readWithin k (rest s)) (λ w. operandsWithin k w) fs t refl (λ g v d. formula-within k (rest s) g v d) (λ w gs v d. operands-within k w gs v d) e

@@ -22,7 +22,7 @@ use Rattle.formula.specs.Reader.{readFormula}
 use Rattle.formula.specs.ReaderLaws.{formula-opened, formula-unopened}
 use Rattle.formula.specs.Value.{value, onRow}
 use Rattle.formula.specs.Part.{Good, PartIs, Atom, Closed, Negated, gateOn}
-use Rattle.formula.specs.Walk.{negation-is}
+use Rattle.formula.specs.WalkLaws.{negation-is}
 use Rattle.formula.specs.declared.Part.{Part}
 
 module _ (s : List ℕ) (at : ℕ) (o : Opening) (h : OpeningIs s o (readOpening (drop at s))) where

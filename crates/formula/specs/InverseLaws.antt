@@ -20,7 +20,7 @@ use Rattle.formula.specs.Printer.{print, prints, spelled, spelledAll}
 use Rattle.formula.specs.Reader.{spaceNext, closeNot, closeGate, readFormula, readOperands}
 use Rattle.formula.specs.PrintLaws.{print-constant, print-negation, print-gate, prints-more}
 use Rattle.formula.specs.Front.{Ends, AllEnd, FormulaFront}
-use Rattle.formula.specs.Within.{formula-within}
+use Rattle.formula.specs.WithinLaws.{formula-within}
 use Rattle.formula.specs.ReaderLaws.{formula-opened, operands-more, operands-none}
 
 -- ---- what was read stands at the front
@@ -29,7 +29,7 @@ unfolding readFormula
 formula-front-found s f t e = formula-within (suc (length s)) s f t e
 
 -- ---- where a text stops, any formula may end
-pub stops-ends : (f : Formula) (t : List ℕ) → Stops t → Ends f t
+stops-ends : (f : Formula) (t : List ℕ) → Stops t → Ends f t
 stops-ends (input n) t h = h
 stops-ends (constant b) t h = tt
 stops-ends (negation f) t h = tt
@@ -43,7 +43,7 @@ unfolding prints
 operand-ends f none t h = stops-ends f t h
 operand-ends f (more g gs) t h = space-ends f _
 
-pub stops-all-end : (fs : Operands) (t : List ℕ) → Stops t → AllEnd fs t
+stops-all-end : (fs : Operands) (t : List ℕ) → Stops t → AllEnd fs t
 stops-all-end none t h = tt
 stops-all-end (more f fs) t h = (operand-ends f fs t h, stops-all-end fs t h)
 
@@ -79,7 +79,7 @@ gate-read g e f fs t v q i j =
 mutual
   unfolding print spelled
 
-  pub formula-front-read : (f : Formula) (t : List ℕ) → spelled f ≡ true → Ends f t → readFormula (print f ++ t) ≡ found f t
+  formula-front-read : (f : Formula) (t : List ℕ) → spelled f ≡ true → Ends f t → readFormula (print f ++ t) ≡ found f t
   formula-front-read (input n) t e h = formula-opened (n ++ t) (name-opens n) t (opening-read-of-print (name-opens n) t e h)
   formula-front-read (constant b) t e h =
       ap readFormula (print-constant b t)
@@ -95,7 +95,7 @@ mutual
       (formula-front-read f (prints fs ++ u) (and-left (spelled f) (spelledAll fs) d) (operand-ends f fs u (bracket-stops t)))
       (operands-front-read fs u (and-right (spelled f) (spelledAll fs) d) (stops-all-end fs u (bracket-stops t)) refl))
 
-  pub operands-front-read : (fs : Operands) (t : List ℕ) → spelledAll fs ≡ true → AllEnd fs t → spaceNext t ≡ false
+  operands-front-read : (fs : Operands) (t : List ℕ) → spelledAll fs ≡ true → AllEnd fs t → spaceNext t ≡ false
       → readOperands (prints fs ++ t) ≡ found fs t
   operands-front-read none t e h n = operands-none t n
   operands-front-read (more f fs) t e h n =
