@@ -16,9 +16,9 @@ use Rattle.bits.specs.Logic.{andb, orb, pick}
 use Rattle.bits.specs.LogicLaws.{and-left, never-both, and-true, and-false, or-false}
 use Rattle.bits.specs.Digit.{on}
 use Rattle.bits.specs.DigitLaws.{on-and, on-or, on-zero, on-above, on-complement, on-ones, equal-digits}
+use Rattle.cells.specs.PigeonLaws.{agree-and, and-agree}
 use Rattle.cells.specs.ListLaws.{all-map, pairs-map}
 use Rattle.cells.specs.Lists.{All, Pairs}
-use Rattle.cells.specs.Pigeon.{agree-and, and-agree}
 use Rattle.cells.specs.Shared.{block}
 use Rattle.problem.specs.Problem.{labelAt, partOf, item, Solves}
 use Rattle.coding.specs.Exchange.{Uniform, SameBlocks}

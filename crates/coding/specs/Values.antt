@@ -10,12 +10,8 @@ use lib.Bits.{bitAnd, bitOr}
 use lib.ListN.{length}
 use Rattle.limits.specs.Limits.{maxCodes, maxCells}
 use Rattle.bits.specs.Digit.{on}
-use Rattle.problem.specs.Problem.{noCode, item, Block, Blocks, Solves, Knows}
-use Rattle.coding.specs.Exchange.{Uniform, swap, swap-blocks, swap-small, swap-stays, swap-first, swap-outside, solves-alike}
-use Rattle.bits.specs.DigitLaws.{on-and, on-or, on-zero, on-above, on-complement, equal-digits, on-or-one}
-use Rattle.bits.specs.CountLaws.{less-or-equal}
-use Rattle.cells.specs.PigeonLaws.{agree-and}
-use Rattle.holding.specs.Blocks.{on-both}
+use Rattle.problem.specs.Problem.{noCode, item, Block, Blocks, Solves}
+use Rattle.coding.specs.Exchange.{Uniform}
 
 -- groups of cells: of two cells or more there are no more
 abbrev pub groupCount : ℕ

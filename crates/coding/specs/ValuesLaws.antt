@@ -20,9 +20,9 @@ use Rattle.bits.specs.LogicLaws.{true-false, and-left, and-right, never-both, f
 use Rattle.bits.specs.Digit.{on}
 use Rattle.bits.specs.DigitLaws.{on-and, on-or, on-zero, on-above, on-complement, equal-digits, on-or-one}
 use Rattle.bits.specs.CountLaws.{less-or-equal}
+use Rattle.cells.specs.PigeonLaws.{agree-and}
 use Rattle.coding.specs.ExchangeLaws.{swap, swap-blocks, swap-small, swap-stays, swap-first, swap-outside, solves-alike}
 use Rattle.holding.specs.BlocksLaws.{on-both}
-use Rattle.cells.specs.Pigeon.{agree-and}
 use Rattle.problem.specs.Problem.{item, Block, Blocks, Solves, Knows}
 use Rattle.coding.specs.Values.{Groups, ReadTogether, Over, Closed, Marks, Used, Alone, Valued, Fresh, Agrees, Canon, Marked}
 

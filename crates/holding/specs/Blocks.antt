@@ -9,10 +9,6 @@ use lib.ListN.{length, getD}
 use Rattle.limits.specs.Limits.{blockCount, maxCodes}
 use Rattle.bits.specs.Logic.{andb}
 use Rattle.bits.specs.Digit.{on}
-use Rattle.bits.specs.DigitLaws.{on-and, on-or, on-single, on-complement, equal-digits}
-use Rattle.bits.specs.LogicLaws.{never-both, false-unless, or-true, and-both}
-use Rattle.bits.specs.CountLaws.{less-or-equal}
-use Rattle.cells.specs.SetsLaws.{on-power-other}
 use Rattle.problem.specs.Problem.{item, Block}
 
 -- the table of blocks, filled up to n

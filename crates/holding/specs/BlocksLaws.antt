@@ -17,8 +17,8 @@ use Rattle.bits.specs.Digit.{on}
 use Rattle.bits.specs.DigitLaws.{on-and, on-or, on-single, on-complement, equal-digits}
 use Rattle.bits.specs.LogicLaws.{never-both, false-unless, or-true, and-both}
 use Rattle.bits.specs.CountLaws.{less-or-equal}
+use Rattle.cells.specs.SetsLaws.{on-power-other}
 use Rattle.problem.specs.Problem.{item, Block}
-use Rattle.cells.specs.Sets.{on-power-other}
 use Rattle.holding.specs.Blocks.{Table, Minus, copies, Spans}
 
 -- ======== the table of blocks

@@ -8,12 +8,6 @@ use lib.Bits.{bitXor}
 use Rattle.limits.specs.Limits.{maxCodes}
 use Rattle.bits.specs.Logic.{orb}
 use Rattle.bits.specs.Digit.{on}
-use Rattle.bits.specs.DigitLaws.{on-and, on-or, on-xor, on-zero, on-above, on-single, equal-digits}
-use Rattle.bits.specs.LogicLaws.{never-both, true-unless, and-true, and-false, or-true, or-false, xor-false}
-use Rattle.bits.specs.ShiftLaws.{on-cut, on-down, on-shifted, on-below-shifted}
-use Rattle.cells.specs.PigeonLaws.{agree-and, and-agree}
-use Rattle.cells.specs.SetsLaws.{on-power-other}
-use Rattle.holding.specs.Blocks.{Spans}
 
 -- the code that differs from k in cell i alone
 abbrev pub across : ℕ → ℕ → ℕ

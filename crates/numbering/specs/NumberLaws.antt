@@ -21,9 +21,9 @@ use Rattle.bits.specs.Digit.{on}
 use Rattle.bits.specs.DigitLaws.{on-and, on-or, on-zero, on-ones, on-above, on-complement, equal-digits}
 use Rattle.bits.specs.Count.{count}
 use Rattle.bits.specs.CountLaws.{less-or-equal, count-more, count-same}
+use Rattle.cells.specs.PigeonLaws.{agree-and, and-agree}
 use Rattle.cells.specs.ListLaws.{all-map}
 use Rattle.cells.specs.Lists.{All, Pairs}
-use Rattle.cells.specs.Pigeon.{agree-and, and-agree}
 use Rattle.problem.specs.Problem.{labelAt, partOf, item, Plan, Parted, Fixed, Knows, Hopeless}
 use Rattle.numbering.specs.Number.{key, Fellows, Numbered, Number, Passed, Spread, Spreading, Wrote, Written, Finished}
 

@@ -9,19 +9,8 @@ use Prim.Native.Nat.{ℕ, _≤_, _<_}
 use lib.ListN.{length}
 use Rattle.limits.specs.Limits.{maxVertices, maxCodes, maxCells}
 use Rattle.bits.specs.Digit.{on}
-use Rattle.bits.specs.DigitLaws.{on-and, on-or, on-or-one, on-or-none, on-zero, on-single, on-complement}
-use Rattle.bits.specs.CountLaws.{less-or-equal}
-use Rattle.coding.specs.KnownLaws.{fitting-any}
-use Rattle.cells.specs.Pigeon.{agree-and, and-agree}
-use Rattle.cells.specs.Sets.{on-power-other}
-use Rattle.cells.specs.PigeonLaws.{agree-and, and-agree}
-use Rattle.cells.specs.SetsLaws.{on-power-other}
-use Rattle.cells.specs.Shared.{sharedCode}
-use Rattle.problem.specs.Problem.{item, Fixed, Knows}
+use Rattle.problem.specs.Problem.{item}
 use Rattle.coding.specs.Known.{Fitting}
-use Rattle.coding.specs.Values.{Alone}
-use Rattle.readers.specs.Masks.{Short, Common, Planned, Start, Decided, private-read}
-use Rattle.readers.specs.Groups.{Grouping}
 
 -- cell 0 is in sh where some of its digits are known
 abbrev pub Public : ℕ → ℕ → Type 0

@@ -18,12 +18,13 @@ use Rattle.bits.specs.Digit.{on}
 use Rattle.bits.specs.DigitLaws.{on-and, on-or, on-or-one, on-or-none, on-zero, on-single, on-complement}
 use Rattle.bits.specs.CountLaws.{less-or-equal}
 use Rattle.bits.specs.FilledLaws.{each-more}
+use Rattle.coding.specs.KnownLaws.{fitting-any}
+use Rattle.cells.specs.SetsLaws.{on-power-other}
+use Rattle.cells.specs.PigeonLaws.{agree-and, and-agree}
 use Rattle.readers.specs.MasksLaws.{private-read}
-use Rattle.cells.specs.Pigeon.{agree-and, and-agree}
-use Rattle.cells.specs.Sets.{on-power-other}
 use Rattle.cells.specs.Shared.{sharedCode}
 use Rattle.problem.specs.Problem.{item, Fixed, Knows}
-use Rattle.coding.specs.Known.{Fitting, fitting-any}
+use Rattle.coding.specs.Known.{Fitting}
 use Rattle.coding.specs.Values.{Alone}
 use Rattle.readers.specs.Masks.{Short, Common, Planned, Start, Decided}
 use Rattle.readers.specs.Groups.{Grouping}

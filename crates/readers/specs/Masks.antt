@@ -11,20 +11,12 @@ use lib.Bits.{bitAnd}
 use lib.ListN.{length}
 use Rattle.bits.specs.Digit.{on}
 use Rattle.bits.specs.Count.{count}
-use Rattle.bits.specs.CountLaws.{less-or-equal}
-use Rattle.holding.specs.BlocksLaws.{copies-are}
 use Rattle.bits.specs.Filled.{Filled}
-use Rattle.cells.specs.Cut.{Within}
 use Rattle.cells.specs.Codes.{Coded}
-use Rattle.cells.specs.Shared.{sharedCode, Split}
-use Rattle.problem.specs.Problem.{noCode, labelAt, partAt, item, Fixed, Block, Blocks, Plan, Solves, Kept, Parted}
-use Rattle.cells.specs.SharedLaws.{crowd-bound, places-bound}
-use Rattle.cells.specs.PigeonLaws.{agree-and, and-agree}
+use Rattle.cells.specs.Shared.{sharedCode}
+use Rattle.problem.specs.Problem.{noCode, labelAt, partAt, item, Fixed}
 use Rattle.cells.specs.Core.{Within}
 use Rattle.coding.specs.Known.{Fitting}
-use Rattle.coding.specs.Values.{Agrees}
-use Rattle.coding.specs.Tried.{Covers}
-use Rattle.holding.specs.Blocks.{Table, copies}
 
 -- each output reads cells below 6
 abbrev pub Short : List ℕ → ℕ → Type 0

@@ -19,15 +19,17 @@ use Rattle.bits.specs.DigitLaws.{on-and, on-or, on-ones, on-above, on-complemen
 use Rattle.bits.specs.Count.{count}
 use Rattle.bits.specs.CountLaws.{less-or-equal}
 use Rattle.bits.specs.FilledLaws.{filled-none, filled-more}
-use Rattle.cells.specs.Cut.{Within}
-use Rattle.cells.specs.Pigeon.{agree-and, and-agree}
+use Rattle.holding.specs.BlocksLaws.{copies-are}
+use Rattle.cells.specs.SharedLaws.{crowd-bound, places-bound}
+use Rattle.cells.specs.PigeonLaws.{agree-and, and-agree}
+use Rattle.cells.specs.Core.{Within}
 use Rattle.cells.specs.Codes.{Coded}
-use Rattle.cells.specs.Shared.{Split, sharedCode, crowd-bound, places-bound}
+use Rattle.cells.specs.Shared.{Split, sharedCode}
 use Rattle.problem.specs.Problem.{labelAt, partAt, item, Block, Blocks, Plan, Solves, Kept, Parted}
 use Rattle.coding.specs.Known.{Fitting}
 use Rattle.coding.specs.Values.{Agrees}
 use Rattle.coding.specs.Tried.{Covers}
-use Rattle.holding.specs.Blocks.{Table, copies, copies-are}
+use Rattle.holding.specs.Blocks.{Table, copies}
 use Rattle.readers.specs.Masks.{Short, Common, Planned, Seen, Start, privateCells}
 
 -- ======== the loop over the outputs

@@ -7,21 +7,8 @@ use Prim.Native.Nat.{ℕ, _≤_, _<_}
 use lib.ListN.{length}
 use Rattle.limits.specs.Limits.{searchOutputs, maxCells}
 use Rattle.bits.specs.Digit.{on}
-use Rattle.problem.specs.Problem.{item, labelAt, partAt, Fixed}
-use Rattle.subproblems.specs.Subproblem.{openOf, givenOf, Answers, Settled, Same}
-use Rattle.bits.specs.DigitLaws.{on-and, on-zero, on-ones, equal-digits}
-use Rattle.bits.specs.LogicLaws.{never-both, and-true, or-true, or-false}
-use Rattle.bits.specs.CountLaws.{less-or-equal}
-use Rattle.cells.specs.PigeonLaws.{agree-and, and-agree}
-use Rattle.cells.specs.Core.{Within}
-use Rattle.cells.specs.SetsLaws.{with-power}
-use Rattle.cells.specs.CodesLaws.{on-digits, digits-none}
-use Rattle.cells.specs.Sets.{With}
-use Rattle.cells.specs.Codes.{Coded, digitsOf}
-use Rattle.readers.specs.Masks.{Decided}
-use Rattle.sorting.specs.Order.{Order}
-use Rattle.relation.specs.Relation.{Left, Leaves}
-use Rattle.relation.specs.RelationLaws.{coded-left, left-coded}
+use Rattle.problem.specs.Problem.{item}
+use Rattle.subproblems.specs.Subproblem.{openOf, givenOf}
 
 -- r has the first i digits of the set f in the order perm, and no more
 pub record Moved (f : ℕ) (perm : List ℕ) (i r : ℕ) : Type 0 where

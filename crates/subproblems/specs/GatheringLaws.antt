@@ -18,10 +18,12 @@ use Rattle.bits.specs.DigitLaws.{on-and, on-zero, on-ones, equal-digits}
 use Rattle.bits.specs.LogicLaws.{never-both, and-true, or-true, or-false}
 use Rattle.bits.specs.CountLaws.{less-or-equal}
 use Rattle.bits.specs.FilledLaws.{each-more}
-use Rattle.cells.specs.Cut.{Within}
-use Rattle.cells.specs.Pigeon.{agree-and, and-agree}
-use Rattle.cells.specs.Sets.{With, with-power}
-use Rattle.cells.specs.Codes.{Coded, digitsOf, on-digits, digits-none}
+use Rattle.cells.specs.CodesLaws.{on-digits, digits-none}
+use Rattle.cells.specs.SetsLaws.{with-power}
+use Rattle.cells.specs.PigeonLaws.{agree-and, and-agree}
+use Rattle.cells.specs.Core.{Within}
+use Rattle.cells.specs.Sets.{With}
+use Rattle.cells.specs.Codes.{Coded, digitsOf}
 use Rattle.problem.specs.Problem.{labelAt, partAt, item, Fixed}
 use Rattle.readers.specs.Masks.{Decided}
 use Rattle.sorting.specs.Order.{Order}

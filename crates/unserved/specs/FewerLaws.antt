@@ -9,6 +9,7 @@ use native.Mathlib.Omega.{arith}
 use Rattle.bits.specs.Digit.{on}
 use Rattle.bits.specs.DigitLaws.{on-zero}
 use Rattle.bits.specs.LogicLaws.{never-both}
+use Rattle.subsets.specs.Listed.{Place}
 use Rattle.cells.specs.RenumberedLaws.{serves-as, renumbered-length, renumbered-reads-as}
 use Rattle.cells.specs.Core.{Differ}
 use Rattle.cells.specs.Renumbered.{renumbered}
@@ -17,7 +18,7 @@ use Rattle.relation.specs.Relation.{Conflict}
 use Rattle.dominance.specs.Kept.{StandFor}
 use Rattle.dominance.specs.KeptCellsLaws.{origin, origin-like}
 use Rattle.subsets.specs.Subset.{members, size, memberAt, SomeOf}
-use Rattle.subsets.specs.SubsetLaws.{Place, member-below, member-in, members-distinct, member-place}
+use Rattle.subsets.specs.SubsetLaws.{member-below, member-in, members-distinct, member-place}
 use Rattle.unserved.specs.Unserved.{Fits}
 use Rattle.unserved.specs.Asking.{FitBelow, OfMembers}
 use Rattle.unserved.specs.MissedLaws.{missed}

@@ -3,10 +3,6 @@ use Rattle.seeking.specs.Seeking.{Places}
 use mathlib.Core.Path.{refl, sym, subst}
 use Prim.Native.Nat.{ℕ}
 use native.Mathlib.Omega.{arith}
-use Rattle.seeking.specs.SeekingLaws.{places-none, places-all, places-rest}
-use mathlib.Core.Path.{refl, sym, subst}
-use Prim.Native.Nat.{ℕ}
-use native.Mathlib.Omega.{arith}
 use borrow.Author.Needs.{needs}
 use Rattle.seeking.proofs.places.Statement.{statement}
 use Rattle.seeking.proofs.places.Tie as tie
