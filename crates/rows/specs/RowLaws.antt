@@ -10,12 +10,12 @@ use native.Mathlib.Numerals.{one-add}
 use lib.Dec.{eqb}
 use lib.Arith.{digits-lt}
 use lib.Pow.{mod-pow-add, high, low}
-use lib.ListN.{length}
+use lib.ListN.{length, getD}
 use Rattle.bits.specs.Digit.{on, digit}
 use Rattle.bits.specs.DigitLaws.{Binary, is0, is1, digit-binary}
 use Rattle.bits.specs.Logic.{bit}
 use Rattle.bits.specs.ShiftLaws.{on-cut}
-use Rattle.rows.specs.Row.{rowOf, valuesOf}
+use Rattle.rows.specs.Row.{rowOf, valuesOf, inputOn}
 
 -- ---- from a list to its row
 bit-lt : (b : Bool) → bit b < 2
@@ -74,3 +74,8 @@ pub row-values : (n r : ℕ) → r < 2 ^ n → rowOf (valuesOf n r) ≡ r
 row-values n r h = row-values-mod n r ∙ mod-eq-of-lt h
 
 -- ---- one input
+pub values-at : (n r i : ℕ) → i < n → getD (valuesOf n r) i false ≡ inputOn n r i
+unfolding valuesOf inputOn
+values-at zero r i h = absurd (omega arith)
+values-at (suc n) r zero h = ap (λ (k : ℕ). on r k) (omega arith)
+values-at (suc n) r (suc i) h = values-at n r i (omega arith) ∙ ap (λ (k : ℕ). on r k) (omega arith)
