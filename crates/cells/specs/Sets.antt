@@ -1,22 +1,22 @@
 -- Sets of numbers below 64 as the digits of one number: one more element, one less, the lowest, and how many there are.
--- Assumes nothing.
+-- And sets of cells, which are bytes: their sizes, and how many codes so many cells have. Assumes nothing.
 use mathlib.Core.Path.{_≡_, refl, sym, ap, ap₂, _∙_}
 use mathlib.Core.Bool.{Bool, true, false, not}
 use Prim.Native.Nat.{ℕ, zero, suc, _+_, _-_, _*_, _/_, _%_, _^_, _≤_, _<_}
 use native.Mathlib.Decide.{ℕ-discrete, decLt}
 use native.Mathlib.Omega.{arith}
-use native.Mathlib.Nat.{pow-suc}
-use lib.Bits.{bitAnd, bitOr, and-le-l}
+use native.Mathlib.Nat.{pow-suc, one-mul, mod-eq-of-lt}
+use lib.Bits.{bitAnd, bitOr, and-le-l, and-le-r}
 use lib.Count.{trailingZeros, under, ones, ones-step}
 use lib.Dec.{eqb}
-use lib.Pow.{pow-lt}
+use lib.Pow.{pow-lt, pow-pos, pow-mono}
 use borrow.Author.Tests.{eq-eqb, ne-eqb}
 use Rattle.bits.specs.Logic.{andb, orb, bit}
 use Rattle.bits.specs.Digit.{digit, on}
-use Rattle.bits.specs.DigitLaws.{Binary, is0, is1, binary, on-and, on-or, on-zero, on-single, on-complement}
+use Rattle.bits.specs.DigitLaws.{Binary, is0, is1, binary, on-and, on-or, on-zero, on-single, on-complement, on-ones}
 use Rattle.bits.specs.LogicLaws.{never-both, and-true, and-false}
 use Rattle.bits.specs.Count.{count}
-use Rattle.bits.specs.CountLaws.{count-alike}
+use Rattle.bits.specs.CountLaws.{count-alike, count-le}
 use Rattle.cells.specs.Codes.{on-half, count-shift}
 
 -- ======== definitions
@@ -93,3 +93,22 @@ ones-count (suc w) n h =
     ∙ ap₂ (λ (a b : ℕ). a + b) (low-digit n)
     (ones-count w (n / 2) (let e = pow-suc 2 w in omega arith) ∙ count-alike (on (n / 2)) (λ (i : ℕ). on n (suc i)) w (λ i h. sym (on-half n i)))
     ∙ sym (count-shift (on n) w)
+
+-- ======== sets of cells
+-- the size of one is the number of its digits below 6
+pub size-of : (x : ℕ) → (ones (bitAnd x 63) ≡ count (on x) 6) × (ones (bitAnd x 63) ≤ 6)
+size-of x =
+    let low = and-le-r x 63 in
+    let cells = count-alike (on (bitAnd x 63)) (on x) 6 (λ i h. on-and x 63 i ∙ ap (andb (on x i)) (on-ones 6 i h) ∙ and-true (on x i)) in
+    let size = ones-count 6 (bitAnd x 63) (omega arith) ∙ cells in
+    let few = count-le (on x) 6 in
+    (size, omega arith)
+
+-- 2 ^ k as the code shifts it
+pub power-is : (k : ℕ) → k ≤ 6 → (1 * 2 ^ k % 2 ^ 8 ≡ 2 ^ k) × (0 < 1 * 2 ^ k % 2 ^ 8) × (1 * 2 ^ k % 2 ^ 8 ≤ 64)
+power-is k h =
+    let l : k < 8 = omega arith in
+    let e : 1 * 2 ^ k % 2 ^ 8 ≡ 2 ^ k = rw one-mul (mod-eq-of-lt (pow-lt l)) in
+    let p : 0 < 2 ^ k = pow-pos k in
+    let m : 2 ^ k ≤ 2 ^ 6 = pow-mono h in
+    (e, (omega arith), omega arith)

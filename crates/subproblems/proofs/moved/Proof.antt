@@ -8,7 +8,7 @@ use Rattle.subproblems.proofs.moved.Statement.{statement}
 use Rattle.subproblems.proofs.moved.Tie as tie
 use Rattle.subproblems.proofs.moved.Reads as reads
 use Rattle.subproblems.proofs.moved.Lts as lts
-use Rattle.lowerbounds.proofs.power.Reads as power-reads
+use Rattle.cells.proofs.power.Reads as power-reads
 use Rattle.cells.proofs.in_set.Reads as in-set-reads
 
 abbrev Inv-loop : tie.InvT-loop
