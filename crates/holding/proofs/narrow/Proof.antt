@@ -1,8 +1,9 @@
 use Rattle.holding.specs.Narrow.{Narrowed, Stays}
 use mathlib.Core.Logic.{⊎-elim}
 use native.Mathlib.Omega.{arith}
-use Prim.Native.Nat.{ℕ, _≤_, _+_, _-_, _*_}
-use mathlib.Core.Path.{sym, _∙_, subst}
+use Prim.Native.Nat.{ℕ, _≤_, _<_, _+_, _-_, _*_}
+use mathlib.Core.Path.{_≡_, sym, _∙_, subst}
+use lib.ListN.{length}
 use borrow.Author.Needs.{needs}
 use Rattle.holding.specs.NarrowLaws.{narrowed-start, narrowed-same, keep-more}
 use Rattle.holding.proofs.narrow.Statement.{statement}
@@ -47,153 +48,67 @@ label-requires c κs =
 cast-l : tie.Need-cast-l Inv-loop μ-loop
 cast-l c = search needs
 
+-- the class of a vertex and the vertex are below the lengths of the arrays
+labelled : (c : tie.After-label Inv-loop μ-loop) → (c .label .result < 32) × (c .before .before .before .before .loop .y < 32)
+    × (length (c .before .before .before .before .before .before .before .before .before .before .before .before .before .args .own .now) ≡ 32) × (length (c .before .before .before .before .before .before .before .before .before .before .before .before .before .args .meet .now) ≡ 32) × (length (c .before .before .before .before .loop .dom) ≡ 32)
+labelled c =
+    let loop = c .before .before .before .before .loop in
+    let start = c .before .before .before .before .before .before .before .before .before .before .before .before .before in
+    let pre = start .pre in
+    let v = pre .2 in
+    let o = pre .3 in
+    let d = c .before .before .before .loop-test .taken in
+    let low = pre .0 .low (start .args .t .number * 32 + loop .y) (omega arith) in
+    let same = c .label .ensures in
+    (omega arith, omega arith, pre .4, pre .5, loop .inv .1 .long)
+
 class-part-requires : tie.Need-class-part-requires Inv-loop μ-loop
 class-part-requires c κs =
-    let h = c .before .before .before .loop-test .taken in
-    let p = c .before .before .before .before .before .before .before .before .before .before .before .before .before .pre in
-    let v = p .2 in
-    let o = p .3 in
-    let a = c .before .before .before .before .before .before .before .before .before .before .before .before .before .args in
-    let i = c .before .before .before .before .loop in
-    let l = p .0 .low (a .t .number * 32 + i .y) (omega arith) in
-    let e = c .label .ensures in
-    (p .0, o, omega arith)
+    let facts = labelled c in
+    let pre = c .before .before .before .before .before .before .before .before .before .before .before .before .before .pre in (pre .0, pre .3, facts .0)
 
 in-set-requires : tie.Need-in-set-requires Inv-loop μ-loop
 in-set-requires c κs = let h = c .class-part .ensures .1 in omega arith
 
 label-requires-2 : tie.Need-label-requires-2 Inv-loop μ-loop
 label-requires-2 c κs =
-    let h = c .before .before .before .before .before .before .loop-test .taken in
-    let p = c .before .before .before .before .before .before .before .before .before .before .before .before .before .before .before .before .pre in
-    let v = p .2 in
-    let o = p .3 in
-    let a = c .before .before .before .before .before .before .before .before .before .before .before .before .before .before .before .before .args in
-    let i = c .before .before .before .before .before .before .before .loop in
-    let l = p .0 .low (a .t .number * 32 + i .y) (omega arith) in
-    let e = c .before .before .before .label .ensures in
-    let z = p .1 in
-    (omega arith, o, omega arith)
+    let facts = labelled (c .before .before .before) in
+    let pre = c .before .before .before .before .before .before .before .before .before .before .before .before .before .before .before .before .pre in let z = pre .1 in (omega arith, pre .3, facts .0)
 
 mul-dom : tie.Need-mul-dom Inv-loop μ-loop
-mul-dom c =
-    let h = c .before .before .before .before .before .before .before .loop-test .taken in
-    let n = c .before .before .before .before .before .before .before .before .loop .inv .1 .long in
-    let z = c .before .before .before .before .before .before .before .before .before .before .before .before .before .before .before .before .before .pre .2 in
-    search needs
+mul-dom c = let facts = labelled (c .before .before .before .before) in search needs
 
 slice-read-dom : tie.Need-slice-read-dom Inv-loop μ-loop
-slice-read-dom c =
-    let h = c .before .before .before .before .before .before .before .before .loop-test .taken in
-    let n = c .before .before .before .before .before .before .before .before .before .loop .inv .1 .long in
-    let z = c .before .before .before .before .before .before .before .before .before .before .before .before .before .before .before .before .before .before .pre .2 in
-    search needs
+slice-read-dom c = let facts = labelled (c .before .before .before .before .before) in search needs
 
 mul-keep : tie.Need-mul-keep Inv-loop μ-loop
-mul-keep c =
-    let h = c .before .before .before .before .before .before .before .before .loop-test .taken in
-    let p = c .before .before .before .before .before .before .before .before .before .before .before .before .before .before .before .before .before .before .pre in
-    let v = p .2 in
-    let o = p .3 in
-    let w = p .4 in
-    let a = c .before .before .before .before .before .before .before .before .before .before .before .before .before .before .before .before .before .before .args in
-    let i = c .before .before .before .before .before .before .before .before .before .loop in
-    let l = p .0 .low (a .t .number * 32 + i .y) (omega arith) in
-    let e = c .before .before .before .before .before .label .ensures in
-    search needs
+mul-keep c = let facts = labelled (c .before .before .before .before .before) in search needs
 
 shared-slice-read-keep : tie.Need-shared-slice-read-keep Inv-loop μ-loop
-shared-slice-read-keep c =
-    let h = c .before .before .before .before .before .before .before .before .before .loop-test .taken in
-    let p = c .before .before .before .before .before .before .before .before .before .before .before .before .before .before .before .before .before .before .before .pre in
-    let v = p .2 in
-    let o = p .3 in
-    let w = p .4 in
-    let a = c .before .before .before .before .before .before .before .before .before .before .before .before .before .before .before .before .before .before .before .args in
-    let i = c .before .before .before .before .before .before .before .before .before .before .loop in
-    let l = p .0 .low (a .t .number * 32 + i .y) (omega arith) in
-    let e = c .before .before .before .before .before .before .label .ensures in
-    search needs
+shared-slice-read-keep c = let facts = labelled (c .before .before .before .before .before .before) in search needs
 
 mul-keep-2 : tie.Need-mul-keep-2 Inv-loop μ-loop
-mul-keep-2 c =
-    let h = c .before .before .before .before .before .before .before .before .before .loop-test .taken in
-    let p = c .before .before .before .before .before .before .before .before .before .before .before .before .before .before .before .before .before .before .before .pre in
-    let v = p .2 in
-    let o = p .3 in
-    let w = p .5 in
-    let a = c .before .before .before .before .before .before .before .before .before .before .before .before .before .before .before .before .before .before .before .args in
-    let i = c .before .before .before .before .before .before .before .before .before .before .loop in
-    let l = p .0 .low (a .t .number * 32 + i .y) (omega arith) in
-    let e = c .before .before .before .before .before .before .label .ensures in
-    search needs
+mul-keep-2 c = let facts = labelled (c .before .before .before .before .before .before) in search needs
 
 shared-slice-read-keep-2 : tie.Need-shared-slice-read-keep-2 Inv-loop μ-loop
-shared-slice-read-keep-2 c =
-    let h = c .before .before .before .before .before .before .before .before .before .before .loop-test .taken in
-    let p = c .before .before .before .before .before .before .before .before .before .before .before .before .before .before .before .before .before .before .before .before .pre in
-    let v = p .2 in
-    let o = p .3 in
-    let w = p .5 in
-    let a = c .before .before .before .before .before .before .before .before .before .before .before .before .before .before .before .before .before .before .before .before .args in
-    let i = c .before .before .before .before .before .before .before .before .before .before .before .loop in
-    let l = p .0 .low (a .t .number * 32 + i .y) (omega arith) in
-    let e = c .before .before .before .before .before .before .before .label .ensures in
-    search needs
+shared-slice-read-keep-2 c = let facts = labelled (c .before .before .before .before .before .before .before) in search needs
 
 array-read-keep : tie.Need-array-read-keep Inv-loop μ-loop
-array-read-keep c =
-    let h = c .before .before .before .before .before .before .before .before .before .before .loop-test .taken in
-    let p = c .before .before .before .before .before .before .before .before .before .before .before .before .before .before .before .before .before .before .before .before .pre in
-    let v = p .2 in
-    let o = p .3 in
-    let a = c .before .before .before .before .before .before .before .before .before .before .before .before .before .before .before .before .before .before .before .before .args in
-    let i = c .before .before .before .before .before .before .before .before .before .before .before .loop in
-    let l = p .0 .low (a .t .number * 32 + i .y) (omega arith) in
-    let e = c .before .before .before .before .before .before .before .label .ensures in
-    search needs
+array-read-keep c = let facts = labelled (c .before .before .before .before .before .before .before) in search needs
 
 array-read-keep-2 : tie.Need-array-read-keep-2 Inv-loop μ-loop
-array-read-keep-2 c =
-    let far = c .before .before .before .before .before .before .before .before .before .before .before .before in
-    let h = c .before .before .before .before .before .before .before .before .before .before .loop-test .taken in
-    let p = far .before .before .before .before .before .before .before .before .pre in
-    let v = p .2 in
-    let o = p .3 in
-    let a = far .before .before .before .before .before .before .before .before .args in
-    let i = c .before .before .before .before .before .before .before .before .before .before .before .loop in
-    let l = p .0 .low (a .t .number * 32 + i .y) (omega arith) in
-    let e = c .before .before .before .before .before .before .before .label .ensures in
-    search needs
+array-read-keep-2 c = let facts = labelled (c .before .before .before .before .before .before .before) in search needs
 
 keep-requires : tie.Need-keep-requires Inv-loop μ-loop
 keep-requires c κs =
-    let label = c .before .before .before .before .before .before .before .label in
-    let h = c .before .before .before .before .before .before .before .before .before .before .loop-test .taken in
-    let p = c .before .before .before .before .before .before .before .before .before .before .before .before .before .before .before .before .before .before .before .before .pre in
-    let v = p .2 in
-    let o = p .3 in
-    let a = c .before .before .before .before .before .before .before .before .before .before .before .before .before .before .before .before .before .before .before .before .args in
-    let i = c .before .before .before .before .before .before .before .before .before .before .before .loop in
-    let l = p .0 .low (a .t .number * 32 + i .y) (omega arith) in
-    let e = c .before .before .before .before .before .before .before .label .ensures in
-    p .6 (label .result) (omega arith)
+    let facts = labelled (c .before .before .before .before .before .before .before) in
+    c .before .before .before .before .before .before .before .before .before .before .before .before .before .before .before .before .before .before .before .before .pre .6 (c .before .before .before .before .before .before .before .label .result) (facts .0)
 
 mul-dom-2 : tie.Need-mul-dom-2 Inv-loop μ-loop
-mul-dom-2 c =
-    let far = c .before .before .before .before .before .before .before .before .before .before .before .before in
-    let h = c .before .before .before .before .before .before .before .before .before .before .before .loop-test .taken in
-    let n = far .loop .inv .1 .long in
-    let z = far .before .before .before .before .before .before .before .before .before .pre .2 in
-    search needs
+mul-dom-2 c = let facts = labelled (c .before .before .before .before .before .before .before .before) in search needs
 
 slice-write-dom : tie.Need-slice-write-dom Inv-loop μ-loop
-slice-write-dom c =
-    let far = c .before .before .before .before .before .before .before .before .before .before .before .before in
-    let h = c .before .before .before .before .before .before .before .before .before .before .before .loop-test .taken in
-    let n = far .loop .inv .1 .long in
-    let z = far .before .before .before .before .before .before .before .before .before .pre .2 in
-    search needs
+slice-write-dom c = let facts = labelled (c .before .before .before .before .before .before .before .before) in search needs
 
 add-y : tie.Need-add-y Inv-loop μ-loop
 add-y c = search needs

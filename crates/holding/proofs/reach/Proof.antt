@@ -1,10 +1,10 @@
 use Rattle.holding.specs.Wants.{need}
 use Rattle.problem.specs.Problem.{partAt}
-use lib.ListN.{getD}
+use lib.ListN.{length, getD}
 use Rattle.holding.specs.Reach.{Reached}
 use mathlib.Core.Logic.{⊎-elim}
 use native.Mathlib.Omega.{arith}
-use Prim.Native.Nat.{ℕ, _≤_, _+_, _-_, _*_}
+use Prim.Native.Nat.{ℕ, _≤_, _<_, _+_, _-_, _*_}
 use mathlib.Core.Path.{_≡_, subst}
 use borrow.Author.Needs.{needs}
 use Rattle.holding.specs.ReachLaws.{reached-start, reached-same, reached-more}
@@ -45,81 +45,42 @@ label-requires c κs =
 cast-l : tie.Need-cast-l Inv-loop μ-loop
 cast-l c = search needs
 
+-- the class of a vertex and the vertex are below the lengths of the arrays
+labelled : (c : tie.After-label Inv-loop μ-loop) → (c .label .result < 32) × (c .before .before .before .before .loop .y < 32)
+    × (length (c .before .before .before .before .before .before .before .before .before .before .before .before .args .dom .now) ≡ 32) × (length (c .before .before .before .before .before .before .before .before .before .before .before .before .args .own .now) ≡ 32)
+labelled c =
+    let loop = c .before .before .before .before .loop in
+    let start = c .before .before .before .before .before .before .before .before .before .before .before .before in
+    let pre = start .pre in
+    let v = pre .2 in
+    let o = pre .3 in
+    let d = c .before .before .before .loop-test .taken in
+    let low = pre .0 .low (start .args .t .number * 32 + loop .y) (omega arith) in
+    let same = c .label .ensures in
+    (omega arith, omega arith, pre .4, pre .5)
+
 array-read-lacking : tie.Need-array-read-lacking Inv-loop μ-loop
-array-read-lacking c =
-    let h = c .before .before .before .loop-test .taken in
-    let p = c .before .before .before .before .before .before .before .before .before .before .before .before .pre in
-    let v = p .2 in
-    let o = p .3 in
-    let a = c .before .before .before .before .before .before .before .before .before .before .before .before .args in
-    let i = c .before .before .before .before .loop in
-    let l = p .0 .low (a .t .number * 32 + i .y) (omega arith) in
-    let e = c .label .ensures in
-    search needs
+array-read-lacking c = let facts = labelled c in search needs
 
 array-read-lacking-2 : tie.Need-array-read-lacking-2 Inv-loop μ-loop
-array-read-lacking-2 c =
-    let h = c .before .before .before .loop-test .taken in
-    let p = c .before .before .before .before .before .before .before .before .before .before .before .before .pre in
-    let v = p .2 in
-    let o = p .3 in
-    let a = c .before .before .before .before .before .before .before .before .before .before .before .before .args in
-    let i = c .before .before .before .before .loop in
-    let l = p .0 .low (a .t .number * 32 + i .y) (omega arith) in
-    let e = c .label .ensures in
-    search needs
+array-read-lacking-2 c = let facts = labelled c in search needs
 
 lacking-requires : tie.Need-lacking-requires Inv-loop μ-loop
 lacking-requires c κs =
-    let h = c .before .before .before .loop-test .taken in
-    let p = c .before .before .before .before .before .before .before .before .before .before .before .before .pre in
-    let v = p .2 in
-    let o = p .3 in
-    let a = c .before .before .before .before .before .before .before .before .before .before .before .before .args in
-    let i = c .before .before .before .before .loop in
-    let l = p .0 .low (a .t .number * 32 + i .y) (omega arith) in
-    let e = c .label .ensures in
-    (p .0, p .1, p .3, omega arith)
+    let facts = labelled c in
+    let pre = c .before .before .before .before .before .before .before .before .before .before .before .before .pre in (pre .0, pre .1, pre .3, facts .0)
 
 mul-minus : tie.Need-mul-minus Inv-loop μ-loop
-mul-minus c =
-    let h = c .before .before .before .before .before .loop-test .taken in
-    let z = c .before .before .before .before .before .before .before .before .before .before .before .before .before .before .pre .2 in
-    let d = c .before .before .before .before .before .before .before .before .before .before .before .before .before .before .pre .4 in
-    search needs
+mul-minus c = let facts = labelled (c .before .before) in search needs
 
 shared-slice-read-minus : tie.Need-shared-slice-read-minus Inv-loop μ-loop
-shared-slice-read-minus c =
-    let h = c .before .before .before .before .before .before .loop-test .taken in
-    let z = c .before .before .before .before .before .before .before .before .before .before .before .before .before .before .before .pre .2 in
-    let d = c .before .before .before .before .before .before .before .before .before .before .before .before .before .before .before .pre .4 in
-    search needs
+shared-slice-read-minus c = let facts = labelled (c .before .before .before) in search needs
 
 mul-minus-2 : tie.Need-mul-minus-2 Inv-loop μ-loop
-mul-minus-2 c =
-    let h = c .before .before .before .before .before .before .loop-test .taken in
-    let p = c .before .before .before .before .before .before .before .before .before .before .before .before .before .before .before .pre in
-    let v = p .2 in
-    let o = p .3 in
-    let a = c .before .before .before .before .before .before .before .before .before .before .before .before .before .before .before .args in
-    let i = c .before .before .before .before .before .before .before .loop in
-    let l = p .0 .low (a .t .number * 32 + i .y) (omega arith) in
-    let e = c .before .before .before .label .ensures in
-    let w = p .5 in
-    search needs
+mul-minus-2 c = let facts = labelled (c .before .before .before) in search needs
 
 shared-slice-read-minus-2 : tie.Need-shared-slice-read-minus-2 Inv-loop μ-loop
-shared-slice-read-minus-2 c =
-    let h = c .before .before .before .before .before .before .before .loop-test .taken in
-    let p = c .before .before .before .before .before .before .before .before .before .before .before .before .before .before .before .before .pre in
-    let v = p .2 in
-    let o = p .3 in
-    let a = c .before .before .before .before .before .before .before .before .before .before .before .before .before .before .before .before .args in
-    let i = c .before .before .before .before .before .before .before .before .loop in
-    let l = p .0 .low (a .t .number * 32 + i .y) (omega arith) in
-    let e = c .before .before .before .before .label .ensures in
-    let w = p .5 in
-    search needs
+shared-slice-read-minus-2 c = let facts = labelled (c .before .before .before .before) in search needs
 
 minus-requires : tie.Need-minus-requires Inv-loop μ-loop
 minus-requires c κs = search needs
