@@ -1,19 +1,22 @@
 -- What the code does to a set, digit by digit: or with a power of 2 puts an element in, and with its complement takes it out, and the
 -- number of zeros at the end of a number that is not 0 is its lowest element. Assumes nothing.
-use mathlib.Core.Path.{_≡_, refl, sym, ap, _∙_}
+use Rattle.cells.specs.Codes.{count-shift}
+use Rattle.bits.specs.CountLaws.{count-alike, count-le}
+use Rattle.bits.specs.Count.{count}
+use mathlib.Core.Path.{_≡_, refl, sym, ap, _∙_, ap₂}
 use mathlib.Core.Bool.{Bool, true, false, not}
-use Prim.Native.Nat.{ℕ, zero, suc, _-_, _*_, _/_, _%_, _^_, _≤_, _<_}
+use Prim.Native.Nat.{ℕ, zero, suc, _-_, _*_, _/_, _%_, _^_, _≤_, _<_, _+_}
 use native.Mathlib.Decide.{ℕ-discrete, decLt}
 use native.Mathlib.Omega.{arith}
-use native.Mathlib.Nat.{pow-suc}
-use lib.Bits.{bitAnd, bitOr, and-le-l}
-use lib.Count.{trailingZeros, under}
+use native.Mathlib.Nat.{pow-suc, one-mul, mod-eq-of-lt}
+use lib.Bits.{bitAnd, bitOr, and-le-l, and-le-r}
+use lib.Count.{trailingZeros, under, ones, ones-step}
 use lib.Dec.{eqb}
-use lib.Pow.{pow-lt}
+use lib.Pow.{pow-lt, pow-pos, pow-mono}
 use borrow.Author.Tests.{eq-eqb, ne-eqb}
-use Rattle.bits.specs.Logic.{andb, orb}
+use Rattle.bits.specs.Logic.{andb, orb, bit}
 use Rattle.bits.specs.Digit.{digit, on}
-use Rattle.bits.specs.DigitLaws.{on-and, on-or, on-zero, on-single, on-complement}
+use Rattle.bits.specs.DigitLaws.{on-and, on-or, on-zero, on-single, on-complement, Binary, is0, is1, binary, on-ones}
 use Rattle.bits.specs.LogicLaws.{never-both, and-true, and-false}
 use Rattle.bits.specs.ShiftLaws.{on-half}
 use Rattle.cells.specs.Sets.{With, Without}
@@ -59,3 +62,22 @@ lowest-on (suc d) n ne h = go (n % 2) refl
         → (under r (trailingZeros d (n / 2)) < suc d) × (on n (under r (trailingZeros d (n / 2))) ≡ true)
     go zero e ih = let r = ih e in ((let z = r .0 in omega arith), on-half n (trailingZeros d (n / 2)) ∙ r .1)
     go (suc r) e ih = ((omega arith), (let p : n / 1 % 2 ≡ 1 = omega arith in rw p refl))
+
+-- ---- sets of cells
+-- the size of one is the number of its digits below 6
+pub size-of : (x : ℕ) → (ones (bitAnd x 63) ≡ count (on x) 6) × (ones (bitAnd x 63) ≤ 6)
+size-of x =
+    let low = and-le-r x 63 in
+    let cells = count-alike (on (bitAnd x 63)) (on x) 6 (λ i h. on-and x 63 i ∙ ap (andb (on x i)) (on-ones 6 i h) ∙ and-true (on x i)) in
+    let size = ones-count 6 (bitAnd x 63) (omega arith) ∙ cells in
+    let few = count-le (on x) 6 in
+    (size, omega arith)
+
+-- 2 ^ k as the code shifts it
+pub power-is : (k : ℕ) → k ≤ 6 → (1 * 2 ^ k % 2 ^ 8 ≡ 2 ^ k) × (0 < 1 * 2 ^ k % 2 ^ 8) × (1 * 2 ^ k % 2 ^ 8 ≤ 64)
+power-is k h =
+    let l : k < 8 = omega arith in
+    let e : 1 * 2 ^ k % 2 ^ 8 ≡ 2 ^ k = rw one-mul (mod-eq-of-lt (pow-lt l)) in
+    let p : 0 < 2 ^ k = pow-pos k in
+    let m : 2 ^ k ≤ 2 ^ 6 = pow-mono h in
+    (e, (omega arith), omega arith)

@@ -1,9 +1,12 @@
 // Cells without text: problems, cores, what it means to serve, what may be changed in a core that serves, and the laws
-// that the search rests on, in specs/. The code is sets of numbers below 64, kept as the digits of one number.
+// that the search rests on, in specs/. The code is sets of numbers below 64, kept as the digits of one number, and the sizes of
+// sets of cells.
 ghost use mathlib.Core.Path.{_≡_};
 ghost use mathlib.Core.Bool.{true};
-ghost use Prim.Native.Nat.{_<_, _^_};
+ghost use Prim.Native.Nat.{_<_, _≤_, _^_};
+ghost use Rattle.limits.specs.Limits.{maxCells, maxCodes};
 ghost use Rattle.bits.specs.Digit.{on};
+ghost use Rattle.bits.specs.Count.{count};
 ghost use Rattle.cells.specs.Sets.{With, Without, setRoom};
 
 // The most cells and codes, as bytes: sets of cells, codes and labels are kept in bytes.
@@ -55,4 +58,20 @@ pub fn lowest(s: u64) -> u8
     ensures { λ r. ⌜ (r < setRoom) × (on s r ≡ true) ⌝ }
 {
     u64::trailing_zeros(s) as u8
+}
+
+// How many cells a set of cells has.
+pub fn size(x: u8) -> u8
+    ensures { λ r. ⌜ (r ≡ count (on x) maxCells) × (r ≤ maxCells) ⌝ }
+{
+    u32::count_ones((x & ALL_CELLS) as u32) as u8
+}
+
+// How many codes there are over k cells: 2 to the power k, as a byte. A cast of bits::power would need this contract at each
+// of its callers.
+pub fn power(k: u8) -> u8
+    requires { ⌜ k ≤ maxCells ⌝ }
+    ensures { λ r. ⌜ (r ≡ 2 ^ k) × (0 < r) × (r ≤ maxCodes) ⌝ }
+{
+    1 << k
 }

@@ -24,7 +24,7 @@ use Rattle.problem.specs.Problem.{labelAt, partOf, item, Solves}
 use Rattle.coding.specs.Exchange.{Uniform, SameBlocks}
 
 -- ======== exchanging two values
-abbrev pub other : ℕ → ℕ → ℕ → ℕ
+abbrev other : ℕ → ℕ → ℕ → ℕ
 other a b p = pick (eqb p a) b (pick (eqb p b) a p)
 
 other-a : (a b p : ℕ) → p ≡ a → other a b p ≡ b
@@ -51,7 +51,7 @@ other-same a b p q e = go (ℕ-discrete p a) (ℕ-discrete p b) (ℕ-discrete q 
     go (no pa) (no pb) (no qa) (no qb) = sym (other-c a b p pa pb) ∙ e ∙ other-c a b q qa qb
 
 -- a code with another value of the group
-abbrev pub renamed : ℕ → ℕ → ℕ → ℕ
+abbrev renamed : ℕ → ℕ → ℕ → ℕ
 renamed g t c = bitOr (bitAnd c (2 ^ 8 - 1 - g)) (bitAnd t g)
 
 module _ (g : ℕ) (low : g < 64) where

@@ -228,7 +228,7 @@ module _ (codes : List ℕ) (v x c : ℕ) (long : length codes ≡ 32) (few : v 
   there : (y : ℕ) → (y ≡ x → ⊥) → item (set codes x c) y ≡ item codes y
   there y ne = getD-set-other codes x y c 0 ne
 
-  pub used-more : (gs used r : List ℕ) → c < 64 → Marked gs used c 3 r → Used gs codes v used → Used gs (set codes x c) v r
+  used-more : (gs used r : List ℕ) → c < 64 → Marked gs used c 3 r → Used gs codes v used → Used gs (set codes x c) v r
   used-more gs used r l m u = record {
     marks = record {
       long = m .long;

@@ -40,7 +40,7 @@ module _ (cl codes : List ℕ) (o mask : ℕ) where
     less = λ l h. let z = f l h in omega arith;
   }
 
-  pub held-skip : (y : ℕ) (own owns : List ℕ) → 64 ≤ item codes y → Held cl codes o mask y own owns → Held cl codes o mask (y + 1) own owns
+  held-skip : (y : ℕ) (own owns : List ℕ) → 64 ≤ item codes y → Held cl codes o mask y own owns → Held cl codes o mask (y + 1) own owns
   held-skip y own owns u s = record {
     own-long = s .own-long;
     owns-long = s .owns-long;
@@ -50,7 +50,7 @@ module _ (cl codes : List ℕ) (o mask : ℕ) where
     less = λ l h. let z = s .less l h in omega arith;
   }
 
-  pub held-old : (y : ℕ) (own owns : List ℕ) → labelAt cl o y < 32 → item codes y < 64
+  held-old : (y : ℕ) (own owns : List ℕ) → labelAt cl o y < 32 → item codes y < 64
       → on (getD own (labelAt cl o y) 0) (item codes y) ≡ true → Held cl codes o mask y own owns
       → Held cl codes o mask (y + 1) own owns
   held-old y own owns b u t s = record {
@@ -66,7 +66,7 @@ module _ (cl codes : List ℕ) (o mask : ℕ) where
     less = λ l h. let z = s .less l h in omega arith;
   }
 
-  pub held-new : (y bs : ℕ) (own owns : List ℕ) → labelAt cl o y < 32 → item codes y < 64
+  held-new : (y bs : ℕ) (own owns : List ℕ) → labelAt cl o y < 32 → item codes y < 64
       → on (getD own (labelAt cl o y) 0) (item codes y) ≡ false → Block mask (item codes y) bs
       → Held cl codes o mask y own owns
       → Held cl codes o mask (y + 1) (set own (labelAt cl o y) (bitOr (getD own (labelAt cl o y) 0) bs)) (set owns (labelAt cl o y) (getD owns (labelAt cl o y) 0 + 1))

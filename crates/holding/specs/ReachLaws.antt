@@ -256,7 +256,7 @@ module _ (cl base ms caps spots : List ℕ) (v j o : ℕ) (codes dom own owns wa
             )
 
     -- the vertices of a part can take too few blocks
-    pub reach-none : (total news un : ℕ) → Lacks cl owns wants base o p 32 total news → Reached cl base owns wants codes dom own o p v un → Fewer mask un news → ⊥
+    reach-none : (total news un : ℕ) → Lacks cl owns wants base o p 32 total news → Reached cl base owns wants codes dom own o p v un → Fewer mask un news → ⊥
     reach-none total news un lacks reached fewer =
         let r = many 32 (omega arith) in
         let n = fewer .fewer g (r .0) (
@@ -273,7 +273,7 @@ module _ (cl base ms caps spots : List ℕ) (v j o : ℕ) (codes dom own owns wa
         ]
 
 module _ (cl base ms caps spots : List ℕ) (v j o : ℕ) (codes dom own owns : List ℕ) (labels : Labels cl) (few : v ≤ 32) (outs : j ≤ 8) (h : o < j) (s : Held cl codes o (item ms o) v own owns) where
-  pub settled-reach : (wants meet : List ℕ) (p total news : ℕ) → Wanted cl o (item ms o) v dom own owns wants meet → item caps o ≤ 1
+  settled-reach : (wants meet : List ℕ) (p total news : ℕ) → Wanted cl o (item ms o) v dom own owns wants meet → item caps o ≤ 1
       → Lacks cl owns wants base o p 32 total news → Lost cl base owns wants codes dom own o p (item ms o) v news
       → (kn val : ℕ) → Hopeless cl base ms caps spots v j kn val codes dom
   settled-reach wants meet p total news want single lacks lost kn val = record {

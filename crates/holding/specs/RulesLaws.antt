@@ -85,7 +85,7 @@ module _ (cl base ms caps spots : List ℕ) (v j o : ℕ) (codes dom own owns : 
       )
 
   -- a vertex that can take none of the blocks that its class holds has a code in none of them
-  pub outside-held : (l y : ℕ) → y < v → bitAnd (item dom y) (item own l) ≡ 0 → on (item own l) (g y) ≡ false
+  outside-held : (l y : ℕ) → y < v → bitAnd (item dom y) (item own l) ≡ 0 → on (item own l) (g y) ≡ false
   outside-held l y i z = false-unless _ (λ t. never-both (on-and (item dom y) (item own l) (g y) ∙ ap₂ andb (e .within y i) t) (ap (λ (n : ℕ). on n (g y)) z ∙ on-zero (g y)))
 
   -- all such vertices of a class below n have x's block, or one has another

@@ -456,23 +456,40 @@ fn lacking(cl: &[u8], base: &[u8], o: usize, p: u8, l: usize, has: u8, wants: u8
     has < n
 }
 
+// How many blocks each class holds, and how many it needs.
+struct Counts {
+    owns: [u8; MAX_VERTICES],
+    wants: [u8; MAX_VERTICES],
+}
+
+// An output whose sets are narrowed: its number, 2 to the number of its private cells, and of all that it reads; and how many
+// vertices there are.
+struct Output {
+    number: usize,
+    cap: u8,
+    spot: usize,
+    vertices: usize,
+}
+
 // What the vertices without a code whose classes are of part p and lack blocks can take besides the blocks that these hold.
 fn reach(
     cl: &[u8],
     base: &[u8],
-    v: usize,
-    o: usize,
+    t: Output,
     p: u8,
-    owns: &[u8],
-    wants: &[u8],
+    n: Counts,
     codes: &[u8],
     dom: &[u64],
     own: &[u64],
 ) -> u64
-    requires { ⌜ Labels (now cl) × (length (now base) ≡ labelCount) × (v ≤ maxVertices) × (o < searchOutputs) × (length (now dom) ≡ maxVertices) × (length (now own) ≡ maxVertices)
-        × (length (now codes) ≡ maxVertices) × (length (now owns) ≡ maxVertices) × (length (now wants) ≡ maxVertices) ⌝ }
-    ensures { λ r. ⌜ Reached (now (cl .entry)) (now (base .entry)) (now (owns .entry)) (now (wants .entry)) (now (codes .entry)) (now (dom .entry)) (now (own .entry)) o p v r ⌝ }
+    requires { ⌜ Labels (now cl) × (length (now base) ≡ labelCount) × (t .vertices ≤ maxVertices) × (t .number < searchOutputs) × (length (now dom) ≡ maxVertices)
+        × (length (now own) ≡ maxVertices) × (length (now codes) ≡ maxVertices) ⌝ }
+    ensures { λ r. ⌜ Reached (now (cl .entry)) (now (base .entry)) (n .owns) (n .wants) (now (codes .entry)) (now (dom .entry)) (now (own .entry)) (t .number) p (t .vertices) r ⌝ }
 {
+    let v = t.vertices;
+    let o = t.number;
+    let owns = n.owns;
+    let wants = n.wants;
     let mut r: u64 = 0;
     let mut y = 0;
     while y < v {
@@ -512,31 +529,27 @@ fn out_of_reach(
     cl: &[u8],
     base: &[u8],
     bs: &[u64],
-    v: usize,
-    o: usize,
-    cap: u8,
+    t: Output,
     p: u8,
     news: u16,
-    owns: &[u8],
-    wants: &[u8],
+    n: Counts,
     codes: &[u8],
     dom: &[u64],
     own: &[u64],
 ) -> bool
-    requires { ⌜ Labels (now cl) × (length (now base) ≡ labelCount) × (length (now bs) ≡ blockCount) × (v ≤ maxVertices) × (o < searchOutputs)
-        × (length (now dom) ≡ maxVertices) × (length (now own) ≡ maxVertices)
-        × (length (now codes) ≡ maxVertices) × (length (now owns) ≡ maxVertices) × (length (now wants) ≡ maxVertices) ⌝ }
-    ensures { λ r. ⌜ (r ≡ true → (cap ≤ 1) × ((mask : ℕ) → ((c : ℕ) → c < maxCodes → Block mask c (getD (now (bs .entry)) (o * maxCodes + c) 0))
-        → Lost (now (cl .entry)) (now (base .entry)) (now (owns .entry)) (now (wants .entry)) (now (codes .entry)) (now (dom .entry)) (now (own .entry)) o p mask v news)) ⌝ }
+    requires { ⌜ Labels (now cl) × (length (now base) ≡ labelCount) × (length (now bs) ≡ blockCount) × (t .vertices ≤ maxVertices) × (t .number < searchOutputs)
+        × (length (now dom) ≡ maxVertices) × (length (now own) ≡ maxVertices) × (length (now codes) ≡ maxVertices) ⌝ }
+    ensures { λ r. ⌜ (r ≡ true → (t .cap ≤ 1) × ((mask : ℕ) → ((c : ℕ) → c < maxCodes → Block mask c (getD (now (bs .entry)) (t .number * maxCodes + c) 0))
+        → Lost (now (cl .entry)) (now (base .entry)) (n .owns) (n .wants) (now (codes .entry)) (now (dom .entry)) (now (own .entry)) (t .number) p mask (t .vertices) news)) ⌝ }
 {
-    if 1 < cap {
+    if 1 < t.cap {
         return false;
     }
     if news == 0 {
         return false;
     }
-    let d = reach(cl, base, v, o, p, owns, wants, codes, dom, own);
-    fewer_blocks(bs, o, d, news)
+    let d = reach(cl, base, t, p, n, codes, dom, own);
+    fewer_blocks(bs, t.number, d, news)
 }
 
 // Whether that is so of some part of the set others.
@@ -544,46 +557,31 @@ fn others_out_of_reach(
     cl: &[u8],
     base: &[u8],
     bs: &[u64],
-    v: usize,
-    o: usize,
-    cap: u8,
+    t: Output,
     others: u64,
-    owns: &[u8],
-    wants: &[u8],
+    n: Counts,
     codes: &[u8],
     dom: &[u64],
     own: &[u64],
 ) -> bool
-    requires { ⌜ Labels (now cl) × (length (now base) ≡ labelCount) × (length (now bs) ≡ blockCount) × (v ≤ maxVertices) × (o < searchOutputs)
-        × (length (now dom) ≡ maxVertices) × (length (now own) ≡ maxVertices) × (length (now codes) ≡ maxVertices) × (length (now owns) ≡ maxVertices) × (length (now wants) ≡ maxVertices)
-        × ((l : ℕ) → l < maxVertices → item (now owns) l ≤ item (now wants) l) ⌝ }
-    ensures { λ r. ⌜ (r ≡ true → (cap ≤ 1) × ((p : ℕ) × (total : ℕ) × (news : ℕ) × Lacks (now (cl .entry)) (now (owns .entry)) (now (wants .entry)) (now (base .entry)) o p maxVertices total news
-        × ((mask : ℕ) → ((c : ℕ) → c < maxCodes → Block mask c (getD (now (bs .entry)) (o * maxCodes + c) 0))
-        → Lost (now (cl .entry)) (now (base .entry)) (now (owns .entry)) (now (wants .entry)) (now (codes .entry)) (now (dom .entry)) (now (own .entry)) o p mask v news))) ⌝ }
+    requires { ⌜ Labels (now cl) × (length (now base) ≡ labelCount) × (length (now bs) ≡ blockCount) × (t .vertices ≤ maxVertices) × (t .number < searchOutputs)
+        × (length (now dom) ≡ maxVertices) × (length (now own) ≡ maxVertices) × (length (now codes) ≡ maxVertices)
+        × ((l : ℕ) → l < maxVertices → item (n .owns) l ≤ item (n .wants) l) ⌝ }
+    ensures { λ r. ⌜ (r ≡ true → (t .cap ≤ 1) × ((p : ℕ) × (total : ℕ) × (news : ℕ) × Lacks (now (cl .entry)) (n .owns) (n .wants) (now (base .entry)) (t .number) p maxVertices total news
+        × ((mask : ℕ) → ((c : ℕ) → c < maxCodes → Block mask c (getD (now (bs .entry)) (t .number * maxCodes + c) 0))
+        → Lost (now (cl .entry)) (now (base .entry)) (n .owns) (n .wants) (now (codes .entry)) (now (dom .entry)) (now (own .entry)) (t .number) p mask (t .vertices) news))) ⌝ }
 {
-    if cap != 1 {
+    if t.cap != 1 {
         return false;
     }
+    let owns = n.owns;
+    let wants = n.wants;
     let mut rest = others;
     while rest != 0 {
         let p = cells::lowest(rest);
         rest = cells::without(rest, p);
-        let a = lacks(cl, base, o, p, owns, wants);
-        if out_of_reach(
-            cl,
-            base,
-            bs,
-            v,
-            o,
-            cap,
-            p,
-            a.news,
-            owns,
-            wants,
-            codes,
-            dom,
-            own,
-        ) {
+        let a = lacks(cl, base, t.number, p, &owns, &wants);
+        if out_of_reach(cl, base, bs, t, p, a.news, n, codes, dom, own) {
             return true;
         }
     }
@@ -611,22 +609,24 @@ fn keep(own: u64, meet: u64, has: u8, wants: u8, need: u8) -> u64
 fn narrow(
     cl: &[u8],
     base: &[u8],
-    v: usize,
-    o: usize,
+    t: Output,
     own: &[u64],
     meet: &[u64],
-    owns: &[u8],
-    wants: &[u8],
+    n: Counts,
     tight: u64,
     codes: &[u8],
     dom: &mut [u64],
 )
-    requires { ⌜ Labels (now cl) × (length (now base) ≡ labelCount) × (v ≤ maxVertices) × (o < searchOutputs) × (length (now own) ≡ maxVertices)
-        × (length (now meet) ≡ maxVertices) × ((l : ℕ) → l < maxVertices → item (now owns) l ≤ maxVertices)
-        × (length (now codes) ≡ maxVertices) × (length (now dom) ≡ maxVertices) × (length (now owns) ≡ maxVertices) × (length (now wants) ≡ maxVertices) ⌝ }
-    ensures { λ r. ⌜ Narrowed (Stays (now (cl .entry)) (now (base .entry)) o tight (now (own .entry)) (now (meet .entry)) (now (owns .entry)) (now (wants .entry)))
-        (now (dom .entry)) v (now (dom .exit)) ⌝ }
+    requires { ⌜ Labels (now cl) × (length (now base) ≡ labelCount) × (t .vertices ≤ maxVertices) × (t .number < searchOutputs) × (length (now own) ≡ maxVertices)
+        × (length (now meet) ≡ maxVertices) × ((l : ℕ) → l < maxVertices → item (n .owns) l ≤ maxVertices)
+        × (length (now codes) ≡ maxVertices) × (length (now dom) ≡ maxVertices) ⌝ }
+    ensures { λ r. ⌜ Narrowed (Stays (now (cl .entry)) (now (base .entry)) (t .number) tight (now (own .entry)) (now (meet .entry)) (n .owns) (n .wants))
+        (now (dom .entry)) (t .vertices) (now (dom .exit)) ⌝ }
 {
+    let v = t.vertices;
+    let o = t.number;
+    let owns = n.owns;
+    let wants = n.wants;
     let mut y = 0;
     while y < v {
         if codes[y] >= problem::NO_CODE {
@@ -664,62 +664,31 @@ fn no_room(
     cl: &[u8],
     base: &[u8],
     bs: &[u64],
-    v: usize,
-    o: usize,
-    cap: u8,
-    spot: usize,
+    t: Output,
     b: Busy,
-    owns: &[u8],
-    wants: &[u8],
+    n: Counts,
     codes: &[u8],
     dom: &[u64],
     own: &[u64],
 ) -> bool
-    requires { ⌜ Labels (now cl) × (length (now base) ≡ labelCount) × (length (now bs) ≡ blockCount) × (v ≤ maxVertices) × (o < searchOutputs)
-        × (length (now dom) ≡ maxVertices) × (length (now own) ≡ maxVertices) × (length (now codes) ≡ maxVertices) × (length (now owns) ≡ maxVertices) × (length (now wants) ≡ maxVertices)
-        × ((l : ℕ) → l < maxVertices → item (now owns) l ≤ item (now wants) l)
-        × Lacks (now cl) (now owns) (now wants) (now base) o (b .part) maxVertices (b .total) (b .news) ⌝ }
-    ensures { λ r. ⌜ (r ≡ true → NoRoom (now (cl .entry)) (now (base .entry)) (now (owns .entry)) (now (wants .entry)) (now (codes .entry)) (now (dom .entry)) (now (own .entry)) (now (bs .entry))
-        o v cap spot) ⌝ }
+    requires { ⌜ Labels (now cl) × (length (now base) ≡ labelCount) × (length (now bs) ≡ blockCount) × (t .vertices ≤ maxVertices) × (t .number < searchOutputs)
+        × (length (now dom) ≡ maxVertices) × (length (now own) ≡ maxVertices) × (length (now codes) ≡ maxVertices)
+        × ((l : ℕ) → l < maxVertices → item (n .owns) l ≤ item (n .wants) l)
+        × Lacks (now cl) (n .owns) (n .wants) (now base) (t .number) (b .part) maxVertices (b .total) (b .news) ⌝ }
+    ensures { λ r. ⌜ (r ≡ true → NoRoom (now (cl .entry)) (now (base .entry)) (n .owns) (n .wants) (now (codes .entry)) (now (dom .entry)) (now (own .entry)) (now (bs .entry))
+        (t .number) (t .vertices) (t .cap) (t .spot)) ⌝ }
 {
-    let t = b.total as usize;
-    if spot < t {
+    let total = b.total as usize;
+    if t.spot < total {
         return true;
     }
-    if out_of_reach(
-        cl,
-        base,
-        bs,
-        v,
-        o,
-        cap,
-        b.part,
-        b.news,
-        owns,
-        wants,
-        codes,
-        dom,
-        own,
-    ) {
+    if out_of_reach(cl, base, bs, t, b.part, b.news, n, codes, dom, own) {
         return true;
     }
-    others_out_of_reach(
-        cl,
-        base,
-        bs,
-        v,
-        o,
-        cap,
-        b.others,
-        owns,
-        wants,
-        codes,
-        dom,
-        own,
-    )
+    others_out_of_reach(cl, base, bs, t, b.others, n, codes, dom, own)
 }
 
-// The sets are narrowed by what the classes of output o hold, own and owns, and need, wants and meet. False where no solution
+// The sets are narrowed by what the classes of output o hold, own, and need, meet, and by how many blocks these are. False where no solution
 // keeps to them.
 fn narrow_by(
     cl: &[u8],
@@ -729,46 +698,39 @@ fn narrow_by(
     o: usize,
     own: &[u64],
     meet: &[u64],
-    owns: &[u8],
-    wants: &[u8],
+    n: Counts,
     codes: &[u8],
     dom: &mut [u64],
 ) -> bool
     requires { ⌜ Labels (now cl) × (length (now base) ≡ labelCount) × Blocks (p .ms) (now bs) (p .outputs) × (p .vertices ≤ maxVertices) × (p .outputs ≤ searchOutputs)
         × (o < p .outputs) × (length (now codes) ≡ maxVertices) × (length (now dom) ≡ maxVertices)
-        × Held (now cl) (now codes) o (item (p .ms) o) (p .vertices) (now own) (now owns)
-        × Wanted (now cl) o (item (p .ms) o) (p .vertices) (now dom) (now own) (now owns) (now wants) (now meet) ⌝ }
+        × Held (now cl) (now codes) o (item (p .ms) o) (p .vertices) (now own) (n .owns)
+        × Wanted (now cl) o (item (p .ms) o) (p .vertices) (now dom) (now own) (n .owns) (n .wants) (now meet) ⌝ }
     ensures { λ r. ⌜ Kept (now (cl .entry)) (now (base .entry)) (p .ms) (p .caps) (p .spots) (p .vertices) (p .outputs) (now (codes .entry)) (now (dom .entry)) (now (dom .exit))
         × (length (now (dom .exit)) ≡ maxVertices)
         × (r ≡ false → (kn val : ℕ) → Hopeless (now (cl .entry)) (now (base .entry)) (p .ms) (p .caps) (p .spots) (p .vertices) (p .outputs) kn val (now (codes .entry)) (now (dom .entry))) ⌝ }
 {
     let caps = p.caps;
     let spots = p.spots;
-    let v = p.vertices;
+    let owns = n.owns;
+    let wants = n.wants;
     let spot = spots[o] as usize;
-    let b = busiest(cl, base, o, owns, wants, spot);
+    let cap = caps[o];
+    let b = busiest(cl, base, o, &owns, &wants, spot);
     let tight = b.tight;
-    if no_room(
-        cl,
-        base,
-        bs,
-        v,
-        o,
-        caps[o],
+    let t = Output {
+        number: o,
+        cap,
         spot,
-        b,
-        owns,
-        wants,
-        codes,
-        dom,
-        own,
-    ) {
+        vertices: p.vertices,
+    };
+    if no_room(cl, base, bs, t, b, n, codes, dom, own) {
         return false;
     }
     if tight == 0 {
         return true;
     }
-    narrow(cl, base, v, o, own, meet, owns, wants, tight, codes, dom);
+    narrow(cl, base, t, own, meet, n, tight, codes, dom);
     true
 }
 
@@ -796,5 +758,6 @@ pub fn settle(
     let mut wants = owns;
     let mut meet = [cells::ALL_CODES; MAX_VERTICES];
     wanted(cl, ms[o], v, o, dom, &own, &owns, &mut wants, &mut meet);
-    narrow_by(cl, base, bs, p, o, &own, &meet, &owns, &wants, codes, dom)
+    let n = Counts { owns, wants };
+    narrow_by(cl, base, bs, p, o, &own, &meet, n, codes, dom)
 }

@@ -6,23 +6,14 @@ use mathlib.Core.Logic.{_⊎_, inl, inr, ⊎-elim}
 use Prim.Native.Nat.{ℕ, zero, suc, _+_, _-_, _*_, _/_, _%_, _^_, _≤_, _<_}
 use native.Mathlib.Decide.{ℕ-discrete, decLt}
 use native.Mathlib.Omega.{arith}
-use native.Mathlib.Nat.{div-mul-le-self, suc-mul, one-mul, mod-eq-of-lt}
-use lib.Pow.{pow-lt, pow-pos, pow-mono}
+use native.Mathlib.Nat.{div-mul-le-self, suc-mul}
+use lib.Pow.{pow-pos}
 use lib.ListN.{length, set, length-set}
 use lib.Seq.{getD-set-same, getD-set-other}
 use Rattle.limits.specs.Limits.{maxVertices, labelCount}
 use Rattle.bits.specs.CountLaws.{less-or-equal}
 use Rattle.problem.specs.Problem.{item}
 use Rattle.lowerbounds.specs.Reasons.{apart, Reason, Based, FewKinds, blocksFor, Raised}
-
--- 2 ^ k as the code shifts it
-pub power-is : (k : ℕ) → k ≤ 6 → (1 * 2 ^ k % 2 ^ 8 ≡ 2 ^ k) × (0 < 1 * 2 ^ k % 2 ^ 8) × (1 * 2 ^ k % 2 ^ 8 ≤ 64)
-power-is k h =
-    let l : k < 8 = omega arith in
-    let e : 1 * 2 ^ k % 2 ^ 8 ≡ 2 ^ k = rw one-mul (mod-eq-of-lt (pow-lt l)) in
-    let p : 0 < 2 ^ k = pow-pos k in
-    let m : 2 ^ k ≤ 2 ^ 6 = pow-mono h in
-    (e, (omega arith), omega arith)
 
 -- ======== the entries of one output, class by class
 module _ (o d : ℕ) (kinds before : List ℕ) where

@@ -1,38 +1,13 @@
 // How many blocks each class of each output cannot do without, for given reading sets (specs/Reasons has the argument).
 ghost use mathlib.Core.Path.{_≡_};
-ghost use Prim.Native.Nat.{ℕ, _*_, _<_, _≤_, _^_};
+ghost use Prim.Native.Nat.{ℕ, _*_, _<_, _≤_};
 ghost use lib.ListN.{length};
-ghost use Rattle.limits.specs.Limits.{searchOutputs, maxVertices, labelCount, maxCodes, maxCells};
-ghost use Rattle.bits.specs.Digit.{on};
-ghost use Rattle.bits.specs.Count.{count};
+ghost use Rattle.limits.specs.Limits.{searchOutputs, maxVertices, labelCount, maxCells};
 ghost use Rattle.problem.specs.Problem.{Labels, item};
 ghost use Rattle.lowerbounds.specs.Reasons.{FewKinds, Raised, Based};
 use limits::LABELS;
 use limits::MAX_VERTICES;
 use limits::SEARCH_OUTPUTS;
-
-// How many cells a set of cells has.
-pub fn digits(x: u8) -> u8
-    ensures { λ r. ⌜ (r ≡ count (on x) maxCells) × (r ≤ maxCells) ⌝ }
-{
-    let mut n: u8 = 0;
-    let mut i: u8 = 0;
-    while i < cells::MAX_CELLS {
-        if cells::in_set(x as u64, i) {
-            n += 1;
-        }
-        i += 1;
-    }
-    n
-}
-
-// 2 to the power k.
-pub fn power(k: u8) -> u8
-    requires { ⌜ k ≤ maxCells ⌝ }
-    ensures { λ r. ⌜ (r ≡ 2 ^ k) × (0 < r) × (r ≤ maxCodes) ⌝ }
-{
-    1 << k
-}
 
 // The classes of an output and the parts of another, as pairs.
 const PAIRS: usize = MAX_VERTICES * MAX_VERTICES;
@@ -70,7 +45,7 @@ fn raise(base: &mut [u8], o: usize, kinds: [u8; MAX_VERTICES], d: u8)
     requires { ⌜ (length (now base) ≡ labelCount) × (o < searchOutputs) × (d ≤ maxCells) × ((l : ℕ) → l < maxVertices → item kinds l ≤ maxVertices) ⌝ }
     ensures { λ _. ⌜ Raised o d maxVertices kinds (now (base .entry)) (now (base .exit)) ⌝ }
 {
-    let p = power(d);
+    let p = cells::power(d);
     let mut l = 0;
     while l < MAX_VERTICES {
         let i = o * MAX_VERTICES + l;
@@ -90,7 +65,7 @@ fn raise_all(base: &mut [u8], cl: &[u8], v: usize, j: usize, rows: [u8; SEARCH_O
     let mut q = 0;
     while q < j {
         if q != o || j == 1 {
-            let d = digits(rows[q] & !rows[o]);
+            let d = cells::size(rows[q] & !rows[o]);
             raise(base, o, kinds(cl, v, o, q), d);
         }
         q += 1;

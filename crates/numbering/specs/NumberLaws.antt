@@ -62,7 +62,7 @@ module _ (cl codes : List ℕ) (o mask x : ℕ) (nums : List ℕ) where
       → (ws : List ℕ) × All (λ (w : ℕ). (w < y + 1) × (K w ≡ K x)) ws × Pairs (λ (a b : ℕ). labelAt cl o a ≡ labelAt cl o b → ⊥) ws × (length ws ≡ next)
   up y next p = let r = p .seen in (r .0, all-map (λ (w : ℕ). (w < y) × (K w ≡ K x)) (λ (w : ℕ). (w < y + 1) × (K w ≡ K x)) (r .0) (λ w a. ((let z = a .0 in omega arith), a .1)) (r .1), r .2, r .3)
 
-  pub passed-miss : (y next : ℕ) → (K y ≡ K x → ⊥) → Passed cl codes o mask x nums y next → Passed cl codes o mask x nums (y + 1) next
+  passed-miss : (y next : ℕ) → (K y ≡ K x → ⊥) → Passed cl codes o mask x nums y next → Passed cl codes o mask x nums (y + 1) next
   passed-miss y next ne p = record {
     none = λ w h e. ⊎-elim (λ l. p .none w l e) (λ q. absurd (ne (subst (λ (i : ℕ). K i ≡ K x) q e))) (less-or-equal w y (omega arith));
     above = λ w h e. ⊎-elim (λ l. p .above w l e) (λ q. absurd (ne (subst (λ (i : ℕ). K i ≡ K x) q e))) (less-or-equal w y (omega arith));
@@ -71,7 +71,7 @@ module _ (cl codes : List ℕ) (o mask x : ℕ) (nums : List ℕ) where
   }
 
   -- y is in the block, with a number below next
-  pub passed-low : (y next : ℕ) → (labelAt cl o y ≡ labelAt cl o x → ⊥) → item nums y < next → Passed cl codes o mask x nums y next → Passed cl codes o mask x nums (y + 1) next
+  passed-low : (y next : ℕ) → (labelAt cl o y ≡ labelAt cl o x → ⊥) → item nums y < next → Passed cl codes o mask x nums y next → Passed cl codes o mask x nums (y + 1) next
   passed-low y next ne h p = record {
     none = λ w b e. ⊎-elim (λ l. p .none w l e) (λ q. subst (λ (i : ℕ). labelAt cl o i ≡ labelAt cl o x → ⊥) (sym q) ne) (less-or-equal w y (omega arith));
     above = λ w b e. ⊎-elim (λ l. p .above w l e) (λ q. subst (λ (i : ℕ). item nums i < next) (sym q) h) (less-or-equal w y (omega arith));
@@ -80,7 +80,7 @@ module _ (cl codes : List ℕ) (o mask x : ℕ) (nums : List ℕ) where
   }
 
   -- or with the highest so far
-  pub passed-high : (y next : ℕ) → y < x → K y ≡ K x → (labelAt cl o y ≡ labelAt cl o x → ⊥) → next ≤ item nums y
+  passed-high : (y next : ℕ) → y < x → K y ≡ K x → (labelAt cl o y ≡ labelAt cl o x → ⊥) → next ≤ item nums y
       → Numbered cl codes o mask x nums → Passed cl codes o mask x nums y next
       → Passed cl codes o mask x nums (y + 1) (item nums y + 1)
   passed-high y next l e ne h s p = record {
@@ -152,7 +152,7 @@ numbered-start cl codes o mask nums e = record { long = e; apart = λ y z h. abs
 
 -- ======== spreading a number over the digits of a mask
 -- there is a digit with p that k digits with p stand below
-pub nth : (p : ℕ → Bool) (n k : ℕ) → k < count p n → (i : ℕ) × (i < n) × (p i ≡ true) × (count p i ≡ k)
+nth : (p : ℕ → Bool) (n k : ℕ) → k < count p n → (i : ℕ) × (i < n) × (p i ≡ true) × (count p i ≡ k)
 unfolding count
 nth p zero k h = absurd (omega arith)
 nth p (suc n) k h = go (p n) refl (nth p n k) (decLt k (count p n))
@@ -165,11 +165,11 @@ nth p (suc n) k h = go (p n) refl (nth p n k) (decLt k (count p n))
     go true e ih (no l) = (n, (omega arith), e, (let z : bit (p n) ≡ 1 = ap bit e in omega arith))
     go false e ih (no l) = absurd (let z : bit (p n) ≡ 0 = ap bit e in omega arith)
 
-pub spread-start : (n p : ℕ) → Spread n p 0 0
+spread-start : (n p : ℕ) → Spread n p 0 0
 spread-start n p = record { digits = λ k h. absurd (omega arith); rest = λ k h. on-zero k }
 
 -- digit i of p is 0: nothing is added
-pub spread-skip : (n p i r : ℕ) → on p i ≡ false → Spread n p i r → Spread n p (i + 1) r
+spread-skip : (n p i r : ℕ) → on p i ≡ false → Spread n p i r → Spread n p (i + 1) r
 spread-skip n p i r e s = record {
   digits = λ k h. ⊎-elim (s .digits k) (λ q. subst (λ (z : ℕ). on r z ≡ andb (on p z) (on n (count (on p) z))) (sym q)
       (s .rest i (omega arith) ∙ sym (ap (λ (b : Bool). andb b (on n (count (on p) i))) e))) (less-or-equal k i (omega arith));
@@ -177,7 +177,7 @@ spread-skip n p i r e s = record {
 }
 
 -- digit i of p is 1, and the next digit of n is 0
-pub spread-zero : (n p i r : ℕ) → on p i ≡ true → on n (count (on p) i) ≡ false → Spread n p i r → Spread n p (i + 1) r
+spread-zero : (n p i r : ℕ) → on p i ≡ true → on n (count (on p) i) ≡ false → Spread n p i r → Spread n p (i + 1) r
 spread-zero n p i r e f s = record {
   digits = λ k h. ⊎-elim (s .digits k) (λ q. subst (λ (z : ℕ). on r z ≡ andb (on p z) (on n (count (on p) z))) (sym q) (s .rest i (omega arith) ∙ sym (ap₂ andb e f)))
       (less-or-equal k i (omega arith));
@@ -185,7 +185,7 @@ spread-zero n p i r e f s = record {
 }
 
 -- or 1
-pub spread-one : (n p i r r' : ℕ) → on p i ≡ true → on n (count (on p) i) ≡ true → With r i r' → Spread n p i r → Spread n p (i + 1) r'
+spread-one : (n p i r r' : ℕ) → on p i ≡ true → on n (count (on p) i) ≡ true → With r i r' → Spread n p i r → Spread n p (i + 1) r'
 spread-one n p i r r' e f w s = record {
   digits = λ k h. ⊎-elim (λ l. w k ∙ ap (λ (b : Bool). orb (on r k) b) (ne-eqb k i (λ q. omega arith)) ∙ or-false (on r k) ∙ s .digits k l)
       (λ q. subst (λ (z : ℕ). on r' z ≡ andb (on p z) (on n (count (on p) z))) (sym q) (w i ∙ ap (λ (b : Bool). orb (on r i) b) (eq-eqb i i refl) ∙ or-true (on r i) ∙ sym (ap₂ andb e f)))

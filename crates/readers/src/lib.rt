@@ -134,9 +134,9 @@ fn plan(
         let p = r & !sh;
         ms[o] = m;
         ps[o] = p;
-        let a = lowerbounds::power(lowerbounds::digits(p));
+        let a = cells::power(cells::size(p));
         caps[o] = a;
-        let b = lowerbounds::power(lowerbounds::digits(r));
+        let b = cells::power(cells::size(r));
         spots[o] = b;
         o += 1;
     }
@@ -216,7 +216,7 @@ fn useful(rows: [u8; SEARCH_OUTPUTS], j: usize, g: u8, done: u8) -> bool
     if g & done != 0 {
         return false;
     }
-    if lowerbounds::digits(g) < 2 {
+    if cells::size(g) < 2 {
         return false;
     }
     uniform(rows, j, g)

@@ -33,7 +33,7 @@ fn places(u: u8, kn: u32) -> u8
     if u == 0 {
         return 0;
     }
-    let all = lowerbounds::power(u - 1) - 1;
+    let all = cells::power(u - 1) - 1;
     if kn != 0 { all & !1 } else { all }
 }
 

@@ -41,7 +41,7 @@ fn moved(f: u8, perm: [u8; SEARCH_OUTPUTS]) -> u8
     let mut i: u8 = 0;
     while i < cells::MAX_CELLS {
         if cells::in_set(f as u64, perm[i as usize]) {
-            r = r | lowerbounds::power(i);
+            r = r | cells::power(i);
         }
         i += 1;
     }

@@ -1,7 +1,7 @@
 use Rattle.holding.specs.Held.{Held}
 use Rattle.problem.specs.Problem.{item, Block}
 use borrow.Author.Tests.{not-true, not-false}
-use lib.ListN.{getD}
+use lib.ListN.{length, getD}
 use native.Mathlib.Omega.{arith}
 use Prim.Native.Nat.{ℕ, _<_, _≤_, _+_, _-_, _*_}
 use mathlib.Core.Logic.{⊎-elim}
@@ -47,56 +47,32 @@ label-requires c κs =
     let long = pre .0 .long in
     (omega arith, omega arith, omega arith)
 
-cast-l : tie.Need-cast-l Inv-loop μ-loop
-cast-l c =
-    let label = c .label in
-    let loop-test = c .before .before .before .loop-test in
+-- the class of a vertex is below the lengths of what the classes hold, and counts at most one block for each vertex
+labelled : (c : tie.After-label Inv-loop μ-loop) → (c .label .result < 32) × (length (c .before .before .before .before .loop .own) ≡ 32)
+    × (length (c .before .before .before .before .loop .owns) ≡ 32) × (item (c .before .before .before .before .loop .owns) (c .label .result) ≤ 32)
+labelled c =
     let loop = c .before .before .before .before .loop in
-    let pre = c .before .before .before .before .before .before .before .before .before .before .pre in
-    let args = c .before .before .before .before .before .before .before .before .before .before .args in
-    let few = pre .2 in
-    let outs = pre .3 in
-    let o = pre .4 in
-    let d = loop-test .taken in
-    let low = pre .0 .low (args .o * 32 + loop .y) (omega arith) in
-    let same = label .ensures in
-    record { fits = omega arith }
+    let start = c .before .before .before .before .before .before .before .before .before .before in
+    let args = start .args in
+    let few = start .pre .2 in
+    let outs = start .pre .3 in
+    let o = start .pre .4 in
+    let d = c .before .before .before .loop-test .taken in
+    let low = start .pre .0 .low (args .o * 32 + loop .y) (omega arith) in
+    let same = c .label .ensures in
+    let s = loop .inv .1 (item (args .ms) (args .o)) (λ k h. start .pre .1 .each (args .o) k o h) in
+    let class : c .label .result < 32 = omega arith in
+    let less = s .less (c .label .result) class in
+    (class, s .own-long, s .owns-long, omega arith)
+
+cast-l : tie.Need-cast-l Inv-loop μ-loop
+cast-l c = let facts = labelled c in search needs
 
 mul-in-set : tie.Need-mul-in-set Inv-loop μ-loop
-mul-in-set c =
-    let label = c .label in
-    let loop-test = c .before .before .before .loop-test in
-    let loop = c .before .before .before .before .loop in
-    let pre = c .before .before .before .before .before .before .before .before .before .before .pre in
-    let args = c .before .before .before .before .before .before .before .before .before .before .args in
-    let few = pre .2 in
-    let outs = pre .3 in
-    let o = pre .4 in
-    let d = loop-test .taken in
-    let low = pre .0 .low (args .o * 32 + loop .y) (omega arith) in
-    let same = label .ensures in
-    let s = loop .inv .1 (item (args .ms) (args .o)) (λ k h. pre .1 .each (args .o) k o h) in
-    let own-long = s .own-long in
-    let owns-long = s .owns-long in
-    search needs
+mul-in-set c = let facts = labelled c in search needs
 
 slice-read-in-set : tie.Need-slice-read-in-set Inv-loop μ-loop
-slice-read-in-set c =
-    let label = c .before .label in
-    let loop-test = c .before .before .before .before .loop-test in
-    let loop = c .before .before .before .before .before .loop in
-    let pre = c .before .before .before .before .before .before .before .before .before .before .before .pre in
-    let args = c .before .before .before .before .before .before .before .before .before .before .before .args in
-    let few = pre .2 in
-    let outs = pre .3 in
-    let o = pre .4 in
-    let d = loop-test .taken in
-    let low = pre .0 .low (args .o * 32 + loop .y) (omega arith) in
-    let same = label .ensures in
-    let s = loop .inv .1 (item (args .ms) (args .o)) (λ k h. pre .1 .each (args .o) k o h) in
-    let own-long = s .own-long in
-    let owns-long = s .owns-long in
-    search needs
+slice-read-in-set c = let facts = labelled (c .before) in search needs
 
 in-set-requires : tie.Need-in-set-requires Inv-loop μ-loop
 in-set-requires c κs =
@@ -104,40 +80,10 @@ in-set-requires c κs =
     if1 .taken
 
 mul-own : tie.Need-mul-own Inv-loop μ-loop
-mul-own c =
-    let label = c .before .before .before .label in
-    let loop-test = c .before .before .before .before .before .before .loop-test in
-    let loop = c .before .before .before .before .before .before .before .loop in
-    let pre = c .before .before .before .before .before .before .before .before .before .before .before .before .before .pre in
-    let args = c .before .before .before .before .before .before .before .before .before .before .before .before .before .args in
-    let few = pre .2 in
-    let outs = pre .3 in
-    let o = pre .4 in
-    let d = loop-test .taken in
-    let low = pre .0 .low (args .o * 32 + loop .y) (omega arith) in
-    let same = label .ensures in
-    let s = loop .inv .1 (item (args .ms) (args .o)) (λ k h. pre .1 .each (args .o) k o h) in
-    let own-long = s .own-long in
-    let owns-long = s .owns-long in
-    search needs
+mul-own c = let facts = labelled (c .before .before .before) in search needs
 
 slice-read-own : tie.Need-slice-read-own Inv-loop μ-loop
-slice-read-own c =
-    let label = c .before .before .before .before .label in
-    let loop-test = c .before .before .before .before .before .before .before .loop-test in
-    let loop = c .before .before .before .before .before .before .before .before .loop in
-    let pre = c .before .before .before .before .before .before .before .before .before .before .before .before .before .before .pre in
-    let args = c .before .before .before .before .before .before .before .before .before .before .before .before .before .before .args in
-    let few = pre .2 in
-    let outs = pre .3 in
-    let o = pre .4 in
-    let d = loop-test .taken in
-    let low = pre .0 .low (args .o * 32 + loop .y) (omega arith) in
-    let same = label .ensures in
-    let s = loop .inv .1 (item (args .ms) (args .o)) (λ k h. pre .1 .each (args .o) k o h) in
-    let own-long = s .own-long in
-    let owns-long = s .owns-long in
-    search needs
+slice-read-own c = let facts = labelled (c .before .before .before .before) in search needs
 
 mul-own-2 : tie.Need-mul-own-2 Inv-loop μ-loop
 mul-own-2 c =
@@ -179,95 +125,19 @@ shared-slice-read-own c =
     search needs
 
 mul-own-4 : tie.Need-mul-own-4 Inv-loop μ-loop
-mul-own-4 c =
-    let label = c .before .before .before .before .before .label in
-    let loop-test = c .before .before .before .before .before .before .before .before .loop-test in
-    let loop = c .before .before .before .before .before .before .before .before .before .loop in
-    let pre = c .before .before .before .before .before .before .before .before .before .before .before .before .before .before .before .pre in
-    let args = c .before .before .before .before .before .before .before .before .before .before .before .before .before .before .before .args in
-    let few = pre .2 in
-    let outs = pre .3 in
-    let o = pre .4 in
-    let d = loop-test .taken in
-    let low = pre .0 .low (args .o * 32 + loop .y) (omega arith) in
-    let same = label .ensures in
-    let s = loop .inv .1 (item (args .ms) (args .o)) (λ k h. pre .1 .each (args .o) k o h) in
-    let own-long = s .own-long in
-    let owns-long = s .owns-long in
-    search needs
+mul-own-4 c = let facts = labelled (c .before .before .before .before .before) in search needs
 
 slice-write-own : tie.Need-slice-write-own Inv-loop μ-loop
-slice-write-own c =
-    let label = c .before .before .before .before .before .label in
-    let loop-test = c .before .before .before .before .before .before .before .before .loop-test in
-    let loop = c .before .before .before .before .before .before .before .before .before .loop in
-    let pre = c .before .before .before .before .before .before .before .before .before .before .before .before .before .before .before .pre in
-    let args = c .before .before .before .before .before .before .before .before .before .before .before .before .before .before .before .args in
-    let few = pre .2 in
-    let outs = pre .3 in
-    let o = pre .4 in
-    let d = loop-test .taken in
-    let low = pre .0 .low (args .o * 32 + loop .y) (omega arith) in
-    let same = label .ensures in
-    let s = loop .inv .1 (item (args .ms) (args .o)) (λ k h. pre .1 .each (args .o) k o h) in
-    let own-long = s .own-long in
-    let owns-long = s .owns-long in
-    search needs
+slice-write-own c = let facts = labelled (c .before .before .before .before .before) in search needs
 
 slice-read-owns : tie.Need-slice-read-owns Inv-loop μ-loop
-slice-read-owns c =
-    let label = c .before .before .before .before .before .before .label in
-    let loop-test = c .before .before .before .before .before .before .before .before .before .loop-test in
-    let loop = c .before .before .before .before .before .before .before .before .before .before .loop in
-    let pre = c .before .before .before .before .before .before .before .before .before .before .before .before .before .before .before .before .pre in
-    let args = c .before .before .before .before .before .before .before .before .before .before .before .before .before .before .before .before .args in
-    let few = pre .2 in
-    let outs = pre .3 in
-    let o = pre .4 in
-    let d = loop-test .taken in
-    let low = pre .0 .low (args .o * 32 + loop .y) (omega arith) in
-    let same = label .ensures in
-    let s = loop .inv .1 (item (args .ms) (args .o)) (λ k h. pre .1 .each (args .o) k o h) in
-    let own-long = s .own-long in
-    let owns-long = s .owns-long in
-    search needs
+slice-read-owns c = let facts = labelled (c .before .before .before .before .before .before) in search needs
 
 add-owns : tie.Need-add-owns Inv-loop μ-loop
-add-owns c =
-    let label = c .before .before .before .before .before .before .label in
-    let loop-test = c .before .before .before .before .before .before .before .before .before .loop-test in
-    let loop = c .before .before .before .before .before .before .before .before .before .before .loop in
-    let pre = c .before .before .before .before .before .before .before .before .before .before .before .before .before .before .before .before .pre in
-    let args = c .before .before .before .before .before .before .before .before .before .before .before .before .before .before .before .before .args in
-    let few = pre .2 in
-    let outs = pre .3 in
-    let o = pre .4 in
-    let d = loop-test .taken in
-    let low = pre .0 .low (args .o * 32 + loop .y) (omega arith) in
-    let same = label .ensures in
-    let s = loop .inv .1 (item (args .ms) (args .o)) (λ k h. pre .1 .each (args .o) k o h) in
-    let own-long = s .own-long in
-    let owns-long = s .owns-long in
-    let w = s .less (label .result) (omega arith) in
-    omega arith
+add-owns c = let facts = labelled (c .before .before .before .before .before .before) in omega arith
 
 slice-write-owns : tie.Need-slice-write-owns Inv-loop μ-loop
-slice-write-owns c =
-    let label = c .before .before .before .before .before .before .label in
-    let loop-test = c .before .before .before .before .before .before .before .before .before .loop-test in
-    let loop = c .before .before .before .before .before .before .before .before .before .before .loop in
-    let pre = c .before .before .before .before .before .before .before .before .before .before .before .before .before .before .before .before .pre in
-    let args = c .before .before .before .before .before .before .before .before .before .before .before .before .before .before .before .before .args in
-    let few = pre .2 in
-    let outs = pre .3 in
-    let o = pre .4 in
-    let d = loop-test .taken in
-    let low = pre .0 .low (args .o * 32 + loop .y) (omega arith) in
-    let same = label .ensures in
-    let s = loop .inv .1 (item (args .ms) (args .o)) (λ k h. pre .1 .each (args .o) k o h) in
-    let own-long = s .own-long in
-    let owns-long = s .owns-long in
-    search needs
+slice-write-owns c = let facts = labelled (c .before .before .before .before .before .before) in search needs
 
 add-y : tie.Need-add-y Inv-loop μ-loop
 add-y c = search needs

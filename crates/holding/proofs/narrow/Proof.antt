@@ -1,8 +1,9 @@
 use Rattle.holding.specs.Narrow.{Narrowed, Stays}
 use mathlib.Core.Logic.{⊎-elim}
 use native.Mathlib.Omega.{arith}
-use Prim.Native.Nat.{ℕ, _≤_, _+_, _-_, _*_}
-use mathlib.Core.Path.{sym, _∙_, subst}
+use Prim.Native.Nat.{ℕ, _≤_, _<_, _+_, _-_, _*_}
+use mathlib.Core.Path.{_≡_, sym, _∙_, subst}
+use lib.ListN.{length}
 use borrow.Author.Needs.{needs}
 use Rattle.holding.specs.NarrowLaws.{narrowed-start, narrowed-same, keep-more}
 use Rattle.holding.proofs.narrow.Statement.{statement}
@@ -15,17 +16,17 @@ use Rattle.problem.proofs.class_part.Reads as class-part-reads
 use Rattle.problem.proofs.label.Reads as label-reads
 
 abbrev Inv-loop : tie.InvT-loop
-Inv-loop cl base v o own meet owns wants tight codes dom₀ y₀ dom y = (y ≤ v) × Narrowed (Stays cl base o tight own meet owns wants) dom₀ y dom
+Inv-loop cl base own meet tight codes dom₀ v o owns wants y₀ dom y = (y ≤ v) × Narrowed (Stays cl base o tight own meet owns wants) dom₀ y dom
 
 abbrev μ-loop : tie.MeasureT-loop
-μ-loop cl base v o own meet owns wants tight codes dom₀ y₀ dom y = v - y
+μ-loop cl base own meet tight codes dom₀ v o owns wants y₀ dom y = v - y
 
 loop-holds : tie.Need-loop-holds Inv-loop μ-loop
 loop-holds c =
     let start = c .before .before .before .before .before .before .before .before in
     let a = c .before .before .before .before .before .before .before .before .args in (
       omega arith,
-      narrowed-start (Stays (a .cl .now) (a .base .now) (a .o) (a .tight) (a .own .now) (a .meet .now) (a .owns .now) (a .wants .now)) (a .dom .now)
+      narrowed-start (Stays (a .cl .now) (a .base .now) (a .t .number) (a .tight) (a .own .now) (a .meet .now) (a .n .owns) (a .n .wants)) (a .dom .now)
           (start .pre .8),
     )
 
@@ -47,155 +48,67 @@ label-requires c κs =
 cast-l : tie.Need-cast-l Inv-loop μ-loop
 cast-l c = search needs
 
+-- the class of a vertex and the vertex are below the lengths of the arrays
+labelled : (c : tie.After-label Inv-loop μ-loop) → (c .label .result < 32) × (c .before .before .before .before .loop .y < 32)
+    × (length (c .before .before .before .before .before .before .before .before .before .before .before .before .before .args .own .now) ≡ 32) × (length (c .before .before .before .before .before .before .before .before .before .before .before .before .before .args .meet .now) ≡ 32) × (length (c .before .before .before .before .loop .dom) ≡ 32)
+labelled c =
+    let loop = c .before .before .before .before .loop in
+    let start = c .before .before .before .before .before .before .before .before .before .before .before .before .before in
+    let pre = start .pre in
+    let v = pre .2 in
+    let o = pre .3 in
+    let d = c .before .before .before .loop-test .taken in
+    let low = pre .0 .low (start .args .t .number * 32 + loop .y) (omega arith) in
+    let same = c .label .ensures in
+    (omega arith, omega arith, pre .4, pre .5, loop .inv .1 .long)
+
 class-part-requires : tie.Need-class-part-requires Inv-loop μ-loop
 class-part-requires c κs =
-    let h = c .before .before .before .loop-test .taken in
-    let p = c .before .before .before .before .before .before .before .before .before .before .before .before .before .pre in
-    let v = p .2 in
-    let o = p .3 in
-    let a = c .before .before .before .before .before .before .before .before .before .before .before .before .before .args in
-    let i = c .before .before .before .before .loop in
-    let l = p .0 .low (a .o * 32 + i .y) (omega arith) in
-    let e = c .label .ensures in
-    (p .0, o, omega arith)
+    let facts = labelled c in
+    let pre = c .before .before .before .before .before .before .before .before .before .before .before .before .before .pre in (pre .0, pre .3, facts .0)
 
 in-set-requires : tie.Need-in-set-requires Inv-loop μ-loop
 in-set-requires c κs = let h = c .class-part .ensures .1 in omega arith
 
 label-requires-2 : tie.Need-label-requires-2 Inv-loop μ-loop
 label-requires-2 c κs =
-    let h = c .before .before .before .before .before .before .loop-test .taken in
-    let p = c .before .before .before .before .before .before .before .before .before .before .before .before .before .before .before .before .pre in
-    let v = p .2 in
-    let o = p .3 in
-    let a = c .before .before .before .before .before .before .before .before .before .before .before .before .before .before .before .before .args in
-    let i = c .before .before .before .before .before .before .before .loop in
-    let l = p .0 .low (a .o * 32 + i .y) (omega arith) in
-    let e = c .before .before .before .label .ensures in
-    let z = p .1 in
-    (omega arith, o, omega arith)
+    let facts = labelled (c .before .before .before) in
+    let pre = c .before .before .before .before .before .before .before .before .before .before .before .before .before .before .before .before .pre in let z = pre .1 in (omega arith, pre .3, facts .0)
 
 mul-dom : tie.Need-mul-dom Inv-loop μ-loop
-mul-dom c =
-    let h = c .before .before .before .before .before .before .before .loop-test .taken in
-    let n = c .before .before .before .before .before .before .before .before .loop .inv .1 .long in
-    let z = c .before .before .before .before .before .before .before .before .before .before .before .before .before .before .before .before .before .pre .2 in
-    search needs
+mul-dom c = let facts = labelled (c .before .before .before .before) in search needs
 
 slice-read-dom : tie.Need-slice-read-dom Inv-loop μ-loop
-slice-read-dom c =
-    let h = c .before .before .before .before .before .before .before .before .loop-test .taken in
-    let n = c .before .before .before .before .before .before .before .before .before .loop .inv .1 .long in
-    let z = c .before .before .before .before .before .before .before .before .before .before .before .before .before .before .before .before .before .before .pre .2 in
-    search needs
+slice-read-dom c = let facts = labelled (c .before .before .before .before .before) in search needs
 
 mul-keep : tie.Need-mul-keep Inv-loop μ-loop
-mul-keep c =
-    let h = c .before .before .before .before .before .before .before .before .loop-test .taken in
-    let p = c .before .before .before .before .before .before .before .before .before .before .before .before .before .before .before .before .before .before .pre in
-    let v = p .2 in
-    let o = p .3 in
-    let w = p .4 in
-    let a = c .before .before .before .before .before .before .before .before .before .before .before .before .before .before .before .before .before .before .args in
-    let i = c .before .before .before .before .before .before .before .before .before .loop in
-    let l = p .0 .low (a .o * 32 + i .y) (omega arith) in
-    let e = c .before .before .before .before .before .label .ensures in
-    search needs
+mul-keep c = let facts = labelled (c .before .before .before .before .before) in search needs
 
 shared-slice-read-keep : tie.Need-shared-slice-read-keep Inv-loop μ-loop
-shared-slice-read-keep c =
-    let h = c .before .before .before .before .before .before .before .before .before .loop-test .taken in
-    let p = c .before .before .before .before .before .before .before .before .before .before .before .before .before .before .before .before .before .before .before .pre in
-    let v = p .2 in
-    let o = p .3 in
-    let w = p .4 in
-    let a = c .before .before .before .before .before .before .before .before .before .before .before .before .before .before .before .before .before .before .before .args in
-    let i = c .before .before .before .before .before .before .before .before .before .before .loop in
-    let l = p .0 .low (a .o * 32 + i .y) (omega arith) in
-    let e = c .before .before .before .before .before .before .label .ensures in
-    search needs
+shared-slice-read-keep c = let facts = labelled (c .before .before .before .before .before .before) in search needs
 
 mul-keep-2 : tie.Need-mul-keep-2 Inv-loop μ-loop
-mul-keep-2 c =
-    let h = c .before .before .before .before .before .before .before .before .before .loop-test .taken in
-    let p = c .before .before .before .before .before .before .before .before .before .before .before .before .before .before .before .before .before .before .before .pre in
-    let v = p .2 in
-    let o = p .3 in
-    let w = p .5 in
-    let a = c .before .before .before .before .before .before .before .before .before .before .before .before .before .before .before .before .before .before .before .args in
-    let i = c .before .before .before .before .before .before .before .before .before .before .loop in
-    let l = p .0 .low (a .o * 32 + i .y) (omega arith) in
-    let e = c .before .before .before .before .before .before .label .ensures in
-    search needs
+mul-keep-2 c = let facts = labelled (c .before .before .before .before .before .before) in search needs
 
 shared-slice-read-keep-2 : tie.Need-shared-slice-read-keep-2 Inv-loop μ-loop
-shared-slice-read-keep-2 c =
-    let h = c .before .before .before .before .before .before .before .before .before .before .loop-test .taken in
-    let p = c .before .before .before .before .before .before .before .before .before .before .before .before .before .before .before .before .before .before .before .before .pre in
-    let v = p .2 in
-    let o = p .3 in
-    let w = p .5 in
-    let a = c .before .before .before .before .before .before .before .before .before .before .before .before .before .before .before .before .before .before .before .before .args in
-    let i = c .before .before .before .before .before .before .before .before .before .before .before .loop in
-    let l = p .0 .low (a .o * 32 + i .y) (omega arith) in
-    let e = c .before .before .before .before .before .before .before .label .ensures in
-    search needs
+shared-slice-read-keep-2 c = let facts = labelled (c .before .before .before .before .before .before .before) in search needs
 
-shared-slice-read-keep-3 : tie.Need-shared-slice-read-keep-3 Inv-loop μ-loop
-shared-slice-read-keep-3 c =
-    let h = c .before .before .before .before .before .before .before .before .before .before .before .loop-test .taken in
-    let p = c .before .before .before .before .before .before .before .before .before .before .before .before .before .before .before .before .before .before .before .before .before .pre in
-    let v = p .2 in
-    let o = p .3 in
-    let a = c .before .before .before .before .before .before .before .before .before .before .before .before .before .before .before .before .before .before .before .before .before .args in
-    let i = c .before .before .before .before .before .before .before .before .before .before .before .before .loop in
-    let l = p .0 .low (a .o * 32 + i .y) (omega arith) in
-    let e = c .before .before .before .before .before .before .before .before .label .ensures in
-    let n = c .before .before .before .before .before .before .before .before .before .before .before .before .before .before .before .before .before .before .before .before .before .pre .9 in
-    search needs
+array-read-keep : tie.Need-array-read-keep Inv-loop μ-loop
+array-read-keep c = let facts = labelled (c .before .before .before .before .before .before .before) in search needs
 
-shared-slice-read-keep-4 : tie.Need-shared-slice-read-keep-4 Inv-loop μ-loop
-shared-slice-read-keep-4 c =
-    let far = c .before .before .before .before .before .before .before .before .before .before .before .before in
-    let h = far .loop-test .taken in
-    let p = far .before .before .before .before .before .before .before .before .before .before .pre in
-    let v = p .2 in
-    let o = p .3 in
-    let a = far .before .before .before .before .before .before .before .before .before .before .args in
-    let i = far .before .loop in
-    let l = p .0 .low (a .o * 32 + i .y) (omega arith) in
-    let e = c .before .before .before .before .before .before .before .before .before .label .ensures in
-    let n = far .before .before .before .before .before .before .before .before .before .before .pre .10 in
-    search needs
+array-read-keep-2 : tie.Need-array-read-keep-2 Inv-loop μ-loop
+array-read-keep-2 c = let facts = labelled (c .before .before .before .before .before .before .before) in search needs
 
 keep-requires : tie.Need-keep-requires Inv-loop μ-loop
 keep-requires c κs =
-    let label = c .before .before .before .before .before .before .before .before .before .label in
-    let h = c .before .before .before .before .before .before .before .before .before .before .before .before .loop-test .taken in
-    let p = c .before .before .before .before .before .before .before .before .before .before .before .before .before .before .before .before .before .before .before .before .before .before .pre in
-    let v = p .2 in
-    let o = p .3 in
-    let a = c .before .before .before .before .before .before .before .before .before .before .before .before .before .before .before .before .before .before .before .before .before .before .args in
-    let i = c .before .before .before .before .before .before .before .before .before .before .before .before .before .loop in
-    let l = p .0 .low (a .o * 32 + i .y) (omega arith) in
-    let e = c .before .before .before .before .before .before .before .before .before .label .ensures in
-    p .6 (label .result) (omega arith)
+    let facts = labelled (c .before .before .before .before .before .before .before) in
+    c .before .before .before .before .before .before .before .before .before .before .before .before .before .before .before .before .before .before .before .before .pre .6 (c .before .before .before .before .before .before .before .label .result) (facts .0)
 
 mul-dom-2 : tie.Need-mul-dom-2 Inv-loop μ-loop
-mul-dom-2 c =
-    let far = c .before .before .before .before .before .before .before .before .before .before .before .before in
-    let h = far .before .loop-test .taken in
-    let n = far .before .before .loop .inv .1 .long in
-    let z = far .before .before .before .before .before .before .before .before .before .before .before .pre .2 in
-    search needs
+mul-dom-2 c = let facts = labelled (c .before .before .before .before .before .before .before .before) in search needs
 
 slice-write-dom : tie.Need-slice-write-dom Inv-loop μ-loop
-slice-write-dom c =
-    let far = c .before .before .before .before .before .before .before .before .before .before .before .before in
-    let h = far .before .loop-test .taken in
-    let n = far .before .before .loop .inv .1 .long in
-    let z = far .before .before .before .before .before .before .before .before .before .before .before .pre .2 in
-    search needs
+slice-write-dom c = let facts = labelled (c .before .before .before .before .before .before .before .before) in search needs
 
 add-y : tie.Need-add-y Inv-loop μ-loop
 add-y c = search needs
@@ -211,12 +124,12 @@ loop-again c =
     let l = c .before .before .before .loop in (
       omega arith,
       ⊎-elim
-          (λ w. keep-more (a .cl .now) (a .base .now) (a .o) (a .tight) (l .y) (w .2 .result) (w .1 .result) (w .5 .result) (w .11 .result) (a .own .now) (a .meet .now) (a .owns .now)
-          (a .wants .now) (a .dom .now) (l .dom)
-          _ (omega arith) (w .1 .ensures) (w .2 .ensures .0) (sym (w .3 .ensures) ∙ w .4 .taken) (w .5 .ensures) (w .11 .ensures) (w .12) (l .inv .1))
+          (λ w. keep-more (a .cl .now) (a .base .now) (a .t .number) (a .tight) (l .y) (w .2 .result) (w .1 .result) (w .5 .result) (w .9 .result) (a .own .now) (a .meet .now) (a .n .owns)
+          (a .n .wants) (a .dom .now) (l .dom)
+          _ (omega arith) (w .1 .ensures) (w .2 .ensures .0) (sym (w .3 .ensures) ∙ w .4 .taken) (w .5 .ensures) (w .9 .ensures) (w .10) (l .inv .1))
           (⊎-elim
-          (λ w. narrowed-same (Stays (a .cl .now) (a .base .now) (a .o) (a .tight) (a .own .now) (a .meet .now) (a .owns .now) (a .wants .now)) (a .dom .now) (l .y) (l .dom) _ (w .5) (l .inv .1))
-          (λ w. narrowed-same (Stays (a .cl .now) (a .base .now) (a .o) (a .tight) (a .own .now) (a .meet .now) (a .owns .now) (a .wants .now)) (a .dom .now) (l .y) (l .dom) _ (w .1) (l .inv .1)))
+          (λ w. narrowed-same (Stays (a .cl .now) (a .base .now) (a .t .number) (a .tight) (a .own .now) (a .meet .now) (a .n .owns) (a .n .wants)) (a .dom .now) (l .y) (l .dom) _ (w .5) (l .inv .1))
+          (λ w. narrowed-same (Stays (a .cl .now) (a .base .now) (a .t .number) (a .tight) (a .own .now) (a .meet .now) (a .n .owns) (a .n .wants)) (a .dom .now) (l .y) (l .dom) _ (w .1) (l .inv .1)))
           (c .if1 .came),
     )
 
@@ -229,7 +142,7 @@ returns c =
     let l = c .before .loop in
     let h = c .loop-test .left in
     let z = l .inv .0 in
-    subst (λ (n : ℕ). Narrowed (Stays (a .cl .now) (a .base .now) (a .o) (a .tight) (a .own .now) (a .meet .now) (a .owns .now) (a .wants .now)) (a .dom .now) n (l .dom)) (omega arith) (l .inv .1)
+    subst (λ (n : ℕ). Narrowed (Stays (a .cl .now) (a .base .now) (a .t .number) (a .tight) (a .own .now) (a .meet .now) (a .n .owns) (a .n .wants)) (a .dom .now) n (l .dom)) (omega arith) (l .inv .1)
 
 pub narrow-spec : {M : Type 1} → statement M
 narrow-spec =
@@ -250,8 +163,8 @@ narrow-spec =
     shared-slice-read-keep
     mul-keep-2
     shared-slice-read-keep-2
-    shared-slice-read-keep-3
-    shared-slice-read-keep-4
+    array-read-keep
+    array-read-keep-2
     keep-requires
     mul-dom-2
     slice-write-dom

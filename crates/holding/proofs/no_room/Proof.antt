@@ -7,34 +7,34 @@ use Rattle.holding.proofs.no_room.Lts as lts
 use Rattle.holding.proofs.others_out_of_reach.Reads as others-out-of-reach-reads
 use Rattle.holding.proofs.out_of_reach.Reads as out-of-reach-reads
 
-cast-t : tie.Need-cast-t
-cast-t c = search needs
+cast-total : tie.Need-cast-total
+cast-total c = search needs
 
 returns : tie.Need-returns
 returns c =
     let if1 = c .if1 in
-    let args = c .before .before .before .before .before .before .before .before .before .before .args in
-    let pre = c .before .before .before .before .before .before .before .before .before .before .pre in
-    λ e. (args .b .part, args .b .total, args .b .news, pre .11, inl (if1 .taken))
+    let args = c .before .before .before .before .before .before .before .before .before .args in
+    let pre = c .before .before .before .before .before .before .before .before .before .pre in
+    λ e. (args .b .part, args .b .total, args .b .news, pre .9, inl (if1 .taken))
 
 out-of-reach-requires : tie.Need-out-of-reach-requires
 out-of-reach-requires c κs =
-    let pre = c .before .before .before .before .before .before .before .before .before .before .pre in
-    (pre .0, pre .1, pre .2, pre .3, pre .4, pre .5, pre .6, pre .7, pre .8, pre .9)
+    let pre = c .before .before .before .before .before .before .before .before .before .pre in
+    (pre .0, pre .1, pre .2, pre .3, pre .4, pre .5, pre .6, pre .7)
 
 returns-2 : tie.Need-returns-2
 returns-2 c =
     let if2 = c .if2 in
     let out-of-reach = c .before .out-of-reach in
-    let args = c .before .before .before .before .before .before .before .before .before .before .before .before .args in
-    let pre = c .before .before .before .before .before .before .before .before .before .before .before .before .pre in
+    let args = c .before .before .before .before .before .before .before .before .before .before .before .args in
+    let pre = c .before .before .before .before .before .before .before .before .before .before .before .pre in
     let r = out-of-reach .ensures (if2 .taken) in
-    λ e. (args .b .part, args .b .total, args .b .news, pre .11, inr (r .0, r .1))
+    λ e. (args .b .part, args .b .total, args .b .news, pre .9, inr (r .0, r .1))
 
 others-out-of-reach-requires : tie.Need-others-out-of-reach-requires
 others-out-of-reach-requires c κs =
-    let pre = c .before .before .before .before .before .before .before .before .before .before .before .before .pre in
-    (pre .0, pre .1, pre .2, pre .3, pre .4, pre .5, pre .6, pre .7, pre .8, pre .9, pre .10)
+    let pre = c .before .before .before .before .before .before .before .before .before .before .before .pre in
+    (pre .0, pre .1, pre .2, pre .3, pre .4, pre .5, pre .6, pre .7, pre .8)
 
 returns-3 : tie.Need-returns-3
 returns-3 c =
@@ -45,7 +45,7 @@ pub no-room-spec : {M : Type 1} → statement M
 no-room-spec =
     tie.close
     (tie.spec
-    cast-t
+    cast-total
     returns
     out-of-reach-requires
     returns-2

@@ -10,10 +10,10 @@ returns-2 : tie.Need-returns-2
 returns-2 c = λ e. absurd (true-false (sym e))
 
 reach-requires : tie.Need-reach-requires
-reach-requires c κs = let p = c .before .before .before .before .before .before .before .before .before .before .pre in (p .0, p .1, p .3, p .4, p .5, p .6, p .7, p .8, p .9)
+reach-requires c κs = let p = c .before .before .before .before .before .before .before .before .before .pre in (p .0, p .1, p .3, p .4, p .5, p .6, p .7)
 
 fewer-blocks-requires : tie.Need-fewer-blocks-requires
-fewer-blocks-requires c κs = let p = c .before .before .before .before .before .before .before .before .before .before .before .pre in (p .2, p .4)
+fewer-blocks-requires c κs = let p = c .before .before .before .before .before .before .before .before .before .before .pre in (p .2, p .4)
 
 returns-3 : tie.Need-returns-3
 returns-3 c =

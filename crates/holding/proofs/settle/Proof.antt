@@ -67,29 +67,19 @@ slice-aggregate-narrow-by-2 c =
     let wanted = c .before .before .before .before .wanted in
     sym (wanted .ensures .meet-long)
 
-slice-aggregate-narrow-by-3 : tie.Need-slice-aggregate-narrow-by-3
-slice-aggregate-narrow-by-3 c =
-    let held = c .before .before .before .before .before .before .before .before .before .before .before .before .before .held in
-    sym (held .ensures .owns-long)
-
-slice-aggregate-narrow-by-4 : tie.Need-slice-aggregate-narrow-by-4
-slice-aggregate-narrow-by-4 c =
-    let wanted = c .before .before .before .before .before .before .wanted in
-    sym (wanted .ensures .long)
-
 narrow-by-requires : tie.Need-narrow-by-requires
 narrow-by-requires c κs =
-    let wanted = c .before .before .before .before .before .before .before .wanted in
+    let wanted = c .before .before .before .before .before .wanted in
     let far = c .before .before .before .before .before .before .before .before .before .before .before .before .before .before in
-    let held = far .before .held in
-    let pre = far .before .before .before .before .before .before .before .before .before .before .pre in
+    let held = c .before .before .before .before .before .before .before .before .before .before .before .before .before .held in
+    let pre = far .before .before .before .before .before .before .before .before .pre in
     (pre .0, pre .1, pre .2, pre .3, pre .4, pre .5, pre .6, pre .7, held .ensures, wanted .ensures)
 
 same-length : tie.Need-same-length
 same-length c =
     let narrow-by = c .before .before .narrow-by in
     let far = c .before .before .before .before .before .before .before .before .before .before .before .before .before .before in
-    let pre = far .before .before .before .before .before .before .before .before .before .before .before .before .before .pre in
+    let pre = far .before .before .before .before .before .before .before .before .before .before .before .pre in
     narrow-by .ensures .1 ∙ sym (pre .7)
 
 returns : tie.Need-returns
@@ -112,8 +102,6 @@ settle-spec =
     wanted-requires
     slice-aggregate-narrow-by
     slice-aggregate-narrow-by-2
-    slice-aggregate-narrow-by-3
-    slice-aggregate-narrow-by-4
     narrow-by-requires
     same-length
     returns)

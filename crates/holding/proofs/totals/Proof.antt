@@ -1,7 +1,8 @@
-use mathlib.Core.Path.{refl, ap, _∙_, subst}
-use Prim.Native.Nat.{ℕ, _≤_, _-_, max}
+use mathlib.Core.Path.{_≡_, refl, ap, _∙_, subst}
+use Prim.Native.Nat.{ℕ, _≤_, _<_, _*_, _-_, max}
 use native.Mathlib.Omega.{arith}
-use lib.ListN.{getD}
+use lib.ListN.{length, getD}
+use Rattle.problem.specs.Problem.{item}
 use Rattle.holding.specs.Wants.{Totals}
 use borrow.Author.Needs.{needs}
 use Rattle.holding.specs.WantsLaws.{totals-start, totals-more}
@@ -47,55 +48,30 @@ larger-requires c κs = search needs
 cast-n : tie.Need-cast-n Inv-loop μ-loop
 cast-n c = let z = c .larger .ensures .1 in search needs
 
-mul-t : tie.Need-mul-t Inv-loop μ-loop
-mul-t c =
-    let class-part = c .before .before .before .class-part in
-    let k = c .before .before .before .class-part .ensures .1 in
-    let n = c .larger .ensures .1 in
+-- the part of a class is below the length of the sums, and with what the class needs its sum is still small
+needs-more : (c : tie.After-larger Inv-loop μ-loop) → (c .before .before .before .class-part .result < 32) × (length (c .before .before .before .before .before .loop .t) ≡ 32)
+    × (item (c .before .before .before .before .before .loop .t) (c .before .before .before .class-part .result) ≤ 32 * 255) × (c .larger .result ≤ 255)
+needs-more c =
+    let inv = c .before .before .before .before .before .loop .inv .1 in
+    let part = c .before .before .before .class-part .ensures .1 in
+    let low = inv .low (c .before .before .before .class-part .result) part in
     let h = c .before .before .before .before .loop-test .taken in
-    let z = c .before .before .before .before .before .loop .inv .1 .low (class-part .result) k in
-    let w = c .before .before .before .before .before .loop .inv .1 .long in
-    search needs
+    (part, inv .long, omega arith, c .larger .ensures .1)
+
+mul-t : tie.Need-mul-t Inv-loop μ-loop
+mul-t c = let facts = needs-more c in search needs
 
 array-read-t : tie.Need-array-read-t Inv-loop μ-loop
-array-read-t c =
-    let class-part = c .before .before .before .class-part in
-    let k = c .before .before .before .class-part .ensures .1 in
-    let n = c .larger .ensures .1 in
-    let h = c .before .before .before .before .loop-test .taken in
-    let z = c .before .before .before .before .before .loop .inv .1 .low (class-part .result) k in
-    let w = c .before .before .before .before .before .loop .inv .1 .long in
-    search needs
+array-read-t c = let facts = needs-more c in search needs
 
 add-t : tie.Need-add-t Inv-loop μ-loop
-add-t c =
-    let class-part = c .before .before .before .class-part in
-    let k = c .before .before .before .class-part .ensures .1 in
-    let n = c .larger .ensures .1 in
-    let h = c .before .before .before .before .loop-test .taken in
-    let z = c .before .before .before .before .before .loop .inv .1 .low (class-part .result) k in
-    let w = c .before .before .before .before .before .loop .inv .1 .long in
-    record { fits = omega arith }
+add-t c = let facts = needs-more c in record { fits = omega arith }
 
 mul-t-2 : tie.Need-mul-t-2 Inv-loop μ-loop
-mul-t-2 c =
-    let class-part = c .before .before .before .class-part in
-    let k = c .before .before .before .class-part .ensures .1 in
-    let n = c .larger .ensures .1 in
-    let h = c .before .before .before .before .loop-test .taken in
-    let z = c .before .before .before .before .before .loop .inv .1 .low (class-part .result) k in
-    let w = c .before .before .before .before .before .loop .inv .1 .long in
-    search needs
+mul-t-2 c = let facts = needs-more c in search needs
 
 array-write-t : tie.Need-array-write-t Inv-loop μ-loop
-array-write-t c =
-    let class-part = c .before .before .before .class-part in
-    let k = c .before .before .before .class-part .ensures .1 in
-    let n = c .larger .ensures .1 in
-    let h = c .before .before .before .before .loop-test .taken in
-    let z = c .before .before .before .before .before .loop .inv .1 .low (class-part .result) k in
-    let w = c .before .before .before .before .before .loop .inv .1 .long in
-    search needs
+array-write-t c = let facts = needs-more c in search needs
 
 add-l : tie.Need-add-l Inv-loop μ-loop
 add-l c = search needs

@@ -1,8 +1,9 @@
 use mathlib.Core.Path.{_≡_, sym, ap, _∙_, subst}
-use Prim.Native.Nat.{ℕ, _≤_, _+_, _-_, _*_}
+use Prim.Native.Nat.{ℕ, _≤_, _<_, _+_, _-_, _*_}
 use native.Mathlib.Omega.{arith}
+use mathlib.Core.List.{List}
 use mathlib.Core.Logic.{⊎-elim}
-use lib.ListN.{length}
+use lib.ListN.{length, getD}
 use Rattle.holding.specs.Wants.{Wanted}
 use borrow.Author.Needs.{needs}
 use Rattle.holding.specs.WantsLaws.{wanted-start, wanted-same, wanted-more}
@@ -38,220 +39,67 @@ label-requires c κs =
 cast-l : tie.Need-cast-l Inv-loop μ-loop
 cast-l c = search needs
 
-mul-if1 : tie.Need-mul-if1 Inv-loop μ-loop
-mul-if1 c =
-    let label = c .label in
-    let loop-test = c .before .loop-test in
+-- the lengths of the arrays of a class and a vertex
+abbrev Long : tie.Start Inv-loop μ-loop → List ℕ → List ℕ → Type 0
+Long s wants meet = (length (s .args .dom .now) ≡ 32) × (length (s .args .own .now) ≡ 32) × (length (s .args .owns .now) ≡ 32) × (length wants ≡ 32) × (length meet ≡ 32)
+
+-- the class of a vertex and the vertex are below these, and a class holds at most one block for each vertex
+labelled : (c : tie.After-label Inv-loop μ-loop) → (c .label .result < 32) × (c .before .before .loop .y < 32)
+    × Long (c .before .before .before .before .before .before .before .before .before) (c .before .before .loop .wants) (c .before .before .loop .meet)
+    × (getD (c .before .before .before .before .before .before .before .before .before .args .owns .now) (c .label .result) 0 ≤ 32)
+labelled c =
     let loop = c .before .before .loop in
-    let pre = c .before .before .before .before .before .before .before .before .before .pre in
-    let args = c .before .before .before .before .before .before .before .before .before .args in
+    let start = c .before .before .before .before .before .before .before .before .before in
+    let pre = start .pre in
     let few = pre .1 in
     let o = pre .2 in
-    let d = loop-test .taken in
-    let low = pre .0 .low (args .o * 32 + loop .y) (omega arith) in
-    let same = label .ensures in
-    let dom-long = pre .3 in
-    let own-long = pre .4 in
-    search needs
+    let d = c .before .loop-test .taken in
+    let low = pre .0 .low (start .args .o * 32 + loop .y) (omega arith) in
+    let same = c .label .ensures in
+    let class : c .label .result < 32 = omega arith in
+    (class, omega arith, (pre .3, pre .4, pre .5, loop .inv .1 .long, loop .inv .1 .meet-long), pre .6 (c .label .result) class)
+
+mul-if1 : tie.Need-mul-if1 Inv-loop μ-loop
+mul-if1 c = let facts = labelled c in search needs
 
 shared-slice-read-if1 : tie.Need-shared-slice-read-if1 Inv-loop μ-loop
-shared-slice-read-if1 c =
-    let label = c .before .label in
-    let loop-test = c .before .before .loop-test in
-    let loop = c .before .before .before .loop in
-    let pre = c .before .before .before .before .before .before .before .before .before .before .pre in
-    let args = c .before .before .before .before .before .before .before .before .before .before .args in
-    let few = pre .1 in
-    let o = pre .2 in
-    let d = loop-test .taken in
-    let low = pre .0 .low (args .o * 32 + loop .y) (omega arith) in
-    let same = label .ensures in
-    let dom-long = pre .3 in
-    let own-long = pre .4 in
-    search needs
+shared-slice-read-if1 c = let facts = labelled (c .before) in search needs
 
 mul-if1-2 : tie.Need-mul-if1-2 Inv-loop μ-loop
-mul-if1-2 c =
-    let label = c .before .label in
-    let loop-test = c .before .before .loop-test in
-    let loop = c .before .before .before .loop in
-    let pre = c .before .before .before .before .before .before .before .before .before .before .pre in
-    let args = c .before .before .before .before .before .before .before .before .before .before .args in
-    let few = pre .1 in
-    let o = pre .2 in
-    let d = loop-test .taken in
-    let low = pre .0 .low (args .o * 32 + loop .y) (omega arith) in
-    let same = label .ensures in
-    let dom-long = pre .3 in
-    let own-long = pre .4 in
-    search needs
+mul-if1-2 c = let facts = labelled (c .before) in search needs
 
 shared-slice-read-if1-2 : tie.Need-shared-slice-read-if1-2 Inv-loop μ-loop
-shared-slice-read-if1-2 c =
-    let label = c .before .before .label in
-    let loop-test = c .before .before .before .loop-test in
-    let loop = c .before .before .before .before .loop in
-    let pre = c .before .before .before .before .before .before .before .before .before .before .before .pre in
-    let args = c .before .before .before .before .before .before .before .before .before .before .before .args in
-    let few = pre .1 in
-    let o = pre .2 in
-    let d = loop-test .taken in
-    let low = pre .0 .low (args .o * 32 + loop .y) (omega arith) in
-    let same = label .ensures in
-    let dom-long = pre .3 in
-    let own-long = pre .4 in
-    search needs
+shared-slice-read-if1-2 c = let facts = labelled (c .before .before) in search needs
 
 mul-spread : tie.Need-mul-spread Inv-loop μ-loop
-mul-spread c =
-    let label = c .before .before .before .label in
-    let loop-test = c .before .before .before .before .loop-test in
-    let loop = c .before .before .before .before .before .loop in
-    let pre = c .before .before .before .before .before .before .before .before .before .before .before .before .pre in
-    let args = c .before .before .before .before .before .before .before .before .before .before .before .before .args in
-    let few = pre .1 in
-    let o = pre .2 in
-    let d = loop-test .taken in
-    let low = pre .0 .low (args .o * 32 + loop .y) (omega arith) in
-    let same = label .ensures in
-    let dom-long = pre .3 in
-    let own-long = pre .4 in
-    search needs
+mul-spread c = let facts = labelled (c .before .before .before) in search needs
 
 shared-slice-read-spread : tie.Need-shared-slice-read-spread Inv-loop μ-loop
-shared-slice-read-spread c =
-    let label = c .before .before .before .before .label in
-    let loop-test = c .before .before .before .before .before .loop-test in
-    let loop = c .before .before .before .before .before .before .loop in
-    let pre = c .before .before .before .before .before .before .before .before .before .before .before .before .before .pre in
-    let args = c .before .before .before .before .before .before .before .before .before .before .before .before .before .args in
-    let few = pre .1 in
-    let o = pre .2 in
-    let d = loop-test .taken in
-    let low = pre .0 .low (args .o * 32 + loop .y) (omega arith) in
-    let same = label .ensures in
-    let dom-long = pre .3 in
-    let own-long = pre .4 in
-    search needs
+shared-slice-read-spread c = let facts = labelled (c .before .before .before .before) in search needs
 
 spread-requires : tie.Need-spread-requires Inv-loop μ-loop
 spread-requires c κs = search needs
 
 mul-m : tie.Need-mul-m Inv-loop μ-loop
-mul-m c =
-    let label = c .before .before .before .before .before .label in
-    let loop-test = c .before .before .before .before .before .before .loop-test in
-    let loop = c .before .before .before .before .before .before .before .loop in
-    let pre = c .before .before .before .before .before .before .before .before .before .before .before .before .before .before .pre in
-    let args = c .before .before .before .before .before .before .before .before .before .before .before .before .before .before .args in
-    let few = pre .1 in
-    let o = pre .2 in
-    let d = loop-test .taken in
-    let low = pre .0 .low (args .o * 32 + loop .y) (omega arith) in
-    let same = label .ensures in
-    let owns-long = pre .5 in
-    let wants-long = loop .inv .1 .long in
-    let meet-long = loop .inv .1 .meet-long in
-    search needs
+mul-m c = let facts = labelled (c .before .before .before .before .before) in search needs
 
 slice-read-m : tie.Need-slice-read-m Inv-loop μ-loop
-slice-read-m c =
-    let label = c .before .before .before .before .before .before .label in
-    let loop-test = c .before .before .before .before .before .before .before .loop-test in
-    let loop = c .before .before .before .before .before .before .before .before .loop in
-    let pre = c .before .before .before .before .before .before .before .before .before .before .before .before .before .before .before .pre in
-    let args = c .before .before .before .before .before .before .before .before .before .before .before .before .before .before .before .args in
-    let few = pre .1 in
-    let o = pre .2 in
-    let d = loop-test .taken in
-    let low = pre .0 .low (args .o * 32 + loop .y) (omega arith) in
-    let same = label .ensures in
-    let owns-long = pre .5 in
-    let wants-long = loop .inv .1 .long in
-    let meet-long = loop .inv .1 .meet-long in
-    search needs
+slice-read-m c = let facts = labelled (c .before .before .before .before .before .before) in search needs
 
 mul-meet : tie.Need-mul-meet Inv-loop μ-loop
-mul-meet c =
-    let label = c .before .before .before .before .before .before .label in
-    let loop-test = c .before .before .before .before .before .before .before .loop-test in
-    let loop = c .before .before .before .before .before .before .before .before .loop in
-    let pre = c .before .before .before .before .before .before .before .before .before .before .before .before .before .before .before .pre in
-    let args = c .before .before .before .before .before .before .before .before .before .before .before .before .before .before .before .args in
-    let few = pre .1 in
-    let o = pre .2 in
-    let d = loop-test .taken in
-    let low = pre .0 .low (args .o * 32 + loop .y) (omega arith) in
-    let same = label .ensures in
-    let owns-long = pre .5 in
-    let wants-long = loop .inv .1 .long in
-    let meet-long = loop .inv .1 .meet-long in
-    search needs
+mul-meet c = let facts = labelled (c .before .before .before .before .before .before) in search needs
 
 slice-write-meet : tie.Need-slice-write-meet Inv-loop μ-loop
-slice-write-meet c =
-    let label = c .before .before .before .before .before .before .label in
-    let loop-test = c .before .before .before .before .before .before .before .loop-test in
-    let loop = c .before .before .before .before .before .before .before .before .loop in
-    let pre = c .before .before .before .before .before .before .before .before .before .before .before .before .before .before .before .pre in
-    let args = c .before .before .before .before .before .before .before .before .before .before .before .before .before .before .before .args in
-    let few = pre .1 in
-    let o = pre .2 in
-    let d = loop-test .taken in
-    let low = pre .0 .low (args .o * 32 + loop .y) (omega arith) in
-    let same = label .ensures in
-    let owns-long = pre .5 in
-    let wants-long = loop .inv .1 .long in
-    let meet-long = loop .inv .1 .meet-long in
-    search needs
+slice-write-meet c = let facts = labelled (c .before .before .before .before .before .before) in search needs
 
 shared-slice-read-more : tie.Need-shared-slice-read-more Inv-loop μ-loop
-shared-slice-read-more c =
-    let label = c .before .before .before .before .before .before .before .label in
-    let loop-test = c .before .before .before .before .before .before .before .before .loop-test in
-    let loop = c .before .before .before .before .before .before .before .before .before .loop in
-    let pre = c .before .before .before .before .before .before .before .before .before .before .before .before .before .before .before .before .pre in
-    let args = c .before .before .before .before .before .before .before .before .before .before .before .before .before .before .before .before .args in
-    let few = pre .1 in
-    let o = pre .2 in
-    let d = loop-test .taken in
-    let low = pre .0 .low (args .o * 32 + loop .y) (omega arith) in
-    let same = label .ensures in
-    let owns-long = pre .5 in
-    let wants-long = loop .inv .1 .long in
-    let meet-long = loop .inv .1 .meet-long in
-    search needs
+shared-slice-read-more c = let facts = labelled (c .before .before .before .before .before .before .before) in search needs
 
 more-requires : tie.Need-more-requires Inv-loop μ-loop
-more-requires c κs =
-    let label = c .before .before .before .before .before .before .before .label in
-    let loop-test = c .before .before .before .before .before .before .before .before .loop-test in
-    let loop = c .before .before .before .before .before .before .before .before .before .loop in
-    let pre = c .before .before .before .before .before .before .before .before .before .before .before .before .before .before .before .before .pre in
-    let args = c .before .before .before .before .before .before .before .before .before .before .before .before .before .before .before .before .args in
-    let few = pre .1 in
-    let o = pre .2 in
-    let d = loop-test .taken in
-    let low = pre .0 .low (args .o * 32 + loop .y) (omega arith) in
-    let same = label .ensures in
-    pre .6 (label .result) (omega arith)
+more-requires c κs = let facts = labelled (c .before .before .before .before .before .before .before) in facts .3
 
 slice-write-wants : tie.Need-slice-write-wants Inv-loop μ-loop
-slice-write-wants c =
-    let label = c .before .before .before .before .before .before .before .before .label in
-    let loop-test = c .before .before .before .before .before .before .before .before .before .loop-test in
-    let loop = c .before .before .before .before .before .before .before .before .before .before .loop in
-    let pre = c .before .before .before .before .before .before .before .before .before .before .before .before .before .before .before .before .before .pre in
-    let args = c .before .before .before .before .before .before .before .before .before .before .before .before .before .before .before .before .before .args in
-    let few = pre .1 in
-    let o = pre .2 in
-    let d = loop-test .taken in
-    let low = pre .0 .low (args .o * 32 + loop .y) (omega arith) in
-    let same = label .ensures in
-    let owns-long = pre .5 in
-    let wants-long = loop .inv .1 .long in
-    let meet-long = loop .inv .1 .meet-long in
-    search needs
+slice-write-wants c = let facts = labelled (c .before .before .before .before .before .before .before .before) in search needs
 
 add-y : tie.Need-add-y Inv-loop μ-loop
 add-y c = search needs

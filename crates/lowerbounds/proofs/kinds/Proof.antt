@@ -4,6 +4,7 @@ use mathlib.Core.List.{List}
 use mathlib.Core.Logic.{⊎-elim}
 use Prim.Native.Nat.{ℕ, _<_, _≤_, _+_, _-_, _*_}
 use native.Mathlib.Omega.{arith}
+use lib.ListN.{length}
 use borrow.Author.Tests.{not-true}
 use borrow.Author.Needs.{needs}
 use Rattle.cells.specs.ListLaws.{zeros-are}
@@ -55,55 +56,35 @@ label-requires-2 c κs =
 mul-in-set : tie.Need-mul-in-set Inv-loop μ-loop
 mul-in-set c = search needs
 
-array-read-in-set : tie.Need-array-read-in-set Inv-loop μ-loop
-array-read-in-set c =
+-- the two classes of a vertex are below the lengths of the tables
+labelled : (c : tie.After-label2 Inv-loop μ-loop) → (c .before .label .result < 32) × (c .label2 .result < 32)
+    × (length (c .before .before .before .loop .seen) ≡ 32) × (length (c .before .before .before .loop .g) ≡ 1024) × (length (c .before .before .before .loop .r) ≡ 32)
+labelled c =
+    let inv = c .before .before .before .loop .inv in
     let pre = c .before .before .before .before .before .pre in
-    let loop = c .before .before .before .loop in
     let h = c .before .before .loop-test .taken in
-    let low = low-label (pre .0) (pre .2) (pre .1) h (c .before .label .ensures) in
-    let sets = loop .inv .1 .sets in
-    search needs
+    (low-label (pre .0) (pre .2) (pre .1) h (c .before .label .ensures), low-label (pre .0) (pre .3) (pre .1) h (c .label2 .ensures), inv .1 .sets, inv .1 .long, inv .2 .long)
+
+array-read-in-set : tie.Need-array-read-in-set Inv-loop μ-loop
+array-read-in-set c = let facts = labelled c in search needs
 
 in-set-requires : tie.Need-in-set-requires Inv-loop μ-loop
-in-set-requires c κs =
-    let pre = c .before .before .before .before .before .pre in
-    let h = c .before .before .loop-test .taken in
-    let low = low-label (pre .0) (pre .3) (pre .1) h (c .label2 .ensures) in
-    omega arith
+in-set-requires c κs = let facts = labelled c in let low = facts .1 in omega arith
 
 mul-with : tie.Need-mul-with Inv-loop μ-loop
 mul-with c = search needs
 
 array-read-with : tie.Need-array-read-with Inv-loop μ-loop
-array-read-with c =
-    let label = c .before .before .before .label in
-    let pre = c .before .before .before .before .before .before .before .pre in
-    let loop = c .before .before .before .before .before .loop in
-    let h = c .before .before .before .before .loop-test .taken in
-    let low = low-label (pre .0) (pre .2) (pre .1) h (label .ensures) in
-    let sets = loop .inv .1 .sets in
-    search needs
+array-read-with c = let facts = labelled (c .before .before) in search needs
 
 with-requires : tie.Need-with-requires Inv-loop μ-loop
-with-requires c κs =
-    let label2 = c .before .before .label2 in
-    let pre = c .before .before .before .before .before .before .before .pre in
-    let h = c .before .before .before .before .loop-test .taken in
-    let low = low-label (pre .0) (pre .3) (pre .1) h (label2 .ensures) in
-    omega arith
+with-requires c κs = let facts = labelled (c .before .before) in let low = facts .1 in omega arith
 
 mul-seen : tie.Need-mul-seen Inv-loop μ-loop
 mul-seen c = search needs
 
 array-write-seen : tie.Need-array-write-seen Inv-loop μ-loop
-array-write-seen c =
-    let label = c .before .before .before .before .label in
-    let pre = c .before .before .before .before .before .before .before .before .pre in
-    let loop = c .before .before .before .before .before .before .loop in
-    let h = c .before .before .before .before .before .loop-test .taken in
-    let low = low-label (pre .0) (pre .2) (pre .1) h (label .ensures) in
-    let sets = loop .inv .1 .sets in
-    search needs
+array-write-seen c = let facts = labelled (c .before .before .before) in search needs
 
 part-requires : tie.Need-part-requires Inv-loop μ-loop
 part-requires c κs =
@@ -122,15 +103,7 @@ add-i : tie.Need-add-i Inv-loop μ-loop
 add-i c = search needs
 
 array-read-n : tie.Need-array-read-n Inv-loop μ-loop
-array-read-n c =
-    let label = c .before .before .before .before .before .label in
-    let pre = c .before .before .before .before .before .before .before .before .before .pre in
-    let loop = c .before .before .before .before .before .before .before .loop in
-    let h = c .before .before .before .before .before .before .loop-test .taken in
-    let low = low-label (pre .0) (pre .2) (pre .1) h (label .ensures) in
-    let low-part = c .part .ensures .1 in
-    let long = loop .inv .1 .long in
-    search needs
+array-read-n c = let facts = labelled (c .before .before .before .before) in let low-part = c .part .ensures .1 in search needs
 
 add-n : tie.Need-add-n Inv-loop μ-loop
 add-n c =
@@ -143,35 +116,13 @@ add-n c =
     record { fits = omega arith }
 
 array-write-g : tie.Need-array-write-g Inv-loop μ-loop
-array-write-g c =
-    let label = c .before .before .before .before .before .label in
-    let pre = c .before .before .before .before .before .before .before .before .before .pre in
-    let loop = c .before .before .before .before .before .before .before .loop in
-    let h = c .before .before .before .before .before .before .loop-test .taken in
-    let low = low-label (pre .0) (pre .2) (pre .1) h (label .ensures) in
-    let low-part = c .part .ensures .1 in
-    let long = loop .inv .1 .long in
-    search needs
+array-write-g c = let facts = labelled (c .before .before .before .before) in let low-part = c .part .ensures .1 in search needs
 
 array-read-if2 : tie.Need-array-read-if2 Inv-loop μ-loop
-array-read-if2 c =
-    let label = c .before .before .before .before .before .label in
-    let pre = c .before .before .before .before .before .before .before .before .before .pre in
-    let loop = c .before .before .before .before .before .before .before .loop in
-    let h = c .before .before .before .before .before .before .loop-test .taken in
-    let low = low-label (pre .0) (pre .2) (pre .1) h (label .ensures) in
-    let long = loop .inv .2 .long in
-    search needs
+array-read-if2 c = let facts = labelled (c .before .before .before .before) in search needs
 
 array-write-r : tie.Need-array-write-r Inv-loop μ-loop
-array-write-r c =
-    let label = c .before .before .before .before .before .before .label in
-    let pre = c .before .before .before .before .before .before .before .before .before .before .pre in
-    let loop = c .before .before .before .before .before .before .before .before .loop in
-    let h = c .before .before .before .before .before .before .before .loop-test .taken in
-    let low = low-label (pre .0) (pre .2) (pre .1) h (label .ensures) in
-    let long = loop .inv .2 .long in
-    search needs
+array-write-r c = let facts = labelled (c .before .before .before .before .before) in search needs
 
 add-x : tie.Need-add-x Inv-loop μ-loop
 add-x c = search needs

@@ -19,20 +19,20 @@ abbrev μ-loop : tie.MeasureT-loop
 loop-holds : tie.Need-loop-holds Inv-loop μ-loop
 loop-holds c = (omega arith, c .before .before .pre .4)
 
-array-read-digits : tie.Need-array-read-digits Inv-loop μ-loop
-array-read-digits c =
+array-read-size : tie.Need-array-read-size Inv-loop μ-loop
+array-read-size c =
     let h = c .before .loop-test .taken in
     let few = c .before .before .before .before .before .pre .2 in
     search needs
 
-array-read-digits-2 : tie.Need-array-read-digits-2 Inv-loop μ-loop
-array-read-digits-2 c =
+array-read-size-2 : tie.Need-array-read-size-2 Inv-loop μ-loop
+array-read-size-2 c =
     let few = c .before .before .before .before .before .pre .2 in
     let one = c .before .before .before .before .before .pre .3 in
     search needs
 
-digits-requires : tie.Need-digits-requires Inv-loop μ-loop
-digits-requires c κs = search needs
+size-requires : tie.Need-size-requires Inv-loop μ-loop
+size-requires c κs = search needs
 
 kinds-requires : tie.Need-kinds-requires Inv-loop μ-loop
 kinds-requires c κs =
@@ -45,11 +45,11 @@ kinds-requires c κs =
 raise-requires : tie.Need-raise-requires Inv-loop μ-loop
 raise-requires c κs =
     let loop = c .before .before .before .before .before .loop in
-    let digits = c .before .before .digits in
+    let size = c .before .before .size in
     let pre = c .before .before .before .before .before .before .before .before .pre in
     let few = pre .2 in
     let one = pre .3 in
-    (loop .inv .1 .long, omega arith, digits .ensures .1, λ l h. c .kinds .ensures l h .few)
+    (loop .inv .1 .long, omega arith, size .ensures .1, λ l h. c .kinds .ensures l h .few)
 
 add-q : tie.Need-add-q Inv-loop μ-loop
 add-q c = search needs
@@ -87,9 +87,9 @@ raise-all-spec =
     Inv-loop
     μ-loop
     loop-holds
-    array-read-digits
-    array-read-digits-2
-    digits-requires
+    array-read-size
+    array-read-size-2
+    size-requires
     kinds-requires
     raise-requires
     add-q

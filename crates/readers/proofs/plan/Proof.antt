@@ -6,6 +6,10 @@ use borrow.Author.Needs.{needs}
 use Rattle.readers.specs.MasksLaws.{planned-start, planned-more}
 use Rattle.readers.proofs.plan.Statement.{statement}
 use Rattle.readers.proofs.plan.Tie as tie
+use Rattle.readers.proofs.plan.Reads as reads
+use Rattle.readers.proofs.plan.Lts as lts
+use Rattle.cells.proofs.size.Reads as size-reads
+use Rattle.cells.proofs.power.Reads as power-reads
 
 abbrev Inv-loop : tie.InvT-loop
 Inv-loop v j kn val sh rows ms₀ ps₀ caps₀ spots₀ o₀ ms ps caps spots o = (o ≤ j) × Planned rows sh o ms ps caps spots
@@ -25,20 +29,20 @@ array-write-ms c = let h = c .loop-test .taken in let z = c .before .before .pre
 array-write-ps : tie.Need-array-write-ps Inv-loop μ-loop
 array-write-ps c = let h = c .loop-test .taken in let z = c .before .before .pre in search needs
 
-digits-requires : tie.Need-digits-requires Inv-loop μ-loop
-digits-requires c κs = search needs
+size-requires : tie.Need-size-requires Inv-loop μ-loop
+size-requires c κs = search needs
 
 power-requires : tie.Need-power-requires Inv-loop μ-loop
-power-requires c κs = c .digits .ensures .1
+power-requires c κs = c .size .ensures .1
 
 array-write-caps : tie.Need-array-write-caps Inv-loop μ-loop
 array-write-caps c = let h = c .before .before .loop-test .taken in let z = c .before .before .before .before .pre in search needs
 
-digits-requires-2 : tie.Need-digits-requires-2 Inv-loop μ-loop
-digits-requires-2 c κs = search needs
+size-requires-2 : tie.Need-size-requires-2 Inv-loop μ-loop
+size-requires-2 c κs = search needs
 
 power-requires-2 : tie.Need-power-requires-2 Inv-loop μ-loop
-power-requires-2 c κs = c .digits2 .ensures .1
+power-requires-2 c κs = c .size2 .ensures .1
 
 array-write-spots : tie.Need-array-write-spots Inv-loop μ-loop
 array-write-spots c = let h = c .before .before .before .before .loop-test .taken in let z = c .before .before .before .before .before .before .pre in search needs
@@ -51,7 +55,7 @@ loop-less c = search needs
 
 loop-again : tie.Need-loop-again Inv-loop μ-loop
 loop-again c =
-    let digits = c .before .before .before .digits in
+    let size = c .before .before .before .size in
     let start = c .before .before .before .before .before .before in
     let a = start .args in
     let z = start .pre in
@@ -61,8 +65,8 @@ loop-again c =
     let spot = c .power2 in (
       omega arith,
       planned-more (a .t3) (a .sh) (l .o) (l .ms) (l .ps) (l .caps) (l .spots) _ _ (cap .result) (spot .result) (omega arith) refl refl
-          (cap .ensures .0 ∙ ap (λ (z : ℕ). 2 ^ z) (digits .ensures .0))
-          (spot .ensures .0 ∙ ap (λ (z : ℕ). 2 ^ z) (c .before .digits2 .ensures .0)) (l .inv .1),
+          (cap .ensures .0 ∙ ap (λ (z : ℕ). 2 ^ z) (size .ensures .0))
+          (spot .ensures .0 ∙ ap (λ (z : ℕ). 2 ^ z) (c .before .size2 .ensures .0)) (l .inv .1),
     )
 
 returns : tie.Need-returns Inv-loop μ-loop
@@ -83,10 +87,10 @@ plan-spec =
     array-read-r
     array-write-ms
     array-write-ps
-    digits-requires
+    size-requires
     power-requires
     array-write-caps
-    digits-requires-2
+    size-requires-2
     power-requires-2
     array-write-spots
     add-o

@@ -3,12 +3,16 @@ use Rattle.bits.specs.LogicLaws.{true-false}
 use borrow.Author.Needs.{needs}
 use Rattle.readers.proofs.useful.Statement.{statement}
 use Rattle.readers.proofs.useful.Tie as tie
+use Rattle.readers.proofs.useful.Reads as reads
+use Rattle.readers.proofs.useful.Lts as lts
+use Rattle.cells.proofs.size.Reads as size-reads
+use Rattle.readers.proofs.uniform.Reads as uniform-reads
 
 returns : tie.Need-returns
 returns c = λ e. absurd (true-false (sym e))
 
-digits-requires : tie.Need-digits-requires
-digits-requires c κs = search needs
+size-requires : tie.Need-size-requires
+size-requires c κs = search needs
 
 returns-2 : tie.Need-returns-2
 returns-2 c = λ e. absurd (true-false (sym e))
@@ -20,4 +24,4 @@ returns-3 : tie.Need-returns-3
 returns-3 c = λ e. (c .before .before .before .if1 .left, c .uniform .ensures e)
 
 pub useful-spec : {M : Type 1} → statement M
-useful-spec = tie.close (tie.spec returns digits-requires returns-2 uniform-requires returns-3)
+useful-spec = tie.close (tie.spec returns size-requires returns-2 uniform-requires returns-3)

@@ -1,7 +1,7 @@
-use Rattle.lowerbounds.specs.RaisingLaws.{power-is}
+use Rattle.cells.specs.Sets.{power-is}
 use borrow.Author.Needs.{needs}
-use Rattle.lowerbounds.proofs.power.Statement.{statement}
-use Rattle.lowerbounds.proofs.power.Tie as tie
+use Rattle.cells.proofs.power.Statement.{statement}
+use Rattle.cells.proofs.power.Tie as tie
 
 shl-result : tie.Need-shl-result
 shl-result c = search needs
