@@ -88,7 +88,7 @@ module _ (rows : List ℕ) (sh j : ℕ) (ms ps caps spots : List ℕ) (short : S
   private-on o i h l = ap (λ (z : ℕ). on z i) (p .private .done o h) ∙ on-and (item rows o) (2 ^ 8 - 1 - sh) i ∙ ap (λ (b : Bool). andb (on (item rows o) i) b)
       (on-complement 8 sh i (let z = c .low in omega arith) (omega arith))
 
-  pub private-low : (o : ℕ) → o < j → item ps o < 64
+  private-low : (o : ℕ) → o < j → item ps o < 64
   private-low o h = let e = p .private .done o h in let w = and-le-l (item rows o) (2 ^ 8 - 1 - sh) in let z = short o h in omega arith
 
   pub shared-low : (o : ℕ) → o < j → item ms o < 64
@@ -119,7 +119,7 @@ module _ (rows : List ℕ) (sh j : ℕ) (ms ps caps spots : List ℕ) (short : S
   pub shared-among : (o i : ℕ) → o < j → on (item ms o) i ≡ true → on sh i ≡ true
   shared-among o i h e = and-right (on (item rows o) i) (on sh i) (sym (shared-on o i h) ∙ e)
 
-  pub split-of : Split j 6 (item rows) (item ms) (item ps) sh
+  split-of : Split j 6 (item rows) (item ms) (item ps) sh
   split-of = record {
     whole = λ o i h. whole o i h (decLt i 6);
     among = shared-among;

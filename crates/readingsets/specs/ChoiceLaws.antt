@@ -49,7 +49,7 @@ count-row row = count-sum (on row) 6 10 ∙ ap₂ (λ (a b : ℕ). a + b)
     (count-alike (λ (i : ℕ). on row (6 + i)) (on (row / 64)) 10 (λ i h. on-given row i))
 
 -- ======== a row and its number
-pub power-low : (u : ℕ) → u ≤ 6 → 2 ^ u ≤ 64
+power-low : (u : ℕ) → u ≤ 6 → 2 ^ u ≤ 64
 power-low u h = let p : 2 ^ u ≤ 2 ^ 6 = pow-mono h in p
 
 pub number-row : (u row : ℕ) → openOf row < 2 ^ u → numbered u (numberOf u row) ≡ row
