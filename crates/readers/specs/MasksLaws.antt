@@ -1,7 +1,8 @@
--- Why codes of the shared cells are enough. Vertices of one class and one block of shared digits need different private codes,
--- and a private cell serves its own output only: so codes of the shared cells can be completed exactly where no block holds
--- more classes than the output's private cells have codes. Codes for all cells give codes of the shared cells, so no answer is
--- lost. The search starts with code 0 at vertex 0 and every code that fits elsewhere. Assumes nothing.
+-- Why codes of the shared cells are enough. A private cell serves its own output only, so vertices of different classes with
+-- the same shared digits need different private codes, and codes for all cells leave no block of shared digits with more
+-- classes than the output's private cells have codes (solves-of). What is parted by shared and private cells is parted by what
+-- is read (coded-of). So no answer is lost. The search starts with code 0 at vertex 0 and every code that fits elsewhere.
+-- Assumes nothing.
 use Rattle.cells.specs.Lists.{zeros, All, Pairs}
 use mathlib.Core.Path.{_≡_, refl, sym, ap, ap₂, _∙_, subst}
 use mathlib.Core.Bool.{Bool, true, false, not}
