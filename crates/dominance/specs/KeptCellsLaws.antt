@@ -48,7 +48,7 @@ module _ (cl budgets labels budgets' : List ℕ) (v m n : ℕ) (by : List ℕ) (
   abbrev pub origin : ℕ → ℕ
   origin i = source i (decLt i n)
 
-  abbrev pub Like : ℕ → ℕ → Type 0
+  abbrev Like : ℕ → ℕ → Type 0
   Like i o = (o < m) × ((x y : ℕ) → x < v → y < v → Conflict labels i x y → Conflict cl o x y) × (item budgets' i ≡ item budgets o)
 
   pub origin-like : (i : ℕ) → i < n → Like i (origin i)

@@ -53,7 +53,7 @@ module _ (cl : List ℕ) (j kn val x n : ℕ) (first : List Vertex) (place : Lis
   old y k = ap (λ (z : JointClass). z .0) (getD-set-other place x y q (record { 0 = 0 }) (λ e. let z : y ≡ x = e in omega arith))
 
   -- q has vertices already
-  pub merged-old : q .0 < n → Mergeable cl j kn val x (vertexAt first (q .0)) → Merged cl j kn val (x + 1) n first (set place x q)
+  merged-old : q .0 < n → Mergeable cl j kn val x (vertexAt first (q .0)) → Merged cl j kn val (x + 1) n first (set place x q)
   merged-old l a = record {
     first-long = s .first-long;
     place-long = length-set place x q ∙ s .place-long;
@@ -73,7 +73,7 @@ module _ (cl : List ℕ) (j kn val x n : ℕ) (first : List Vertex) (place : Lis
   }
 
   -- x is the first of a new class
-  pub merged-new : q .0 ≡ n → Merged cl j kn val (x + 1) (n + 1) (set first n (record { 0 = x })) (set place x q)
+  merged-new : q .0 ≡ n → Merged cl j kn val (x + 1) (n + 1) (set first n (record { 0 = x })) (set place x q)
   merged-new f = record {
     first-long = length-set first n (record { 0 = x }) ∙ s .first-long;
     place-long = length-set place x q ∙ s .place-long;
@@ -153,7 +153,7 @@ module _ (cl : List ℕ) (first : List Vertex) (r : List ℕ) (j : ℕ) (outs : 
       low k h (yes l) = subst (λ (z : ℕ). z < 32) (sym (p .done k l)) (labels .low (k / 32 * 32 + vertexAt first (k % 32)) (let z = small (k % 32) (omega arith) in omega arith))
       low k h (no l) = subst (λ (z : ℕ). z < 32) (sym (p .rest k (omega arith) h)) (labels .low k h)
 
-  pub picked-at : (o i : ℕ) → o < j → i < 32 → labelAt r o i ≡ labelAt cl o (vertexAt first i)
+  picked-at : (o i : ℕ) → o < j → i < 32 → labelAt r o i ≡ labelAt cl o (vertexAt first i)
   picked-at o i h k = p .done (o * 32 + i) (omega arith) ∙ ap (λ (z : ℕ). labelAt cl z (vertexAt first ((o * 32 + i) % 32))) (let e : (o * 32 + i) / 32 ≡ o = omega arith in e) ∙ ap
       (λ (z : ℕ). labelAt cl o (vertexAt first z)) (let e : (o * 32 + i) % 32 ≡ i = omega arith in e)
 

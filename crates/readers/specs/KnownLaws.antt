@@ -11,7 +11,7 @@ use native.Mathlib.Decide.{ℕ-discrete}
 use native.Mathlib.Omega.{arith}
 use lib.Bits.{bitAnd, bitOr, and-le-l, or-lt}
 use lib.ListN.{length, set, length-set}
-use lib.Seq.{getD-set-same, getD-set-other}
+use lib.Seq.{getD-set-other}
 use Rattle.bits.specs.Logic.{andb, orb}
 use Rattle.bits.specs.LogicLaws.{and-left, never-both, false-unless, and-true, and-false}
 use Rattle.bits.specs.Digit.{on}
@@ -142,12 +142,8 @@ pub wrote-more : (kn val : ℕ) (codes : List ℕ) (n : ℕ) (r : List ℕ) (c :
 wrote-more kn val codes n r c known d h ek ed b w =
     let a = subst (λ (t : Bool). Digit (item r n) t (on val n) c) ek (subst (λ (t : Bool). Digit (item r n) known t c) ed b) in record {
       long = length-set r n c ∙ w .long;
-      done = λ x b. ⊎-elim
-          (λ l. subst (Digit (item codes x) (on kn x) (on val x)) (sym (getD-set-other r n x c 0 (λ q. let z : x ≡ n = q in omega arith))) (w .done x l))
-          (λ q. subst (λ (x : ℕ). Digit (item codes x) (on kn x) (on val x) (item (set r n c) x)) (sym q)
-          (subst (Digit (item codes n) (on kn n) (on val n)) (sym (getD-set-same r n c 0 (let z = w .long in omega arith)))
-          (subst (λ (z : ℕ). Digit z (on kn n) (on val n) c) (w .rest n (omega arith)) a)))
-          (less-or-equal x n (omega arith));
+      done = each-more (λ x. Digit (item codes x) (on kn x) (on val x)) n c r (let z = w .long in omega arith)
+          (subst (λ (z : ℕ). Digit z (on kn n) (on val n) c) (w .rest n (omega arith)) a) (w .done);
       rest = λ x b. getD-set-other r n x c 0 (λ q. let z : x ≡ n = q in omega arith) ∙ w .rest x (omega arith);
     }
 

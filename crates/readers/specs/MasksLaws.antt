@@ -1,7 +1,8 @@
--- Why codes of the shared cells are enough. Vertices of one class and one block of shared digits need different private codes,
--- and a private cell serves its own output only: so codes of the shared cells can be completed exactly where no block holds
--- more classes than the output's private cells have codes. Codes for all cells give codes of the shared cells, so no answer is
--- lost. The search starts with code 0 at vertex 0 and every code that fits elsewhere. Assumes nothing.
+-- Why codes of the shared cells are enough. A private cell serves its own output only, so vertices of different classes with
+-- the same shared digits need different private codes, and codes for all cells leave no block of shared digits with more
+-- classes than the output's private cells have codes (solves-of). What is parted by shared and private cells is parted by what
+-- is read (coded-of). So no answer is lost. The search starts with code 0 at vertex 0 and every code that fits elsewhere.
+-- Assumes nothing.
 use Rattle.cells.specs.Lists.{zeros, All, Pairs}
 use mathlib.Core.Path.{_≡_, refl, sym, ap, ap₂, _∙_, subst}
 use mathlib.Core.Bool.{Bool, true, false, not}
@@ -90,7 +91,7 @@ module _ (rows : List ℕ) (sh j : ℕ) (ms ps caps spots : List ℕ) (short : S
   private-on o i h l = ap (λ (z : ℕ). on z i) (p .private .done o h) ∙ on-and (item rows o) (2 ^ 8 - 1 - sh) i ∙ ap (λ (b : Bool). andb (on (item rows o) i) b)
       (on-complement 8 sh i (let z = c .low in omega arith) (omega arith))
 
-  pub private-low : (o : ℕ) → o < j → item ps o < 64
+  private-low : (o : ℕ) → o < j → item ps o < 64
   private-low o h = let e = p .private .done o h in let w = and-le-l (item rows o) (2 ^ 8 - 1 - sh) in let z = short o h in omega arith
 
   pub shared-low : (o : ℕ) → o < j → item ms o < 64
@@ -121,7 +122,7 @@ module _ (rows : List ℕ) (sh j : ℕ) (ms ps caps spots : List ℕ) (short : S
   pub shared-among : (o i : ℕ) → o < j → on (item ms o) i ≡ true → on sh i ≡ true
   shared-among o i h e = and-right (on (item rows o) i) (on sh i) (sym (shared-on o i h) ∙ e)
 
-  pub split-of : Split j 6 (item rows) (item ms) (item ps) sh
+  split-of : Split j 6 (item rows) (item ms) (item ps) sh
   split-of = record {
     whole = λ o i h. whole o i h (decLt i 6);
     among = shared-among;

@@ -77,7 +77,7 @@ module _ (cl rows : List ℕ) (sh v j : ℕ) (ms ps caps spots : List ℕ) (shor
       let read : (z : ℕ) → on (sharedCode sh f z) d ≡ on (f z) d = λ z. on-and (f z) sh d ∙ ap (λ (x : Bool). andb (on (f z) d) x) s ∙ and-true (on (f z) d) in
       sym (read x) ∙ and-agree 6 (item ms o) (sharedCode sh f x) (sharedCode sh f y) e d l t ∙ read y)
 
-  pub needs-of : (o l n : ℕ) → o < j → Reason cl rows v j o l n → (xs : List ℕ) × All (In o l) xs × Pairs (Blocks o) xs × (n ≤ length xs)
+  needs-of : (o l n : ℕ) → o < j → Reason cl rows v j o l n → (xs : List ℕ) × All (In o l) xs × Pairs (Blocks o) xs × (n ≤ length xs)
   needs-of o l n h (inl z) = ([], tt, tt, omega arith)
   needs-of o l n h (inr r) = go (ℕ-discrete o q) (r .3)
     where

@@ -1,7 +1,7 @@
 -- Why rows that are not tried lose no core. Of open cells that may change places and that the outputs so far read alike, the
 -- next output may be taken to read the first ones: a core is replaced by one that differs in the order of these cells alone. So
--- only rows in that order are tried, and of these those are left that no codes answer, alone or with the outputs chosen before.
--- Assumes nothing.
+-- only rows in that order are tried. Of these, rows that no codes answer, alone or with those chosen before, are passed over:
+-- no core has them. Assumes nothing.
 use mathlib.Core.Path.{_≡_, refl, sym, ap, ap₂, _∙_, subst}
 use mathlib.Core.Bool.{Bool, true, false, not}
 use mathlib.Core.List.{List}
@@ -51,7 +51,7 @@ count-row row = count-sum (on row) 6 10 ∙ ap₂ (λ (a b : ℕ). a + b)
     (count-alike (λ (i : ℕ). on row (6 + i)) (on (row / 64)) 10 (λ i h. on-given row i))
 
 -- ======== a row and its number
-pub power-low : (u : ℕ) → u ≤ 6 → 2 ^ u ≤ 64
+power-low : (u : ℕ) → u ≤ 6 → 2 ^ u ≤ 64
 power-low u h = let p : 2 ^ u ≤ 2 ^ 6 = pow-mono h in p
 
 pub number-row : (u row : ℕ) → openOf row < 2 ^ u → numbered u (numberOf u row) ≡ row

@@ -63,7 +63,7 @@ module _ (cl given budgets : List ℕ) (kn val v m u g n row : ℕ) (fits : RowF
       fit o h (no q) = subst (RowFits (item budgets o) u g) (sym (replaced-other n row R o q)) (c .rows o h)
 
   module _ (done with-n : ℕ) (rows : List ℕ) (long : length rows ≡ 8) (h : n < 8) (free : on done n ≡ false) (ew : with-n ≡ bitOr done (2 ^ n)) where
-    pub served-lost : Lost cl given budgets kn val v m u g with-n (set rows n row) → Lost cl given budgets kn val v m u g done rows
+    served-lost : Lost cl given budgets kn val v m u g with-n (set rows n row) → Lost cl given budgets kn val v m u g done rows
     served-lost s = record {
       none = λ R F c a. s .none (replaced n row R) F (core-replaced R F c)
           (subst (λ (d : ℕ). Agree d (set rows n row) (replaced n row R)) (sym ew)

@@ -135,7 +135,7 @@ module _ (cl given budgets : List ℕ) (kn val v m u g : ℕ) (few : u ≤ 6) (r
     }
 
   -- where no core of readingsets has any rows, no cells serve
-  pub lost-lacks : Begins kn val u → (rows : List ℕ) → Lost cl given budgets kn val v m u g 0 rows → Lacks cl given budgets kn val v m u g
+  lost-lacks : Begins kn val u → (rows : List ℕ) → Lost cl given budgets kn val v m u g 0 rows → Lacks cl given budgets kn val v m u g
   lost-lacks begins none lost = record {
     none = λ l ts e t k s.
         let r = full-of u g v m (Conflict cl) (item budgets) l ts (let z = e in omega arith) (t .long) s in
@@ -237,7 +237,7 @@ module _ (cl given budgets : List ℕ) (kn val v m u g : ℕ) (rows codes : List
   first-known (suc n) = found .answers .fixed
 
   -- rows and codes of readingsets are cells that serve
-  pub found-has : Has cl given budgets kn val v m u g rows codes
+  found-has : Has cl given budgets kn val v m u g rows codes
   found-has = record {
     fit = fit;
     known = first-known u;

@@ -202,14 +202,14 @@ module _ (asked : ℕ) (rows : List ℕ) (n : ℕ) (from cells tables : List ℕ
 
   module _ (cl given : List ℕ) (v : ℕ) (labels : List ℕ) (l : Leaves cl given from tables n v labels) where
     -- codes answer the subproblem exactly when they tell the labels and parts of the outputs gathered apart
-    pub answers-coded : (kn val : ℕ) (f : ℕ → ℕ) → Answers cl given kn val v asked (item rows) f → Coded v n (Within (partAt labels) (labelAt labels)) (item cells) f
+    answers-coded : (kn val : ℕ) (f : ℕ → ℕ) → Answers cl given kn val v asked (item rows) f → Coded v n (Within (partAt labels) (labelAt labels)) (item cells) f
     answers-coded kn val f w = left-coded cl given from tables n v labels l n (omega arith) (item cells) f record {
       tells = λ i x y h a b k e. w .tells (item from i) x y (s .from-low i (let z = s .few in omega arith)) (s .within i h) a b
           (subst (λ (g : ℕ). Left cl given g (item from i) x y) (s .reads-tables i h) k)
           (subst (λ (c : ℕ). bitAnd (f x) c ≡ bitAnd (f y) c) (s .reads-cells i h) e);
     }
 
-    pub coded-answers : (kn val : ℕ) (f : ℕ → ℕ) → Coded v n (Within (partAt labels) (labelAt labels)) (item cells) f → Fixed kn val v f → Answers cl given kn val v asked (item rows) f
+    coded-answers : (kn val : ℕ) (f : ℕ → ℕ) → Coded v n (Within (partAt labels) (labelAt labels)) (item cells) f → Fixed kn val v f → Answers cl given kn val v asked (item rows) f
     coded-answers kn val f w fixed = record {
       tells = λ o x y h a b c k e.
           let i = s .all o h a in

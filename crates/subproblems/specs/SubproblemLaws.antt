@@ -19,7 +19,7 @@ on-open row i h = ap (λ (z : ℕ). on z i) (sym (and-mask row 6)) ∙ on-and ro
 
 module _ (cl given : List ℕ) (kn val v : ℕ) where
   -- codes that answer a subproblem answer each subproblem about fewer outputs, with the same rows for these
-  pub answers-fewer : (a b : ℕ) (rows rows' f : ℕ → ℕ) → ((o : ℕ) → o < searchOutputs → on a o ≡ true → on b o ≡ true)
+  answers-fewer : (a b : ℕ) (rows rows' f : ℕ → ℕ) → ((o : ℕ) → o < searchOutputs → on a o ≡ true → on b o ≡ true)
       → ((o : ℕ) → o < searchOutputs → on a o ≡ true → rows o ≡ rows' o)
       → Answers cl given kn val v b rows' f → Answers cl given kn val v a rows f
   answers-fewer a b rows rows' f sub same s = record {

@@ -1,6 +1,6 @@
 -- A subproblem whose rows don't read cell 0. What is known of cell 0 has no part in its answer: codes that answer it are given
--- the known digits in cell 0, and 0 where none is known, and answer it still. So what was found without known digits holds with
--- them. Assumes nothing.
+-- the known digits in cell 0, and 0 where none is known, and answer it still. So what has no codes under some known digits has
+-- none under others. Assumes nothing.
 use mathlib.Core.Path.{_≡_, refl, sym, ap, _∙_}
 use mathlib.Core.Bool.{Bool, true, false}
 use mathlib.Core.List.{List}

@@ -41,25 +41,6 @@ store-requires c κs = search needs
 wrapping-add-u64-requires : tie.Need-wrapping-add-u64-requires
 wrapping-add-u64-requires c κs = search needs
 
-same-length-2 : tie.Need-same-length-2
-same-length-2 c =
-    let if2 = c .before .before .if2 in
-    let start = c .before .before .before .before .before .before .before .before .before .before .before in
-    let a = start .args in
-    let p = a .p in
-    let h = start .pre .3 in
-    let k = c .before .before .before .before .ask in
-    let r = k .result in
-    let H : List ℕ → Type 0 = λ m. Honest (a .cl .now) (a .given .now) (p .kn) (p .val) (p .vertices) m in
-    let lost = settled-lost (a .cl .now) (a .given .now) (p .kn) (p .val) (p .vertices) (a .all) (item (a .rows)) (r .ok) (r .codes) in
-    let kept = ⊎-elim
-    (λ w.
-    let bad = lost (not-true _ (w .2 .taken)) (k .ensures .sure (not-true _ (w .4 .taken))) in
-    subst H (sym (w .9)) (w .6 .ensures (a .cl .now) (a .given .now) (p .kn) (p .val) (p .vertices) (λ e. bad) h))
-    (⊎-elim (λ w. subst H (sym (w .5)) h) (⊎-elim (λ w. subst H (sym (w .3)) h) (λ w. subst H (sym (w .1)) h)))
-    (if2 .came) in
-    kept .long ∙ sym (h .long)
-
 returns-2 : tie.Need-returns-2
 returns-2 c =
     let if2 = c .before .before .if2 in
@@ -78,6 +59,11 @@ returns-2 c =
     (⊎-elim (λ w. subst H (sym (w .5)) h) (⊎-elim (λ w. subst H (sym (w .3)) h) (λ w. subst H (sym (w .1)) h)))
     (if2 .came) in
     (refl, k .ensures, kept)
+
+same-length-2 : tie.Need-same-length-2
+same-length-2 c =
+    let start = c .before .before .before .before .before .before .before .before .before .before .before in
+    returns-2 c .2 .long ∙ sym (start .pre .3 .long)
 
 pub ask-all-spec : {M : Type 1} → statement M
 ask-all-spec =
