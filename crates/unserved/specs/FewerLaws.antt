@@ -9,6 +9,7 @@ use native.Mathlib.Omega.{arith}
 use Rattle.bits.specs.Digit.{on}
 use Rattle.bits.specs.DigitLaws.{on-zero}
 use Rattle.bits.specs.LogicLaws.{never-both}
+use Rattle.subsets.specs.Listed.{Place}
 use Rattle.cells.specs.RenumberedLaws.{serves-as, renumbered-length, renumbered-reads-as}
 use Rattle.cells.specs.Core.{Differ}
 use Rattle.cells.specs.Renumbered.{renumbered}
@@ -17,11 +18,11 @@ use Rattle.relation.specs.Relation.{Conflict}
 use Rattle.dominance.specs.Kept.{StandFor}
 use Rattle.dominance.specs.KeptCells.{origin, origin-like}
 use Rattle.subsets.specs.Subset.{members, size, memberAt, SomeOf}
-use Rattle.subsets.specs.SubsetLaws.{Place, member-below, member-in, members-distinct, member-place}
+use Rattle.subsets.specs.SubsetLaws.{member-below, member-in, members-distinct, member-place}
 use Rattle.unserved.specs.Unserved.{Fits}
-use Rattle.unserved.specs.Asking.{FitBelow, OfMembers}
+use Rattle.unserved.specs.Asking.{FitBelow, OfMembers, without}
 use Rattle.unserved.specs.MissedLaws.{missed}
-use Rattle.unserved.specs.WithoutLaws.{without, without-other, without-below, without-size}
+use Rattle.unserved.specs.WithoutLaws.{without-other, without-below, without-size}
 
 module _ (cl budgets : List ℕ) (v m s n : ℕ) (labels taken : List ℕ) (w : OfMembers cl budgets v m s n labels taken)
     (labels' budgets' : List ℕ) (k : ℕ) (by : List ℕ) (d : StandFor labels taken v n labels' budgets' k by) where
