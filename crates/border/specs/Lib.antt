@@ -1,4 +1,5 @@
--- Line has the form of a line and what is read from it, Lists two lists compared, Recalled what a cache says of the next problem.
+-- Line has the form of a line and what is read from it, LineLaws what its reader and the search need; RecalledLaws what a cache says of
+-- the next problem.
 pub mod Line
-pub mod Lists
-pub mod Recalled
+pub mod LineLaws
+pub mod RecalledLaws

@@ -1,5 +1,6 @@
--- The question about one digit, put to the search: the tables before it are given, the digits before it are known. What the search
--- finds or rules out is the answer. Assumes nothing.
+-- The question about one digit, put to the search: the tables before it are given, the digits before it are known, and the digit is
+-- known to be 0. Cells found are a witness with these tables and digits, and where none are found no such tables serve: a core with
+-- them would be given cells and open ones. Assumes nothing.
 use mathlib.Core.Path.{_≡_, sym, ap, _∙_, subst}
 use mathlib.Core.Bool.{Bool, true, false}
 use mathlib.Core.List.{List}
@@ -30,7 +31,7 @@ use Rattle.cache.specs.Cache.{Honest}
 use Rattle.witness.specs.Witness.{Witness, Digits, Joined}
 use Rattle.first.specs.Drawn.{shown, Upto, Stands, Remembers, Replied}
 use Rattle.first.specs.DrawnLaws.{agrees-before, agrees-here, agrees-zero, shown-shaped, shown-digit, shown-agrees}
-use Rattle.first.specs.Parts.{parts-exchanged, rest-first, code-take, known-drop}
+use Rattle.first.specs.PartLaws.{parts-exchanged, rest-first, code-take, known-drop}
 
 -- the first of some open cells has its known digits, in codes
 first-known : (kn val v n : ℕ) (rows codes : List ℕ) → 0 < n → Known kn val v (openCells n rows codes) → (x : ℕ) → x < v → on kn x ≡ true → on (item codes x) 0 ≡ on val x

@@ -38,7 +38,7 @@ same-tables-take (suc i) {n = n} (shaped-more {a = a} {ps = ps} p s) (shaped-mor
 
 -- ======== the question at digit x of table i
 -- tables that answer it, from their digits
-pub agrees-of : {n u : ℕ} (i x : ℕ) (ts us : List (List Bool)) → Shaped n u ts → Shaped n u us → i < u → x < n
+agrees-of : {n u : ℕ} (i x : ℕ) (ts us : List (List Bool)) → Shaped n u ts → Shaped n u us → i < u → x < n
     → ((k y : ℕ) → k < i → y < n → getD (table us k) y false ≡ getD (table ts k) y false)
     → ((y : ℕ) → y < x → getD (table us i) y false ≡ getD (table ts i) y false)
     → getD (table us i) x false ≡ false
@@ -108,7 +108,7 @@ shown-take-digits v u i x codes r h l same = same-digits-take x v (table (shown 
     (λ y a b. shown-digit v u i y r h b ∙ same y a ∙ sym (shown-digit v u i y codes h b))
 
 -- cells that are 0 at vertex 0, in codes
-pub cells-zero-at : (n i : ℕ) (rows codes : ℕ → ℕ) → ((k : ℕ) → k < n → on (codes 0) (i + k) ≡ false) → ZeroFirst (cellsFrom n i rows codes)
+cells-zero-at : (n i : ℕ) (rows codes : ℕ → ℕ) → ((k : ℕ) → k < n → on (codes 0) (i + k) ≡ false) → ZeroFirst (cellsFrom n i rows codes)
 unfolding cellsFrom
 cells-zero-at zero i rows codes h = tt
 cells-zero-at (suc n) i rows codes h = (

@@ -1,4 +1,5 @@
--- What the first core is. Assumes nothing.
+-- What the first core is: its tables come first of all cores of as few cells, and with these tables what each output reads comes first.
+-- Assumes nothing.
 use mathlib.Core.Path.{_≡_}
 use mathlib.Core.Bool.{Bool, true}
 use mathlib.Core.List.{List}

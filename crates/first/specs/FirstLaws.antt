@@ -8,6 +8,7 @@ use native.Mathlib.Omega.{arith}
 use lib.ListN.{length}
 use Rattle.bits.specs.LogicLaws.{true-false, never-both}
 use Rattle.bits.specs.Digit.{on}
+use Rattle.fewest.specs.CountLaws.{serves-conflict, conflict-serves}
 use Rattle.order.specs.Total.{NotLess}
 use Rattle.order.specs.LeastTablesLaws.{tables-all}
 use Rattle.cells.specs.RenumberedLaws.{renumbered-length}
@@ -22,7 +23,6 @@ use Rattle.relation.specs.Relation.{Conflict}
 use Rattle.dominance.specs.Kept.{StandFor}
 use Rattle.dominance.specs.KeptCellsLaws.{origin, all-serves-kept, kept-serves-all, renumbered-cells, renumbered-tables, renumbered-zero}
 use Rattle.fewest.specs.Count as count
-use Rattle.fewest.specs.Count.{serves-conflict, conflict-serves}
 use Rattle.picking.specs.Picked.{Picked}
 use Rattle.witness.specs.Witness.{Witness}
 use Rattle.first.specs.First.{FirstCore, Answered}

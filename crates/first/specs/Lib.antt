@@ -3,7 +3,7 @@
 pub mod First
 pub mod Drawn
 pub mod DrawnLaws
-pub mod Parts
+pub mod PartLaws
 pub mod UptoLaws
 pub mod AskLaws
 pub mod LowestLaws

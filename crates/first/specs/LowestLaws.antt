@@ -1,4 +1,6 @@
--- The search for the first tables, step by step: from cells that serve, digit by digit and table by table. Assumes nothing.
+-- The search for the first tables, step by step: from cells that serve, digit by digit and table by table. A digit that is 0 stays;
+-- where it is 1 other cells with 0 there are taken if the search finds some, and if not no tables that serve have 0 there. Cells that
+-- change places keep the tables and digits that are settled. Assumes nothing.
 use mathlib.Core.Path.{_≡_, sym, _∙_, subst}
 use mathlib.Core.Bool.{Bool, true, false}
 use mathlib.Core.List.{List}

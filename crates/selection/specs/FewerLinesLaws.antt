@@ -1,4 +1,4 @@
--- The text of some lines is no longer than the text of all. Assumes nothing.
+-- The text of some lines is no longer than the text of all: a line that is left out takes its bytes with it. Assumes nothing.
 use mathlib.Core.Logic.{⊎-elim}
 use mathlib.Core.List.{List, [], _∷_}
 use Prim.Native.Nat.{ℕ, suc, _≤_}

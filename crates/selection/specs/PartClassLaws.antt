@@ -1,4 +1,5 @@
--- With some of its outputs a design has no more global classes. Assumes nothing.
+-- With some of its outputs a design has no more global classes: vertices that are alike in all outputs are alike in some of them, and a
+-- coarser relation makes no more classes. Assumes nothing.
 use mathlib.Core.Path.{_≡_, _∙_}
 use mathlib.Core.Bool.{true}
 use mathlib.Core.List.{List}
@@ -17,7 +18,7 @@ use Rattle.selection.specs.PartLaws.{part-count}
 use Rattle.selection.specs.PartColumnLaws.{part-alike}
 use Rattle.selection.specs.CoarserLaws.{coarser-count}
 
-pub part-alike-in-all : (s : ℕ) (d : Design) (bs : List Name) (x y : ℕ)
+part-alike-in-all : (s : ℕ) (d : Design) (bs : List Name) (x y : ℕ)
     → alikeInAll d bs x y ≡ true
     → alikeInAll (part s d) bs x y ≡ true
 part-alike-in-all s d bs x y e =

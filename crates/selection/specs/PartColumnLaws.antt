@@ -1,8 +1,8 @@
--- With some of its outputs a design has the values, the columns, the local classes and the widths of those outputs. Assumes nothing.
+-- With some of its outputs a design has the values, the columns, the local classes and the widths of those outputs: output j of the part
+-- is the member j of the set, with the same formula over the same names. Assumes nothing.
 use mathlib.Core.Path.{_≡_, ap, ap₂}
 use mathlib.Core.List.{List}
-use Prim.Native.Nat.{ℕ, suc, _<_}
-use native.Mathlib.Omega.{arith}
+use Prim.Native.Nat.{ℕ, _<_}
 use lib.ListN.{length}
 use Rattle.bits.specs.ValuesLaws.{values-same}
 use Rattle.names.specs.Name.{Name}
@@ -11,9 +11,9 @@ use Rattle.sheet.specs.Lines.{Output}
 use Rattle.sheet.specs.Examine.{Design}
 use Rattle.sheet.specs.Value.{outputOn}
 use Rattle.classes.specs.Columns.{joinRow, valueAt, column, sameValues, apart, conflict, alike, vertexCount, freeCount}
-use Rattle.classes.specs.Classes.{localCount, localClass}
+use Rattle.classes.specs.Classes.{localCount}
 use Rattle.classes.specs.Width.{widthOf, width, budget}
-use Rattle.classes.specs.ClassLaws.{count-agrees, class-agrees}
+use Rattle.classes.specs.ClassLaws.{count-agrees}
 use Rattle.subsets.specs.Subset.{size, memberAt}
 use Rattle.selection.specs.Selection.{part}
 use Rattle.selection.specs.PartLaws.{part-output}
@@ -23,7 +23,7 @@ module _ (s : ℕ) (d : Design) (j : ℕ) (h : j < size (length (d .outputs)) s)
   unfolding outputOn part
   part-value r = ap (λ (o : Output). value (onRow (d .inputs) r) (o .formula)) (part-output s d j h)
 
-  pub part-column : (bs : List Name) (x : ℕ) → column (part s d) bs j x ≡ column d bs (memberAt (length (d .outputs)) s j) x
+  part-column : (bs : List Name) (x : ℕ) → column (part s d) bs j x ≡ column d bs (memberAt (length (d .outputs)) s j) x
   unfolding column valueAt part
   part-column bs x =
       values-same (valueAt (part s d) bs j x) (valueAt d bs (memberAt (length (d .outputs)) s j) x) (freeCount (d .inputs) bs)
@@ -38,19 +38,13 @@ module _ (s : ℕ) (d : Design) (j : ℕ) (h : j < size (length (d .outputs)) s)
   unfolding alike
   part-alike bs x y = ap₂ sameValues (part-column bs x) (part-column bs y)
 
-  pub part-class : (bs : List Name) (x : ℕ) → localClass (part s d) bs j x ≡ localClass d bs (memberAt (length (d .outputs)) s j) x
-  unfolding localClass
-  part-class bs x =
-      class-agrees (alike (part s d) bs j) (alike d bs (memberAt (length (d .outputs)) s j)) (suc x) x
-      (λ y z a b. part-alike bs y z) (omega arith)
-
-  pub part-classes : (bs : List Name) → localCount (part s d) bs j ≡ localCount d bs (memberAt (length (d .outputs)) s j)
+  part-classes : (bs : List Name) → localCount (part s d) bs j ≡ localCount d bs (memberAt (length (d .outputs)) s j)
   unfolding localCount
   part-classes bs =
       count-agrees (alike (part s d) bs j) (alike d bs (memberAt (length (d .outputs)) s j)) (vertexCount bs)
       (λ x y a b. part-alike bs x y)
 
-  pub part-width : (bs : List Name) → width (part s d) bs j ≡ width d bs (memberAt (length (d .outputs)) s j)
+  part-width : (bs : List Name) → width (part s d) bs j ≡ width d bs (memberAt (length (d .outputs)) s j)
   unfolding width
   part-width bs = ap widthOf (part-classes bs)
 

@@ -1,5 +1,5 @@
--- The design with some of its outputs: its names and its limit are the design's, its outputs are those of the set, and with all of
--- them it is the design. Assumes nothing.
+-- The design with some of its outputs: its bound names are the design's, its outputs are those of the set, and with all of them it is
+-- the design. Assumes nothing.
 use mathlib.Core.Path.{_≡_, refl, ap}
 use mathlib.Core.List.{List}
 use Prim.Native.Nat.{ℕ, _-_, _^_, _<_}
@@ -7,25 +7,13 @@ use lib.ListN.{length}
 use Rattle.sheet.specs.Lines.{Output}
 use Rattle.sheet.specs.Examine.{Design}
 use Rattle.sheet.specs.WellFormed.{outputAt}
-use Rattle.subsets.specs.Subset.{selected, size, memberAt}
+use Rattle.subsets.specs.Subset.{size, memberAt}
 use Rattle.subsets.specs.SubsetLaws.{selected-length, selected-at, all-selected}
 use Rattle.selection.specs.Selection.{part}
-
-pub part-inputs : (s : ℕ) (d : Design) → part s d .inputs ≡ d .inputs
-unfolding part
-part-inputs s d = refl
 
 pub part-bound : (s : ℕ) (d : Design) → part s d .bound ≡ d .bound
 unfolding part
 part-bound s d = refl
-
-pub part-limit : (s : ℕ) (d : Design) → part s d .limit ≡ d .limit
-unfolding part
-part-limit s d = refl
-
-pub part-outputs : (s : ℕ) (d : Design) → part s d .outputs ≡ selected s 0 (d .outputs)
-unfolding part
-part-outputs s d = refl
 
 pub part-count : (s : ℕ) (d : Design) → length (part s d .outputs) ≡ size (length (d .outputs)) s
 unfolding part

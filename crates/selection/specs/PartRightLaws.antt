@@ -1,4 +1,5 @@
--- A well-formed design is well formed with some of its outputs. Assumes nothing.
+-- A well-formed design is well formed with some of its outputs: its names and its limit stay, each output is right by itself, names that
+-- differ still differ, and some output is left. Assumes nothing.
 use mathlib.Core.Path.{_≡_, sym, ap, _∙_, subst}
 use Prim.Native.Nat.{ℕ, _≤_}
 use native.Mathlib.Omega.{arith}

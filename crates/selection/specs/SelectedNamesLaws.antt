@@ -1,4 +1,4 @@
--- Some of different names are different. Assumes nothing.
+-- Some of different names are different: a name that is not among all is not among some of them. Assumes nothing.
 use mathlib.Core.Path.{_≡_, refl}
 use mathlib.Core.Logic.{⊎-elim}
 use mathlib.Core.Bool.{true, false, not}

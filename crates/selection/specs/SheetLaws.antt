@@ -70,7 +70,7 @@ part-print-most s d =
 
 -- ---- the sheet
 module _ (t : List ℕ) (d : Design) (s : ℕ) (w : Writes t d) where
-  pub only-outs-printed : onlyOuts s (length (d .outputs)) t ≡ printDesign (withBound (part s d) (w .written))
+  only-outs-printed : onlyOuts s (length (d .outputs)) t ≡ printDesign (withBound (part s d) (w .written))
   unfolding onlyOuts printDesign part
   only-outs-printed =
       ap (λ (ls : List (List ℕ)). endedLines (kept s (length (d .outputs)) ls))

@@ -3,6 +3,7 @@ use mathlib.Core.Path.{_≡_}
 use mathlib.Core.Bool.{Bool, true, false}
 use mathlib.Core.List.{List}
 use Prim.Native.Nat.{ℕ, _^_, _≤_, _<_}
+use lib.Bits.{bitXor}
 use lib.ListN.{length}
 use Rattle.limits.specs.Limits.{searchOutputs}
 use Rattle.cells.specs.Core.{Cell, Serves}
@@ -53,3 +54,8 @@ pub record FirstOf (cl budgets : List ℕ) (v m limit k s : ℕ) : Type 0 where
 pub record Sifted (cl budgets : List ℕ) (v m limit k s : ℕ) : Type 0 where
   pub all : s ≡ 0 → FitFrom cl budgets v m limit k 0
   pub first : (s ≡ 0 → ⊥) → FirstOf cl budgets v m limit k s
+
+-- ---- a smaller set
+-- the set s, which has output k, without it
+unfoldable pub without : ℕ → ℕ → ℕ
+without s k = bitXor s (2 ^ k)

@@ -20,9 +20,9 @@ use Rattle.dominance.specs.KeptCellsLaws.{origin, origin-like}
 use Rattle.subsets.specs.Subset.{members, size, memberAt, SomeOf}
 use Rattle.subsets.specs.SubsetLaws.{member-below, member-in, members-distinct, member-place}
 use Rattle.unserved.specs.Unserved.{Fits}
-use Rattle.unserved.specs.Asking.{FitBelow, OfMembers}
+use Rattle.unserved.specs.Asking.{FitBelow, OfMembers, without}
 use Rattle.unserved.specs.MissedLaws.{missed}
-use Rattle.unserved.specs.WithoutLaws.{without, without-other, without-below, without-size}
+use Rattle.unserved.specs.WithoutLaws.{without-other, without-below, without-size}
 
 module _ (cl budgets : List ℕ) (v m s n : ℕ) (labels taken : List ℕ) (w : OfMembers cl budgets v m s n labels taken)
     (labels' budgets' : List ℕ) (k : ℕ) (by : List ℕ) (d : StandFor labels taken v n labels' budgets' k by) where

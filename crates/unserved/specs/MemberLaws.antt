@@ -1,4 +1,5 @@
--- The labels and budgets of the members of a set: the cells that serve them are those that serve the set. Assumes nothing.
+-- The labels and budgets of the members of a set: the cells that serve them are those that serve the set, since member j's labels and
+-- budget are those of the output that it is. Assumes nothing.
 use mathlib.Core.Path.{sym, ap, _∙_, subst}
 use mathlib.Core.List.{List}
 use Prim.Native.Nat.{ℕ, _≤_}

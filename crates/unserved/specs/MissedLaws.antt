@@ -1,4 +1,5 @@
--- Fewer numbers than there are places leave a place out. Assumes nothing.
+-- Fewer numbers than there are places leave a place out: a number takes one place at most, so no more places are taken than there are
+-- numbers. Assumes nothing.
 use mathlib.Core.Path.{_≡_, refl, sym, ap, _∙_}
 use mathlib.Core.Bool.{Bool, true, false}
 use Prim.Native.Nat.{ℕ, zero, suc, _+_, _≤_, _<_}

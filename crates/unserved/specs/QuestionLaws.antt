@@ -8,6 +8,7 @@ use native.Mathlib.Decide.{decLt}
 use native.Mathlib.Omega.{arith}
 use lib.ListN.{length}
 use Rattle.bits.specs.LogicLaws.{true-false}
+use Rattle.fewest.specs.CountLaws.{no-tables, nothing-known, none-read}
 use Rattle.cells.specs.RenumberedLaws.{renumbered-length}
 use Rattle.cells.specs.FreeLaws.{padded-length, padded-serves}
 use Rattle.cells.specs.CodesLaws.{cells-length}
@@ -21,6 +22,7 @@ use Rattle.seeking.specs.Seeking.{Lacks, openCells, Sought}
 use Rattle.dominance.specs.Kept.{StandFor}
 use Rattle.dominance.specs.KeptCellsLaws.{origin, all-serves-kept, kept-serves-all}
 use Rattle.fewest.specs.Count.{no-tables, nothing-known, none-read}
+use Rattle.dominance.specs.KeptCells.{origin, all-serves-kept, kept-serves-all}
 use Rattle.unserved.specs.Unserved.{Fits, Lacking}
 use Rattle.unserved.specs.Asking.{OfMembers, Stand, Decided}
 use Rattle.unserved.specs.MemberLaws.{members-serve-set, set-serves-members}

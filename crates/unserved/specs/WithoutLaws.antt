@@ -1,10 +1,11 @@
--- The set without one of its outputs: it has one output less. Assumes nothing.
+-- The set without one of its outputs has the others and one output less: exclusive or with a power of 2 changes that digit alone.
+-- Assumes nothing.
 use mathlib.Core.Path.{_≡_, refl, ap, _∙_}
 use mathlib.Core.Bool.{Bool, true, false}
 use mathlib.Core.List.{List, [], _∷_}
 use Prim.Native.Nat.{ℕ, zero, suc, _+_, _^_, _<_}
 use native.Mathlib.Omega.{arith}
-use lib.Bits.{bitXor, xor-lt}
+use lib.Bits.{xor-lt}
 use lib.ListN.{length, length-append}
 use lib.Pow.{pow-lt}
 use Rattle.bits.specs.Logic.{pick, xorb, bit}
@@ -13,13 +14,10 @@ use Rattle.bits.specs.DigitLaws.{on-single, on-xor}
 use Rattle.bits.specs.Count.{count}
 use Rattle.bits.specs.CountLaws.{count-drop}
 use Rattle.bits.specs.LogicLaws.{xor-false}
+use Rattle.unserved.specs.Asking.{without}
 use Rattle.cells.specs.SetsLaws.{on-power-other}
 use Rattle.subsets.specs.Subset.{members, size}
 use Rattle.subsets.specs.ListedLaws.{members-more}
-
--- the set s, which has output k, without it
-unfoldable pub without : ℕ → ℕ → ℕ
-without s k = bitXor s (2 ^ k)
 
 pub without-other : (s k i : ℕ) → (i ≡ k → ⊥) → on (without s k) i ≡ on s i
 unfolding without

@@ -3,7 +3,7 @@ use mathlib.Core.Path.{refl}
 use mathlib.Core.Logic.{inl, inr}
 use Rattle.limits.specs.Limits.{maxVertices}
 use Rattle.bits.specs.DigitLaws.{on-or-one, on-single}
-use Rattle.border.specs.Line.{off-first}
+use Rattle.border.specs.LineLaws.{off-first}
 use borrow.Author.Needs.{needs}
 use Rattle.border.proofs.known_digits.Statement.{statement}
 use Rattle.border.proofs.known_digits.Tie as tie

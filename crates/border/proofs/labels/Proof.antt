@@ -2,7 +2,8 @@ use Prim.Native.Nat.{_≤_, _-_}
 use mathlib.Core.Path.{refl}
 use native.Mathlib.Omega.{arith}
 use Rattle.limits.specs.Limits.{labelCount}
-use Rattle.border.specs.Line.{Low, low-more}
+use Rattle.border.specs.LineLaws.{low-more}
+use Rattle.border.specs.Line.{Low}
 use borrow.Author.Needs.{needs}
 use Rattle.border.proofs.labels.Statement.{statement}
 use Rattle.border.proofs.labels.Tie as tie

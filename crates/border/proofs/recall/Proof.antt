@@ -1,4 +1,4 @@
-use Rattle.border.specs.Recalled.{first-free, honest-same}
+use Rattle.border.specs.RecalledLaws.{first-free, honest-same}
 use borrow.Author.Needs.{needs}
 use Rattle.border.proofs.recall.Statement.{statement}
 use Rattle.border.proofs.recall.Tie as tie

@@ -1,8 +1,10 @@
-use mathlib.Core.Path.{sym, _∙_}
-use Prim.Native.Nat.{_≤_, _-_}
+use mathlib.Core.Path.{_≡_, sym, _∙_}
+use Prim.Native.Nat.{ℕ, _-_, _<_}
 use native.Mathlib.Omega.{arith}
+use lib.ListN.{getD}
+use lib.Seq.{ext-getD}
+use borrow.Author.Count.{below-more}
 use Rattle.bits.specs.LogicLaws.{true-false}
-use Rattle.border.specs.Lists.{SameUpTo, same-more, same-lists}
 use borrow.Author.Needs.{needs}
 use Rattle.border.proofs.same_tables.Statement.{statement}
 use Rattle.border.proofs.same_tables.Tie as tie
@@ -10,13 +12,13 @@ use Rattle.border.proofs.same_tables.Reads as reads
 use Rattle.border.proofs.same_tables.Lts as lts
 
 abbrev Inv-loop : tie.InvT-loop
-Inv-loop a b i₀ i = (i ≤ 32) × SameUpTo i a b
+Inv-loop a b i₀ i = (k : ℕ) → k < i → getD a k 0 ≡ getD b k 0
 
 abbrev μ-loop : tie.MeasureT-loop
 μ-loop a b i₀ i = 32 - i
 
 loop-holds : tie.Need-loop-holds Inv-loop μ-loop
-loop-holds c = (omega arith, λ i h. absurd (omega arith))
+loop-holds c = λ k h. absurd (omega arith)
 
 mul-if1 : tie.Need-mul-if1 Inv-loop μ-loop
 mul-if1 c = search needs
@@ -41,18 +43,16 @@ loop-less c = search needs
 
 loop-again : tie.Need-loop-again Inv-loop μ-loop
 loop-again c =
-    let h = c .before .before .before .loop-test .taken in
-    let l = c .before .before .before .before .loop in
-    let a = c .before .before .before .before .before .args in
-    (omega arith, same-more (l .i) (a .a .now) (a .b .now) (c .if1 .left) (l .inv .1))
+    let loop = c .before .before .before .before .loop in
+    let args = c .before .before .before .before .before .args in
+    below-more (λ (k : ℕ). getD (args .a .now) k 0 ≡ getD (args .b .now) k 0) (loop .i) (loop .inv) (c .if1 .left)
 
 returns-2 : tie.Need-returns-2 Inv-loop μ-loop
 returns-2 c =
-    let h = c .loop-test .left in
-    let l = c .before .loop in
-    let a = c .before .before .args in
-    let p = c .before .before .pre in
-    λ e. same-lists (a .a .now) (a .b .now) (p .0 ∙ sym (p .1)) (λ i k. l .inv .1 i (let z = p .0 in omega arith))
+    let past = c .loop-test .left in
+    let start = c .before .before in
+    let long = start .pre .0 in
+    λ e. ext-getD 0 (start .args .a .now) (start .args .b .now) (long ∙ sym (start .pre .1)) (λ k h. c .before .loop .inv k (omega arith))
 
 pub same-tables-spec : {M : Type 1} → statement M
 same-tables-spec =

@@ -2,9 +2,9 @@ use mathlib.Core.Path.{sym, _∙_}
 use Prim.Native.Nat.{_+_, _-_, _≤_}
 use native.Mathlib.Omega.{arith}
 use Rattle.limits.specs.Limits.{maxCells}
+use Rattle.border.specs.LineLaws.{begins, begins-more}
 use Rattle.cache.specs.Cache.{Honest}
 use Rattle.seeking.specs.Seeking.{Begins}
-use Rattle.border.specs.Line.{begins, begins-more}
 use borrow.Author.Needs.{needs}
 use Rattle.border.proofs.solve.Statement.{statement}
 use Rattle.border.proofs.solve.Tie as tie

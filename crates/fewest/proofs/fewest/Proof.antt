@@ -1,4 +1,4 @@
-use Rattle.fewest.specs.Count.{NoFewer, no-fewer-start, no-fewer-more, no-fewer-kept, answer-found, answer-none}
+use Rattle.fewest.specs.Count.{NoFewer}
 use Rattle.dominance.specs.KeptLaws.{kept-sought}
 use Rattle.cache.specs.Cache.{Honest}
 use lib.ListN.{length}
@@ -7,6 +7,7 @@ use Prim.Native.Nat.{_≤_, _+_, _-_}
 use mathlib.Core.Logic.{inl}
 use mathlib.Core.Path.{_≡_, refl, sym, _∙_}
 use borrow.Author.Needs.{needs}
+use Rattle.fewest.specs.CountLaws.{no-fewer-start, no-fewer-more, no-fewer-kept, answer-found, answer-none}
 use Rattle.fewest.proofs.fewest.Statement.{statement}
 use Rattle.fewest.proofs.fewest.Tie as tie
 use Rattle.fewest.proofs.fewest.Reads as reads

@@ -1,8 +1,8 @@
-use Rattle.fewest.specs.Count.{Opened, opened-more}
-use mathlib.Core.Path.{refl, subst}
-use Prim.Native.Nat.{ℕ, _≤_, _-_}
-use native.Mathlib.Omega.{arith}
+use Rattle.fewest.specs.Count.{Opened}
+use mathlib.Core.Path.{refl}
+use Prim.Native.Nat.{_-_}
 use borrow.Author.Needs.{needs}
+use Rattle.bits.specs.FilledLaws.{filled-none, filled-more, filled-fewer}
 use Rattle.fewest.proofs.opened.Statement.{statement}
 use Rattle.fewest.proofs.opened.Tie as tie
 use Rattle.fewest.proofs.opened.Reads as reads
@@ -10,13 +10,13 @@ use Rattle.fewest.proofs.opened.Lts as lts
 use Rattle.subproblems.proofs.open_of.Reads as open-of-reads
 
 abbrev Inv-loop : tie.InvT-loop
-Inv-loop rows r₀ o₀ r o = (o ≤ 8) × Opened rows o r
+Inv-loop rows r₀ o₀ r o = Opened rows o r
 
 abbrev μ-loop : tie.MeasureT-loop
 μ-loop rows r₀ o₀ r o = 8 - o
 
 loop-holds : tie.Need-loop-holds Inv-loop μ-loop
-loop-holds c = (omega arith, record { long = refl; done = λ k h. absurd (omega arith) })
+loop-holds c = filled-none _ _ refl
 
 mul-open-of : tie.Need-mul-open-of Inv-loop μ-loop
 mul-open-of c = search needs
@@ -38,18 +38,11 @@ loop-less c = search needs
 
 loop-again : tie.Need-loop-again Inv-loop μ-loop
 loop-again c =
-    let start = c .before .before .before in
-    let l = c .before .before .loop in
-    let h = c .before .loop-test .taken in
-    (omega arith, opened-more (start .args .t1) (l .o) (l .r) _ h (c .open-of .ensures .0) (l .inv .1))
+    let loop = c .before .before .loop in
+    filled-more _ (c .before .loop-test .taken) (c .open-of .ensures .0) (loop .inv)
 
 returns : tie.Need-returns Inv-loop μ-loop
-returns c =
-    let start = c .before .before in
-    let l = c .before .loop in
-    let h = c .loop-test .left in
-    let z = l .inv .0 in
-    subst (λ (z : ℕ). Opened (start .args .t1) z (l .r)) (omega arith) (l .inv .1)
+returns c = filled-fewer (c .loop-test .left) (c .before .loop .inv)
 
 pub opened-spec : {M : Type 1} → statement M
 opened-spec =

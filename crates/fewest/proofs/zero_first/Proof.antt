@@ -1,16 +1,16 @@
-use Rattle.fewest.specs.Count.{Zeroed, zeroed-more}
+use Rattle.fewest.specs.Count.{Zeroed}
 use lib.ListN.{getD}
-use native.Mathlib.Omega.{arith}
-use Prim.Native.Nat.{ℕ, _≤_, _-_}
-use mathlib.Core.Path.{_≡_, refl, subst}
+use Prim.Native.Nat.{_-_}
+use mathlib.Core.Path.{_≡_, refl}
 use borrow.Author.Needs.{needs}
+use Rattle.bits.specs.FilledLaws.{filled-none, filled-more, filled-fewer}
 use Rattle.fewest.proofs.zero_first.Statement.{statement}
 use Rattle.fewest.proofs.zero_first.Tie as tie
 use Rattle.fewest.proofs.zero_first.Reads as reads
 use Rattle.fewest.proofs.zero_first.Lts as lts
 
 abbrev Inv-loop : tie.InvT-loop
-Inv-loop codes first r₀ x₀ r x = (x ≤ 32) × (first ≡ getD codes 0 0) × Zeroed codes x r
+Inv-loop codes first r₀ x₀ r x = (first ≡ getD codes 0 0) × Zeroed codes x r
 
 abbrev μ-loop : tie.MeasureT-loop
 μ-loop codes first r₀ x₀ r x = 32 - x
@@ -19,7 +19,7 @@ array-read-first : tie.Need-array-read-first Inv-loop μ-loop
 array-read-first c = search needs
 
 loop-holds : tie.Need-loop-holds Inv-loop μ-loop
-loop-holds c = (omega arith, refl, record { long = refl; done = λ k h. absurd (omega arith) })
+loop-holds c = (refl, filled-none _ _ refl)
 
 array-read-r : tie.Need-array-read-r Inv-loop μ-loop
 array-read-r c = search needs
@@ -35,13 +35,11 @@ loop-less c = search needs
 
 loop-again : tie.Need-loop-again Inv-loop μ-loop
 loop-again c =
-    let start = c .before .before in
-    let h = c .loop-test .taken in (omega arith, refl, zeroed-more (start .args .t1) (c .before .loop .x) (c .before .loop .r) _ h refl (c .before .loop .inv .2))
+    let loop = c .before .loop in
+    (refl, filled-more _ (c .loop-test .taken) refl (loop .inv .1))
 
 returns : tie.Need-returns Inv-loop μ-loop
-returns c =
-    let start = c .before .before in
-    subst (λ (z : ℕ). Zeroed (start .args .t1) z (c .before .loop .r)) (let h = c .loop-test .left in let z = c .before .loop .inv .0 in omega arith) (c .before .loop .inv .2)
+returns c = filled-fewer (c .loop-test .left) (c .before .loop .inv .1)
 
 pub zero-first-spec : {M : Type 1} → statement M
 zero-first-spec =

@@ -1,4 +1,5 @@
--- What is remembered of one problem, for another with the same labels, given tables and vertices. Assumes nothing.
+-- What is remembered of one problem holds of another with the same labels, given tables and vertices: the cache speaks of no more.
+-- Assumes nothing.
 use mathlib.Core.Path.{_≡_, ap, _∙_, subst}
 use mathlib.Core.Bool.{true, false}
 use mathlib.Core.List.{List}
