@@ -21,7 +21,7 @@ element-copy-out-result c = search needs
 
 returns : tie.Need-returns
 returns c =
-    let start = c .before .before .before in
+    let start = c .before .before in
     let digit = oneAt (start .args .digits .now) (start .args .r) in
     unequal (c .before .row .result) digit ∙ ap (λ (b : Bool). xorb b digit) (c .before .row .ensures)
 
