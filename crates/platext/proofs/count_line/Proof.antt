@@ -24,10 +24,7 @@ sub-count-of : tie.Need-sub-count-of
 sub-count-of c = omega (arith, c .before .before .next-line .ensures .there (not-false _ (c .if1 .left)) .after-start)
 
 part-count-of-start : tie.Need-part-count-of-start
-part-count-of-start c =
-    let next-line = c .before .before .next-line in
-    let if1 = c .if1 in
-    omega (arith, next-line .ensures .there (not-false _ (if1 .left)) .after-start)
+part-count-of-start c = omega (arith, sub-count-of c)
 
 part-count-of-end : tie.Need-part-count-of-end
 part-count-of-end c = omega (arith, c .before .before .next-line .ensures .there (not-false _ (c .if1 .left)) .inside)

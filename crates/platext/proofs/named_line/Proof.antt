@@ -24,10 +24,7 @@ sub-names-in : tie.Need-sub-names-in
 sub-names-in c = omega (arith, c .before .before .next-line .ensures .there (not-false _ (c .if1 .left)) .after-start)
 
 part-names-in-start : tie.Need-part-names-in-start
-part-names-in-start c =
-    let next-line = c .before .before .next-line in
-    let if1 = c .if1 in
-    omega (arith, next-line .ensures .there (not-false _ (if1 .left)) .after-start)
+part-names-in-start c = omega (arith, sub-names-in c)
 
 part-names-in-end : tie.Need-part-names-in-end
 part-names-in-end c = omega (arith, c .before .before .next-line .ensures .there (not-false _ (c .if1 .left)) .inside)
