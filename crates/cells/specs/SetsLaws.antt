@@ -1,22 +1,21 @@
 -- What the code does to a set, digit by digit: or with a power of 2 puts an element in, and with its complement takes it out, and the
 -- number of zeros at the end of a number that is not 0 is its lowest element. Assumes nothing.
-use Rattle.cells.specs.Codes.{count-shift}
 use Rattle.bits.specs.CountLaws.{count-alike, count-le}
 use Rattle.bits.specs.Count.{count}
-use mathlib.Core.Path.{_≡_, refl, sym, ap, _∙_, ap₂}
+use mathlib.Core.Path.{_≡_, refl, sym, ap, _∙_}
 use mathlib.Core.Bool.{Bool, true, false, not}
-use Prim.Native.Nat.{ℕ, zero, suc, _-_, _*_, _/_, _%_, _^_, _≤_, _<_, _+_}
+use Prim.Native.Nat.{ℕ, zero, suc, _-_, _*_, _/_, _%_, _^_, _≤_, _<_}
 use native.Mathlib.Decide.{ℕ-discrete, decLt}
 use native.Mathlib.Omega.{arith}
 use native.Mathlib.Nat.{pow-suc, one-mul, mod-eq-of-lt}
 use lib.Bits.{bitAnd, bitOr, and-le-l, and-le-r}
-use lib.Count.{trailingZeros, under, ones, ones-step}
+use lib.Count.{trailingZeros, under, ones}
 use lib.Dec.{eqb}
 use lib.Pow.{pow-lt, pow-pos, pow-mono}
 use borrow.Author.Tests.{eq-eqb, ne-eqb}
-use Rattle.bits.specs.Logic.{andb, orb, bit}
+use Rattle.bits.specs.Logic.{andb, orb}
 use Rattle.bits.specs.Digit.{digit, on}
-use Rattle.bits.specs.DigitLaws.{on-and, on-or, on-zero, on-single, on-complement, Binary, is0, is1, binary, on-ones}
+use Rattle.bits.specs.DigitLaws.{on-and, on-or, on-zero, on-single, on-complement, on-ones}
 use Rattle.bits.specs.LogicLaws.{never-both, and-true, and-false}
 use Rattle.bits.specs.ShiftLaws.{on-half}
 use Rattle.cells.specs.Sets.{With, Without}

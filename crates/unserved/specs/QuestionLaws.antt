@@ -21,8 +21,6 @@ use Rattle.subproblems.specs.Subproblem.{openOf}
 use Rattle.seeking.specs.Seeking.{Lacks, openCells, Sought}
 use Rattle.dominance.specs.Kept.{StandFor}
 use Rattle.dominance.specs.KeptCellsLaws.{origin, all-serves-kept, kept-serves-all}
-use Rattle.fewest.specs.Count.{no-tables, nothing-known, none-read}
-use Rattle.dominance.specs.KeptCells.{origin, all-serves-kept, kept-serves-all}
 use Rattle.unserved.specs.Unserved.{Fits, Lacking}
 use Rattle.unserved.specs.Asking.{OfMembers, Stand, Decided}
 use Rattle.unserved.specs.MemberLaws.{members-serve-set, set-serves-members}

@@ -1,5 +1,5 @@
-use Rattle.cells.specs.Sets.{power-is}
 use borrow.Author.Needs.{needs}
+use Rattle.cells.specs.SetsLaws.{power-is}
 use Rattle.cells.proofs.power.Statement.{statement}
 use Rattle.cells.proofs.power.Tie as tie
 

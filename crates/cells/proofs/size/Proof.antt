@@ -1,6 +1,6 @@
-use Rattle.cells.specs.Sets.{size-of}
 use lib.Bits.{and-le-r}
 use borrow.Author.Needs.{needs}
+use Rattle.cells.specs.SetsLaws.{size-of}
 use Rattle.cells.proofs.size.Statement.{statement}
 use Rattle.cells.proofs.size.Tie as tie
 
