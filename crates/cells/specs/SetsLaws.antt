@@ -1,6 +1,6 @@
 -- What the code does to a set, digit by digit: or with a power of 2 puts an element in, and with its complement takes it out, and the
 -- number of zeros at the end of a number that is not 0 is its lowest element. Assumes nothing.
-use Rattle.bits.specs.CountLaws.{count-alike, count-le}
+use Rattle.bits.specs.CountLaws.{count-alike, count-le, ones-count}
 use Rattle.bits.specs.Count.{count}
 use mathlib.Core.Path.{_≡_, refl, sym, ap, _∙_}
 use mathlib.Core.Bool.{Bool, true, false, not}
