@@ -10,10 +10,6 @@ use Rattle.holding.specs.FullLaws.{settled-full}
 use Rattle.holding.specs.NarrowLaws.{kept-start, kept-more}
 use Rattle.coding.proofs.bar_all.Statement.{statement}
 use Rattle.coding.proofs.bar_all.Tie as tie
-use Rattle.coding.proofs.bar_all.Reads as reads
-use Rattle.coding.proofs.bar_all.Lts as lts
-use Rattle.holding.proofs.crowd.Reads as crowd-reads
-use Rattle.holding.proofs.shut.Reads as shut-reads
 
 abbrev Inv-loop : tie.InvT-loop
 Inv-loop cl bs codes dom₀ c x caps v j o₀ dom o = (o ≤ j) × (length dom ≡ 32) × ((base ms spots : List ℕ) → Blocks ms bs j → Kept cl base ms caps spots v j codes dom₀ dom)

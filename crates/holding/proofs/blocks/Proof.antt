@@ -10,9 +10,6 @@ use borrow.Author.Needs.{needs}
 use Rattle.holding.specs.BlocksLaws.{table-more, entry-again}
 use Rattle.holding.proofs.blocks.Statement.{statement}
 use Rattle.holding.proofs.blocks.Tie as tie
-use Rattle.holding.proofs.blocks.Reads as reads
-use Rattle.holding.proofs.blocks.Lts as lts
-use Rattle.holding.proofs.block.Reads as block-reads
 
 abbrev Inv-loop : tie.InvT-loop
 Inv-loop n ms r₀ end i₀ r i = (i ≤ end) × (end ≡ n * 64) × Table ms i r
