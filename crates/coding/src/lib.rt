@@ -275,9 +275,18 @@ pub struct Search {
     pub nodes: u64,
 }
 
-// Codes for all vertices of p that go on from those given. dom has room for every solution that does; all has the codes over
-// the cells that two outputs read, gb the blocks of some groups of these, and used their values in use. met has the classes of
-// the vertices with codes, for the order in which the others are given theirs. The nodes so far count towards the limit.
+// Where a search stands: the codes given, for each vertex the codes left, for each group of cells its values in use, and for each
+// output the classes of the vertices with codes.
+pub struct State {
+    pub codes: [u8; MAX_VERTICES],
+    pub dom: [u64; MAX_VERTICES],
+    pub used: [u64; GROUPS],
+    pub met: [u64; SEARCH_OUTPUTS],
+}
+
+// Codes for all vertices of p that go on from those given. The sets of s have room for every solution that does; all has the codes
+// over the cells that two outputs read, and gb the blocks of some groups of these. The classes met are for the order in which
+// the other vertices are given theirs. The nodes so far count towards the limit.
 pub fn find(
     cl: &[u8],
     base: &[u8],
@@ -285,19 +294,20 @@ pub fn find(
     gb: &[u64],
     all: u64,
     p: problem::Problem,
-    codes: [u8; MAX_VERTICES],
-    dom: [u64; MAX_VERTICES],
-    used: [u64; GROUPS],
-    met: [u64; SEARCH_OUTPUTS],
+    s: State,
     limit: u64,
     nodes: u64,
 ) -> Search
     requires { ⌜ Labels (now cl) × (length (now base) ≡ labelCount) × Blocks (p .ms) (now bs) (p .outputs) × (p .vertices ≤ maxVertices) × (p .outputs ≤ searchOutputs)
-        × Plan (p .ms) (p .ps) (p .caps) (p .outputs) × Valued (p .ms) (now gb) all (p .outputs) (p .kn) codes (p .vertices) used
-        × Covers (now cl) (now base) (p .ms) (p .caps) (p .spots) (p .vertices) (p .outputs) (p .kn) (p .val) codes dom × Knows (p .kn) (p .val) (p .ps) codes (p .vertices) (p .outputs) ⌝ }
+        × Plan (p .ms) (p .ps) (p .caps) (p .outputs) × Valued (p .ms) (now gb) all (p .outputs) (p .kn) (s .codes) (p .vertices) (s .used)
+        × Covers (now cl) (now base) (p .ms) (p .caps) (p .spots) (p .vertices) (p .outputs) (p .kn) (p .val) (s .codes) (s .dom) × Knows (p .kn) (p .val) (p .ps) (s .codes) (p .vertices) (p .outputs) ⌝ }
     ensures { λ r. ⌜ Sure limit (r .unsure)
-        (Told (now (cl .entry)) (now (base .entry)) (p .ms) (p .ps) (p .caps) (p .spots) (p .vertices) (p .outputs) (p .kn) (p .val) codes dom (r .ok) (r .codes)) ⌝ }
+        (Told (now (cl .entry)) (now (base .entry)) (p .ms) (p .ps) (p .caps) (p .spots) (p .vertices) (p .outputs) (p .kn) (p .val) (s .codes) (s .dom) (r .ok) (r .codes)) ⌝ }
 {
+    let codes = s.codes;
+    let dom = s.dom;
+    let used = s.used;
+    let met = s.met;
     let can = allowed(gb, all, used);
     let known = p.kn != 0;
     let x = pick(cl, p.outputs, &met, &dom, &codes, p.vertices, can, known);
@@ -330,9 +340,13 @@ pub fn find(
         next[x] = c;
         let mut d = dom;
         if settle_all(cl, base, bs, p, &next, &mut d, c, x) {
-            let m = mark(gb, used, c);
-            let met_now = meet(cl, p.outputs, met, x);
-            let r = find(cl, base, bs, gb, all, p, next, d, m, met_now, limit, total);
+            let after = State {
+                codes: next,
+                dom: d,
+                used: mark(gb, used, c),
+                met: meet(cl, p.outputs, met, x),
+            };
+            let r = find(cl, base, bs, gb, all, p, after, limit, total);
             if r.ok {
                 return r;
             }

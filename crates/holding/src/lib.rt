@@ -523,7 +523,7 @@ fn fewer_blocks(bs: &[u64], o: usize, d: u64, n: u16) -> bool
     k < n
 }
 
-// Whether the classes of part p of output o lack more blocks than their vertices can take, news of them, where a block has room
+// Whether the classes of part p of output t lack more blocks than their vertices can take, news of them, where a block has room
 // for one class of each part.
 fn out_of_reach(
     cl: &[u8],
@@ -658,8 +658,8 @@ pub fn shut(cl: &[u8], v: usize, o: usize, seen: u64, codes: &[u8], dom: &mut [u
     }
 }
 
-// Whether some part of output o has no room: it needs more blocks than spot, or lacks more than its vertices can take. b is what
-// the busiest part needs and lacks.
+// Whether some part of output t has no room: it needs more blocks than there are places, or lacks more than its vertices can
+// take. b is what the busiest part needs and lacks.
 fn no_room(
     cl: &[u8],
     base: &[u8],
@@ -688,8 +688,8 @@ fn no_room(
     others_out_of_reach(cl, base, bs, t, b.others, n, codes, dom, own)
 }
 
-// The sets are narrowed by what the classes of output o hold, own, and need, meet, and by how many blocks these are. False where no solution
-// keeps to them.
+// The sets are narrowed by what the classes of output o hold, own, and need, meet, and by how many blocks these are. False where
+// no solution keeps to them.
 fn narrow_by(
     cl: &[u8],
     base: &[u8],

@@ -343,7 +343,13 @@ fn search(
     let used = coding::mark(&gb, [0u64; GROUPS], 0);
     let all = holding::block(!sh, 0);
     let met = coding::meet(cl, p.outputs, [0u64; SEARCH_OUTPUTS], 0);
-    coding::find(cl, &base, &bs, &gb, all, p, codes, d, used, met, limit, 0)
+    let s = coding::State {
+        codes,
+        dom: d,
+        used,
+        met,
+    };
+    coding::find(cl, &base, &bs, &gb, all, p, s, limit, 0)
 }
 
 // Codes for v vertices that tell the classes of each part of the first j outputs apart, each reading its row of cells, and that

@@ -8,9 +8,6 @@ use borrow.Author.Needs.{needs}
 use Rattle.coding.specs.ValuesLaws.{canon-start, canon-more}
 use Rattle.coding.proofs.allowed.Statement.{statement}
 use Rattle.coding.proofs.allowed.Tie as tie
-use Rattle.coding.proofs.allowed.Reads as reads
-use Rattle.coding.proofs.allowed.Lts as lts
-use Rattle.coding.proofs.fresh.Reads as fresh-reads
 
 abbrev Inv-loop : tie.InvT-loop
 Inv-loop gb all used can₀ k₀ can k = (k ≤ 3) × ((gs : List ℕ) (sh : ℕ) → Over sh all → Blocks gs gb 3 → Groups gs sh → Marks gs used → Canon gs used sh k can)

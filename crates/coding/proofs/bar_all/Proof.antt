@@ -1,5 +1,5 @@
 use mathlib.Core.Path.{_≡_, sym, ap, _∙_, subst}
-use Prim.Native.Nat.{ℕ, _≤_, _+_, _-_, _*_}
+use Prim.Native.Nat.{ℕ, _≤_, _<_, _+_, _-_, _*_}
 use native.Mathlib.Omega.{arith}
 use mathlib.Core.Logic.{⊎-elim}
 use mathlib.Core.List.{List}
@@ -10,10 +10,6 @@ use Rattle.holding.specs.FullLaws.{settled-full}
 use Rattle.holding.specs.NarrowLaws.{kept-start, kept-more}
 use Rattle.coding.proofs.bar_all.Statement.{statement}
 use Rattle.coding.proofs.bar_all.Tie as tie
-use Rattle.coding.proofs.bar_all.Reads as reads
-use Rattle.coding.proofs.bar_all.Lts as lts
-use Rattle.holding.proofs.crowd.Reads as crowd-reads
-use Rattle.holding.proofs.shut.Reads as shut-reads
 
 abbrev Inv-loop : tie.InvT-loop
 Inv-loop cl bs codes dom₀ c x caps v j o₀ dom o = (o ≤ j) × (length dom ≡ 32) × ((base ms spots : List ℕ) → Blocks ms bs j → Kept cl base ms caps spots v j codes dom₀ dom)
@@ -28,47 +24,24 @@ loop-holds c =
     let p = a .p in
     (omega arith, start .pre .7, λ base ms spots b. kept-start (a .cl .now) base ms (p .caps) spots (p .vertices) (p .outputs) (a .codes .now) (a .dom .now))
 
+-- the output, the code and the table of blocks have their bounds
+bounds : (c : tie.In-loop Inv-loop μ-loop) → (c .before .loop .o < 8) × (c .before .before .before .before .before .before .before .args .c < 64) × (length (c .before .before .before .before .before .before .before .args .bs .now) ≡ 512)
+bounds c = let pre = c .before .before .before .before .before .before .before .pre in let h = c .loop-test .taken in let few = pre .3 in (omega arith, pre .4, pre .1)
+
 mul-b : tie.Need-mul-b Inv-loop μ-loop
-mul-b c =
-    let h = c .loop-test .taken in
-    let pre = c .before .before .before .before .before .before .before .pre in
-    let a = pre .3 in
-    let d = pre .4 in
-    let e = pre .1 in
-    search needs
+mul-b c = let facts = bounds c in search needs
 
 add-b : tie.Need-add-b Inv-loop μ-loop
-add-b c =
-    let h = c .loop-test .taken in
-    let pre = c .before .before .before .before .before .before .before .pre in
-    let a = pre .3 in
-    let d = pre .4 in
-    let e = pre .1 in
-    search needs
+add-b c = let facts = bounds c in search needs
 
 mul-b-2 : tie.Need-mul-b-2 Inv-loop μ-loop
-mul-b-2 c =
-    let h = c .loop-test .taken in
-    let pre = c .before .before .before .before .before .before .before .pre in
-    let a = pre .3 in
-    let d = pre .4 in
-    let e = pre .1 in
-    search needs
+mul-b-2 c = let facts = bounds c in search needs
 
 shared-slice-read-b : tie.Need-shared-slice-read-b Inv-loop μ-loop
-shared-slice-read-b c =
-    let h = c .before .loop-test .taken in
-    let pre = c .before .before .before .before .before .before .before .before .pre in
-    let a = pre .3 in
-    let d = pre .4 in
-    let e = pre .1 in
-    search needs
+shared-slice-read-b c = let facts = bounds (c .before) in search needs
 
 array-read-crowd : tie.Need-array-read-crowd Inv-loop μ-loop
-array-read-crowd c =
-    let h = c .before .loop-test .taken in
-    let a = c .before .before .before .before .before .before .before .before .pre .3 in
-    search needs
+array-read-crowd c = let facts = bounds (c .before) in search needs
 
 crowd-requires : tie.Need-crowd-requires Inv-loop μ-loop
 crowd-requires c κs =
@@ -78,10 +51,7 @@ crowd-requires c κs =
     (pre .0, pre .2, omega arith, pre .5, pre .6)
 
 array-read-if1 : tie.Need-array-read-if1 Inv-loop μ-loop
-array-read-if1 c =
-    let h = c .before .before .loop-test .taken in
-    let a = c .before .before .before .before .before .before .before .before .before .pre .3 in
-    search needs
+array-read-if1 c = let facts = bounds (c .before .before) in search needs
 
 shut-requires : tie.Need-shut-requires Inv-loop μ-loop
 shut-requires c κs =

@@ -2,8 +2,6 @@ use Rattle.bits.specs.LogicLaws.{true-false}
 use Prim.Native.Nat.{_-_}
 use Rattle.coding.proofs.better.Statement.{statement}
 use Rattle.coding.proofs.better.Tie as tie
-use Rattle.coding.proofs.better.Reads as reads
-use Rattle.coding.proofs.better.Lts as lts
 
 returns : tie.Need-returns
 returns c = λ e. absurd (true-false e)

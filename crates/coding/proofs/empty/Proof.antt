@@ -4,8 +4,6 @@ use mathlib.Core.Path.{sym}
 use borrow.Author.Needs.{needs}
 use Rattle.coding.proofs.empty.Statement.{statement}
 use Rattle.coding.proofs.empty.Tie as tie
-use Rattle.coding.proofs.empty.Reads as reads
-use Rattle.coding.proofs.empty.Lts as lts
 
 abbrev Inv-loop : tie.InvT-loop
 Inv-loop dom v y₀ y = y ≤ v

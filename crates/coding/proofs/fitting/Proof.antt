@@ -4,9 +4,6 @@ use borrow.Author.Needs.{needs}
 use Rattle.coding.specs.KnownLaws.{fitting-any, fitting-one, fitting-zero}
 use Rattle.coding.proofs.fitting.Statement.{statement}
 use Rattle.coding.proofs.fitting.Tie as tie
-use Rattle.coding.proofs.fitting.Reads as reads
-use Rattle.coding.proofs.fitting.Lts as lts
-use Rattle.cells.proofs.in_set.Reads as in-set-reads
 
 cast-in-set : tie.Need-cast-in-set
 cast-in-set c = search needs

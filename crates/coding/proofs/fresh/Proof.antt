@@ -4,9 +4,6 @@ use borrow.Author.Needs.{needs}
 use Rattle.coding.specs.ValuesLaws.{fresh-some, fresh-none}
 use Rattle.coding.proofs.fresh.Statement.{statement}
 use Rattle.coding.proofs.fresh.Tie as tie
-use Rattle.coding.proofs.fresh.Reads as reads
-use Rattle.coding.proofs.fresh.Lts as lts
-use Rattle.cells.proofs.lowest.Reads as lowest-reads
 
 returns : tie.Need-returns
 returns c =

@@ -8,8 +8,6 @@ use borrow.Author.Needs.{needs}
 use Rattle.coding.specs.ValuesLaws.{marked-start, marked-more}
 use Rattle.coding.proofs.mark.Statement.{statement}
 use Rattle.coding.proofs.mark.Tie as tie
-use Rattle.coding.proofs.mark.Reads as reads
-use Rattle.coding.proofs.mark.Lts as lts
 
 abbrev Inv-loop : tie.InvT-loop
 Inv-loop gb c r₀ k₀ r k = (k ≤ 3) × ((gs : List ℕ) → Blocks gs gb 3 → Marked gs r₀ c k r)

@@ -3,10 +3,6 @@ use native.Mathlib.Omega.{arith}
 use borrow.Author.Needs.{needs}
 use Rattle.coding.proofs.meet.Statement.{statement}
 use Rattle.coding.proofs.meet.Tie as tie
-use Rattle.coding.proofs.meet.Reads as reads
-use Rattle.coding.proofs.meet.Lts as lts
-use Rattle.cells.proofs.with.Reads as with-reads
-use Rattle.problem.proofs.label.Reads as label-reads
 
 abbrev Inv-loop : tie.InvT-loop
 Inv-loop cl j x r₀ o₀ r o = o ≤ j

@@ -7,11 +7,6 @@ use borrow.Author.Needs.{needs}
 use Rattle.holding.specs.SearchLaws.{seeking-start, seeking-coded, seeking-better, seeking-worse}
 use Rattle.coding.proofs.pick.Statement.{statement}
 use Rattle.coding.proofs.pick.Tie as tie
-use Rattle.coding.proofs.pick.Reads as reads
-use Rattle.coding.proofs.pick.Lts as lts
-use Rattle.coding.proofs.better.Reads as better-reads
-use Rattle.coding.proofs.rank.Reads as rank-reads
-use Rattle.coding.proofs.unmet.Reads as unmet-reads
 
 abbrev Inv-loop : tie.InvT-loop
 Inv-loop cl j met dom codes v can known best₀ least₀ y₀ best least y = (y ≤ v) × Seeking codes y best

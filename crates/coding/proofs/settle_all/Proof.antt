@@ -9,11 +9,6 @@ use Rattle.holding.specs.SearchLaws.{empty-hopeless}
 use Rattle.holding.specs.NarrowLaws.{kept-start, kept-more, hopeless-before}
 use Rattle.coding.proofs.settle_all.Statement.{statement}
 use Rattle.coding.proofs.settle_all.Tie as tie
-use Rattle.coding.proofs.settle_all.Reads as reads
-use Rattle.coding.proofs.settle_all.Lts as lts
-use Rattle.coding.proofs.bar_all.Reads as bar-all-reads
-use Rattle.coding.proofs.empty.Reads as empty-reads
-use Rattle.holding.proofs.settle.Reads as settle-reads
 
 abbrev Inv-loop : tie.InvT-loop
 Inv-loop cl base bs p codes dom₀ c x v j o₀ dom o =

@@ -1,8 +1,6 @@
 use borrow.Author.Needs.{needs}
 use Rattle.coding.proofs.spent.Statement.{statement}
 use Rattle.coding.proofs.spent.Tie as tie
-use Rattle.coding.proofs.spent.Reads as reads
-use Rattle.coding.proofs.spent.Lts as lts
 
 returns : tie.Need-returns
 returns c = search needs

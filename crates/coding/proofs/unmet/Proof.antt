@@ -4,10 +4,6 @@ use native.Mathlib.Omega.{arith}
 use borrow.Author.Needs.{needs}
 use Rattle.coding.proofs.unmet.Statement.{statement}
 use Rattle.coding.proofs.unmet.Tie as tie
-use Rattle.coding.proofs.unmet.Reads as reads
-use Rattle.coding.proofs.unmet.Lts as lts
-use Rattle.cells.proofs.in_set.Reads as in-set-reads
-use Rattle.problem.proofs.label.Reads as label-reads
 
 abbrev Inv-loop : tie.InvT-loop
 Inv-loop cl j met x n₀ o₀ n o = (o ≤ j) × (n ≤ o)

@@ -2,10 +2,6 @@ use borrow.Author.Needs.{needs}
 use Rattle.holding.specs.BlocksLaws.{spans-block}
 use Rattle.holding.proofs.block.Statement.{statement}
 use Rattle.holding.proofs.block.Tie as tie
-use Rattle.holding.proofs.block.Reads as reads
-use Rattle.holding.proofs.block.Lts as lts
-use Rattle.cells.proofs.single.Reads as single-reads
-use Rattle.holding.proofs.spread.Reads as spread-reads
 
 single-requires : tie.Need-single-requires
 single-requires c κs = c .pre

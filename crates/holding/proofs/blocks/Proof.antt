@@ -1,18 +1,15 @@
 use mathlib.Core.Path.{_≡_, refl, sym, subst}
 use mathlib.Core.Logic.{⊎-elim}
 use mathlib.Core.List.{List}
-use Prim.Native.Nat.{ℕ, _≤_, _+_, _-_, _*_, _/_, _%_}
+use Prim.Native.Nat.{ℕ, _≤_, _<_, _+_, _-_, _*_, _/_, _%_}
 use native.Mathlib.Omega.{arith}
-use lib.Bits.{and-le-l}
+use lib.Bits.{bitAnd, and-le-l}
 use Rattle.problem.specs.Problem.{item}
 use Rattle.holding.specs.Blocks.{Table}
 use borrow.Author.Needs.{needs}
 use Rattle.holding.specs.BlocksLaws.{table-more, entry-again}
 use Rattle.holding.proofs.blocks.Statement.{statement}
 use Rattle.holding.proofs.blocks.Tie as tie
-use Rattle.holding.proofs.blocks.Reads as reads
-use Rattle.holding.proofs.blocks.Lts as lts
-use Rattle.holding.proofs.block.Reads as block-reads
 
 abbrev Inv-loop : tie.InvT-loop
 Inv-loop n ms r₀ end i₀ r i = (i ≤ end) × (end ≡ n * 64) × Table ms i r
@@ -26,8 +23,17 @@ mul-end c = let h = c .pre in search needs
 loop-holds : tie.Need-loop-holds Inv-loop μ-loop
 loop-holds c = (omega arith, refl, record { long = refl; filled = λ k h. absurd (omega arith) })
 
+-- the entry that is written is below the end of the table, and the first code of a block is not after the others
+bounds : (c : tie.In-loop Inv-loop μ-loop) → (c .before .loop .i < 512) × (c .before .loop .i / 64 < 8)
+    × (bitAnd (c .before .loop .i % 64) (item (c .before .before .args .t1) (c .before .loop .i / 64)) ≤ c .before .loop .i % 64)
+bounds c =
+    let h = c .loop-test .taken in
+    let end = c .before .loop .inv .1 in
+    let few = c .before .before .pre in
+    (omega arith, omega arith, and-le-l (c .before .loop .i % 64) (item (c .before .before .args .t1) (c .before .loop .i / 64)))
+
 array-read-m : tie.Need-array-read-m Inv-loop μ-loop
-array-read-m c = let h = c .loop-test .taken in let e = c .before .loop .inv .1 in let p = c .before .before .pre in search needs
+array-read-m c = let facts = bounds c in search needs
 
 cast-c : tie.Need-cast-c Inv-loop μ-loop
 cast-c c = search needs
@@ -36,58 +42,34 @@ block-requires : tie.Need-block-requires Inv-loop μ-loop
 block-requires c κs = search needs
 
 mul-r : tie.Need-mul-r Inv-loop μ-loop
-mul-r c = let h = c .before .before .loop-test .taken in let e = c .before .before .before .loop .inv .1 in let p = c .before .before .before .before .pre in search needs
+mul-r c = let facts = bounds (c .before .before) in search needs
 
 array-write-r : tie.Need-array-write-r Inv-loop μ-loop
-array-write-r c = let h = c .before .before .loop-test .taken in let e = c .before .before .before .loop .inv .1 in let p = c .before .before .before .before .pre in search needs
+array-write-r c = let facts = bounds (c .before .before) in search needs
 
 mul-r-2 : tie.Need-mul-r-2 Inv-loop μ-loop
-mul-r-2 c = let h = c .before .loop-test .taken in let e = c .before .before .loop .inv .1 in let p = c .before .before .before .pre in search needs
+mul-r-2 c = let facts = bounds (c .before) in search needs
 
 cast-r : tie.Need-cast-r Inv-loop μ-loop
-cast-r c =
-    let loop = c .before .before .loop in
-    let start = c .before .before .before in
-    let z = and-le-l (loop .i % 64) (item (start .args .t1) (loop .i / 64)) in search needs
+cast-r c = let facts = bounds (c .before) in search needs
 
 add-r : tie.Need-add-r Inv-loop μ-loop
-add-r c =
-    let loop = c .before .before .loop in
-    let args = c .before .before .before .args in
-    let pre = c .before .before .before .pre in
-    let z = and-le-l (loop .i % 64) (item (args .t1) (loop .i / 64)) in
-    let h = c .before .loop-test .taken in
-    let e = loop .inv .1 in
-    search needs
+add-r c = let facts = bounds (c .before) in search needs
 
 mul-r-3 : tie.Need-mul-r-3 Inv-loop μ-loop
-mul-r-3 c =
-    let loop = c .before .before .loop in
-    let args = c .before .before .before .args in
-    let pre = c .before .before .before .pre in
-    let z = and-le-l (loop .i % 64) (item (args .t1) (loop .i / 64)) in
-    let h = c .before .loop-test .taken in
-    let e = loop .inv .1 in
-    search needs
+mul-r-3 c = let facts = bounds (c .before) in search needs
 
 array-read-r : tie.Need-array-read-r Inv-loop μ-loop
-array-read-r c =
-    let loop = c .before .before .loop in
-    let args = c .before .before .before .args in
-    let pre = c .before .before .before .pre in
-    let z = and-le-l (loop .i % 64) (item (args .t1) (loop .i / 64)) in
-    let h = c .before .loop-test .taken in
-    let e = loop .inv .1 in
-    search needs
+array-read-r c = let facts = bounds (c .before) in search needs
 
 mul-r-4 : tie.Need-mul-r-4 Inv-loop μ-loop
-mul-r-4 c = let h = c .before .loop-test .taken in let e = c .before .before .loop .inv .1 in let p = c .before .before .before .pre in search needs
+mul-r-4 c = let facts = bounds (c .before) in search needs
 
 array-write-r-2 : tie.Need-array-write-r-2 Inv-loop μ-loop
-array-write-r-2 c = let h = c .before .loop-test .taken in let e = c .before .before .loop .inv .1 in let p = c .before .before .before .pre in search needs
+array-write-r-2 c = let facts = bounds (c .before) in search needs
 
 add-i : tie.Need-add-i Inv-loop μ-loop
-add-i c = let h = c .before .loop-test .taken in let e = c .before .before .loop .inv .1 in let p = c .before .before .before .pre in search needs
+add-i c = let facts = bounds (c .before) in search needs
 
 loop-less : tie.Need-loop-less Inv-loop μ-loop
 loop-less c = search needs

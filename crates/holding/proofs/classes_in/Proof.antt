@@ -8,13 +8,6 @@ use borrow.Author.Needs.{needs}
 use Rattle.holding.specs.FullLaws.{crowd-start, crowd-same, crowd-more}
 use Rattle.holding.proofs.classes_in.Statement.{statement}
 use Rattle.holding.proofs.classes_in.Tie as tie
-use Rattle.holding.proofs.classes_in.Reads as reads
-use Rattle.holding.proofs.classes_in.Lts as lts
-use Rattle.cells.proofs.in_set.Reads as in-set-reads
-use Rattle.cells.proofs.with.Reads as with-reads
-use Rattle.holding.proofs.inside.Reads as inside-reads
-use Rattle.holding.proofs.strangers.Reads as strangers-reads
-use Rattle.problem.proofs.label.Reads as label-reads
 
 abbrev Inv-loop : tie.InvT-loop
 Inv-loop cl v o p codes b seen₀ count₀ y₀ seen count y = (y ≤ v) × Crowd cl codes o p b y seen count

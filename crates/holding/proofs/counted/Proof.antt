@@ -7,8 +7,6 @@ use mathlib.Core.Path.{sym, ap}
 use borrow.Author.Needs.{needs}
 use Rattle.holding.proofs.counted.Statement.{statement}
 use Rattle.holding.proofs.counted.Tie as tie
-use Rattle.holding.proofs.counted.Reads as reads
-use Rattle.holding.proofs.counted.Lts as lts
 
 returns : tie.Need-returns
 returns c = let a = c .before .args in (sym (ap (λ (b : Bool). pick b (a .n) 0) (eq-eqb (a .q) (a .p) (c .if1 .taken))), search needs)

@@ -6,14 +6,6 @@ use borrow.Author.Needs.{needs}
 use Rattle.holding.specs.FullLaws.{crowd-one}
 use Rattle.holding.proofs.crowd.Statement.{statement}
 use Rattle.holding.proofs.crowd.Tie as tie
-use Rattle.holding.proofs.crowd.Reads as reads
-use Rattle.holding.proofs.crowd.Lts as lts
-use Rattle.cells.proofs.with.Reads as with-reads
-use Rattle.holding.proofs.classes_in.Reads as classes-in-reads
-use Rattle.holding.proofs.inside.Reads as inside-reads
-use Rattle.holding.proofs.strangers.Reads as strangers-reads
-use Rattle.problem.proofs.label.Reads as label-reads
-use Rattle.problem.proofs.part.Reads as part-reads
 
 part-requires : tie.Need-part-requires
 part-requires c κs = search needs

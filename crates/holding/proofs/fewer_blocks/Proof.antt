@@ -10,11 +10,6 @@ use mathlib.Core.Path.{sym}
 use borrow.Author.Needs.{needs}
 use Rattle.holding.proofs.fewer_blocks.Statement.{statement}
 use Rattle.holding.proofs.fewer_blocks.Tie as tie
-use Rattle.holding.proofs.fewer_blocks.Reads as reads
-use Rattle.holding.proofs.fewer_blocks.Lts as lts
-use Rattle.cells.proofs.lowest.Reads as lowest-reads
-use Rattle.cells.proofs.without.Reads as without-reads
-use Rattle.holding.proofs.minus.Reads as minus-reads
 
 abbrev Inv-loop : tie.InvT-loop
 Inv-loop bs o d n rest₀ k₀ rest k = (mask : ℕ) → ((c : ℕ) → c < 64 → Block mask c (getD bs (o * 64 + c) 0)) → Left mask d rest k

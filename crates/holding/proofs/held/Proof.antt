@@ -10,10 +10,6 @@ use borrow.Author.Needs.{needs}
 use Rattle.holding.specs.HeldLaws.{held-start, at-skip, at-old, at-new}
 use Rattle.holding.proofs.held.Statement.{statement}
 use Rattle.holding.proofs.held.Tie as tie
-use Rattle.holding.proofs.held.Reads as reads
-use Rattle.holding.proofs.held.Lts as lts
-use Rattle.cells.proofs.in_set.Reads as in-set-reads
-use Rattle.problem.proofs.label.Reads as label-reads
 
 abbrev Inv-loop : tie.InvT-loop
 Inv-loop cl bs v j o codes own₀ owns₀ y₀ own owns y = (y ≤ v) × ((mask : ℕ) → ((k : ℕ) → k < 64 → Block mask k (getD bs (o * 64 + k) 0)) → Held cl codes o mask y own owns)

@@ -2,9 +2,6 @@ use mathlib.Core.Path.{sym, _∙_}
 use Rattle.bits.specs.LogicLaws.{true-false}
 use Rattle.holding.proofs.inside.Statement.{statement}
 use Rattle.holding.proofs.inside.Tie as tie
-use Rattle.holding.proofs.inside.Reads as reads
-use Rattle.holding.proofs.inside.Lts as lts
-use Rattle.cells.proofs.in_set.Reads as in-set-reads
 
 in-set-requires : tie.Need-in-set-requires
 in-set-requires c κs = c .if1 .taken

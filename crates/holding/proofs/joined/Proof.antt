@@ -7,9 +7,6 @@ use borrow.Author.Needs.{needs}
 use Rattle.holding.specs.JoinedLaws.{joined-of}
 use Rattle.holding.proofs.joined.Statement.{statement}
 use Rattle.holding.proofs.joined.Tie as tie
-use Rattle.holding.proofs.joined.Reads as reads
-use Rattle.holding.proofs.joined.Lts as lts
-use Rattle.holding.proofs.without_cell.Reads as without-cell-reads
 
 -- the step is one cell's worth, at most 32
 step-is : (i : ℕ) → i < 6 → 1 * 2 ^ i % 2 ^ 32 ≡ 2 ^ i

@@ -4,8 +4,6 @@ use Rattle.holding.specs.BlocksLaws.{on-either}
 use borrow.Author.Needs.{needs}
 use Rattle.holding.proofs.keep.Statement.{statement}
 use Rattle.holding.proofs.keep.Tie as tie
-use Rattle.holding.proofs.keep.Reads as reads
-use Rattle.holding.proofs.keep.Lts as lts
 
 returns : tie.Need-returns
 returns c = λ k l s. s .held (c .before .if1 .taken) (c .if2 .taken)

@@ -7,12 +7,6 @@ use borrow.Author.Needs.{needs}
 use Rattle.holding.specs.ReachLaws.{lacks-start, lacks-more}
 use Rattle.holding.proofs.lacks.Statement.{statement}
 use Rattle.holding.proofs.lacks.Tie as tie
-use Rattle.holding.proofs.lacks.Reads as reads
-use Rattle.holding.proofs.lacks.Lts as lts
-use Rattle.holding.proofs.counted.Reads as counted-reads
-use Rattle.holding.proofs.larger.Reads as larger-reads
-use Rattle.problem.proofs.class_part.Reads as class-part-reads
-use Rattle.problem.proofs.label.Reads as label-reads
 
 abbrev Inv-loop : tie.InvT-loop
 Inv-loop cl base o p owns wants total₀ news₀ l₀ total news l = (l ≤ 32) × Lacks cl owns wants base o p l total news

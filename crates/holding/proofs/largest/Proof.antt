@@ -4,8 +4,6 @@ use Prim.Native.Nat.{_<_, _≤_, _-_}
 use borrow.Author.Needs.{needs}
 use Rattle.holding.proofs.largest.Statement.{statement}
 use Rattle.holding.proofs.largest.Tie as tie
-use Rattle.holding.proofs.largest.Reads as reads
-use Rattle.holding.proofs.largest.Lts as lts
 
 abbrev Inv-loop : tie.InvT-loop
 Inv-loop t m₀ i₀ m i = (i ≤ 32) × (m < 32)

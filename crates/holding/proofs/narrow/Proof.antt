@@ -8,12 +8,6 @@ use borrow.Author.Needs.{needs}
 use Rattle.holding.specs.NarrowLaws.{narrowed-start, narrowed-same, keep-more}
 use Rattle.holding.proofs.narrow.Statement.{statement}
 use Rattle.holding.proofs.narrow.Tie as tie
-use Rattle.holding.proofs.narrow.Reads as reads
-use Rattle.holding.proofs.narrow.Lts as lts
-use Rattle.cells.proofs.in_set.Reads as in-set-reads
-use Rattle.holding.proofs.keep.Reads as keep-reads
-use Rattle.problem.proofs.class_part.Reads as class-part-reads
-use Rattle.problem.proofs.label.Reads as label-reads
 
 abbrev Inv-loop : tie.InvT-loop
 Inv-loop cl base own meet tight codes dom₀ v o owns wants y₀ dom y = (y ≤ v) × Narrowed (Stays cl base o tight own meet owns wants) dom₀ y dom

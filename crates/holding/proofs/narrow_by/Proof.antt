@@ -8,11 +8,6 @@ use mir.Syntax.{w8, w64}
 use borrow.Author.Needs.{needs, elem-fits-field}
 use Rattle.holding.proofs.narrow_by.Statement.{statement}
 use Rattle.holding.proofs.narrow_by.Tie as tie
-use Rattle.holding.proofs.narrow_by.Reads as reads
-use Rattle.holding.proofs.narrow_by.Lts as lts
-use Rattle.holding.proofs.busiest.Reads as busiest-reads
-use Rattle.holding.proofs.narrow.Reads as narrow-reads
-use Rattle.holding.proofs.no_room.Reads as no-room-reads
 
 array-read-spot : tie.Need-array-read-spot
 array-read-spot c =

@@ -2,10 +2,6 @@ use mathlib.Core.Logic.{inl, inr}
 use borrow.Author.Needs.{needs}
 use Rattle.holding.proofs.no_room.Statement.{statement}
 use Rattle.holding.proofs.no_room.Tie as tie
-use Rattle.holding.proofs.no_room.Reads as reads
-use Rattle.holding.proofs.no_room.Lts as lts
-use Rattle.holding.proofs.others_out_of_reach.Reads as others-out-of-reach-reads
-use Rattle.holding.proofs.out_of_reach.Reads as out-of-reach-reads
 
 cast-total : tie.Need-cast-total
 cast-total c = search needs

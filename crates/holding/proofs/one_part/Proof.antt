@@ -9,9 +9,6 @@ use Rattle.bits.specs.LogicLaws.{never-both}
 use Rattle.bits.specs.CountLaws.{less-or-equal}
 use Rattle.holding.proofs.one_part.Statement.{statement}
 use Rattle.holding.proofs.one_part.Tie as tie
-use Rattle.holding.proofs.one_part.Reads as reads
-use Rattle.holding.proofs.one_part.Lts as lts
-use Rattle.problem.proofs.class_part.Reads as class-part-reads
 
 abbrev Inv-loop : tie.InvT-loop
 Inv-loop cl o p all₀ l₀ all l = (l ≤ 32) × (all ≡ true → (k : ℕ) → k < l → partAt cl o k ≡ p)

@@ -7,10 +7,6 @@ use borrow.Author.Needs.{needs}
 use Rattle.holding.specs.FullLaws.{others-start, others-in, others-out}
 use Rattle.holding.proofs.others.Statement.{statement}
 use Rattle.holding.proofs.others.Tie as tie
-use Rattle.holding.proofs.others.Reads as reads
-use Rattle.holding.proofs.others.Lts as lts
-use Rattle.cells.proofs.with.Reads as with-reads
-use Rattle.problem.proofs.class_part.Reads as class-part-reads
 
 abbrev Inv-loop : tie.InvT-loop
 Inv-loop cl o p r₀ l₀ r l = (l ≤ 32) × Others cl o p l r

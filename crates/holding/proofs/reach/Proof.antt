@@ -10,11 +10,6 @@ use borrow.Author.Needs.{needs}
 use Rattle.holding.specs.ReachLaws.{reached-start, reached-same, reached-more}
 use Rattle.holding.proofs.reach.Statement.{statement}
 use Rattle.holding.proofs.reach.Tie as tie
-use Rattle.holding.proofs.reach.Reads as reads
-use Rattle.holding.proofs.reach.Lts as lts
-use Rattle.holding.proofs.lacking.Reads as lacking-reads
-use Rattle.holding.proofs.minus.Reads as minus-reads
-use Rattle.problem.proofs.label.Reads as label-reads
 
 abbrev Inv-loop : tie.InvT-loop
 Inv-loop cl base p codes dom own v o owns wants r₀ y₀ r y = (y ≤ v) × Reached cl base owns wants codes dom own o p y r

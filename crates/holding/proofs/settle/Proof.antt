@@ -5,11 +5,6 @@ use Rattle.holding.specs.BlocksLaws.{all-ones}
 use Rattle.cells.specs.ListLaws.{zeros-are}
 use Rattle.holding.proofs.settle.Statement.{statement}
 use Rattle.holding.proofs.settle.Tie as tie
-use Rattle.holding.proofs.settle.Reads as reads
-use Rattle.holding.proofs.settle.Lts as lts
-use Rattle.holding.proofs.held.Reads as held-reads
-use Rattle.holding.proofs.narrow_by.Reads as narrow-by-reads
-use Rattle.holding.proofs.wanted.Reads as wanted-reads
 
 slice-aggregate-held : tie.Need-slice-aggregate-held
 slice-aggregate-held c = search needs

@@ -10,11 +10,6 @@ use Rattle.holding.specs.FullLaws.{shut-more}
 use Rattle.holding.specs.NarrowLaws.{narrowed-start, narrowed-same}
 use Rattle.holding.proofs.shut.Statement.{statement}
 use Rattle.holding.proofs.shut.Tie as tie
-use Rattle.holding.proofs.shut.Reads as reads
-use Rattle.holding.proofs.shut.Lts as lts
-use Rattle.cells.proofs.in_set.Reads as in-set-reads
-use Rattle.holding.proofs.minus.Reads as minus-reads
-use Rattle.problem.proofs.label.Reads as label-reads
 
 abbrev Inv-loop : tie.InvT-loop
 Inv-loop cl v o seen codes dom₀ b y₀ dom y = (y ≤ v) × Narrowed (Free cl o seen b) dom₀ y dom

@@ -8,10 +8,6 @@ use borrow.Author.Needs.{needs}
 use Rattle.holding.specs.JoinedLaws.{spreading-start, spreading-same, spreading-more, spreading-end}
 use Rattle.holding.proofs.spread.Statement.{statement}
 use Rattle.holding.proofs.spread.Tie as tie
-use Rattle.holding.proofs.spread.Reads as reads
-use Rattle.holding.proofs.spread.Lts as lts
-use Rattle.cells.proofs.in_set.Reads as in-set-reads
-use Rattle.holding.proofs.joined.Reads as joined-reads
 
 abbrev Inv-loop : tie.InvT-loop
 Inv-loop mask d r₀ i₀ r i = (i ≤ 6) × Spreading mask d i r

@@ -1,10 +1,6 @@
 use borrow.Author.Needs.{needs}
 use Rattle.holding.proofs.strangers.Statement.{statement}
 use Rattle.holding.proofs.strangers.Tie as tie
-use Rattle.holding.proofs.strangers.Reads as reads
-use Rattle.holding.proofs.strangers.Lts as lts
-use Rattle.holding.proofs.one_part.Reads as one-part-reads
-use Rattle.holding.proofs.others.Reads as others-reads
 
 one-part-requires : tie.Need-one-part-requires
 one-part-requires c κs = search needs

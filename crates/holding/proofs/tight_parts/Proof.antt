@@ -7,9 +7,6 @@ use borrow.Author.Needs.{needs}
 use Rattle.holding.specs.WantsLaws.{tight-start, tight-same, tight-more}
 use Rattle.holding.proofs.tight_parts.Statement.{statement}
 use Rattle.holding.proofs.tight_parts.Tie as tie
-use Rattle.holding.proofs.tight_parts.Reads as reads
-use Rattle.holding.proofs.tight_parts.Lts as lts
-use Rattle.cells.proofs.with.Reads as with-reads
 
 abbrev Inv-loop : tie.InvT-loop
 Inv-loop ts spot r₀ p₀ r p = (p ≤ 32) × TightBelow ts spot p r

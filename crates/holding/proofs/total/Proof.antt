@@ -2,10 +2,6 @@ use Prim.Native.Nat.{_-_}
 use borrow.Author.Needs.{needs}
 use Rattle.holding.proofs.total.Statement.{statement}
 use Rattle.holding.proofs.total.Tie as tie
-use Rattle.holding.proofs.total.Reads as reads
-use Rattle.holding.proofs.total.Lts as lts
-use Rattle.holding.proofs.largest.Reads as largest-reads
-use Rattle.holding.proofs.totals.Reads as totals-reads
 
 totals-requires : tie.Need-totals-requires
 totals-requires c κs = search needs

@@ -9,11 +9,6 @@ use Rattle.holding.specs.WantsLaws.{totals-start, totals-more}
 use Rattle.cells.specs.ListLaws.{zeros-are}
 use Rattle.holding.proofs.totals.Statement.{statement}
 use Rattle.holding.proofs.totals.Tie as tie
-use Rattle.holding.proofs.totals.Reads as reads
-use Rattle.holding.proofs.totals.Lts as lts
-use Rattle.holding.proofs.larger.Reads as larger-reads
-use Rattle.problem.proofs.class_part.Reads as class-part-reads
-use Rattle.problem.proofs.label.Reads as label-reads
 
 abbrev Inv-loop : tie.InvT-loop
 Inv-loop cl base o owns t₀ l₀ t l = (l ≤ 32) × Totals cl owns base o l t

@@ -9,11 +9,6 @@ use borrow.Author.Needs.{needs}
 use Rattle.holding.specs.WantsLaws.{wanted-start, wanted-same, wanted-more}
 use Rattle.holding.proofs.wanted.Statement.{statement}
 use Rattle.holding.proofs.wanted.Tie as tie
-use Rattle.holding.proofs.wanted.Reads as reads
-use Rattle.holding.proofs.wanted.Lts as lts
-use Rattle.holding.proofs.more.Reads as more-reads
-use Rattle.holding.proofs.spread.Reads as spread-reads
-use Rattle.problem.proofs.label.Reads as label-reads
 
 abbrev Inv-loop : tie.InvT-loop
 Inv-loop cl mask v o dom own owns wants₀ meet₀ y₀ wants meet y = (y ≤ v) × Wanted cl o mask y dom own owns wants meet

@@ -5,10 +5,6 @@ use borrow.Author.Needs.{needs}
 use Rattle.numbering.specs.NumberLaws.{written-whole, written-large, finished-start, finished-more, finished-all, finished-fixed, crowded}
 use Rattle.numbering.proofs.finish.Statement.{statement}
 use Rattle.numbering.proofs.finish.Tie as tie
-use Rattle.numbering.proofs.finish.Reads as reads
-use Rattle.numbering.proofs.finish.Lts as lts
-use Rattle.numbering.proofs.numbers.Reads as numbers-reads
-use Rattle.numbering.proofs.write.Reads as write-reads
 
 abbrev Inv-loop : tie.InvT-loop
 Inv-loop cl codes ms ps caps v j r₀ o₀ r o = (o ≤ j) × Finished cl ms ps v o codes r

@@ -8,11 +8,6 @@ use borrow.Author.Needs.{needs}
 use Rattle.numbering.specs.NumberLaws.{both-same, passed-start, number-old, at-miss, at-low, at-high, number-new}
 use Rattle.numbering.proofs.number.Statement.{statement}
 use Rattle.numbering.proofs.number.Tie as tie
-use Rattle.numbering.proofs.number.Reads as reads
-use Rattle.numbering.proofs.number.Lts as lts
-use Rattle.problem.proofs.label.Reads as label-reads
-use Rattle.problem.proofs.part.Reads as part-reads
-use Rattle.numbering.proofs.together.Reads as together-reads
 
 abbrev Inv-loop : tie.InvT-loop
 Inv-loop cl o mask x codes nums block class own next₀ y₀ next y = (y ≤ x) × (block ≡ key cl codes o mask x .1) × (class ≡ labelAt cl o x) × Passed cl codes o mask x nums y next × (own ≡ partOf cl o x)

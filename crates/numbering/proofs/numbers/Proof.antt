@@ -6,9 +6,6 @@ use borrow.Author.Needs.{needs}
 use Rattle.numbering.specs.NumberLaws.{numbered-more, numbered-start}
 use Rattle.numbering.proofs.numbers.Statement.{statement}
 use Rattle.numbering.proofs.numbers.Tie as tie
-use Rattle.numbering.proofs.numbers.Reads as reads
-use Rattle.numbering.proofs.numbers.Lts as lts
-use Rattle.numbering.proofs.number.Reads as number-reads
 
 abbrev Inv-loop : tie.InvT-loop
 Inv-loop cl o mask codes v nums₀ x₀ nums x = (x ≤ v) × Numbered cl codes o mask x nums

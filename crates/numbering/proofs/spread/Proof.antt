@@ -7,10 +7,6 @@ use borrow.Author.Needs.{needs}
 use Rattle.numbering.specs.NumberLaws.{spread-low, spreading-start, spreading-skip, spreading-one, spreading-zero, spreading-end}
 use Rattle.numbering.proofs.spread.Statement.{statement}
 use Rattle.numbering.proofs.spread.Tie as tie
-use Rattle.numbering.proofs.spread.Reads as reads
-use Rattle.numbering.proofs.spread.Lts as lts
-use Rattle.cells.proofs.in_set.Reads as in-set-reads
-use Rattle.cells.proofs.with.Reads as with-reads
 
 abbrev Inv-loop : tie.InvT-loop
 Inv-loop n p r₀ k₀ i₀ r k i = (i ≤ 6) × Spreading n p i r k

@@ -4,9 +4,6 @@ use Rattle.bits.specs.LogicLaws.{true-false}
 use borrow.Author.Needs.{needs}
 use Rattle.numbering.proofs.together.Statement.{statement}
 use Rattle.numbering.proofs.together.Tie as tie
-use Rattle.numbering.proofs.together.Reads as reads
-use Rattle.numbering.proofs.together.Lts as lts
-use Rattle.problem.proofs.part.Reads as part-reads
 
 part-requires : tie.Need-part-requires
 part-requires c κs = search needs

@@ -6,9 +6,6 @@ use borrow.Author.Needs.{needs}
 use Rattle.numbering.specs.NumberLaws.{wrote-start, wrote-more}
 use Rattle.numbering.proofs.write.Statement.{statement}
 use Rattle.numbering.proofs.write.Tie as tie
-use Rattle.numbering.proofs.write.Reads as reads
-use Rattle.numbering.proofs.write.Lts as lts
-use Rattle.numbering.proofs.spread.Reads as spread-reads
 
 abbrev Inv-loop : tie.InvT-loop
 Inv-loop cap p v codes nums r₀ x₀ r x = (x ≤ v) × Wrote nums p cap x codes r

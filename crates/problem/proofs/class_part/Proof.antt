@@ -4,8 +4,6 @@ use mathlib.Core.Path.{refl}
 use borrow.Author.Needs.{needs}
 use Rattle.problem.proofs.class_part.Statement.{statement}
 use Rattle.problem.proofs.class_part.Tie as tie
-use Rattle.problem.proofs.class_part.Reads as reads
-use Rattle.problem.proofs.class_part.Lts as lts
 
 mul-result : tie.Need-mul-result
 mul-result c = search needs

@@ -5,10 +5,6 @@ use Rattle.problem.specs.Problem.{partAt}
 use borrow.Author.Needs.{needs}
 use Rattle.problem.proofs.part.Statement.{statement}
 use Rattle.problem.proofs.part.Tie as tie
-use Rattle.problem.proofs.part.Reads as reads
-use Rattle.problem.proofs.part.Lts as lts
-use Rattle.problem.proofs.label.Reads as label-reads
-use Rattle.problem.proofs.class_part.Reads as class-part-reads
 
 label-requires : tie.Need-label-requires
 label-requires c κs = let z = c .before .pre .0 .long in (omega arith, c .before .pre .1, c .before .pre .2)
