@@ -37,7 +37,7 @@ use Rattle.lineorder.specs.CoreDigits.{network-tables, built-tables, network-ze
 use Rattle.lineorder.specs.PrintOrder.{nodesOrder, print-order}
 use Rattle.mapper.specs.Map.{Permitted, First}
 use Rattle.mapper.specs.BuiltLaws.{built-permitted}
-use Rattle.mapper.specs.CoreNumbers.{core-numbered}
+use Rattle.mapper.specs.CoreNumberLaws.{core-numbered}
 use Rattle.demands.specs.SoonerTables.{seenAs, seen-self, seen-other, moved, Same, Sooner, same-or-sooner}
 
 -- ---- tables 0 at vertex 0 stay so where another vertex changes

@@ -25,7 +25,7 @@ module _ (d : Design) (s t : ℕ) (p : Cause d s) (q : Cause d t) where
   no-earlier : size (length (d .outputs)) s ≡ size (length (d .outputs)) t → Earlier s t → ⊥
   no-earlier h e = p .unserved (q .earlier s (p .outputs) h e)
 
-pub cause-one : (d : Design) (s t : ℕ) → Cause d s → Cause d t → s ≡ t
+cause-one : (d : Design) (s t : ℕ) → Cause d s → Cause d t → s ≡ t
 cause-one d s t p q = go (same-or-earlier m s t (p .outputs .inside) (q .outputs .inside))
   where
     m : ℕ
@@ -54,7 +54,7 @@ for-one d (refused-by-8 s h n c) (too-many-classes k) = absurd (omega (arith, h,
 for-one d (refused-by-8 s h n c) (mapped k w) = absurd (n w)
 for-one d (refused-by-8 s h n c) (refused-by-8 t k m e) = ap outputs-of (cause-one d s t c e)
 
-pub cause-of-one : (x : Examined) (a b : CauseAnswer) → CauseOf x a → CauseOf x b → a ≡ b
+cause-of-one : (x : Examined) (a b : CauseAnswer) → CauseOf x a → CauseOf x b → a ≡ b
 cause-of-one (refused q l) a b e f = e ∙ sym f
 cause-of-one (valid d) a b e f = for-one d e f
 

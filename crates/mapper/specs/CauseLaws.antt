@@ -27,7 +27,7 @@ use Rattle.selection.specs.PartRightLaws.{part-well-formed}
 use Rattle.selection.specs.PartColumnLaws.{part-conflict, part-budget}
 use Rattle.unserved.specs.Unserved.{ServesSet, Fits, Lacking, FirstLacking, everyOutput}
 use Rattle.mapper.specs.Posed.{Given}
-use Rattle.mapper.specs.CoreNumbers.{core-numbered}
+use Rattle.mapper.specs.CoreNumberLaws.{core-numbered}
 use Rattle.mapper.specs.Cause.{Served, Cause}
 
 -- the search was given the design's classes and budgets

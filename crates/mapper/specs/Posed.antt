@@ -6,8 +6,9 @@ use mathlib.Core.List.{List}
 use Prim.Native.Nat.{ℕ, _≤_, _<_}
 use lib.ListN.{length}
 use Rattle.limits.specs.Limits.{maxClasses, maxCells, maxVertices, searchOutputs}
-use Rattle.sheet.specs.Examine.{Design}
+use Rattle.sheet.specs.Examine.{Design, Examined, valid}
 use Rattle.sheet.specs.Known.{Holds}
+use Rattle.sheet.specs.WellFormed.{WellFormed}
 use Rattle.sheet.specs.declared.Sheet.{Sheet}
 use Rattle.classes.specs.Columns.{vertexCount}
 use Rattle.classes.specs.Classes.{localClass, globalCount}
@@ -46,3 +47,12 @@ pub record Poses (d : Design) (k : Sheet) (r : Posed) : Type 0 where
   pub shaped : ShapeIs d (r .shape)
   pub given : Given d (r .labels) (r .budgets) (r .shape .vertices) (k .outputs) (k .limit)
   pub ready : Ready (r .labels) (r .shape .vertices) (k .outputs) (k .limit)
+
+-- x is the answer of an examination, the sheet k holds its design, and r is what this asks
+pub record Asked (x : Examined) (k : Sheet) (r : Posed) : Type 0 where
+  pub design : Design
+  pub answered : valid design ≡ x
+  pub holds : Holds design k
+  pub formed : WellFormed design
+  pub proper : Proper design
+  pub poses : Poses design k r

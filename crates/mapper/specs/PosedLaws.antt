@@ -1,4 +1,5 @@
--- What the code finds of a sheet is what its design asks of the search. Assumes nothing.
+-- What the code finds of a sheet is what its design asks of the search: labels are local classes, since these are few enough to be
+-- their own remainders, and budgets are widths; all are as small as the search wants. Assumes nothing.
 use mathlib.Core.Path.{_≡_, sym, ap, ap₂, _∙_, subst}
 use mathlib.Core.Bool.{Bool}
 use mathlib.Core.List.{List}
@@ -24,7 +25,7 @@ use Rattle.mapper.specs.SearchInput.{LabelsAre, BudgetsAre, labelsGiven}
 labels-low : (ls : List _) (cl : List ℕ) → LabelsAre ls cl → (i : ℕ) → getD cl i 0 < maxVertices
 labels-low ls cl h i =
     elim (decLt i labelsGiven) as (λ _. getD cl i 0 < maxVertices) [
-      | yes l ↦ (let e = h .each i l in omega arith)
+      | yes l ↦ (let e = h .given .done i l in omega arith)
       | no n ↦ (let e = h .others i (past i n) in omega arith)
     ]
   where
@@ -53,7 +54,7 @@ module _ (d : Design) (k : Sheet) (h : Holds d k) (c : Classes) (q : ClassesAre 
         within = h .limit-is;
         labels = λ o y i l.
             (let vf : vertexCount (d .bound) ≤ maxVertices = subst (λ (n : ℕ). n ≤ maxVertices) (q .shaped .vertices) (q .shaped .few-vertices) in
-            let a = lh .each (o * maxVertices + y) (omega arith) in
+            let a = lh .given .done (o * maxVertices + y) (omega arith) in
             let e1 : (o * maxVertices + y) / maxVertices ≡ o = omega arith in
             let e2 : (o * maxVertices + y) % maxVertices ≡ y = omega arith in
             let w = q .locals o i .classes y l in
@@ -61,7 +62,7 @@ module _ (d : Design) (k : Sheet) (h : Holds d k) (c : Classes) (q : ClassesAre 
             let lm = local-most d (d .bound) o in
             a ∙ ap₂ (λ (i j : ℕ). localAt (localsAt (c .locals) i .classes) j % maxVertices) e1 e2
             ∙ ap (λ (n : ℕ). n % maxVertices) w ∙ small (localClass d (d .bound) o y) (omega arith));
-        budgeted = λ o i. (let w = q .widths o i in bh .each o (subst (λ (n : ℕ). o < n) (sym m) i) ∙ w .is);
+        budgeted = λ o i. (let w = q .widths o i in bh .done o (subst (λ (n : ℕ). o < n) (sym m) i) ∙ w .is);
       }
     where
       small : (n : ℕ) → n < maxVertices → n % maxVertices ≡ n
@@ -72,7 +73,7 @@ module _ (d : Design) (k : Sheet) (h : Holds d k) (c : Classes) (q : ClassesAre 
       let outputs = h .outputs-few in
       let small = h .limit-small in
       record {
-        classes = record { long = l .long; low = λ i _. labels-low (c .locals) cl l i };
+        classes = record { long = l .given .long; low = λ i _. labels-low (c .locals) cl l i };
         few-vertices = q .shaped .few-vertices;
         few-outputs = omega arith;
         few-cells = omega arith;

@@ -1,5 +1,5 @@
 -- Where Map's definition says that a network was mapped, the print of a first network was written, and the answer's U is the
--- number of its tables. Assumes nothing.
+-- number of its tables. No code needs it: it says that the definition counts what it allows to be written. Assumes nothing.
 use mathlib.Core.Path.{_≡_, refl}
 use mathlib.Core.List.{List}
 use Prim.Native.Nat.{ℕ}

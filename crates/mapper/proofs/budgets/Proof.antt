@@ -1,9 +1,8 @@
 use native.Mathlib.Omega.{arith}
 use mathlib.Core.Path.{refl}
-use Prim.Native.Nat.{_≤_, _-_}
-use lib.ListN.{getD}
-use Rattle.limits.specs.Limits.{searchOutputs}
-use Rattle.mapper.specs.FillLaws.{Filled, filled-more, filled-none}
+use Prim.Native.Nat.{_-_}
+use Rattle.bits.specs.FilledLaws.{filled-none, filled-more, filled-fewer}
+use Rattle.mapper.specs.SearchInput.{BudgetsAre}
 use borrow.Author.Needs.{needs}
 use Rattle.mapper.proofs.budgets.Statement.{statement}
 use Rattle.mapper.proofs.budgets.Tie as tie
@@ -11,41 +10,32 @@ use Rattle.mapper.proofs.budgets.Reads as reads
 use Rattle.mapper.proofs.budgets.Lts as lts
 
 abbrev Inv-loop : tie.InvT-loop
-Inv-loop outputs ws r₀ o₀ r o = (o ≤ outputs) × Filled (λ k. getD ws k 0) searchOutputs r o
+Inv-loop outputs ws r₀ o₀ r o = BudgetsAre ws o r
 
 abbrev μ-loop : tie.MeasureT-loop
 μ-loop outputs ws r₀ o₀ r o = outputs - o
 
 loop-holds : tie.Need-loop-holds Inv-loop μ-loop
-loop-holds c =
-    let args = c .args in
-    (omega arith, filled-none (λ k. getD (args .t1) k 0) searchOutputs)
+loop-holds c = filled-none _ _ refl
 
 mul-r : tie.Need-mul-r Inv-loop μ-loop
 mul-r c = search needs
 
 array-read-r : tie.Need-array-read-r Inv-loop μ-loop
 array-read-r c =
-    let loop-test = c .loop-test in
-    let pre = c .before .before .pre in
-    let below = loop-test .taken in
-    let few = pre .0 in
+    let few = c .before .before .pre .0 in
+    let below = c .loop-test .taken in
     omega arith
 
 cast-r : tie.Need-cast-r Inv-loop μ-loop
 cast-r c =
-    let loop-test = c .loop-test in
-    let loop = c .before .loop in
-    let pre = c .before .before .pre in
-    let small = pre .1 (loop .o) (loop-test .taken) in
+    let small = c .before .before .pre .1 (c .before .loop .o) (c .loop-test .taken) in
     omega arith
 
 array-write-r : tie.Need-array-write-r Inv-loop μ-loop
 array-write-r c =
-    let loop-test = c .loop-test in
-    let pre = c .before .before .pre in
-    let below = loop-test .taken in
-    let few = pre .0 in
+    let few = c .before .before .pre .0 in
+    let below = c .loop-test .taken in
     omega arith
 
 add-o : tie.Need-add-o Inv-loop μ-loop
@@ -56,21 +46,12 @@ loop-less c = search needs
 
 loop-again : tie.Need-loop-again Inv-loop μ-loop
 loop-again c =
-    let loop-test = c .loop-test in
-    let loop = c .before .loop in
-    let pre = c .before .before .pre in
-    let args = c .before .before .args in
-    let below = loop-test .taken in
-    let few = pre .0 in
-    (omega arith, filled-more (λ k. getD (args .t1) k 0) searchOutputs (loop .r) (loop .o) _ (omega arith) refl (loop .inv .1))
+    let few = c .before .before .pre .0 in
+    let below = c .loop-test .taken in
+    filled-more _ (omega arith) refl (c .before .loop .inv)
 
 returns : tie.Need-returns Inv-loop μ-loop
-returns c =
-    let loop-test = c .loop-test in
-    let loop = c .before .loop in
-    let filled = loop .inv .1 in
-    let past = loop-test .left in
-    record { each = λ o h. filled .done o (omega arith) }
+returns c = filled-fewer (c .loop-test .left) (c .before .loop .inv)
 
 pub budgets-spec : {M : Type 1} → statement M
 budgets-spec =

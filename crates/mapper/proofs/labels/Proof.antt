@@ -1,8 +1,13 @@
 use native.Mathlib.Omega.{arith}
-use Prim.Native.Nat.{_≤_, _-_}
+use Prim.Native.Nat.{ℕ, _≤_, _-_}
+use mathlib.Core.Path.{_≡_, refl, _∙_}
+use lib.ListN.{getD}
+use lib.Seq.{getD-set-other}
 use Rattle.limits.specs.Limits.{labelCount}
 use Rattle.mapper.specs.SearchInput.{labelOf, labelsGiven}
-use Rattle.mapper.specs.FillLaws.{Filled, filled-more, filled-none}
+use Rattle.bits.specs.Filled.{Filled}
+use Rattle.bits.specs.FilledLaws.{filled-none, filled-more, filled-fewer}
+use Rattle.cells.specs.ListLaws.{zeros-are}
 use borrow.Author.Needs.{needs}
 use Rattle.mapper.proofs.labels.Statement.{statement}
 use Rattle.mapper.proofs.labels.Tie as tie
@@ -11,15 +16,13 @@ use Rattle.mapper.proofs.labels.Lts as lts
 use Rattle.mapper.proofs.label_of.Reads as label-of-reads
 
 abbrev Inv-loop : tie.InvT-loop
-Inv-loop ls cl₀ i₀ cl i = (i ≤ labelsGiven) × Filled (labelOf ls) labelCount cl i
+Inv-loop ls cl₀ i₀ cl i = (i ≤ labelsGiven) × Filled labelCount (labelOf ls) i cl × ((k : ℕ) → i ≤ k → getD cl k 0 ≡ 0)
 
 abbrev μ-loop : tie.MeasureT-loop
 μ-loop ls cl₀ i₀ cl i = labelsGiven - i
 
 loop-holds : tie.Need-loop-holds Inv-loop μ-loop
-loop-holds c =
-    let args = c .args in
-    (omega arith, filled-none (labelOf (args .t1)) labelCount)
+loop-holds c = (omega arith, filled-none _ _ refl, λ k h. zeros-are labelCount k)
 
 mul-loop : tie.Need-mul-loop Inv-loop μ-loop
 mul-loop c = search needs
@@ -50,21 +53,18 @@ loop-less c = search needs
 
 loop-again : tie.Need-loop-again Inv-loop μ-loop
 loop-again c =
-    let label-of = c .label-of in
-    let loop-test = c .before .before .before .before .loop-test in
     let loop = c .before .before .before .before .before .loop in
-    let args = c .before .before .before .before .before .before .args in
-    let below = loop-test .taken in
-    (omega arith, filled-more (labelOf (args .t1)) labelCount (loop .cl) (loop .i) _ (omega arith) (label-of .ensures) (loop .inv .1))
+    let below = c .before .before .before .before .loop-test .taken in (
+      omega arith,
+      filled-more _ (omega arith) (c .label-of .ensures) (loop .inv .1),
+      λ k h. getD-set-other (loop .cl) (loop .i) k _ 0 (λ e. let z : k ≡ loop .i = e in omega arith) ∙ loop .inv .2 k (omega arith),
+    )
 
 returns : tie.Need-returns Inv-loop μ-loop
 returns c =
-    let loop-test = c .loop-test in
     let loop = c .before .loop in
-    let filled = loop .inv .1 in
     let most = loop .inv .0 in
-    let past = loop-test .left in
-    record { long = filled .long; each = λ i h. filled .done i (omega arith); others = λ i h. filled .left i (omega arith) }
+    record { given = filled-fewer (c .loop-test .left) (loop .inv .1); others = λ i h. loop .inv .2 i (omega arith) }
 
 pub labels-spec : {M : Type 1} → statement M
 labels-spec =

@@ -1,43 +1,33 @@
 use native.Mathlib.Omega.{arith}
 use borrow.Author.Tests.{not-true, not-false}
 use Rattle.design.specs.TableLaws.{valid-here}
-use Rattle.mapper.specs.MapSteps.{map-refused, designed, holding, is-proper, map-classes, writer-ready, map-none, map-short, map-written}
+use Rattle.mapper.specs.MapStepLaws.{map-refused, designed, asked, map-classes, writer-ready, map-none, map-short, map-written}
 use borrow.Author.Needs.{needs}
 use Rattle.mapper.proofs.map_of.Statement.{statement}
 use Rattle.mapper.proofs.map_of.Tie as tie
 
 returns : tie.Need-returns
 returns c =
-    let if1 = c .if1 in
     let args = c .before .before .before .args in
-    λ x h r. map-refused x (args .buffer .now) (args .e) h (not-true _ (if1 .taken))
+    λ x h r. map-refused x (args .buffer .now) (args .e) h (not-true _ (c .if1 .taken))
 
 pose-requires : tie.Need-pose-requires
 pose-requires c κs =
-    let if1 = c .before .if1 in
-    let pre = c .before .before .before .before .pre in
-    let args = c .before .before .before .before .args in
-    let v = valid-here (pre .found) (args .e) (pre .is) (not-false _ (if1 .left)) in
-    designed (pre .found) (args .e .sheet) v (pre .right)
+    let start = c .before .before .before .before in
+    designed (start .pre .found) (start .args .e) (start .pre .is) (start .pre .right) (not-false _ (c .before .if1 .left))
 
 returns-2 : tie.Need-returns-2
 returns-2 c =
-    let if2 = c .if2 in
     let pose = c .before .pose in
     let if1 = c .before .before .before .if1 in
     let args = c .before .before .before .before .before .before .args in
-    let k = args .e .sheet in
-    λ x h r.
-    (let v = valid-here x (args .e) h (not-false _ (if1 .left)) in
-    let q = pose .ensures (v .design) (holding x k v r) (is-proper x k v r) in
-    map-classes x k v r (pose .result) q (args .buffer .now) (not-true _ (if2 .taken)))
+    λ x h r. map-classes (asked x (args .e) (pose .result) h r (not-false _ (if1 .left)) (pose .ensures)) (args .buffer .now) (not-true _ (c .if2 .taken))
 
 cast-first : tie.Need-cast-first
 cast-first c =
     let if1 = c .before .before .before .before .before .before .before .before .before .if1 in
-    let pre = c .before .before .before .before .before .before .before .before .before .before .before .before .pre in
-    let args = c .before .before .before .before .before .before .before .before .before .before .before .before .args in
-    let v = valid-here (pre .found) (args .e) (pre .is) (not-false _ (if1 .left)) in
+    let start = c .before .before .before .before .before .before .before .before .before .before .before .before in
+    let v = valid-here (start .pre .found) (start .args .e) (start .pre .is) (not-false _ (if1 .left)) in
     let small = v .holds .limit-small in
     omega (arith, small)
 
@@ -45,30 +35,21 @@ first-requires : tie.Need-first-requires
 first-requires c κs =
     let pose = c .before .before .before .before .before .before .before .pose in
     let if1 = c .before .before .before .before .before .before .before .before .before .if1 in
-    let pre = c .before .before .before .before .before .before .before .before .before .before .before .before .pre in
-    let args = c .before .before .before .before .before .before .before .before .before .before .before .before .args in
-    let k = args .e .sheet in
-    let x = pre .found in
-    let r = pre .right in
-    let v = valid-here x (args .e) (pre .is) (not-false _ (if1 .left)) in
-    let q = pose .ensures (v .design) (holding x k v r) (is-proper x k v r) .ready in
-    (q .classes, q .few-vertices, q .few-outputs, q .few-cells)
+    let start = c .before .before .before .before .before .before .before .before .before .before .before .before in
+    let s = asked (start .pre .found) (start .args .e) (pose .result) (start .pre .is) (start .pre .right) (not-false _ (if1 .left)) (pose .ensures) in
+    let ready = s .poses .ready in
+    (ready .classes, ready .few-vertices, ready .few-outputs, ready .few-cells)
 
 returns-3 : tie.Need-returns-3
 returns-3 c =
-    let if3 = c .if3 in
-    let first = c .before .before .first in
-    let if2 = c .before .before .before .before .before .before .before .before .before .if2 in
-    let pose = c .before .before .before .before .before .before .before .before .before .before .pose in
-    let if1 = c .before .before .before .before .before .before .before .before .before .before .before .before .if1 in
-    let args = c .before .before .before .before .before .before .before .before .before .before .before .before .before .before .before .args in
-    let k = args .e .sheet in
-    let found = first .result in
+    let at-first = c .before .before in
+    let at-if2 = at-first .before .before .before .before .before .before .before in
+    let at-pose = at-if2 .before in
+    let at-if1 = at-pose .before .before in
+    let start = at-if1 .before .before .before in
     λ x h r.
-    (let v = valid-here x (args .e) h (not-false _ (if1 .left)) in
-    let q = pose .ensures (v .design) (holding x k v r) (is-proper x k v r) in
-    map-none x k v r (pose .result) q (not-false _ (if2 .left)) (found .count) (found .rows) (found .codes) (args .buffer .now) (found .found)
-    (not-true _ (if3 .taken)) (first .ensures))
+    (let s = asked x (start .args .e) (at-pose .pose .result) h r (not-false _ (at-if1 .if1 .left)) (at-pose .pose .ensures) in
+    map-none s (start .args .buffer .now) (not-false _ (at-if2 .if2 .left)) (not-true _ (c .if3 .taken)) (at-first .first .ensures))
 
 cast-u : tie.Need-cast-u
 cast-u c = search needs
@@ -81,84 +62,60 @@ slice-aggregate-put-network c = search needs
 
 put-network-requires : tie.Need-put-network-requires
 put-network-requires c κs =
-    let first = c .before .before .before .before .before .before .first in
-    let if2 = c .before .before .before .before .before .before .before .before .before .before .before .before .before .if2 in
-    let pose = c .before .before .before .before .before .before .before .before .before .before .before .before .before .before .pose in
-    let if1 = c .before .before .before .before .before .before .before .before .before .before .before .before .before .before .before .before .if1 in
-    let earlier = c .before .before .before .before .before .before .before .before .before .before .before .before .before .before .before in
-    let pre = earlier .before .before .before .before .pre in
-    let args = earlier .before .before .before .before .args in
-    let k = args .e .sheet in
-    let found = first .result in
-    let x = pre .found in
-    let r = pre .right in
-    let v = valid-here x (args .e) (pre .is) (not-false _ (if1 .left)) in
-    let q = pose .ensures (v .design) (holding x k v r) (is-proper x k v r) in
-    writer-ready x k v r (pose .result) q (not-false _ (if2 .left)) (found .count) (found .rows) (found .codes) (found .found) (first .ensures)
+    let at-first = c .before .before .before .before .before .before in
+    let at-pose = at-first .before .before .before .before .before .before .before .before in
+    let at-if1 = at-pose .before .before in
+    let start = at-if1 .before .before .before in
+    let x = start .pre .found in
+    let h = start .pre .is in
+    let r = start .pre .right in
+    writer-ready (asked x (start .args .e) (at-pose .pose .result) h r (not-false _ (at-if1 .if1 .left)) (at-pose .pose .ensures)) (at-first .first .ensures)
 
 returns-4 : tie.Need-returns-4
 returns-4 c =
-    let if4 = c .if4 in
-    let put-network = c .before .before .put-network in
-    let if3 = c .before .before .before .before .before .before .before .if3 in
-    let first = c .before .before .before .before .before .before .before .before .before .first in
-    let if2 = c .before .before .before .before .before .before .before .before .before .before .before .before .before .before .before .before .if2 in
-    let pose = c .before .before .before .before .before .before .before .before .before .before .before .before .before .before .before .before .before .pose in
-    let earlier = c .before .before .before .before .before .before .before .before .before .before .before .before .before .before .before in
-    let if1 = earlier .before .before .before .before .if1 in
-    let args = earlier .before .before .before .before .before .before .before .args in
-    let k = args .e .sheet in
-    let found = first .result in
+    let at-put = c .before .before in
+    let at-if3 = at-put .before .before .before .before .before in
+    let at-first = at-if3 .before .before in
+    let at-if2 = at-first .before .before .before .before .before .before .before in
+    let at-pose = at-if2 .before in
+    let at-if1 = at-pose .before .before in
+    let start = at-if1 .before .before .before in
     λ x h r.
-    (let v = valid-here x (args .e) h (not-false _ (if1 .left)) in
-    let q = pose .ensures (v .design) (holding x k v r) (is-proper x k v r) in
-    let w = put-network .ensures (v .design) (holding x k v r) (is-proper x k v r) (q .shaped) in
-    map-short x k v r (pose .result) q (not-false _ (if2 .left)) (found .count) (found .rows) (found .codes) (args .buffer .now)
-    (put-network .result) (found .found) (not-false _ (if3 .left)) (first .ensures) (w .0) (if4 .taken))
+    (let s = asked x (start .args .e) (at-pose .pose .result) h r (not-false _ (at-if1 .if1 .left)) (at-pose .pose .ensures) in
+    let put = at-put .put-network .ensures (s .design) (s .holds) (s .proper) (s .poses .shaped) in
+    map-short s (start .args .buffer .now) _ (not-false _ (at-if2 .if2 .left)) (not-false _ (at-if3 .if3 .left)) (at-first .first .ensures) (put .0) (c .if4 .taken))
 
 put-network-requires-2 : tie.Need-put-network-requires-2
 put-network-requires-2 c κs =
-    let first = c .before .before .before .before .before .before .before .before .before .before .first in
-    let if2 = c .before .before .before .before .before .before .before .before .before .before .before .before .before .before .before .before .before .if2 in
-    let earlier = c .before .before .before .before .before .before .before .before .before .before .before .before .before .before .before in
-    let pose = earlier .before .before .before .pose in
-    let if1 = earlier .before .before .before .before .before .if1 in
-    let pre = earlier .before .before .before .before .before .before .before .before .pre in
-    let args = earlier .before .before .before .before .before .before .before .before .args in
-    let k = args .e .sheet in
-    let found = first .result in
-    let x = pre .found in
-    let r = pre .right in
-    let v = valid-here x (args .e) (pre .is) (not-false _ (if1 .left)) in
-    let q = pose .ensures (v .design) (holding x k v r) (is-proper x k v r) in
-    writer-ready x k v r (pose .result) q (not-false _ (if2 .left)) (found .count) (found .rows) (found .codes) (found .found) (first .ensures)
+    let at-first = c .before .before .before .before .before .before .before .before .before .before in
+    let at-pose = at-first .before .before .before .before .before .before .before .before in
+    let at-if1 = at-pose .before .before in
+    let start = at-if1 .before .before .before in
+    let x = start .pre .found in
+    let h = start .pre .is in
+    let r = start .pre .right in
+    writer-ready (asked x (start .args .e) (at-pose .pose .result) h r (not-false _ (at-if1 .if1 .left)) (at-pose .pose .ensures)) (at-first .first .ensures)
 
 same-length : tie.Need-same-length
 same-length c = search needs
 
 returns-5 : tie.Need-returns-5
 returns-5 c =
-    let put-network2 = c .before .before .put-network2 in
-    let if4 = c .before .before .before .before .if4 in
-    let put-network = c .before .before .before .before .before .before .put-network in
-    let if3 = c .before .before .before .before .before .before .before .before .before .before .before .if3 in
-    let first = c .before .before .before .before .before .before .before .before .before .before .before .before .before .first in
-    let earlier = c .before .before .before .before .before .before .before .before .before .before .before .before .before .before .before in
-    let if2 = earlier .before .before .before .before .before .if2 in
-    let pose = earlier .before .before .before .before .before .before .pose in
-    let if1 = earlier .before .before .before .before .before .before .before .before .if1 in
-    let args = earlier .before .before .before .before .before .before .before .before .before .before .before .args in
-    let k = args .e .sheet in
-    let found = first .result in
-    let b = args .buffer .now in
+    let at-put2 = c .before .before in
+    let at-if4 = at-put2 .before .before in
+    let at-put = at-if4 .before .before in
+    let at-if3 = at-put .before .before .before .before .before in
+    let at-first = at-if3 .before .before in
+    let at-if2 = at-first .before .before .before .before .before .before .before in
+    let at-pose = at-if2 .before in
+    let at-if1 = at-pose .before .before in
+    let start = at-if1 .before .before .before in
     λ x h r.
-    (let v = valid-here x (args .e) h (not-false _ (if1 .left)) in
-    let q = pose .ensures (v .design) (holding x k v r) (is-proper x k v r) in
-    let tried = put-network .ensures (v .design) (holding x k v r) (is-proper x k v r) (q .shaped) in
-    let w = put-network2 .ensures (v .design) (holding x k v r) (is-proper x k v r) (q .shaped) in
-    map-written x k v r (pose .result) q (not-false _ (if2 .left)) (found .count) (found .rows) (found .codes) b (put-network2 .last .0)
-    (put-network .result) (put-network2 .result) (found .found) (not-false _ (if3 .left)) (first .ensures) (tried .0) (if4 .left)
-    (w .0) (w .1))
+    (let s = asked x (start .args .e) (at-pose .pose .result) h r (not-false _ (at-if1 .if1 .left)) (at-pose .pose .ensures) in
+    let tried = at-put .put-network .ensures (s .design) (s .holds) (s .proper) (s .poses .shaped) in
+    let put = at-put2 .put-network2 .ensures (s .design) (s .holds) (s .proper) (s .poses .shaped) in
+    map-written s (start .args .buffer .now) _ _ _ (not-false _ (at-if2 .if2 .left)) (not-false _ (at-if3 .if3 .left)) (at-first .first .ensures)
+    (tried .0) (at-if4 .if4 .left) (put .0) (put .1))
 
 pub map-of-spec : {M : Type 1} → statement M
 map-of-spec =
