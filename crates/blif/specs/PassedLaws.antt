@@ -56,7 +56,7 @@ rows-ended n r (v ∷ ds) f h =
 
 -- ---- one block, whose digits stand in t
 module _ (t : List ℕ) (at : ℕ) (is : List Name) (n : Name) (ds : List Bool) (s : Stands t (2 ^ length is) at ds) where
-  pub block-ended : blockText is n (digitsAt t at) ≡ endedLines (block is n ds)
+  block-ended : blockText is n (digitsAt t at) ≡ endedLines (block is n ds)
   unfolding blockText rowsText block endedLines
   block-ended =
       let f : ℕ → Bool = digitsAt t at in

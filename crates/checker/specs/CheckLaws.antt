@@ -136,7 +136,7 @@ module _ {x : sheets.Examined} {k : Sheet} (g : Designed x k) where
           few-outputs = g .holds .outputs-few;
         }
 
-    pub limits-are : LimitsAre (g .design) (w .said) (k .limit) (n .luts) (k .outputs) (n .reads) (c .widths)
+    limits-are : LimitsAre (g .design) (w .said) (k .limit) (n .luts) (k .outputs) (n .reads) (c .widths)
     unfolding budget
     limits-are =
         let a = g .holds .outputs-counted in

@@ -59,7 +59,7 @@ module _ (same : ℕ → ℕ → Bool) (x : ℕ) where
             ];
       }
 
-  pub first-from : (k y : ℕ) → First same x k y (firstFrom same x k y)
+  first-from : (k y : ℕ) → First same x k y (firstFrom same x k y)
   unfolding firstFrom
   first-from zero y = none-to-search y
   first-from (suc k) y =
@@ -124,7 +124,7 @@ module _ (same : ℕ → ℕ → Bool) where
       let more : classCount same (suc u) ≤ classCount same v = count-grows (suc u) v l in
       omega arith
 
-  pub first-member : (u v : ℕ) → firstLike same u ≡ u → firstLike same v ≡ v → classCount same u ≡ classCount same v → u ≡ v
+  first-member : (u v : ℕ) → firstLike same u ≡ u → firstLike same v ≡ v → classCount same u ≡ classCount same v → u ≡ v
   first-member u v p q e =
       elim (decLt u v) as (λ _. u ≡ v) [
         | yes l ↦ (let m : classCount same u < classCount same v = first-below u v p l in absurd (omega arith))
@@ -163,10 +163,10 @@ pub record Taken (same : ℕ → ℕ → Bool) (v c : ℕ) : Type 0 where
   pub first : firstLike same member ≡ member
 
 module _ (same : ℕ → ℕ → Bool) (q : Equivalence same) where
-  pub first-most : (x : ℕ) → firstLike same x ≤ x
+  first-most : (x : ℕ) → firstLike same x ≤ x
   first-most x = let m : firstLike same x ≤ 0 + x = first-like same x .to-end in omega arith
 
-  pub first-related : (x : ℕ) → same (firstLike same x) x ≡ true
+  first-related : (x : ℕ) → same (firstLike same x) x ≡ true
   first-related x =
       let m : firstLike same x ≤ x = first-most x in
       elim (decLt (firstLike same x) x) as (λ _. same (firstLike same x) x ≡ true) [
@@ -184,13 +184,13 @@ module _ (same : ℕ → ℕ → Bool) (q : Equivalence same) where
         | no g ↦ omega arith
       ]
 
-  pub first-same : (x y : ℕ) → same x y ≡ true → firstLike same x ≡ firstLike same y
+  first-same : (x y : ℕ) → same x y ≡ true → firstLike same x ≡ firstLike same y
   first-same x y e =
       let a : firstLike same y ≤ firstLike same x = first-no-later x y e in
       let b : firstLike same x ≤ firstLike same y = first-no-later y x (q .back x y e) in
       omega arith
 
-  pub first-again : (x : ℕ) → firstLike same (firstLike same x) ≡ firstLike same x
+  first-again : (x : ℕ) → firstLike same (firstLike same x) ≡ firstLike same x
   first-again x = first-same (firstLike same x) x (first-related x)
 
   -- related numbers have one class, and no others

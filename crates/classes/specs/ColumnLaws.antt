@@ -36,7 +36,7 @@ equal-or-xor false true c d e = refl
 equal-or-xor false false c d e = e
 
 -- ---- two lists
-pub apart-self : (us : List Bool) → apart us us ≡ false
+apart-self : (us : List Bool) → apart us us ≡ false
 unfolding apart
 apart-self [] = refl
 apart-self (u ∷ us) = rw (xor-self u) (apart-self us)
@@ -51,7 +51,7 @@ apart-last (a ∷ us) (b ∷ vs) u v n =
     ap (λ (t : Bool). xorb a b || t) (apart-last us vs u v (omega arith)) ∙ or-assoc (xorb a b) (apart us vs) (xorb u v)
 
 -- two lists of one length are equal or apart
-pub same-not-apart : (us vs : List Bool) → length us ≡ length vs → sameValues us vs ≡ not (apart us vs)
+same-not-apart : (us vs : List Bool) → length us ≡ length vs → sameValues us vs ≡ not (apart us vs)
 unfolding sameValues apart
 same-not-apart [] [] n = refl
 same-not-apart [] (v ∷ vs) n = absurd (omega arith)
@@ -73,10 +73,10 @@ module _ (f g : ℕ → Bool) where
       apart-last (valuesUpto f n) (valuesUpto g n) (f n) (g n) (values-length f n ∙ sym (values-length g n))
 
   -- columns that agree everywhere are not apart
-  pub agree-apart : (n : ℕ) → ((i : ℕ) → i < n → f i ≡ g i) → apart (valuesUpto f n) (valuesUpto g n) ≡ false
+  agree-apart : (n : ℕ) → ((i : ℕ) → i < n → f i ≡ g i) → apart (valuesUpto f n) (valuesUpto g n) ≡ false
   agree-apart n h = rw (values-same f g n h) (apart-self (valuesUpto g n))
 
-  pub apart-agree : (n : ℕ) → apart (valuesUpto f n) (valuesUpto g n) ≡ false → (i : ℕ) → i < n → f i ≡ g i
+  apart-agree : (n : ℕ) → apart (valuesUpto f n) (valuesUpto g n) ≡ false → (i : ℕ) → i < n → f i ≡ g i
   apart-agree zero e i l = absurd (omega arith)
   apart-agree (suc n) e i l =
       let q : apart (valuesUpto f n) (valuesUpto g n) || xorb (f n) (g n) ≡ false = sym (apart-more n) ∙ e in
@@ -86,14 +86,14 @@ module _ (f g : ℕ → Bool) where
       (less-or-equal i n l)
 
   -- columns that differ somewhere are
-  pub differ-apart : (n i : ℕ) → i < n → (f i ≡ g i → ⊥) → apart (valuesUpto f n) (valuesUpto g n) ≡ true
+  differ-apart : (n i : ℕ) → i < n → (f i ≡ g i → ⊥) → apart (valuesUpto f n) (valuesUpto g n) ≡ true
   differ-apart n i l h =
       ⊎-elim
       (λ e. e)
       (λ e. absurd (h (apart-agree n e i l)))
       (either (apart (valuesUpto f n) (valuesUpto g n)))
 
-  pub apart-differ : (n : ℕ) → apart (valuesUpto f n) (valuesUpto g n) ≡ true → Differ f g n
+  apart-differ : (n : ℕ) → apart (valuesUpto f n) (valuesUpto g n) ≡ true → Differ f g n
   unfolding valuesUpto apart
   apart-differ zero e = absurd (true-false (sym e))
   apart-differ (suc n) e =
@@ -113,12 +113,12 @@ module _ (f g : ℕ → Bool) where
 
 -- ---- equal columns are those that are not apart, and an equivalence, whatever column f x each number x has
 module _ (f : ℕ → ℕ → Bool) (n : ℕ) where
-  pub column-not-apart : (x y : ℕ) → sameColumn f n x y ≡ not (apart (valuesUpto (f x) n) (valuesUpto (f y) n))
+  column-not-apart : (x y : ℕ) → sameColumn f n x y ≡ not (apart (valuesUpto (f x) n) (valuesUpto (f y) n))
   unfolding sameColumn
   column-not-apart x y =
       same-not-apart (valuesUpto (f x) n) (valuesUpto (f y) n) (values-length (f x) n ∙ sym (values-length (f y) n))
 
-  pub same-agree : (x y : ℕ) → sameColumn f n x y ≡ true → (i : ℕ) → i < n → f x i ≡ f y i
+  same-agree : (x y : ℕ) → sameColumn f n x y ≡ true → (i : ℕ) → i < n → f x i ≡ f y i
   same-agree x y e =
       apart-agree (f x) (f y) n (not-true (apart (valuesUpto (f x) n) (valuesUpto (f y) n)) (sym (column-not-apart x y) ∙ e))
 
@@ -144,7 +144,7 @@ same-columns f g n x y p q =
     ap₂ sameValues (values-same (f x) (g x) n p) (values-same (f y) (g y) n q)
 
 -- related in two ways at once
-pub both-equivalence : (r s : ℕ → ℕ → Bool) → Equivalence r → Equivalence s → Equivalence (λ x y. r x y && s x y)
+both-equivalence : (r s : ℕ → ℕ → Bool) → Equivalence r → Equivalence s → Equivalence (λ x y. r x y && s x y)
 both-equivalence r s p q =
     record {
       self = λ x. and-both (r x x) (s x x) (p .self x) (q .self x);
@@ -184,7 +184,7 @@ module _ (d : Design) (bs : List Name) where
   alike-columns o x y = refl
 
   -- equal columns are those without a conflict
-  pub alike-not-conflict : (o x y : ℕ) → alike d bs o x y ≡ not (conflict d bs o x y)
+  alike-not-conflict : (o x y : ℕ) → alike d bs o x y ≡ not (conflict d bs o x y)
   unfolding conflict column
   alike-not-conflict o x y = alike-columns o x y ∙ column-not-apart (valueAt d bs o) (freeCount (d .inputs) bs) x y
 

@@ -28,10 +28,10 @@ use Rattle.classes.specs.JoinLaws.{on-bound, on-free, rows-add}
 
 -- ---- a number made of x below 2 ^ b and of y above
 module _ (b x y : ℕ) (l : x < 2 ^ b) where
-  pub on-lower : (p : ℕ) → p < b → on (y * 2 ^ b + x) p ≡ on x p
+  on-lower : (p : ℕ) → p < b → on (y * 2 ^ b + x) p ≡ on x p
   on-lower p h = sym (on-cut b (y * 2 ^ b + x) p h) ∙ ap (λ (z : ℕ). on z p) (low y b l)
 
-  pub on-upper : (p : ℕ) → on (y * 2 ^ b + x) (b + p) ≡ on y p
+  on-upper : (p : ℕ) → on (y * 2 ^ b + x) (b + p) ≡ on y p
   on-upper p = sym (on-high b (y * 2 ^ b + x) p) ∙ ap (λ (z : ℕ). on z p) (high y b l)
 
 -- each digit is a digit of one of the two

@@ -17,7 +17,7 @@ use Rattle.classes.specs.Columns.{free}
 use Rattle.classes.specs.Proper.{Parted}
 
 -- ---- a name among others
-pub among-here : (m n : Name) (ns : List Name) → sameName m n ≡ true → among n (m ∷ ns) ≡ true
+among-here : (m n : Name) (ns : List Name) → sameName m n ≡ true → among n (m ∷ ns) ≡ true
 unfolding among
 among-here m n ns e = rw e
 
@@ -28,7 +28,7 @@ pub among-later : (m n : Name) (ns : List Name) → among n ns ≡ true → amon
 unfolding among
 among-later m n ns e = or-second (sameName m n) (among n ns) e
 
-pub among-cases : (m n : Name) (ns : List Name) → among n (m ∷ ns) ≡ true → (sameName m n ≡ true) ⊎ (among n ns ≡ true)
+among-cases : (m n : Name) (ns : List Name) → among n (m ∷ ns) ≡ true → (sameName m n ≡ true) ⊎ (among n ns ≡ true)
 unfolding among
 among-cases m n ns e = or-cases (sameName m n) (among n ns) e
 
@@ -56,7 +56,7 @@ pub first-another : (m n : Name) (ns : List Name) → distinct (m ∷ ns) ≡ tr
 first-another m n ns e h =
     false-unless (sameName m n) (λ s. not-both (among m ns) (among-same m n s ns ∙ h) (distinct-first m ns e))
 
-pub all-among : (bs ns : List Name) (n : Name) → allAmong bs ns ≡ true → among n bs ≡ true → among n ns ≡ true
+all-among : (bs ns : List Name) (n : Name) → allAmong bs ns ≡ true → among n bs ≡ true → among n ns ≡ true
 unfolding allAmong among
 all-among [] ns n e h = absurd (true-false (sym h))
 all-among (b ∷ bs) ns n e h =

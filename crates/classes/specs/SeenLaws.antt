@@ -33,7 +33,7 @@ use Rattle.classes.specs.declared.Globals.{Globals}
 -- ---- classes by a relation that is another on the numbers below v
 module _ {same like : ℕ → ℕ → Bool} {v w count : ℕ} {class : ℕ → ℕ} (c : ClassesBy same v count class) (e : v ≡ w)
     (h : (x y : ℕ) → x < w → y < w → same x y ≡ like x y) where
-  pub classes-agree : ClassesBy like w count class
+  classes-agree : ClassesBy like w count class
   classes-agree =
       let moved : ClassesBy same w count class = subst (λ (n : ℕ). ClassesBy same n count class) e c in
       record {

@@ -61,7 +61,7 @@ module _ (d : Design) (bs : List Name) where
   alike-upto (suc m) x y h =
       and-both (alikeUpto d bs m x y) (alike d bs m x y) (alike-upto m x y (λ o l. h o (omega arith))) (h m (omega arith))
 
-  pub global-no-conflict : (x y : ℕ) → globalClass d bs x ≡ globalClass d bs y
+  global-no-conflict : (x y : ℕ) → globalClass d bs x ≡ globalClass d bs y
       → (o : ℕ) → o < length (d .outputs) → conflict d bs o x y ≡ false
   unfolding globalClass
   global-no-conflict x y e o l =

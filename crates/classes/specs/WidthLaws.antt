@@ -44,7 +44,7 @@ from-least (suc k) w c v h l =
     (either (leb c (2 ^ w)))
 
 -- ---- the laws
-pub width-enough : (c : ℕ) → c ≤ 2 ^ widthOf c
+width-enough : (c : ℕ) → c ≤ 2 ^ widthOf c
 unfolding widthOf
 width-enough c = from-enough c 0 c (rw zero-add (let l : c < 2 ^ c = below-power c in omega arith))
 

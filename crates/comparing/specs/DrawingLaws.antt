@@ -47,7 +47,7 @@ digit-stands {t} {n} {at} {ds} s i h =
 
 module _ {d : Design} {w : Network} {t : List ℕ} {k : Sheet} {n : Places} {sh : Shape} (h : Drawing d w t k n sh) where
   -- the code of a vertex is the row of the values of the tables that the output reads
-  pub code-is : (o x : ℕ) → o < length (d .outputs) → x < sh .vertices
+  code-is : (o x : ℕ) → o < length (d .outputs) → x < sh .vertices
       → codeAt t (n .lutat) (getD (n .reads) o 0) x (n .luts) ≡ rowOf (map (λ (i : ℕ). lutAt w i x) (nodeOf w o .reads))
   unfolding codeAt
   code-is o x l a =
@@ -60,7 +60,7 @@ module _ {d : Design} {w : Network} {t : List ℕ} {k : Sheet} {n : Places} {sh 
       ∙ ap (map (λ (i : ℕ). lutAt w i x)) (r .held .nodes-stand o here .reading))
 
   -- the place of a digit in a node's table
-  pub place-is : (o x y : ℕ) → o < length (d .outputs) → x < sh .vertices → y < sh .frees
+  place-is : (o x y : ℕ) → o < length (d .outputs) → x < sh .vertices → y < sh .frees
       → rowOf (map (λ (i : ℕ). lutAt w i x) (nodeOf w o .reads) ++ valuesOf (frees d) y)
       ≡ codeAt t (n .lutat) (getD (n .reads) o 0) x (n .luts) * sh .frees + y
   place-is o x y l a b =

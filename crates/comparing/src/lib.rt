@@ -52,29 +52,23 @@ fn code(t: &[u8], lutat: [usize; limits::MAX_CELLS], mask: u8, luts: usize, x: V
 }
 
 // Sets the digits that stand in t from a place on at the rows of one vertex, one for each free row.
-fn with_vertex(
-    digits: [u8; limits::MAX_ROWS],
-    t: &[u8],
-    at: usize,
-    shape: Shape,
-    x: Vertex,
-) -> [u8; limits::MAX_ROWS]
-    requires { ⌜ (x .0 < maxVertices) × Room (now t) at (getD (shape .vertex) (x .0) 0) (shape .free) (shape .frees) ⌝ }
-    ensures { λ r. ⌜ Put (now (t .entry)) at (getD (shape .vertex) (x .0) 0) (shape .free) (shape .frees) digits r ⌝ }
+fn put_vertex(digits: &mut [u8], t: &[u8], at: usize, shape: Shape, x: Vertex)
+    requires { ⌜ (length (now digits) ≡ maxRows) × (x .0 < maxVertices)
+        × Room (now t) at (getD (shape .vertex) (x .0) 0) (shape .free) (shape .frees) ⌝ }
+    ensures { λ _. ⌜ Put (now (t .entry)) at (getD (shape .vertex) (x .0) 0) (shape .free) (shape .frees)
+        (now (digits .entry)) (now (digits .exit)) ⌝ }
 {
     let v = x.0;
     let vertex = shape.vertex;
     let row = vertex[v];
     let free = shape.free;
     let frees = shape.frees;
-    let mut list = digits;
     let mut y = 0;
     while y < frees {
         let f = free[y];
-        list[row + f] = t[at + y];
+        digits[row + f] = t[at + y];
         y += 1;
     }
-    list
 }
 
 // The digits of an output of the network, in row order: the output reads the shared tables of the mask, and its own table
@@ -96,8 +90,7 @@ fn in_rows(
     let mut x = 0;
     while x < vertices {
         let c = code(t, lutat, mask, luts, Vertex(x));
-        let next = with_vertex(digits, t, at + c * frees, shape, Vertex(x));
-        digits = next;
+        put_vertex(&mut digits, t, at + c * frees, shape, Vertex(x));
         x += 1;
     }
     digits

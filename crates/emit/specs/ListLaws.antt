@@ -18,7 +18,7 @@ unfolding ledAll
 led-later [] x = append-nil (led false x)
 led-later (y ∷ l) x = ap (λ (t : List ℕ). led false y ++ t) (led-later l x) ∙ sym (append-assoc (led false y) (ledAll false l) (led false x))
 
-pub led-last : (l : List (List ℕ)) (x : List ℕ) → ledAll true l ++ led (eqb (length l) 0) x ≡ ledAll true (l ++ (x ∷ []))
+led-last : (l : List (List ℕ)) (x : List ℕ) → ledAll true l ++ led (eqb (length l) 0) x ≡ ledAll true (l ++ (x ∷ []))
 unfolding ledAll
 led-last [] x = sym (append-nil x)
 led-last (y ∷ l) x =

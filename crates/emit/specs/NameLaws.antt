@@ -37,7 +37,7 @@ unpack-byte (suc k) v l d =
     ∙ ap (λ (j : ℕ). v % 256 ∷ unpackWithin j (v / 256)) e
 
 module _ {a b : List ℕ} {at v p rest left : ℕ} (n : Naming a b at v p rest left) where
-  pub naming-end : unpackWithin left rest ≡ [] → Written maxName a b at p (nameOf v)
+  naming-end : unpackWithin left rest ≡ [] → Written maxName a b at p (nameOf v)
   naming-end e =
       put-same (n .so-far)
       (sym (append-nil (n .done)) ∙ ap (λ (t : List ℕ). n .done ++ t) (sym e) ∙ n .to-come)

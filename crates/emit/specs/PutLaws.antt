@@ -9,7 +9,7 @@ use lib.ListN.{length, take, getD, set, length-append}
 use lib.Seq.{sets, length-sets, set-out, take-suc, take-all}
 use Rattle.emit.specs.Written.{Written}
 
-pub sets-sets : (d : List ℕ) (at : ℕ) (s t : List ℕ) → sets (sets d at s) (at + length s) t ≡ sets d at (s ++ t)
+sets-sets : (d : List ℕ) (at : ℕ) (s t : List ℕ) → sets (sets d at s) (at + length s) t ≡ sets d at (s ++ t)
 sets-sets d at [] t = rw add-zero refl
 sets-sets d at (a ∷ s) t = rw (add-suc, ← suc-add) (sets-sets (set d at a) (suc at) s t)
 

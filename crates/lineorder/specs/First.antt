@@ -41,7 +41,7 @@ pub record Settled (Permits : Network → Type 0) (d : Design) (u : ℕ) : Type 
 
 -- ======== laws
 -- the tables are the least, and with these tables each node line is
-pub first-from-parts : (Permits : Network → Type 0) (d : Design) (u : ℕ) (w : Network)
+first-from-parts : (Permits : Network → Type 0) (d : Design) (u : ℕ) (w : Network)
     → Named d
     → Uniform Permits d u
     → Permits w

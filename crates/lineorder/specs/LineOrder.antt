@@ -41,7 +41,7 @@ unbroken-rest : (x : ℕ) (a : List ℕ) → unbroken (x ∷ a) ≡ true → unb
 unfolding unbroken
 unbroken-rest x a h = and-right (not (eqb x newline)) (unbroken a) h
 
-pub line-first : (a b s t : List ℕ)
+line-first : (a b s t : List ℕ)
     → unbroken a ≡ true
     → unbroken b ≡ true
     → byteOrder (a ++ (newline ∷ s)) (b ++ (newline ∷ t)) ≡ then (lineOrder a b) (byteOrder s t)

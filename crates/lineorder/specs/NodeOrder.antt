@@ -34,7 +34,7 @@ abbrev pub lineRest : Node → List ℕ
 lineRest x = 0x20 ∷ (printDigits (x .digits) ++ (closeBracket ∷ newline ∷ []))
 
 -- ======== laws
-pub reads-equal : (is js : List ℕ) → readsOrder is js ≡ Ordering·eq → is ≡ js
+reads-equal : (is js : List ℕ) → readsOrder is js ≡ Ordering·eq → is ≡ js
 unfolding readsOrder
 reads-equal [] [] e = refl
 reads-equal [] (j ∷ js) e = absurd (gt-not-eq e)
@@ -60,7 +60,7 @@ led-order false i j a b =
     ∙ then-eq (compare (48 + i) (48 + j)) ∙ compare-shift 48 i j
 
 -- ---- lists of tables and free names
-pub list-order : (first : Bool) (fs : List Name) {m k u v : ℕ} {is js : List ℕ} (s t : List ℕ)
+list-order : (first : Bool) (fs : List Name) {m k u v : ℕ} {is js : List ℕ} (s t : List ℕ)
     → length is ≡ length js
     → Rising m u is
     → Rising k v js
@@ -95,7 +95,7 @@ ended-node n fs x =
     (append-assoc L (closeBracket ∷ 0x20 ∷ (D ++ (closeBracket ∷ []))) (newline ∷ [])
     ∙ ap (λ (l : List ℕ). L ++ (closeBracket ∷ 0x20 ∷ l)) (append-assoc D (closeBracket ∷ []) (newline ∷ [])))
 
-pub node-order : (n : Name) (fs : List Name) (u : ℕ) (x y : Node)
+node-order : (n : Name) (fs : List Name) (u : ℕ) (x y : Node)
     → length (x .reads) ≡ length (y .reads)
     → Rising 0 u (x .reads)
     → Rising 0 u (y .reads)

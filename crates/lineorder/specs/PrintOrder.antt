@@ -29,13 +29,13 @@ nodesOrder d xs ys = listOrder lineOrder (nodeLines (freeOf d) (namesOf d) xs) (
 
 -- ======== laws
 -- ---- digits
-pub digit-order : (a b : Bool) → compare (digit a) (digit b) ≡ bitOrder a b
+digit-order : (a b : Bool) → compare (digit a) (digit b) ≡ bitOrder a b
 digit-order false false = refl
 digit-order false true = refl
 digit-order true false = refl
 digit-order true true = refl
 
-pub digits-order : (a b : List Bool) → byteOrder (printDigits a) (printDigits b) ≡ tableOrder a b
+digits-order : (a b : List Bool) → byteOrder (printDigits a) (printDigits b) ≡ tableOrder a b
 unfolding printDigits
 digits-order a b = map-order bitOrder compare digit digit-order a b
 
@@ -44,7 +44,7 @@ unfolding printDigits
 digits-alike a b e = length-map a digit ∙ e ∙ sym (length-map b digit)
 
 -- digits with a common beginning and a common end
-pub digits-between : (p e : List ℕ) (a b : List Bool)
+digits-between : (p e : List ℕ) (a b : List Bool)
     → length a ≡ length b
     → byteOrder (p ++ (printDigits a ++ e)) (p ++ (printDigits b ++ e)) ≡ tableOrder a b
 digits-between p e a b l =
@@ -61,12 +61,12 @@ ended-lut bs i a =
     append-assoc (lutHead bs i) (printDigits a ++ (closeBracket ∷ [])) (newline ∷ [])
     ∙ ap (λ (l : List ℕ). lutHead bs i ++ l) (append-assoc (printDigits a) (closeBracket ∷ []) (newline ∷ []))
 
-pub lut-order : (bs : List Name) (i : ℕ) (a b : List Bool) → length a ≡ length b → lineOrder (printLut bs i a) (printLut bs i b) ≡ tableOrder a b
+lut-order : (bs : List Name) (i : ℕ) (a b : List Bool) → length a ≡ length b → lineOrder (printLut bs i a) (printLut bs i b) ≡ tableOrder a b
 unfolding lineOrder
 lut-order bs i a b e =
     ap₂ byteOrder (ended-lut bs i a) (ended-lut bs i b) ∙ digits-between (lutHead bs i) (closeBracket ∷ newline ∷ []) a b e
 
-pub luts-order : (bs : List Name) (i : ℕ) {ts us : List (List Bool)}
+luts-order : (bs : List Name) (i : ℕ) {ts us : List (List Bool)}
     → SameLengths ts us
     → listOrder lineOrder (lutLines bs i ts) (lutLines bs i us) ≡ tablesOrder ts us
 unfolding listOrder lutLines

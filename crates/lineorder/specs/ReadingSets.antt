@@ -22,7 +22,7 @@ chosen i (b ∷ bs) =
     pick b (i ∷ rest) rest
 
 -- ======== laws
-pub chosen-rises : (i : ℕ) (bs : List Bool) → Rising i (i + length bs) (chosen i bs)
+chosen-rises : (i : ℕ) (bs : List Bool) → Rising i (i + length bs) (chosen i bs)
 unfolding chosen
 chosen-rises i [] = rising-none
 chosen-rises i (true ∷ bs) =

@@ -23,7 +23,7 @@ vertex x = record { 0 = x }
 abbrev pub noVertices : List Vertex
 noVertices = replicate maxCodes (vertex maxVertices)
 
-pub firsts-none : (code : ℕ → ℕ) (i : ℕ) → Firsts code 0 i noVertices
+firsts-none : (code : ℕ → ℕ) (i : ℕ) → Firsts code 0 i noVertices
 unfolding firstOf
 firsts-none code i =
     record {
@@ -49,7 +49,7 @@ module _ {code : ℕ → ℕ} {n i : ℕ} {l : List Vertex} (g : Firsts code n (
             (subst (λ (v : Vertex). FirstIs later (v .0)) (sym (getD-set-other l (code i) c (vertex i) (vertex 0) (λ e. d (sym e)))) (g .each c h))
       ]
 
-  pub firsts-suc : Firsts code (suc n) i stored
+  firsts-suc : Firsts code (suc n) i stored
   firsts-suc = record { size = length-set l (code i) (vertex i) ∙ g .size; each = first-one-more }
 
 -- x vertices are still to come

@@ -17,11 +17,11 @@ pub some-is : {A : Type 0} {a b : A} → some a ≡ some b → a ≡ b
 some-is e = cc
 
 module _ (f : ℕ → Bool) where
-  pub first-here : (k i : ℕ) → f i ≡ true → firstOf f (suc k) i ≡ some i
+  first-here : (k i : ℕ) → f i ≡ true → firstOf f (suc k) i ≡ some i
   unfolding firstOf
   first-here k i e = rw e refl
 
-  pub first-later : (k i : ℕ) → f i ≡ false → firstOf f (suc k) i ≡ firstOf f k (suc i)
+  first-later : (k i : ℕ) → f i ≡ false → firstOf f (suc k) i ≡ firstOf f k (suc i)
   unfolding firstOf
   first-later k i e = rw e refl
 

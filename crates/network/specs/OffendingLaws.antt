@@ -173,7 +173,7 @@ module _ (d : Design) where
         ]
 
     -- within the limits no line offends
-    pub within-none : WithinLimits d w → (l : ℕ) → Offends d w l → ⊥
+    within-none : WithinLimits d w → (l : ℕ) → Offends d w l → ⊥
     within-none f l (lut-over i a b) = omega (arith, f .luts-within)
     within-none f l (node-over o a b) = omega (arith, f .reads-within o a)
 

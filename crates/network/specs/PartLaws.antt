@@ -35,7 +35,7 @@ free-named (n ∷ ns) bs h =
     go true i r = r
     go false i r = and-both (isName n) (allNames (free ns bs)) i r
 
-pub name-at : (ns : List Name) (i : ℕ) → allNames ns ≡ true → i < length ns → isName (getD ns i []) ≡ true
+name-at : (ns : List Name) (i : ℕ) → allNames ns ≡ true → i < length ns → isName (getD ns i []) ≡ true
 unfolding allNames
 name-at [] i h l = absurd (omega arith)
 name-at (n ∷ ns) zero h l = and-left (isName n) (allNames ns) h

@@ -22,7 +22,7 @@ use Rattle.network.specs.SpellingLaws.{print-spells}
 use Rattle.network.specs.SheetReadLaws.{said-of-spelling}
 use Rattle.network.specs.SheetSpellingLaws.{spelling-of-said}
 
-pub network-read-of-spelling : (d : Design) (t : List ℕ) (w : Network)
+network-read-of-spelling : (d : Design) (t : List ℕ) (w : Network)
     → Named d
     → NetworkFor d w
     → Spells d w t
@@ -92,7 +92,7 @@ module _ (d : Design) (ended : Bool) where
 
 module _ (d : Design) (t : List ℕ) where
   -- line 0 for the size
-  pub bad-size : within 1 maxNetwork (length t) ≡ false → readNetwork d t ≡ bad-line 0
+  bad-size : within 1 maxNetwork (length t) ≡ false → readNetwork d t ≡ bad-line 0
   unfolding readNetwork
   bad-size h = ap (λ (x : Bool). pick x (askLines d (endsLine t) at-network nothing 1 (lines t)) (bad-line 0)) h
 

@@ -27,7 +27,7 @@ module _ {A : Type 0} (table : A → ℕ → Bool) where
   Told is x y = map (λ i. table i x) is ≡ map (λ i. table i y) is → ⊥
 
   -- the first table splits the vertices in two, and the others tell those of each part apart
-  pub told-count : (is : List A) (xs : List ℕ) → Pairs (Told is) xs → length xs ≤ 2 ^ length is
+  told-count : (is : List A) (xs : List ℕ) → Pairs (Told is) xs → length xs ≤ 2 ^ length is
   told-count [] xs p = no-two (Told []) xs (λ x y t. t refl) p
   told-count (i ∷ is) xs p =
       let ih = told-count is in

@@ -106,23 +106,19 @@ head-same a b l m e = ap (λ (x : List Bool). getD x 0 false) e
 pub tail-same : (a b : Bool) (l m : List Bool) → a ∷ l ≡ b ∷ m → l ≡ m
 tail-same a b l m e = cc
 
-apart-here : (o x y : ℕ) (rows codes : ℕ → ℕ) (k i : ℕ) (b : Bool) → on (rows o) i ≡ b
-    → map (on (codes x)) (pick b (i ∷ numbersFrom k (suc i) (rows o)) (numbersFrom k (suc i) (rows o))) ≡ map (on (codes y)) (pick b (i ∷ numbersFrom k (suc i) (rows o)) (numbersFrom k (suc i) (rows o)))
-    → (map (on (codes x)) (numbersFrom k (suc i) (rows o)) ≡ map (on (codes y)) (numbersFrom k (suc i) (rows o)) → Apart o x y (cellsFrom k (suc i) rows codes) → ⊥)
-    → ((on (rows o) i ≡ true) × (on (codes x) i ≡ on (codes y) i → ⊥)) ⊎ Apart o x y (cellsFrom k (suc i) rows codes)
-    → ⊥
-apart-here o x y rows codes k i true r e ih a =
-    ⊎-elim
-    (λ p. p .1 (head-same (on (codes x) i) (on (codes y) i) (map (on (codes x)) (numbersFrom k (suc i) (rows o))) (map (on (codes y)) (numbersFrom k (suc i) (rows o))) e))
-    (ih (tail-same (on (codes x) i) (on (codes y) i) (map (on (codes x)) (numbersFrom k (suc i) (rows o))) (map (on (codes y)) (numbersFrom k (suc i) (rows o))) e))
-    a
-apart-here o x y rows codes k i false r e ih a = ⊎-elim (λ p. true-false (sym (p .0) ∙ r)) (ih e) a
+apart-here : (A : Type 0) (v w : ℕ → Bool) (i : ℕ) (is : List ℕ) (r : Bool) → map v (pick r (i ∷ is) is) ≡ map w (pick r (i ∷ is) is)
+    → (map v is ≡ map w is → A → ⊥) → ((r ≡ true) × (v i ≡ w i → ⊥)) ⊎ A → ⊥
+apart-here A v w i is true e ih a =
+    ⊎-elim (λ p. p .1 (head-same (v i) (w i) (map v is) (map w is) e)) (ih (tail-same (v i) (w i) (map v is) (map w is) e)) a
+apart-here A v w i is false e ih a = ⊎-elim (λ p. true-false (sym (p .0))) (ih e) a
 
-not-apart : (o x y : ℕ) (rows codes : ℕ → ℕ) (k i : ℕ) → map (on (codes x)) (numbersFrom k i (rows o)) ≡ map (on (codes y)) (numbersFrom k i (rows o)) → Apart o x y (cellsFrom k i rows codes) → ⊥
+not-apart : (o x y : ℕ) (rows codes : ℕ → ℕ) (k i : ℕ) → map (on (codes x)) (numbersFrom k i (rows o)) ≡ map (on (codes y)) (numbersFrom k i (rows o))
+    → Apart o x y (cellsFrom k i rows codes) → ⊥
 unfolding numbersFrom cellsFrom
 not-apart o x y rows codes zero i e a = a
 not-apart o x y rows codes (suc k) i e a =
-    apart-here o x y rows codes k i (on (rows o) i) refl e (not-apart o x y rows codes k (suc i)) a
+    apart-here (Apart o x y (cellsFrom k (suc i) rows codes)) (on (codes x)) (on (codes y)) i (numbersFrom k (suc i) (rows o)) (on (rows o) i) e
+    (not-apart o x y rows codes k (suc i)) a
 
 code-values : (is : List ℕ) (m n : ℕ) → codeIn is m ≡ codeIn is n → map (on m) is ≡ map (on n) is
 unfolding codeIn

@@ -49,13 +49,13 @@ module _ (d : Design) (w : Network) (proper : Proper d) (c : Computes d w) where
       q .different (one-column d w (parts-of (d .inputs) (d .bound) (proper .parted)) (c .agrees) o x y h a b e (q .place) (q .below))
 
   -- an output reads tables enough for a code for each local class
-  pub classes-coded : (o : ℕ) → o < length (d .outputs) → localCount d (d .bound) o ≤ 2 ^ readCount w o
+  classes-coded : (o : ℕ) → o < length (d .outputs) → localCount d (d .bound) o ≤ 2 ^ readCount w o
   unfolding localCount
   classes-coded o h =
       classes-told (alike d (d .bound) o) (lutAt w) (nodeOf w o .reads) (vertexCount (d .bound))
       (λ x y a b u. conflict-told o x y h a b (unlike-conflict d (d .bound) o x y u))
 
-  pub width-read : (o : ℕ) → o < length (d .outputs) → budget d (d .bound) o ≤ readCount w o
+  width-read : (o : ℕ) → o < length (d .outputs) → budget d (d .bound) o ≤ readCount w o
   unfolding budget width
   width-read o h = width-least (localCount d (d .bound) o) (readCount w o) (classes-coded o h)
 

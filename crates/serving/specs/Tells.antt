@@ -40,7 +40,7 @@ has-later i j is e = go (eqb j i)
     go true = refl
     go false = e
 
-pub codes-or-apart : (w : Network) (is : List ℕ) (x y : ℕ) → (map (λ i. lutAt w i x) is ≡ map (λ i. lutAt w i y) is) ⊎ ((i : ℕ) × (has i is ≡ true) × (lutAt w i x ≡ lutAt w i y → ⊥))
+codes-or-apart : (w : Network) (is : List ℕ) (x y : ℕ) → (map (λ i. lutAt w i x) is ≡ map (λ i. lutAt w i y) is) ⊎ ((i : ℕ) × (has i is ≡ true) × (lutAt w i x ≡ lutAt w i y → ⊥))
 codes-or-apart w [] x y = inl refl
 codes-or-apart w (i ∷ is) x y =
     ⊎-elim
@@ -107,7 +107,7 @@ module _ (d : Design) (w : Network) (p : Parts (d .inputs) (d .bound))
 module _ (d : Design) (w : Network) (p : Parts (d .inputs) (d .bound)) (q : Columns d)
     (right : (o r : ℕ) → o < length (d .outputs) → r < 2 ^ length (d .inputs) → networkOn d w o r ≡ outputOn d o r)
     (known : (o i : ℕ) → o < length (d .outputs) → has i (nodeOf w o .reads) ≡ true → i < length (w .luts)) where
-  pub network-tells : (o x y : ℕ) → o < length (d .outputs) → x < vertexCount (d .bound) → y < vertexCount (d .bound) → Conflicts d o x y → Apart o x y (networkCore w)
+  network-tells : (o x y : ℕ) → o < length (d .outputs) → x < vertexCount (d .bound) → y < vertexCount (d .bound) → Conflicts d o x y → Apart o x y (networkCore w)
   unfolding networkCore
   network-tells o x y h a b f =
       ⊎-elim
@@ -175,7 +175,7 @@ unfolding reading cellsOf tally
 reading-tally w o zero j = refl
 reading-tally w o (suc k) j = ap (λ (n : ℕ). bit (has j (nodeOf w o .reads)) + n) (reading-tally w o k (suc j))
 
-pub network-reading : (w : Network) (o : ℕ) → reading o (networkCore w) ≤ length (nodeOf w o .reads)
+network-reading : (w : Network) (o : ℕ) → reading o (networkCore w) ≤ length (nodeOf w o .reads)
 unfolding networkCore
 network-reading w o =
     let a = tally-has (nodeOf w o .reads) (length (w .luts)) 0 in

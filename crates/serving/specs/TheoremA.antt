@@ -93,7 +93,7 @@ pick-length : (b : Bool) (i : ℕ) (is : List ℕ) → length (pick b (i ∷ is)
 pick-length true i is = omega arith
 pick-length false i is = omega arith
 
-pub numbers-reading : (o : ℕ) (rows codes : ℕ → ℕ) (k i : ℕ) → length (numbersFrom k i (rows o)) ≡ reading o (cellsFrom k i rows codes)
+numbers-reading : (o : ℕ) (rows codes : ℕ → ℕ) (k i : ℕ) → length (numbersFrom k i (rows o)) ≡ reading o (cellsFrom k i rows codes)
 unfolding numbersFrom reading cellsFrom
 numbers-reading o rows codes zero i = refl
 numbers-reading o rows codes (suc k) i =
@@ -116,7 +116,7 @@ module _ (d : Design) (u : ℕ) (rows codes : ℕ → ℕ) where
   unfolding built
   built-luts = luts-length d codes u 0
 
-  pub built-nodes : length (built d u rows codes .nodes) ≡ length (d .outputs)
+  built-nodes : length (built d u rows codes .nodes) ≡ length (d .outputs)
   unfolding built
   built-nodes = nodes-length d u rows codes (length (d .outputs)) 0
 
@@ -144,7 +144,7 @@ module _ (d : Design) (u : ℕ) (rows codes : ℕ → ℕ) where
             (subst (λ (x : Node). NodeFits (free (d .inputs) (d .bound)) u x) (sym (built-node o (subst (λ (n : ℕ). o < n) built-nodes l))) (node-fitting o));
       }
 
-  pub built-reads : (o : ℕ) → o < length (d .outputs) → readCount (built d u rows codes) o ≡ reading o (coreOf u rows codes)
+  built-reads : (o : ℕ) → o < length (d .outputs) → readCount (built d u rows codes) o ≡ reading o (coreOf u rows codes)
   unfolding nodeBuilt
   built-reads o h = ap (λ (x : Node). length (x .reads)) (built-node o h) ∙ ap length (numbers-from u (rows o)) ∙ numbers-reading o rows codes u 0
 

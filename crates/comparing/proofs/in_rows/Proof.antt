@@ -22,40 +22,50 @@ code-requires c κs =
     let start = c .before .before .before in
     (start .pre .few-luts, λ i l. code-ready (start .pre) (c .before .loop .x) (c .loop-test .taken) i l)
 
-mul-with-vertex : tie.Need-mul-with-vertex Inv-loop μ-loop
-mul-with-vertex c =
-    let loop = c .before .before .loop in
-    let start = c .before .before .before .before in
-    omega (arith, vertex-room (start .pre) (loop .x) (c .code .result) (c .before .loop-test .taken) (c .code .ensures) .readable)
+slice-aggregate-put-vertex : tie.Need-slice-aggregate-put-vertex Inv-loop μ-loop
+slice-aggregate-put-vertex c = search needs
 
-add-with-vertex : tie.Need-add-with-vertex Inv-loop μ-loop
-add-with-vertex c =
-    let loop = c .before .before .loop in
-    let start = c .before .before .before .before in
-    omega (arith, vertex-room (start .pre) (loop .x) (c .code .result) (c .before .loop-test .taken) (c .code .ensures) .readable)
+mul-put-vertex : tie.Need-mul-put-vertex Inv-loop μ-loop
+mul-put-vertex c =
+    let code = c .before .code in
+    let turn = c .before .before in
+    let start = turn .before .before .before in
+    omega (arith, vertex-room (start .pre) (turn .before .loop .x) (code .result) (turn .loop-test .taken) (code .ensures) .readable)
 
-with-vertex-requires : tie.Need-with-vertex-requires Inv-loop μ-loop
-with-vertex-requires c κs =
-    let loop = c .before .before .loop in
-    let start = c .before .before .before .before in (
-      omega (arith, start .pre .few-vertices, c .before .loop-test .taken),
-      vertex-room (start .pre) (loop .x) (c .code .result) (c .before .loop-test .taken) (c .code .ensures),
+add-put-vertex : tie.Need-add-put-vertex Inv-loop μ-loop
+add-put-vertex c =
+    let code = c .before .code in
+    let turn = c .before .before in
+    let start = turn .before .before .before in
+    omega (arith, vertex-room (start .pre) (turn .before .loop .x) (code .result) (turn .loop-test .taken) (code .ensures) .readable)
+
+put-vertex-requires : tie.Need-put-vertex-requires Inv-loop μ-loop
+put-vertex-requires c κs =
+    let code = c .before .code in
+    let turn = c .before .before in
+    let loop = turn .before .loop in
+    let start = turn .before .before .before in (
+      loop .inv .1 .size,
+      omega (arith, start .pre .few-vertices, turn .loop-test .taken),
+      vertex-room (start .pre) (loop .x) (code .result) (turn .loop-test .taken) (code .ensures),
     )
 
 add-x : tie.Need-add-x Inv-loop μ-loop
 add-x c =
-    let loop-test = c .before .before .loop-test in
-    let start = c .before .before .before .before .before in
-    omega (arith, start .pre .few-vertices, loop-test .taken)
+    let turn = c .before .before .before .before in
+    let start = turn .before .before .before in
+    omega (arith, start .pre .few-vertices, turn .loop-test .taken)
 
 loop-less : tie.Need-loop-less Inv-loop μ-loop
 loop-less c = search needs
 
 loop-again : tie.Need-loop-again Inv-loop μ-loop
 loop-again c =
-    let head = c .before .before .before in
-    let turn = c .before .before .loop-test .taken in
-    (omega arith, filled-more (head .loop .x) (c .before .code .result) (head .loop .inv .1) (c .before .code .ensures) (c .with-vertex .ensures))
+    let code = c .before .before .before .code in
+    let turn = c .before .before .before .before in
+    let loop = turn .before .loop in
+    let l = turn .loop-test .taken in
+    (omega arith, filled-more (loop .x) (code .result) (loop .inv .1) (code .ensures) (c .before .put-vertex .ensures))
 
 returns : tie.Need-returns Inv-loop μ-loop
 returns c = filled-all (c .before .loop .inv .1) (c .before .loop .inv .0) (c .loop-test .left)
@@ -68,9 +78,10 @@ in-rows-spec =
     μ-loop
     loop-holds
     code-requires
-    mul-with-vertex
-    add-with-vertex
-    with-vertex-requires
+    slice-aggregate-put-vertex
+    mul-put-vertex
+    add-put-vertex
+    put-vertex-requires
     add-x
     loop-less
     loop-again
