@@ -257,6 +257,7 @@ module _ (t : ℕ) where
       λ q h. walk-short (a .left) (a .s .now) (map nameOf (a .inputs .now)) (gateOf (a .g)) q (i .sum) (c .none .result)
       (subst (w q (i .sum)) (c .before .if1 .left) (i .inv .1 q h)) n (c .none .ensures)
 
+-- a need that has no name above follows from what is known at its place
 pub +nested+operands-spec : {M : Type 1} → statement M
 +nested+operands-spec =
     close μ-nested μ-operands

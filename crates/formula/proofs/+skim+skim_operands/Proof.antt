@@ -193,6 +193,7 @@ module _ (t : ℕ) where
       let h = moved-nowhere (a .s .now) (m .result) (then (a .s .now) (i .past) space) (m .ensures) (c .before .enum-told .given .1) in
       λ g q x. skim-short (a .s .now) (a .first) (i .past) (i .enough) g q x (i .inv .1) h (c .if1 .left)
 
+-- a need that has no name above follows from what is known at its place
 pub +skim+skim-operands-spec : {M : Type 1} → statement M
 +skim+skim-operands-spec =
     close μ-skim μ-skim-operands
