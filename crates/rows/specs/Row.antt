@@ -2,7 +2,7 @@
 -- highest digit. Assumes nothing.
 use mathlib.Core.Bool.{Bool}
 use mathlib.Core.List.{List, [], _∷_}
-use Prim.Native.Nat.{ℕ, zero, suc, _+_, _*_, _^_}
+use Prim.Native.Nat.{ℕ, zero, suc, _+_, _-_, _*_, _^_}
 use lib.ListN.{length}
 use Rattle.bits.specs.Logic.{bit}
 use Rattle.bits.specs.Digit.{on}
@@ -11,6 +11,10 @@ use Rattle.bits.specs.Digit.{on}
 unfoldable pub rowOf : List Bool → ℕ
 rowOf [] = 0
 rowOf (b ∷ bs) = bit b * 2 ^ length bs + rowOf bs
+
+-- the value of input i, counted from 0, of n inputs on row r
+unfoldable pub inputOn : ℕ → ℕ → ℕ → Bool
+inputOn n r i = on r (n - 1 - i)
 
 -- the values of all n inputs on row r, first input first
 unfoldable pub valuesOf : ℕ → ℕ → List Bool

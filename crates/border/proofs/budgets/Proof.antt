@@ -3,9 +3,6 @@ use Rattle.limits.specs.Limits.{searchOutputs}
 use borrow.Author.Needs.{needs}
 use Rattle.border.proofs.budgets.Statement.{statement}
 use Rattle.border.proofs.budgets.Tie as tie
-use Rattle.border.proofs.budgets.Reads as reads
-use Rattle.border.proofs.budgets.Lts as lts
-use Rattle.border.proofs.digit.Reads as digit-reads
 
 abbrev Inv-loop : tie.InvT-loop
 Inv-loop line r₀ i₀ r i = i ≤ searchOutputs

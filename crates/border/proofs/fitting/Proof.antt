@@ -2,9 +2,6 @@ use Prim.Native.Nat.{_≤_, _-_}
 use borrow.Author.Needs.{needs}
 use Rattle.border.proofs.fitting.Statement.{statement}
 use Rattle.border.proofs.fitting.Tie as tie
-use Rattle.border.proofs.fitting.Reads as reads
-use Rattle.border.proofs.fitting.Lts as lts
-use Rattle.cells.proofs.with.Reads as with-reads
 
 abbrev Inv-loop : tie.InvT-loop
 Inv-loop line r₀ o₀ r o = o ≤ 8

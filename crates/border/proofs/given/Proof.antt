@@ -5,9 +5,6 @@ use Rattle.limits.specs.Limits.{maxVertices}
 use borrow.Author.Needs.{needs}
 use Rattle.border.proofs.given.Statement.{statement}
 use Rattle.border.proofs.given.Tie as tie
-use Rattle.border.proofs.given.Reads as reads
-use Rattle.border.proofs.given.Lts as lts
-use Rattle.border.proofs.letter.Reads as letter-reads
 
 abbrev Inv-loop : tie.InvT-loop
 Inv-loop line r₀ x₀ r x = (x ≤ maxVertices) × (length r ≡ maxVertices)

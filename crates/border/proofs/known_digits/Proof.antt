@@ -7,8 +7,6 @@ use Rattle.border.specs.LineLaws.{off-first}
 use borrow.Author.Needs.{needs}
 use Rattle.border.proofs.known_digits.Statement.{statement}
 use Rattle.border.proofs.known_digits.Tie as tie
-use Rattle.border.proofs.known_digits.Reads as reads
-use Rattle.border.proofs.known_digits.Lts as lts
 
 abbrev Inv-loop : tie.InvT-loop
 Inv-loop line kn₀ val₀ x₀ kn val x = x ≤ maxVertices

@@ -7,9 +7,6 @@ use Rattle.border.specs.Line.{Low}
 use borrow.Author.Needs.{needs}
 use Rattle.border.proofs.labels.Statement.{statement}
 use Rattle.border.proofs.labels.Tie as tie
-use Rattle.border.proofs.labels.Reads as reads
-use Rattle.border.proofs.labels.Lts as lts
-use Rattle.border.proofs.letter.Reads as letter-reads
 
 abbrev Inv-loop : tie.InvT-loop
 Inv-loop line cl₀ i₀ cl i = (i ≤ labelCount) × Low i cl

@@ -3,8 +3,6 @@ use mathlib.Core.Logic.{inl, inr}
 use native.Mathlib.Omega.{arith}
 use Rattle.border.proofs.least_cells.Statement.{statement}
 use Rattle.border.proofs.least_cells.Tie as tie
-use Rattle.border.proofs.least_cells.Reads as reads
-use Rattle.border.proofs.least_cells.Lts as lts
 
 returns : tie.Need-returns
 returns c = (omega arith, inl (c .if1 .taken))

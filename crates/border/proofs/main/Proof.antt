@@ -10,10 +10,6 @@ use borrow.Author.Needs.{needs}
 use Rattle.cells.specs.ListLaws.{zeros-are}
 use Rattle.border.proofs.main.Statement.{statement}
 use Rattle.border.proofs.main.Tie as tie
-use Rattle.border.proofs.main.Reads as reads
-use Rattle.border.proofs.main.Lts as lts
-use Rattle.border.proofs.report.Reads as report-reads
-use Rattle.io.proofs.read_full.Reads as read-full-reads
 
 abbrev Inv-loop : tie.InvT-loop
 Inv-loop line₀ mem₀ past₀ i₀ line mem past i =

@@ -9,9 +9,6 @@ use mir.Facts.{fits-natAbs, sfits-toZ, fits-ofZ}
 use borrow.Author.Needs.{needs}
 use Rattle.border.proofs.microseconds.Statement.{statement}
 use Rattle.border.proofs.microseconds.Tie as tie
-use Rattle.border.proofs.microseconds.Reads as reads
-use Rattle.border.proofs.microseconds.Lts as lts
-use Rattle.libc.proofs.clock.Reads as clock-reads
 
 positive : (z : ℤ) → ltZ (pos 0) z ≡ true → T (nonNeg z)
 positive (pos n) e = tt

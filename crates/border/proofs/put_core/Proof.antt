@@ -5,11 +5,6 @@ use Rattle.limits.specs.Limits.{searchOutputs, maxVertices}
 use borrow.Author.Needs.{needs}
 use Rattle.border.proofs.put_core.Statement.{statement}
 use Rattle.border.proofs.put_core.Tie as tie
-use Rattle.border.proofs.put_core.Reads as reads
-use Rattle.border.proofs.put_core.Lts as lts
-use Rattle.border.proofs.put_name.Reads as put-name-reads
-use Rattle.io.proofs.print_hex.Reads as print-hex-reads
-use Rattle.io.proofs.write_all.Reads as write-all-reads
 
 abbrev Inv-loop : tie.InvT-loop
 Inv-loop line rows codes o₀ t10 t11 o = o ≤ searchOutputs

@@ -2,18 +2,6 @@ use native.Mathlib.Omega.{arith}
 use borrow.Author.Needs.{needs}
 use Rattle.border.proofs.report.Statement.{statement}
 use Rattle.border.proofs.report.Tie as tie
-use Rattle.border.proofs.report.Reads as reads
-use Rattle.border.proofs.report.Lts as lts
-use Rattle.border.proofs.asked.Reads as asked-reads
-use Rattle.border.proofs.fit.Reads as fit-reads
-use Rattle.border.proofs.fitting.Reads as fitting-reads
-use Rattle.border.proofs.given.Reads as given-reads
-use Rattle.border.proofs.labels.Reads as labels-reads
-use Rattle.border.proofs.put_answer.Reads as put-answer-reads
-use Rattle.border.proofs.recall.Reads as recall-reads
-use Rattle.border.proofs.solve.Reads as solve-reads
-use Rattle.dominance.proofs.kept.Reads as kept-reads
-use Rattle.seeking.proofs.all_fit.Reads as all-fit-reads
 
 asked-requires : tie.Need-asked-requires
 asked-requires c κs = search needs

@@ -8,8 +8,6 @@ use Rattle.bits.specs.LogicLaws.{true-false}
 use borrow.Author.Needs.{needs}
 use Rattle.border.proofs.same_labels.Statement.{statement}
 use Rattle.border.proofs.same_labels.Tie as tie
-use Rattle.border.proofs.same_labels.Reads as reads
-use Rattle.border.proofs.same_labels.Lts as lts
 
 abbrev Inv-loop : tie.InvT-loop
 Inv-loop a b i₀ i = (k : ℕ) → k < i → getD a k 0 ≡ getD b k 0

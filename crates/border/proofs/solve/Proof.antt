@@ -8,18 +8,6 @@ use Rattle.seeking.specs.Seeking.{Begins}
 use borrow.Author.Needs.{needs}
 use Rattle.border.proofs.solve.Statement.{statement}
 use Rattle.border.proofs.solve.Tie as tie
-use Rattle.border.proofs.solve.Reads as reads
-use Rattle.border.proofs.solve.Lts as lts
-use Rattle.border.proofs.at_most.Reads as at-most-reads
-use Rattle.border.proofs.digit.Reads as digit-reads
-use Rattle.border.proofs.least_cells.Reads as least-cells-reads
-use Rattle.border.proofs.microseconds.Reads as microseconds-reads
-use Rattle.border.proofs.put_core.Reads as put-core-reads
-use Rattle.border.proofs.put_step.Reads as put-step-reads
-use Rattle.dominance.proofs.placed.Reads as placed-reads
-use Rattle.seeking.proofs.seek_where.Reads as seek-where-reads
-use Rattle.std.proofs.num.wrapping_add_u64.Reads as wrapping-add-u64-reads
-use Rattle.std.proofs.num.wrapping_sub_u64.Reads as wrapping-sub-u64-reads
 
 abbrev Inv-loop : tie.InvT-loop
 Inv-loop line labels tables asks by m fits mem₀ most nodes₀ time₀ u₀ mem nodes time u =

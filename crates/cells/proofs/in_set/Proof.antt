@@ -6,8 +6,6 @@ use mathlib.Core.Path.{ap}
 use borrow.Author.Needs.{needs}
 use Rattle.cells.proofs.in_set.Statement.{statement}
 use Rattle.cells.proofs.in_set.Tie as tie
-use Rattle.cells.proofs.in_set.Reads as reads
-use Rattle.cells.proofs.in_set.Lts as lts
 
 shr-result : tie.Need-shr-result
 shr-result c = search needs

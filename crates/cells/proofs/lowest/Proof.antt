@@ -2,8 +2,6 @@ use native.Mathlib.Omega.{arith}
 use Rattle.cells.specs.SetsLaws.{lowest-on}
 use Rattle.cells.proofs.lowest.Statement.{statement}
 use Rattle.cells.proofs.lowest.Tie as tie
-use Rattle.cells.proofs.lowest.Reads as reads
-use Rattle.cells.proofs.lowest.Lts as lts
 
 cast-result : tie.Need-cast-result
 cast-result c = let r = lowest-on 64 (c .args .s) (c .pre) (c .fits .s .fits) in let z = r .0 in record { fits = omega arith }

@@ -3,8 +3,6 @@ use native.Mathlib.Nat.{one-mul, mod-eq-of-lt}
 use borrow.Author.Needs.{needs}
 use Rattle.cells.proofs.single.Statement.{statement}
 use Rattle.cells.proofs.single.Tie as tie
-use Rattle.cells.proofs.single.Reads as reads
-use Rattle.cells.proofs.single.Lts as lts
 
 shl-result : tie.Need-shl-result
 shl-result c = search needs

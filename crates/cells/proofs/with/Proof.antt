@@ -6,9 +6,6 @@ use borrow.Author.Needs.{needs}
 use Rattle.cells.specs.SetsLaws.{with-power}
 use Rattle.cells.proofs.with.Statement.{statement}
 use Rattle.cells.proofs.with.Tie as tie
-use Rattle.cells.proofs.with.Reads as reads
-use Rattle.cells.proofs.with.Lts as lts
-use Rattle.cells.proofs.single.Reads as single-reads
 
 single-requires : tie.Need-single-requires
 single-requires c κs = search needs

@@ -6,9 +6,6 @@ use borrow.Author.Needs.{needs}
 use Rattle.cells.specs.SetsLaws.{without-power}
 use Rattle.cells.proofs.without.Statement.{statement}
 use Rattle.cells.proofs.without.Tie as tie
-use Rattle.cells.proofs.without.Reads as reads
-use Rattle.cells.proofs.without.Lts as lts
-use Rattle.cells.proofs.single.Reads as single-reads
 
 single-requires : tie.Need-single-requires
 single-requires c κs = search needs

@@ -2,8 +2,6 @@ use mathlib.Core.Path.{refl}
 use native.Mathlib.Omega.{arith}
 use Rattle.design.proofs.blank.Statement.{statement}
 use Rattle.design.proofs.blank.Tie as tie
-use Rattle.design.proofs.blank.Reads as reads
-use Rattle.design.proofs.blank.Lts as lts
 
 returns : tie.Need-returns
 returns c =

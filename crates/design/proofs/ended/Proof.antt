@@ -4,8 +4,6 @@ use mathlib.Core.Path.{refl}
 use borrow.Author.Needs.{needs}
 use Rattle.design.proofs.ended.Statement.{statement}
 use Rattle.design.proofs.ended.Tie as tie
-use Rattle.design.proofs.ended.Reads as reads
-use Rattle.design.proofs.ended.Lts as lts
 
 enum-told : tie.Need-enum-told
 enum-told c = search needs

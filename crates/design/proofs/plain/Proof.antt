@@ -1,8 +1,6 @@
 use Rattle.design.specs.SizeLaws.{plain-newline, plain-inside, plain-below, plain-above}
 use Rattle.design.proofs.plain.Statement.{statement}
 use Rattle.design.proofs.plain.Tie as tie
-use Rattle.design.proofs.plain.Reads as reads
-use Rattle.design.proofs.plain.Lts as lts
 
 returns : tie.Need-returns
 returns c = plain-newline (c .before .args .b) (c .match .keys1)

@@ -8,9 +8,6 @@ use native.Mathlib.Omega.{arith}
 use borrow.Author.Needs.{needs}
 use Rattle.design.proofs.sized.Statement.{statement}
 use Rattle.design.proofs.sized.Tie as tie
-use Rattle.design.proofs.sized.Reads as reads
-use Rattle.design.proofs.sized.Lts as lts
-use Rattle.design.proofs.plain.Reads as plain-reads
 
 abbrev Inv-loop : tie.InvT-loop
 Inv-loop s n i₀ i = (i ≤ n - 1) × (plainLines s ≡ plainLines (drop i s))

@@ -10,14 +10,6 @@ use borrow.Author.Needs.{needs}
 use Rattle.fewest.specs.CountLaws.{no-fewer-start, no-fewer-more, no-fewer-kept, answer-found, answer-none}
 use Rattle.fewest.proofs.fewest.Statement.{statement}
 use Rattle.fewest.proofs.fewest.Tie as tie
-use Rattle.fewest.proofs.fewest.Reads as reads
-use Rattle.fewest.proofs.fewest.Lts as lts
-use Rattle.dominance.proofs.kept.Reads as kept-reads
-use Rattle.dominance.proofs.placed.Reads as placed-reads
-use Rattle.fewest.proofs.opened.Reads as opened-reads
-use Rattle.fewest.proofs.zero_first.Reads as zero-first-reads
-use Rattle.cache.proofs.clear.Reads as clear-reads
-use Rattle.seeking.proofs.seek.Reads as seek-reads
 
 abbrev Inv-loop : tie.InvT-loop
 Inv-loop cl v m limit mem₀ kept asked by given nodes₀ u₀ mem nodes u =

@@ -5,9 +5,6 @@ use borrow.Author.Needs.{needs}
 use Rattle.bits.specs.FilledLaws.{filled-none, filled-more, filled-fewer}
 use Rattle.fewest.proofs.opened.Statement.{statement}
 use Rattle.fewest.proofs.opened.Tie as tie
-use Rattle.fewest.proofs.opened.Reads as reads
-use Rattle.fewest.proofs.opened.Lts as lts
-use Rattle.subproblems.proofs.open_of.Reads as open-of-reads
 
 abbrev Inv-loop : tie.InvT-loop
 Inv-loop rows r₀ o₀ r o = Opened rows o r

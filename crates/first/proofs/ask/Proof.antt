@@ -5,13 +5,6 @@ use mathlib.Core.Logic.{inr}
 use mathlib.Core.Path.{sym, _∙_}
 use Rattle.first.proofs.ask.Statement.{statement}
 use Rattle.first.proofs.ask.Tie as tie
-use Rattle.first.proofs.ask.Reads as reads
-use Rattle.first.proofs.ask.Lts as lts
-use Rattle.first.proofs.vertices_upto.Reads as vertices-upto-reads
-use Rattle.cache.proofs.keep_unread.Reads as keep-unread-reads
-use Rattle.seeking.proofs.seek.Reads as seek-reads
-use Rattle.witness.proofs.digits.Reads as digits-reads
-use Rattle.witness.proofs.joined.Reads as joined-reads
 
 keep-unread-requires : tie.Need-keep-unread-requires
 keep-unread-requires c κs = c .before .before .before .before .pre .8 .honest .long

@@ -6,12 +6,6 @@ use mathlib.Core.Path.{refl}
 use borrow.Author.Needs.{needs, length-unmapped}
 use Rattle.first.proofs.first.Statement.{statement}
 use Rattle.first.proofs.first.Tie as tie
-use Rattle.first.proofs.first.Reads as reads
-use Rattle.first.proofs.first.Lts as lts
-use Rattle.dominance.proofs.kept.Reads as kept-reads
-use Rattle.fewest.proofs.fewest.Reads as fewest-reads
-use Rattle.first.proofs.least_tables.Reads as least-tables-reads
-use Rattle.picking.proofs.first_rows.Reads as first-rows-reads
 
 slice-aggregate-fewest : tie.Need-slice-aggregate-fewest
 slice-aggregate-fewest c = search needs

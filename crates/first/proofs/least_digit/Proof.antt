@@ -6,11 +6,6 @@ use mathlib.Core.Path.{sym, _∙_}
 use borrow.Author.Needs.{needs}
 use Rattle.first.proofs.least_digit.Statement.{statement}
 use Rattle.first.proofs.least_digit.Tie as tie
-use Rattle.first.proofs.least_digit.Reads as reads
-use Rattle.first.proofs.least_digit.Lts as lts
-use Rattle.cells.proofs.in_set.Reads as in-set-reads
-use Rattle.first.proofs.ask.Reads as ask-reads
-use Rattle.witness.proofs.sorted.Reads as sorted-reads
 
 array-read-in-set : tie.Need-array-read-in-set
 array-read-in-set c = search needs

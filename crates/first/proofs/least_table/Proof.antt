@@ -5,12 +5,6 @@ use Prim.Native.Nat.{_≤_, _-_}
 use mathlib.Core.Path.{sym, _∙_}
 use Rattle.first.proofs.least_table.Statement.{statement}
 use Rattle.first.proofs.least_table.Tie as tie
-use Rattle.first.proofs.least_table.Reads as reads
-use Rattle.first.proofs.least_table.Lts as lts
-use Rattle.first.proofs.least_digit.Reads as least-digit-reads
-use Rattle.cache.proofs.clear.Reads as clear-reads
-use Rattle.witness.proofs.front.Reads as front-reads
-use Rattle.witness.proofs.sorted.Reads as sorted-reads
 
 abbrev Inv-loop : tie.InvT-loop
 Inv-loop cl mem₀ p i nodes least₀ given total₀ x₀ mem least total x =

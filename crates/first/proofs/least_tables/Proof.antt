@@ -6,9 +6,6 @@ use Prim.Native.Nat.{ℕ, _≤_, _-_}
 use mathlib.Core.Path.{_≡_, sym, subst, _∙_}
 use Rattle.first.proofs.least_tables.Statement.{statement}
 use Rattle.first.proofs.least_tables.Tie as tie
-use Rattle.first.proofs.least_tables.Reads as reads
-use Rattle.first.proofs.least_tables.Lts as lts
-use Rattle.first.proofs.least_table.Reads as least-table-reads
 
 abbrev Inv-loop : tie.InvT-loop
 Inv-loop cl mem₀ p nodes least₀ total₀ i₀ mem least total i = (i ≤ p .cells) × Lowest cl (p .budgets) (p .vertices) (p .outputs) (p .cells) i 0 least × (length mem ≡ 18432)

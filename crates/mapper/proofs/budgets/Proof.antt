@@ -6,8 +6,6 @@ use Rattle.mapper.specs.SearchInput.{BudgetsAre}
 use borrow.Author.Needs.{needs}
 use Rattle.mapper.proofs.budgets.Statement.{statement}
 use Rattle.mapper.proofs.budgets.Tie as tie
-use Rattle.mapper.proofs.budgets.Reads as reads
-use Rattle.mapper.proofs.budgets.Lts as lts
 
 abbrev Inv-loop : tie.InvT-loop
 Inv-loop outputs ws r₀ o₀ r o = BudgetsAre ws o r

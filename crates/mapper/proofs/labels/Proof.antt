@@ -11,9 +11,6 @@ use Rattle.cells.specs.ListLaws.{zeros-are}
 use borrow.Author.Needs.{needs}
 use Rattle.mapper.proofs.labels.Statement.{statement}
 use Rattle.mapper.proofs.labels.Tie as tie
-use Rattle.mapper.proofs.labels.Reads as reads
-use Rattle.mapper.proofs.labels.Lts as lts
-use Rattle.mapper.proofs.label_of.Reads as label-of-reads
 
 abbrev Inv-loop : tie.InvT-loop
 Inv-loop ls cl₀ i₀ cl i = (i ≤ labelsGiven) × Filled labelCount (labelOf ls) i cl × ((k : ℕ) → i ≤ k → getD cl k 0 ≡ 0)

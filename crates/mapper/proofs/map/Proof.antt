@@ -3,10 +3,6 @@ use Rattle.sheet.specs.Examine as spec
 use borrow.Author.Needs.{needs}
 use Rattle.mapper.proofs.map.Statement.{statement}
 use Rattle.mapper.proofs.map.Tie as tie
-use Rattle.mapper.proofs.map.Reads as reads
-use Rattle.mapper.proofs.map.Lts as lts
-use Rattle.design.proofs.examine.Reads as examine-reads
-use Rattle.mapper.proofs.map_of.Reads as map-of-reads
 
 examine-requires : tie.Need-examine-requires
 examine-requires c κs = search needs

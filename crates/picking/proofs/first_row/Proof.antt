@@ -8,11 +8,6 @@ use Rattle.picking.specs.BestLaws.{best-start, best-unsuited, best-not-s
 use borrow.Author.Needs.{needs}
 use Rattle.picking.proofs.first_row.Statement.{statement}
 use Rattle.picking.proofs.first_row.Tie as tie
-use Rattle.picking.proofs.first_row.Reads as reads
-use Rattle.picking.proofs.first_row.Lts as lts
-use Rattle.cells.proofs.single.Reads as single-reads
-use Rattle.picking.proofs.sooner.Reads as sooner-reads
-use Rattle.picking.proofs.suits.Reads as suits-reads
 
 abbrev Inv-loop : tie.InvT-loop
 Inv-loop cl codes v o u budget end best₀ f₀ best f = (f ≤ end) × Best cl codes v o u budget f best

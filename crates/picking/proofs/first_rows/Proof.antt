@@ -10,10 +10,6 @@ use Rattle.picking.specs.PickedLaws.{picked-of}
 use borrow.Author.Needs.{needs}
 use Rattle.picking.proofs.first_rows.Statement.{statement}
 use Rattle.picking.proofs.first_rows.Tie as tie
-use Rattle.picking.proofs.first_rows.Reads as reads
-use Rattle.picking.proofs.first_rows.Lts as lts
-use Rattle.picking.proofs.first_row.Reads as first-row-reads
-use Rattle.picking.proofs.widened.Reads as widened-reads
 
 abbrev Inv-loop : tie.InvT-loop
 Inv-loop cl v m u budgets tables r₀ o₀ r o = (length tables ≡ 32) × FirstRows cl tables budgets v u o r

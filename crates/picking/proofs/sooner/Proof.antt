@@ -11,9 +11,6 @@ use borrow.Author.Tests.{not-true, not-false}
 use borrow.Author.Needs.{needs}
 use Rattle.picking.proofs.sooner.Statement.{statement}
 use Rattle.picking.proofs.sooner.Tie as tie
-use Rattle.picking.proofs.sooner.Reads as reads
-use Rattle.picking.proofs.sooner.Lts as lts
-use Rattle.cells.proofs.in_set.Reads as in-set-reads
 
 abbrev Inv-loop : tie.InvT-loop
 Inv-loop f g u i₀ i = (i ≤ u) × ((j : ℕ) → j < i → on f j ≡ on g j)

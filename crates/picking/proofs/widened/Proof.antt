@@ -8,8 +8,6 @@ use Rattle.bits.specs.FilledLaws.{filled-none, filled-more, filled-fewer}
 use Rattle.problem.specs.Problem.{item}
 use Rattle.picking.proofs.widened.Statement.{statement}
 use Rattle.picking.proofs.widened.Tie as tie
-use Rattle.picking.proofs.widened.Reads as reads
-use Rattle.picking.proofs.widened.Lts as lts
 
 abbrev Inv-loop : tie.InvT-loop
 Inv-loop codes r₀ x₀ r x = Filled 32 (item codes) x r

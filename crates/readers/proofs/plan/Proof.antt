@@ -6,10 +6,6 @@ use borrow.Author.Needs.{needs}
 use Rattle.readers.specs.MasksLaws.{planned-start, planned-more}
 use Rattle.readers.proofs.plan.Statement.{statement}
 use Rattle.readers.proofs.plan.Tie as tie
-use Rattle.readers.proofs.plan.Reads as reads
-use Rattle.readers.proofs.plan.Lts as lts
-use Rattle.cells.proofs.size.Reads as size-reads
-use Rattle.cells.proofs.power.Reads as power-reads
 
 abbrev Inv-loop : tie.InvT-loop
 Inv-loop v j kn val sh rows ms₀ ps₀ caps₀ spots₀ o₀ ms ps caps spots o = (o ≤ j) × Planned rows sh o ms ps caps spots

@@ -3,10 +3,6 @@ use Rattle.bits.specs.LogicLaws.{true-false}
 use borrow.Author.Needs.{needs}
 use Rattle.readers.proofs.useful.Statement.{statement}
 use Rattle.readers.proofs.useful.Tie as tie
-use Rattle.readers.proofs.useful.Reads as reads
-use Rattle.readers.proofs.useful.Lts as lts
-use Rattle.cells.proofs.size.Reads as size-reads
-use Rattle.readers.proofs.uniform.Reads as uniform-reads
 
 returns : tie.Need-returns
 returns c = λ e. absurd (true-false (sym e))

@@ -9,9 +9,6 @@ use Rattle.relation.specs.Refining.{Copied}
 use borrow.Author.Needs.{needs}
 use Rattle.relation.proofs.copied.Statement.{statement}
 use Rattle.relation.proofs.copied.Tie as tie
-use Rattle.relation.proofs.copied.Reads as reads
-use Rattle.relation.proofs.copied.Lts as lts
-use Rattle.problem.proofs.label.Reads as label-reads
 
 abbrev Inv-loop : tie.InvT-loop
 Inv-loop cl n from r₀ end k₀ r k = (k ≤ end) × (end ≡ n * maxVertices) × Copied cl from k r

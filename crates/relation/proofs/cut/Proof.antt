@@ -8,10 +8,6 @@ use borrow.Author.Needs.{needs}
 use Rattle.relation.specs.RefiningLaws.{cutting-start, cutting-none, cutting-more, cutting-leaves}
 use Rattle.relation.proofs.cut.Statement.{statement}
 use Rattle.relation.proofs.cut.Tie as tie
-use Rattle.relation.proofs.cut.Reads as reads
-use Rattle.relation.proofs.cut.Lts as lts
-use Rattle.relation.proofs.copied.Reads as copied-reads
-use Rattle.relation.proofs.refine.Reads as refine-reads
 
 abbrev Inv-loop : tie.InvT-loop
 Inv-loop cl given n v from gs r₀ i₀ r i = (i ≤ n) × Cutting cl given from gs n v i r

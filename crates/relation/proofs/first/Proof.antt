@@ -7,8 +7,6 @@ use borrow.Author.Needs.{needs}
 use Rattle.bits.specs.CountLaws.{less-or-equal}
 use Rattle.relation.proofs.first.Statement.{statement}
 use Rattle.relation.proofs.first.Tie as tie
-use Rattle.relation.proofs.first.Reads as reads
-use Rattle.relation.proofs.first.Lts as lts
 
 abbrev Inv-loop : tie.InvT-loop
 Inv-loop x keys key y₀ y = (y ≤ x) × (key ≡ item keys x) × ((z : ℕ) → z < y → item keys z ≡ item keys x → ⊥)

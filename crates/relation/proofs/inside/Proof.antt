@@ -8,9 +8,6 @@ use borrow.Author.Tests.{not-false}
 use borrow.Author.Needs.{needs}
 use Rattle.relation.proofs.inside.Statement.{statement}
 use Rattle.relation.proofs.inside.Tie as tie
-use Rattle.relation.proofs.inside.Reads as reads
-use Rattle.relation.proofs.inside.Lts as lts
-use Rattle.relation.proofs.inside_at.Reads as inside-at-reads
 
 abbrev Inv-loop : tie.InvT-loop
 Inv-loop cl o q v x₀ x = (x ≤ v) × Inside cl o q x

@@ -10,9 +10,6 @@ use Rattle.relation.specs.RelationLaws.{different-conflict, equal-no-con
 use borrow.Author.Needs.{needs}
 use Rattle.relation.proofs.inside_at.Statement.{statement}
 use Rattle.relation.proofs.inside_at.Tie as tie
-use Rattle.relation.proofs.inside_at.Reads as reads
-use Rattle.relation.proofs.inside_at.Lts as lts
-use Rattle.problem.proofs.label.Reads as label-reads
 
 abbrev Inv-loop : tie.InvT-loop
 Inv-loop cl o q x a b y₀ y =

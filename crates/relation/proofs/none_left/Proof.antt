@@ -8,9 +8,6 @@ use borrow.Author.Tests.{not-false, not-true}
 use borrow.Author.Needs.{needs}
 use Rattle.relation.proofs.none_left.Statement.{statement}
 use Rattle.relation.proofs.none_left.Tie as tie
-use Rattle.relation.proofs.none_left.Reads as reads
-use Rattle.relation.proofs.none_left.Lts as lts
-use Rattle.relation.proofs.told.Reads as told-reads
 
 abbrev Inv-loop : tie.InvT-loop
 Inv-loop cl given o g v x₀ x = (x ≤ v) × NoneLeft cl given g o x

@@ -7,9 +7,6 @@ use borrow.Author.Needs.{needs}
 use Rattle.relation.specs.RefiningLaws.{numbering-start, numbering-old, numbering-new}
 use Rattle.relation.proofs.numbers.Statement.{statement}
 use Rattle.relation.proofs.numbers.Tie as tie
-use Rattle.relation.proofs.numbers.Reads as reads
-use Rattle.relation.proofs.numbers.Lts as lts
-use Rattle.relation.proofs.first.Reads as first-reads
 
 abbrev Inv-loop : tie.InvT-loop
 Inv-loop keys v r₀ next₀ x₀ r next x = (x ≤ v) × Numbering keys x next r

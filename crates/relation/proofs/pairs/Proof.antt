@@ -8,9 +8,6 @@ use Rattle.relation.specs.Refining.{Paired}
 use borrow.Author.Needs.{needs}
 use Rattle.relation.proofs.pairs.Statement.{statement}
 use Rattle.relation.proofs.pairs.Tie as tie
-use Rattle.relation.proofs.pairs.Reads as reads
-use Rattle.relation.proofs.pairs.Lts as lts
-use Rattle.problem.proofs.label.Reads as label-reads
 
 abbrev Inv-loop : tie.InvT-loop
 Inv-loop cl o v parts r₀ x₀ r x = Paired cl o parts x r

@@ -6,8 +6,6 @@ use borrow.Author.Needs.{needs}
 use Rattle.relation.specs.RefiningLaws.{placed-start, placed-more}
 use Rattle.relation.proofs.place.Statement.{statement}
 use Rattle.relation.proofs.place.Tie as tie
-use Rattle.relation.proofs.place.Reads as reads
-use Rattle.relation.proofs.place.Lts as lts
 
 abbrev Inv-loop : tie.InvT-loop
 Inv-loop i v labels parts r₀ x₀ r x = (x ≤ v) × Placed r₀ labels parts i x r

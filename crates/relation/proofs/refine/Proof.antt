@@ -1,11 +1,5 @@
 use Rattle.relation.proofs.refine.Statement.{statement}
 use Rattle.relation.proofs.refine.Tie as tie
-use Rattle.relation.proofs.refine.Reads as reads
-use Rattle.relation.proofs.refine.Lts as lts
-use Rattle.relation.proofs.values.Reads as values-reads
-use Rattle.relation.proofs.numbers.Reads as numbers-reads
-use Rattle.relation.proofs.pairs.Reads as pairs-reads
-use Rattle.relation.proofs.place.Reads as place-reads
 use Rattle.relation.specs.RefiningLaws.{fine, placed-refined}
 
 values-requires : tie.Need-values-requires

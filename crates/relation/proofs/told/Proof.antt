@@ -11,9 +11,6 @@ use Rattle.relation.specs.RelationLaws.{different-conflict, equal-not-le
 use borrow.Author.Needs.{needs}
 use Rattle.relation.proofs.told.Statement.{statement}
 use Rattle.relation.proofs.told.Tie as tie
-use Rattle.relation.proofs.told.Reads as reads
-use Rattle.relation.proofs.told.Lts as lts
-use Rattle.problem.proofs.label.Reads as label-reads
 
 abbrev Inv-loop : tie.InvT-loop
 Inv-loop cl given o g x value label y₀ y =

@@ -6,8 +6,6 @@ use borrow.Author.Needs.{needs}
 use Rattle.bits.specs.FilledLaws.{filled-none, filled-more, filled-fewer}
 use Rattle.relation.proofs.values.Statement.{statement}
 use Rattle.relation.proofs.values.Tie as tie
-use Rattle.relation.proofs.values.Reads as reads
-use Rattle.relation.proofs.values.Lts as lts
 
 abbrev Inv-loop : tie.InvT-loop
 Inv-loop given g v r₀ x₀ r x = Valued given g x r

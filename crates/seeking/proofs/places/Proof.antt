@@ -6,9 +6,6 @@ use native.Mathlib.Omega.{arith}
 use borrow.Author.Needs.{needs}
 use Rattle.seeking.proofs.places.Statement.{statement}
 use Rattle.seeking.proofs.places.Tie as tie
-use Rattle.seeking.proofs.places.Reads as reads
-use Rattle.seeking.proofs.places.Lts as lts
-use Rattle.cells.proofs.power.Reads as power-reads
 
 returns : tie.Need-returns
 returns c = subst (λ (z : ℕ). Places (c .before .args .kn) z 0) (sym (c .if1 .taken)) (places-none (c .before .args .kn))

@@ -7,10 +7,6 @@ use borrow.Author.Needs.{needs}
 use Rattle.subproblems.specs.GatheringLaws.{moved-start, moved-off, moved-on, moved-low}
 use Rattle.subproblems.proofs.moved.Statement.{statement}
 use Rattle.subproblems.proofs.moved.Tie as tie
-use Rattle.subproblems.proofs.moved.Reads as reads
-use Rattle.subproblems.proofs.moved.Lts as lts
-use Rattle.cells.proofs.power.Reads as power-reads
-use Rattle.cells.proofs.in_set.Reads as in-set-reads
 
 abbrev Inv-loop : tie.InvT-loop
 Inv-loop f perm r₀ i₀ r i = (i ≤ 6) × Moved f perm i r
