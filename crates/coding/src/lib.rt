@@ -300,7 +300,8 @@ pub fn find(
 ) -> Search
     requires { ⌜ Labels (now cl) × (length (now base) ≡ labelCount) × Blocks (p .ms) (now bs) (p .outputs) × (p .vertices ≤ maxVertices) × (p .outputs ≤ searchOutputs)
         × Plan (p .ms) (p .ps) (p .caps) (p .outputs) × Valued (p .ms) (now gb) all (p .outputs) (p .kn) (s .codes) (p .vertices) (s .used)
-        × Covers (now cl) (now base) (p .ms) (p .caps) (p .spots) (p .vertices) (p .outputs) (p .kn) (p .val) (s .codes) (s .dom) × Knows (p .kn) (p .val) (p .ps) (s .codes) (p .vertices) (p .outputs) ⌝ }
+        × Covers (now cl) (now base) (p .ms) (p .caps) (p .spots) (p .vertices) (p .outputs) (p .kn) (p .val) (s .codes) (s .dom)
+        × Knows (p .kn) (p .val) (p .ps) (s .codes) (p .vertices) (p .outputs) ⌝ }
     ensures { λ r. ⌜ Sure limit (r .unsure)
         (Told (now (cl .entry)) (now (base .entry)) (p .ms) (p .ps) (p .caps) (p .spots) (p .vertices) (p .outputs) (p .kn) (p .val) (s .codes) (s .dom) (r .ok) (r .codes)) ⌝ }
 {

@@ -147,7 +147,8 @@ find-loop-holds t c =
     let p = a .p in
     let start = trying-start (a .cl .now) (a .base .now) (p .ms) (p .caps) (p .spots) (p .vertices) (p .outputs) (p .kn) (p .val) (a .s .codes) (a .s .dom) in
     let can = c .before .before .before .before .before .before .before .allowed .result in
-    (lengths t (c .before .before .before .before .before .before .before .before .before .before .before .before .before .before .before .before) .0, some .0, some .1, start (c .before .before .pick .result) can (some .0) (c .fitting .result) (c .fitting .ensures))
+    let long = lengths t (c .before .before .before .before .before .before .before .before .before .before .before .before .before .before .before .before) .0 in
+    (long, some .0, some .1, start (c .before .before .pick .result) can (some .0) (c .fitting .result) (c .fitting .ensures))
 
 find-spent-requires : Need find-lts.Need-spent-requires
 find-spent-requires t c κs = search needs
@@ -167,7 +168,8 @@ find-wrapping-add-u64-requires t c κs = search needs
 find-array-write-next : Need find-lts.Need-array-write-next
 find-array-write-next t c =
     let a = c .before .before .before .before .before .before .loop .inv .1 in
-    let b = c .before .before .before .before .before .before .before .before .before .before .before .before .before .before .before .before .before .before .before .before .before .before .before .pre .1 .3 in
+    let far = c .before .before .before .before .before .before .before .before .before .before .before .before in
+    let b = far .before .before .before .before .before .before .before .before .before .before .before .pre .1 .3 in
     search needs
 
 find-slice-aggregate-settle-all : Need find-lts.Need-slice-aggregate-settle-all
@@ -217,7 +219,8 @@ find-find-requires t c κs =
     let l = c .before .before .before .before .before .before .before .before .before .lowest .ensures .0 in
     let n = c .before .before .before .before .before .before .before .before .before .lowest .result in
     let w = uncoded-less (a .s .codes) (p .vertices) x n (i .0) (pre .3) (i .1) (i .2) l in
-    let q = valued-more (a .s .codes) (p .vertices) x n (i .0) (pre .3) (i .1) (p .ms) (a .gb .now) (a .all) (p .outputs) (p .kn) (a .s .used) (c .before .mark .result) l (c .before .mark .ensures) (pre .6) in
+    let q = valued-more (a .s .codes) (p .vertices) x n (i .0) (pre .3) (i .1) (p .ms) (a .gb .now) (a .all) (p .outputs) (p .kn) (a .s .used)
+    (c .before .mark .result) l (c .before .mark .ensures) (pre .6) in
     let s = c .before .before .before .before .settle-all in
     let k = covers-more (a .s .codes) (p .vertices) x n (i .0) (pre .3) (i .1) (a .cl .now) (a .base .now) (p .ms) (p .caps) (p .spots) (p .outputs) (p .kn) (p .val) (a .s .dom)
     _ (i .2) (s .ensures .0) (pre .7) in
@@ -234,7 +237,8 @@ find-returns-3 t c =
     (c .before .before .before .before .before .before .before .before .before .before .before .lowest .result) in
     let r = c .before .find .ensures in
     record {
-      sure = λ e. told-found (a .cl .now) (a .base .now) (p .ms) (p .ps) (p .caps) (p .spots) (p .vertices) (p .outputs) (p .kn) (p .val) (a .s .codes) (a .s .dom) next _ _ _ (c .if4 .taken) (r .sure e);
+      sure = λ e. told-found (a .cl .now) (a .base .now) (p .ms) (p .ps) (p .caps) (p .spots) (p .vertices) (p .outputs) (p .kn) (p .val) (a .s .codes) (a .s .dom) next
+          _ _ _ (c .if4 .taken) (r .sure e);
       never = r .never;
     }
 

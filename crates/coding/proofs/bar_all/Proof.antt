@@ -25,7 +25,8 @@ loop-holds c =
     (omega arith, start .pre .7, λ base ms spots b. kept-start (a .cl .now) base ms (p .caps) spots (p .vertices) (p .outputs) (a .codes .now) (a .dom .now))
 
 -- the output, the code and the table of blocks have their bounds
-bounds : (c : tie.In-loop Inv-loop μ-loop) → (c .before .loop .o < 8) × (c .before .before .before .before .before .before .before .args .c < 64) × (length (c .before .before .before .before .before .before .before .args .bs .now) ≡ 512)
+bounds : (c : tie.In-loop Inv-loop μ-loop) → (c .before .loop .o < 8) × (c .before .before .before .before .before .before .before .args .c < 64)
+    × (length (c .before .before .before .before .before .before .before .args .bs .now) ≡ 512)
 bounds c = let pre = c .before .before .before .before .before .before .before .pre in let h = c .loop-test .taken in let few = pre .3 in (omega arith, pre .4, pre .1)
 
 mul-b : tie.Need-mul-b Inv-loop μ-loop

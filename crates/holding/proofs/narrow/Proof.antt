@@ -44,7 +44,9 @@ cast-l c = search needs
 
 -- the class of a vertex and the vertex are below the lengths of the arrays
 labelled : (c : tie.After-label Inv-loop μ-loop) → (c .label .result < 32) × (c .before .before .before .before .loop .y < 32)
-    × (length (c .before .before .before .before .before .before .before .before .before .before .before .before .before .args .own .now) ≡ 32) × (length (c .before .before .before .before .before .before .before .before .before .before .before .before .before .args .meet .now) ≡ 32) × (length (c .before .before .before .before .loop .dom) ≡ 32)
+    × (length (c .before .before .before .before .before .before .before .before .before .before .before .before .before .args .own .now) ≡ 32)
+    × (length (c .before .before .before .before .before .before .before .before .before .before .before .before .before .args .meet .now) ≡ 32)
+    × (length (c .before .before .before .before .loop .dom) ≡ 32)
 labelled c =
     let loop = c .before .before .before .before .loop in
     let start = c .before .before .before .before .before .before .before .before .before .before .before .before .before in
@@ -67,7 +69,9 @@ in-set-requires c κs = let h = c .class-part .ensures .1 in omega arith
 label-requires-2 : tie.Need-label-requires-2 Inv-loop μ-loop
 label-requires-2 c κs =
     let facts = labelled (c .before .before .before) in
-    let pre = c .before .before .before .before .before .before .before .before .before .before .before .before .before .before .before .before .pre in let z = pre .1 in (omega arith, pre .3, facts .0)
+    let pre = c .before .before .before .before .before .before .before .before .before .before .before .before .before .before .before .before .pre in
+    let z = pre .1 in
+    (omega arith, pre .3, facts .0)
 
 mul-dom : tie.Need-mul-dom Inv-loop μ-loop
 mul-dom c = let facts = labelled (c .before .before .before .before) in search needs
@@ -96,7 +100,8 @@ array-read-keep-2 c = let facts = labelled (c .before .before .before .before .b
 keep-requires : tie.Need-keep-requires Inv-loop μ-loop
 keep-requires c κs =
     let facts = labelled (c .before .before .before .before .before .before .before) in
-    c .before .before .before .before .before .before .before .before .before .before .before .before .before .before .before .before .before .before .before .before .pre .6 (c .before .before .before .before .before .before .before .label .result) (facts .0)
+    let few = c .before .before .before .before .before .before .before .before .before .before .before .before .before .before .before .before .before .before .before .before .pre .6 in
+    few (c .before .before .before .before .before .before .before .label .result) (facts .0)
 
 mul-dom-2 : tie.Need-mul-dom-2 Inv-loop μ-loop
 mul-dom-2 c = let facts = labelled (c .before .before .before .before .before .before .before .before) in search needs

@@ -42,7 +42,8 @@ cast-l c = search needs
 
 -- the class of a vertex and the vertex are below the lengths of the arrays
 labelled : (c : tie.After-label Inv-loop μ-loop) → (c .label .result < 32) × (c .before .before .before .before .loop .y < 32)
-    × (length (c .before .before .before .before .before .before .before .before .before .before .before .before .args .dom .now) ≡ 32) × (length (c .before .before .before .before .before .before .before .before .before .before .before .before .args .own .now) ≡ 32)
+    × (length (c .before .before .before .before .before .before .before .before .before .before .before .before .args .dom .now) ≡ 32)
+    × (length (c .before .before .before .before .before .before .before .before .before .before .before .before .args .own .now) ≡ 32)
 labelled c =
     let loop = c .before .before .before .before .loop in
     let start = c .before .before .before .before .before .before .before .before .before .before .before .before in
@@ -98,7 +99,8 @@ loop-again c =
           _ (w .1 .ensures) (w .6 .ensures) (w .7) (l .inv .1))
           (⊎-elim
           (λ w. reached-same (a .cl .now) (a .base .now) (a .n .owns) (a .n .wants) (a .codes .now) (a .dom .now) (a .own .now) (a .t .number) (a .p) (l .y) (l .r) _
-          (λ u i. subst (λ (k : ℕ). partAt (a .cl .now) (a .t .number) k ≡ a .p → need (a .n .wants) (a .base .now) (a .t .number) k ≤ getD (a .n .owns) k 0) (w .1 .ensures) (w .2 .ensures (w .3 .left)) i)
+          (λ u i. subst (λ (k : ℕ). partAt (a .cl .now) (a .t .number) k ≡ a .p → need (a .n .wants) (a .base .now) (a .t .number) k ≤ getD (a .n .owns) k 0)
+          (w .1 .ensures) (w .2 .ensures (w .3 .left)) i)
           (w .4) (l .inv .1))
           (λ w. reached-same (a .cl .now) (a .base .now) (a .n .owns) (a .n .wants) (a .codes .now) (a .dom .now) (a .own .now) (a .t .number) (a .p) (l .y) (l .r) _
           (λ u i. let k = w .0 .left in absurd (omega arith)) (w .1) (l .inv .1)))
