@@ -39,7 +39,7 @@ pub and-agree : (u mask a b : ℕ) → bitAnd a mask ≡ bitAnd b mask → Agree
 and-agree u mask a b e i l m = sym (and-true (on a i)) ∙ sym (ap (λ (x : Bool). andb (on a i) x) m) ∙ sym (on-and a mask i) ∙ ap (λ (x : ℕ). on x i) e ∙ on-and b mask i ∙ ap
     (λ (x : Bool). andb (on b i) x) m ∙ and-true (on b i)
 
-no-two : (R : ℕ → ℕ → Type 0) (xs : List ℕ) → ((x y : ℕ) → R x y → ⊥) → Pairs R xs → length xs ≤ 1
+pub no-two : (R : ℕ → ℕ → Type 0) (xs : List ℕ) → ((x y : ℕ) → R x y → ⊥) → Pairs R xs → length xs ≤ 1
 no-two R [] h p = omega arith
 no-two R (x ∷ []) h p = omega arith
 no-two R (x ∷ y ∷ xs) h p = absurd (h x y (p .0 .0))

@@ -7,6 +7,7 @@ use Prim.Native.Nat.{ℕ, Ordering, Ordering·lt, Ordering·eq, Ordering·gt, co
 use lib.Dec.{eqb}
 use borrow.Author.Tests.{eq-eqb, not-true}
 use Rattle.bits.specs.LogicLaws.{true-false, and-left, and-right}
+use Rattle.text.specs.LineLaws.{unbroken-tail}
 use Rattle.text.specs.Bytes.{newline}
 use Rattle.text.specs.Unbroken.{unbroken, allUnbroken}
 use Rattle.order.specs.Order.{then, listOrder, byteOrder}
@@ -37,10 +38,6 @@ unfolding unbroken
 no-end x a h e =
     true-false (sym (eq-eqb x newline e) ∙ not-true (eqb x newline) (and-left (not (eqb x newline)) (unbroken a) h))
 
-unbroken-rest : (x : ℕ) (a : List ℕ) → unbroken (x ∷ a) ≡ true → unbroken a ≡ true
-unfolding unbroken
-unbroken-rest x a h = and-right (not (eqb x newline)) (unbroken a) h
-
 line-first : (a b s t : List ℕ)
     → unbroken a ≡ true
     → unbroken b ≡ true
@@ -52,7 +49,7 @@ line-first [] (y ∷ b) s t g h =
 line-first (x ∷ a) [] s t g h =
     differing x newline (byteOrder (a ++ (newline ∷ s)) t) (byteOrder (a ++ (newline ∷ [])) []) (byteOrder s t) (no-end x a g)
 line-first (x ∷ a) (y ∷ b) s t g h =
-    ap (then (compare x y)) (line-first a b s t (unbroken-rest x a g) (unbroken-rest y b h))
+    ap (then (compare x y)) (line-first a b s t (unbroken-tail x a g) (unbroken-tail y b h))
     ∙ sym (then-then (compare x y) (lineOrder a b) (byteOrder s t))
 
 some-more : (a s : List ℕ) → (byteOrder [] (a ++ (newline ∷ s)) ≡ Ordering·lt) × (byteOrder (a ++ (newline ∷ s)) [] ≡ Ordering·gt)

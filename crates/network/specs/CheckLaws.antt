@@ -7,6 +7,7 @@ use mathlib.Core.List.{List}
 use mathlib.Core.Option.{Option, some, none}
 use Prim.Native.Nat.{ℕ}
 use native.Mathlib.Omega.{arith}
+use Rattle.sheet.specs.AskedLaws.{valid-is}
 use Rattle.sheet.specs.Examine.{Design, Examined, refused, valid, examine}
 use Rattle.network.specs.Network.{Network}
 use Rattle.network.specs.Examine.{Answer, bad-line, network, readNetwork, offending}
@@ -35,9 +36,6 @@ pair-design p = cc
 
 pair-network : {d e : Design} {w v : Network} → pair d w ≡ pair e v → w ≡ v
 pair-network p = cc
-
-design-is : {d e : Design} → valid d ≡ valid e → d ≡ e
-design-is p = cc
 
 -- a design and a network beside each other are not refused
 pub compared-not-refused : (d : Design) (w : Network) (q l : ℕ) → compared d w ≡ refused-by q l → ⊥
@@ -129,7 +127,7 @@ module _ (d : Design) (t : List ℕ) where
   compared-as (refused-pair q l) a h e f = absurd (h q l f)
   compared-as (pair c w) a h e f =
       let (v, g) = pair-drawn t (valid d) c w e in
-      let i : c ≡ d = sym (design-is v) in
+      let i : c ≡ d = sym (valid-is v) in
       record { said = w; drawn = rw (sym i) g; is-answer = rw (sym i) f }
 
   checked-as : (a : Checked) → ((q l : ℕ) → refused-by q l ≡ a → ⊥) → checkOf (valid d) t ≡ a → ComparedAs a

@@ -10,17 +10,13 @@ use lib.Dec.{eqb}
 use lib.ListN.{length}
 use borrow.Author.Tests.{eqb-true, not-true}
 use Rattle.bits.specs.Logic.{pick}
+use Rattle.cells.specs.PigeonLaws.{no-two}
 use Rattle.cells.specs.ListLaws.{all-map, pairs-map, pairs-part, part-has, part-length}
 use Rattle.cells.specs.Lists.{All, Pairs, keep, part}
 use Rattle.classes.specs.Classes.{firstLike, classCount}
 use Rattle.classes.specs.ClassLaws.{first-like}
 
 -- ---- vertices with pairwise different codes
-no-two : (R : ℕ → ℕ → Type 0) (xs : List ℕ) → ((x y : ℕ) → R x y → ⊥) → Pairs R xs → length xs ≤ 1
-no-two R [] h p = omega arith
-no-two R (x ∷ []) h p = omega arith
-no-two R (x ∷ y ∷ xs) h p = absurd (h x y (p .0 .0))
-
 module _ {A : Type 0} (table : A → ℕ → Bool) where
   -- some table of the list differs at x and y
   abbrev pub Told : List A → ℕ → ℕ → Type 0
