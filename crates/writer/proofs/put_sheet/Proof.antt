@@ -66,6 +66,7 @@ use Rattle.writer.proofs.Writer.nodes.Symbol as nodes-def
 use Rattle.writer.proofs.Writer.nodes.Met as nodes-thm
 use Rattle.writer.proofs.Writer.last.Symbol as last-def
 use Rattle.writer.proofs.Writer.last.Met as last-thm
+use Rattle.writer.proofs.put_sheet.Key.{name as key}
 use Rattle.writer.proofs.put_sheet as put-sheet
 use Rattle.writer.proofs.put_sheet.Statement.{statement}
 use Rattle.writer.proofs.put_sheet.Code as code

@@ -6,6 +6,7 @@ use Rattle.writer.proofs.Form.{Covered, Method}
 use Rattle.writer.proofs.Method.{method-meets}
 use Rattle.netlines.proofs.put_head.Symbol as callee
 use Rattle.netlines.proofs.put_head.Met as callee-thm
+use Rattle.writer.proofs.Writer.head.Key.{name as key}
 use Rattle.writer.proofs.Writer.head.Statement.{statement}
 use Rattle.writer.proofs.Writer.head.Code as code
 

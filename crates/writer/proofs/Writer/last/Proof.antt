@@ -6,6 +6,7 @@ use Rattle.writer.proofs.Form.{Covered, Method}
 use Rattle.writer.proofs.Method.{method-meets}
 use Rattle.netlines.proofs.put_end.Symbol as callee
 use Rattle.netlines.proofs.put_end.Met as callee-thm
+use Rattle.writer.proofs.Writer.last.Key.{name as key}
 use Rattle.writer.proofs.Writer.last.Statement.{statement}
 use Rattle.writer.proofs.Writer.last.Code as code
 

@@ -6,6 +6,7 @@ use Rattle.writer.proofs.Form.{Covered, Method}
 use Rattle.writer.proofs.Method.{method-meets}
 use Rattle.writer.proofs.put_lut_lines.Symbol as callee
 use Rattle.writer.proofs.put_lut_lines.Met as callee-thm
+use Rattle.writer.proofs.Writer.luts.Key.{name as key}
 use Rattle.writer.proofs.Writer.luts.Statement.{statement}
 use Rattle.writer.proofs.Writer.luts.Code as code
 

@@ -6,6 +6,7 @@ use Rattle.writer.proofs.Form.{Covered, Method}
 use Rattle.writer.proofs.Method.{method-meets}
 use Rattle.writer.proofs.put_node_lines.Symbol as callee
 use Rattle.writer.proofs.put_node_lines.Met as callee-thm
+use Rattle.writer.proofs.Writer.nodes.Key.{name as key}
 use Rattle.writer.proofs.Writer.nodes.Statement.{statement}
 use Rattle.writer.proofs.Writer.nodes.Code as code
 
