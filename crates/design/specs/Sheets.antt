@@ -54,6 +54,10 @@ designCapitals =
 abbrev pub withLimit : String → List ℕ
 withLimit n = bytes "(design 1)\n(in a b)\n(bound a)\n(limit " ++ (bytes n ++ bytes ")\n(out f (and a b))\n(end)\n")
 
+-- a sheet of one line, by a byte behind its bracket
+abbrev pub firstLine : ℕ → List ℕ
+firstLine b = bytes "(design 1)" ++ (b ∷ bytes "\n")
+
 -- a sheet by its lines after `(design 1)`, and by its lines after the `limit` line
 abbrev pub afterDesign : String → List ℕ
 afterDesign s = bytes "(design 1)\n" ++ bytes s

@@ -16,7 +16,8 @@ use Rattle.sheet.specs.Lines.{readIn, readOut}
 use Rattle.sheet.specs.Examine.{refused, valid, examine}
 use Rattle.sheet.specs.Printer.{printDesign}
 use Rattle.design.specs.Tabulate.{tabulate, written, untouched}
-use Rattle.design.specs.Sheets.{sheetA, designA, sheetCapitals, designCapitals, withLimit, afterDesign, afterLimit, nested, negations, withFormula, designOf}
+use Rattle.design.specs.Sheets.{sheetA, designA, sheetCapitals, designCapitals}
+use Rattle.design.specs.Sheets.{withLimit, firstLine, afterDesign, afterLimit, nested, negations, withFormula, designOf}
 use Rattle.design.specs.Computing.{computing}
 
 -- ---- sheet A: what it says, that this is printed to its text, and the tables of f and g
@@ -107,6 +108,14 @@ not-ended = refl
 not-plain : examine (afterDesign "(in\ta)\n") ≡ refused 1 0
 unfolding computing
 not-plain = refl
+
+-- the first and the last of these bytes, where the line is then asked, and the bytes beside them
+plain-bytes : (examine (firstLine 0x20) ≡ refused 2 1)
+    × (examine (firstLine 0x7E) ≡ refused 2 1)
+    × (examine (firstLine 0x1F) ≡ refused 1 0)
+    × (examine (firstLine 0x7F) ≡ refused 1 0)
+unfolding computing
+plain-bytes = (refl, refl, refl, refl)
 
 -- ---- how the specification is read, by the number of the decision
 -- 1: one 0x0A alone is an empty line
