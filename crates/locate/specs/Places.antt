@@ -1,4 +1,4 @@
--- What the code answers: a part by its start and its length (clause 11.8). Assumes nothing.
+-- What the code answers: a part by where it starts and ends, the part itself, and the part by its start and its length (clause 11.8). Assumes nothing.
 use mathlib.Core.Path.{_≡_}
 use mathlib.Core.Bool.{Bool}
 use mathlib.Core.List.{List}
@@ -8,11 +8,17 @@ use denote.Ref.{RefT}
 use Rattle.locate.specs.Located.{Part, startOf, textOf, sheetOf}
 
 -- line l of a text
-pub record SpanIs (t : List ℕ) (l start count : ℕ) : Type 0 where
+pub record SpanIs (t : List ℕ) (l start end : ℕ) : Type 0 where
   pub starts : start ≡ startOf t l
-  pub counts : count ≡ length (textOf t l)
+  pub ends : end ≡ startOf t l + length (textOf t l)
 
 -- a part of one of two sheets
+pub record RangeIs (p : Part) (second : Bool) (start end : ℕ) : Type 0 where
+  pub which : second ≡ p .second
+  pub starts : start ≡ p .start
+  pub ends : end ≡ p .start + length (p .text)
+
+-- the same by its length
 pub record PlaceIs (p : Part) (second : Bool) (start count : ℕ) : Type 0 where
   pub which : second ≡ p .second
   pub starts : start ≡ p .start

@@ -13,7 +13,7 @@ use Rattle.text.specs.LineEnd.{LineEnd}
 use Rattle.text.specs.EndedLaws.{ended-append-length, ended-more-length}
 use Rattle.text.specs.LineCountLaws.{lines-past}
 use Rattle.text.specs.LastLineLaws.{last-line}
-use Rattle.locate.specs.Located.{hasLine}
+use Rattle.locate.specs.Located.{hasLine, startOf, textOf}
 use Rattle.locate.specs.Places.{SpanIs}
 use Rattle.locate.specs.Reached.{Reached}
 use Rattle.locate.specs.LineLaws.{start-of, text-of, no-line-0, no-line-past, start-none, text-none}
@@ -53,13 +53,14 @@ module _ (t : List ℕ) (at n e : ℕ) (h : at < length t) (x : LineEnd t at e) 
   here-split : lines t ≡ r .before ++ (here ∷ lines (drop (e + 1) t))
   here-split = r .split ∙ ap (λ (ls : List (List ℕ)). r .before ++ ls) here-first
 
-  pub reached-hit : (l : ℕ) → n ≡ l → SpanIs t l at (e - at)
+  pub reached-hit : (l : ℕ) → n ≡ l → SpanIs t l at e
   reached-hit l q =
       let c : length (r .before) + 1 ≡ l = r .counts ∙ q in
-      record {
-        starts = sym (r .starts) ∙ sym (start-of t l (r .before) here (lines (drop (e + 1) t)) here-split c);
-        counts = sym here-length ∙ ap length (sym (text-of t l (r .before) here (lines (drop (e + 1) t)) here-split c));
-      }
+      let s : at ≡ startOf t l = sym (r .starts) ∙ sym (start-of t l (r .before) here (lines (drop (e + 1) t)) here-split c) in
+      let m : e - at ≡ length (textOf t l) =
+      sym here-length ∙ ap length (sym (text-of t l (r .before) here (lines (drop (e + 1) t)) here-split c)) in
+      let a = x .after-start in
+      record { starts = s; ends = omega (arith, s, m, a) }
 
   pub reached-more : Reached t (e + 1) (n + 1)
   reached-more =
@@ -81,7 +82,7 @@ module _ (t : List ℕ) (at n e : ℕ) (h : at < length t) (x : LineEnd t at e) 
       }
 
 -- ---- no line is left
-pub reached-end : (t : List ℕ) (at n l : ℕ) → length t ≤ at → (1 ≤ l → n ≤ l) → Reached t at n → SpanIs t l (length t) 0
+pub reached-end : (t : List ℕ) (at n l : ℕ) → length t ≤ at → (1 ≤ l → n ≤ l) → Reached t at n → SpanIs t l (length t) (length t)
 reached-end t at n l h i r = at-end (missing l i)
   where
     all : length (lines t) ≡ length (r .before)
@@ -98,5 +99,8 @@ reached-end t at n l h i r = at-end (missing l i)
         let a = all in
         no-line-past t (suc l) (omega arith)
 
-    at-end : hasLine t l ≡ false → SpanIs t l (length t) 0
-    at-end q = record { starts = sym (start-none t l q); counts = sym (ap length (text-none t l q)) }
+    at-end : hasLine t l ≡ false → SpanIs t l (length t) (length t)
+    at-end q =
+        let s = start-none t l q in
+        let m = ap length (text-none t l q) in
+        record { starts = sym s; ends = omega (arith, s, m) }

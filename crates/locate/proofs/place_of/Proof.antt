@@ -1,52 +1,22 @@
--- `place_of`: the number says the sheet. Assumes nothing.
-use native.Mathlib.Omega.{arith}
+-- `place_of`: the place of the line, with the length of the line itself. Assumes nothing.
 use borrow.Author.Needs.{needs}
-use Rattle.locate.specs.PlaceLaws.{place-design, place-network, place-neither}
+use Rattle.locate.specs.Located.{located}
+use Rattle.locate.specs.PlaceLaws.{line-place}
 use Rattle.locate.proofs.place_of.Statement.{statement}
 use Rattle.locate.proofs.place_of.Tie as tie
 
-span-of-requires : tie.Need-span-of-requires
-span-of-requires c κs = search needs
+line-at-requires : tie.Need-line-at-requires
+line-at-requires c κs = search needs
 
-span-of-requires-2 : tie.Need-span-of-requires-2
-span-of-requires-2 c κs = search needs
+range-of-requires : tie.Need-range-of-requires
+range-of-requires c κs = search needs
 
 returns : tie.Need-returns
 returns c =
-    let if1 = c .before .before .if1 in
-    let a = c .before .before .before .before .before .args in
-    let r = c .span-of in
-    place-design (a .design .now) (a .network .now) (a .number) (a .line) (r .result .start) (r .result .length)
-    (if1 .left) (c .before .if2 .taken) (r .ensures)
-
-returns-2 : tie.Need-returns-2
-returns-2 c =
-    let if3 = c .before .before .if3 in
-    let a = c .before .before .before .before .before .before .before .args in
-    let r = c .span-of2 in
-    place-network (a .design .now) (a .network .now) (a .number) (a .line) (r .result .start) (r .result .length)
-    (if3 .left) (c .before .if4 .taken) (r .ensures)
-
-returns-3 : tie.Need-returns-3
-returns-3 c =
-    let a = c .before .before .before .args in
-    let h = c .if1 .taken in
-    place-neither (a .design .now) (a .network .now) (a .number) (a .line) (λ i j. omega arith) (λ i j. omega arith)
-
-returns-4 : tie.Need-returns-4
-returns-4 c =
-    let a = c .before .before .before .before .before .args in
-    let h = c .before .if2 .left in
-    let k = c .if3 .taken in
-    place-neither (a .design .now) (a .network .now) (a .number) (a .line) (λ i j. omega arith) (λ i j. omega arith)
-
-returns-5 : tie.Need-returns-5
-returns-5 c =
-    let a = c .before .before .before .before .before .before .args in
-    let h = c .if4 .left in
-    place-neither (a .design .now) (a .network .now) (a .number) (a .line) (λ i j. omega arith) (λ i j. omega arith)
+    let a = c .before .before .before .before .args in
+    let r = c .range-of in
+    line-place (located (a .design .now) (a .network .now) (a .number) (a .line)) (a .design) (a .network) (c .before .line-at .result)
+    (r .result .second) (r .result .start) (r .result .end) (c .before .line-at .ensures) (r .ensures)
 
 pub place-of-spec : {M : Type 1} → statement M
-place-of-spec =
-    tie.close
-    (tie.spec span-of-requires span-of-requires-2 returns returns-2 returns-3 returns-4 returns-5)
+place-of-spec = tie.close (tie.spec line-at-requires range-of-requires returns)

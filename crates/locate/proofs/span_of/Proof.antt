@@ -26,11 +26,6 @@ add-next c =
     let g = c .before .before .before .shared-slice-known .given in
     search needs
 
-sub-t9 : tie.Need-sub-t9 Inv-loop μ-loop
-sub-t9 c =
-    let a = c .before .line-end .ensures .after-start in
-    omega arith
-
 returns : tie.Need-returns Inv-loop μ-loop
 returns c =
     let loop-test = c .before .before .loop-test in
@@ -80,7 +75,6 @@ span-of-spec =
     loop-holds
     line-end-requires
     add-next
-    sub-t9
     returns
     add-number
     loop-less
