@@ -54,7 +54,8 @@ for-one d (refused-by-8 s h n c) (too-many-classes k) = absurd (omega (arith, h,
 for-one d (refused-by-8 s h n c) (mapped k w) = absurd (n w)
 for-one d (refused-by-8 s h n c) (refused-by-8 t k m e) = ap outputs-of (cause-one d s t c e)
 
-cause-of-one : (x : Examined) (a b : CauseAnswer) → CauseOf x a → CauseOf x b → a ≡ b
+-- whatever is examined
+pub cause-of-one : (x : Examined) (a b : CauseAnswer) → CauseOf x a → CauseOf x b → a ≡ b
 cause-of-one (refused q l) a b e f = e ∙ sym f
 cause-of-one (valid d) a b e f = for-one d e f
 

@@ -58,7 +58,8 @@ module _ (d : Design) (b : List ℕ) where
       let (e, c) = first-one d w v p q in
       (ap₂ mapped c (ap length e), ap (sets b 0) e)
 
-examined-one : (x : Examined) (b : List ℕ) (a a' : MapAnswer) (b' b'' : List ℕ)
+-- whatever is examined, a sheet, a panel or what else there comes to be
+pub examined-one : (x : Examined) (b : List ℕ) (a a' : MapAnswer) (b' b'' : List ℕ)
     → OutcomeOf x b a b'
     → OutcomeOf x b a' b''
     → (a ≡ a') × (b' ≡ b'')
