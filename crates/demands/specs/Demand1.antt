@@ -20,7 +20,7 @@ use Rattle.network.specs.Check as checks
 use Rattle.network.specs.Check.{check, checkOf}
 use Rattle.network.specs.NetworkFor.{NetworkFor}
 use Rattle.network.specs.Answers.{WithinLimits, Computes}
-use Rattle.mapper.specs.Map.{Permitted, MapAnswer, refused-by}
+use Rattle.mapper.specs.Map.{First, MapAnswer, refused-by}
 
 -- ======== the refusals
 -- x is what the examination answered: its refusal is that of Table, Map and Check alike, with its number and line (by-sheet).
@@ -43,7 +43,7 @@ pub data MapRefuses (x : Examined) (n : ℕ) : ℕ → ℕ → Type 0 where
   by-buffer : (d : Design) (w : Network)
       → x ≡ valid d
       → globalCount d (d .bound) ≤ maxClasses
-      → Permitted d w
+      → First d w
       → n < length (printNetwork d w)
       → MapRefuses x n 9 0
 

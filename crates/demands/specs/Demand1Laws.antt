@@ -1,5 +1,5 @@
 -- Table, Map and Check refuse as demand 1 says. Assumes nothing.
-use mathlib.Core.Path.{_≡_, refl, sym, _∙_, subst}
+use mathlib.Core.Path.{_≡_, refl, sym, ap, _∙_, subst}
 use mathlib.Core.Bool.{Bool, true, false}
 use mathlib.Core.List.{List}
 use mathlib.Core.Logic.{inl, inr}
@@ -13,12 +13,10 @@ use borrow.Author.Tests.{ltb-true, ltb-false, leb-false, lt-ltb, le-ltb, lt-leb}
 use Rattle.bits.specs.Logic.{pick}
 use Rattle.limits.specs.Limits.{maxClasses}
 use Rattle.sheet.specs.Examine.{Design, Examined, refused, valid, examine}
-use Rattle.sheet.specs.WellFormed.{WellFormed}
-use Rattle.sheet.specs.ExaminationLaws.{refused-right, valid-well-formed}
+use Rattle.sheet.specs.ExaminationLaws.{refused-right}
 use Rattle.design.specs.Tabulate as tables
 use Rattle.design.specs.Tabulate.{Tabulated, tabulate, tableOf, tableDigits, rowCount, untouched}
 use Rattle.classes.specs.Classes.{globalCount}
-use Rattle.classes.specs.ProperLaws.{proper-of}
 use Rattle.network.specs.Network.{Network}
 use Rattle.network.specs.Printer.{printNetwork}
 use Rattle.network.specs.Examine.{Answer, bad-line, network, readNetwork, offending}
@@ -27,9 +25,9 @@ use Rattle.network.specs.Check.{check, checkOf, examinePair, comparePair, besid
 use Rattle.network.specs.CheckLaws.{compared-not-refused}
 use Rattle.network.specs.NetworkFor.{NetworkFor}
 use Rattle.network.specs.Answers.{WithinLimits, Computes}
-use Rattle.mapper.specs.Map.{Permitted, MapAnswer, refused-by, OutcomeFor, OutcomeOf, Outcome}
+use Rattle.mapper.specs.Map.{First, MapAnswer, refused-by, OutcomeFor, OutcomeOf, Outcome}
 use Rattle.mapper.specs.Map.{too-many-classes, no-network, buffer-short, written}
-use Rattle.demands.specs.LengthLaws.{permitted-length}
+use Rattle.mapper.specs.FunctionLaws.{first-one}
 use Rattle.demands.specs.OutcomeLaws.{outcome-for, outcome-refused}
 use Rattle.demands.specs.Demand1.{TableRefuses, MapRefuses, CheckRefuses, TableNumber, MapNumber, CheckNumber, Demand1, SheetDemand1}
 use Rattle.demands.specs.Demand1 as why
@@ -118,7 +116,7 @@ module _ (x : Examined) (t : List ℕ) where
       from-answer (network w) h f = from-judge w h (offending e w) refl f
 
 -- ======== Map
-module _ (b : List ℕ) (d : Design) (formed : WellFormed d) where
+module _ (b : List ℕ) (d : Design) where
   says-classes : {a : MapAnswer} {b' : List ℕ} → maxClasses < globalCount d (d .bound) → OutcomeFor d b a b' → a ≡ refused-by 7 0
   says-classes m (too-many-classes h) = refl
   says-classes m (no-network h n) = absurd (omega (arith, h, m))
@@ -137,23 +135,23 @@ module _ (b : List ℕ) (d : Design) (formed : WellFormed d) where
 
   says-buffer : {a : MapAnswer} {b' : List ℕ} (w : Network)
       → globalCount d (d .bound) ≤ maxClasses
-      → Permitted d w
+      → First d w
       → length b < length (printNetwork d w)
       → OutcomeFor d b a b'
       → a ≡ refused-by 9 0
   says-buffer w m p k (too-many-classes h) = absurd (omega (arith, h, m))
-  says-buffer w m p k (no-network h n) = absurd (n w (p .wellformed) (p .within) (p .computes))
+  says-buffer w m p k (no-network h n) = absurd (n w (p .permitted .wellformed) (p .permitted .within) (p .permitted .computes))
   says-buffer w m p k (buffer-short v h q n) = refl
   says-buffer w m p k (written v h q n) =
-      let g = permitted-length d v w (proper-of d formed) (q .permitted) p in
+      let g = ap length (first-one d v w q p .0) in
       absurd (omega (arith, g, n, k))
 
-module _ (x : Examined) (b : List ℕ) (right : (d : Design) → x ≡ valid d → WellFormed d) where
+module _ (x : Examined) (b : List ℕ) where
   map-refuses : (a : MapAnswer) (b' : List ℕ) (q l : ℕ) → OutcomeOf x b a b' → MapRefuses x (length b) q l → a ≡ refused-by q l
   map-refuses a b' q l o (why.by-sheet p m e) = outcome-refused p m e o .refusal
-  map-refuses a b' q l o (why.by-classes d e h) = says-classes b d (right d e) h (outcome-for d e o)
-  map-refuses a b' q l o (why.by-cells d e h n) = says-cells b d (right d e) h n (outcome-for d e o)
-  map-refuses a b' q l o (why.by-buffer d w e h p n) = says-buffer b d (right d e) w h p n (outcome-for d e o)
+  map-refuses a b' q l o (why.by-classes d e h) = says-classes b d h (outcome-for d e o)
+  map-refuses a b' q l o (why.by-cells d e h n) = says-cells b d h n (outcome-for d e o)
+  map-refuses a b' q l o (why.by-buffer d w e h p n) = says-buffer b d w h p n (outcome-for d e o)
 
   same-refusal : (q l p m : ℕ) → refused-by p m ≡ refused-by q l → MapRefuses x (length b) p m → MapRefuses x (length b) q l
   same-refusal q l p m f r =
@@ -172,7 +170,7 @@ module _ (x : Examined) (b : List ℕ) (right : (d : Design) → x ≡ valid d �
   design-says q l d e (too-many-classes h) f = record { because = same-refusal q l 7 0 f (why.by-classes d e h); unchanged = refl }
   design-says q l d e (no-network h n) f = record { because = same-refusal q l 8 0 f (why.by-cells d e h n); unchanged = refl }
   design-says q l d e (buffer-short w h k n) f =
-      record { because = same-refusal q l 9 0 f (why.by-buffer d w e h (k .permitted) n); unchanged = refl }
+      record { because = same-refusal q l 9 0 f (why.by-buffer d w e h k n); unchanged = refl }
   design-says q l d e (written w h k n) f = absurd (mapped-not-refused f)
 
   map-says : (a : MapAnswer) (b' : List ℕ) (q l : ℕ) (y : Examined)
@@ -184,19 +182,18 @@ module _ (x : Examined) (b : List ℕ) (right : (d : Design) → x ≡ valid d �
       record { because = same-refusal q l p m (sym (o .refusal) ∙ f) (why.by-sheet p m e); unchanged = o .untouched }
   map-says a b' q l (valid d) e o f = design-says q l d e o f
 
--- ======== demand 1 for every examination's answer that is a refusal or a well-formed design
+-- ======== demand 1 for every examination's answer
 pub demand-1 : (x : Examined) (t : List ℕ) (o : ℕ) (b : List ℕ) (a : MapAnswer) (b' : List ℕ)
-    → ((d : Design) → x ≡ valid d → WellFormed d)
     → OutcomeOf x b a b'
     → Demand1 x t o b a b'
-demand-1 x t o b a b' right h =
+demand-1 x t o b a b' h =
     record {
       table-refuses = table-refuses x o b;
       table-because = λ q l f. table-says x o b q l x refl f .because;
       table-untouched = λ q l f. table-says x o b q l x refl f .unchanged;
-      map-refuses = λ q l r. map-refuses x b right a b' q l h r;
-      map-because = λ q l f. map-says x b right a b' q l x refl h f .because;
-      map-untouched = λ q l f. map-says x b right a b' q l x refl h f .unchanged;
+      map-refuses = λ q l r. map-refuses x b a b' q l h r;
+      map-because = λ q l f. map-says x b a b' q l x refl h f .because;
+      map-untouched = λ q l f. map-says x b a b' q l x refl h f .unchanged;
       check-refuses = check-refuses x t;
       check-because = λ q l f. check-because x t q l x refl f;
     }
@@ -230,7 +227,7 @@ pub sheet-demand-1 : (s t : List ℕ) (o : ℕ) (b : List ℕ) (a : MapAnswer) (
     → SheetDemand1 s t o b a b'
 unfolding tabulate check
 sheet-demand-1 s t o b a b' h =
-    let d = demand-1 (examine s) t o b a b' (valid-well-formed s) h in
+    let d = demand-1 (examine s) t o b a b' h in
     record {
       refusals = d;
       table-number = λ q l f. table-number s o (length b) q l (d .table-because q l f);

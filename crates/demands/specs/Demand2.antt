@@ -31,10 +31,18 @@ pub record RightNetwork (d : Design) (t : List ℕ) : Type 0 where
   pub drawn : Drawn d t said
   pub values : Computes d said
 
+-- where Map answered a network of n bytes, with the buffer b before and c afterwards: the first n bytes are such a network sheet, and
+-- later bytes are as they were
+pub record MapRight (d : Design) (n : ℕ) (b c : List ℕ) : Type 0 where
+  pub writes : RightNetwork d (take n c)
+  pub fits : n ≤ length b
+  pub same-length : length c ≡ length b
+  pub later : (i : ℕ) → n ≤ i → getD c i 0 ≡ getD b i 0
+
 -- x is an examination's answer, the well-formed design d; o is any number, b any buffer; Map answers a on x and b, and leaves
 -- the buffer b'
 pub record Demand2 (x : Examined) (d : Design) (o : ℕ) (b : List ℕ) (a : MapAnswer) (b' : List ℕ) : Type 0 where
   pub table-right : (n : ℕ) → tableOf x o b .answer ≡ tables.written n → TableRight d o n b (tableOf x o b .buffer)
-  pub map-right : (u n : ℕ) → a ≡ mapped u n → RightNetwork d (take n b')
+  pub map-right : (u n : ℕ) → a ≡ mapped u n → MapRight d n b b'
   pub same-is-right : (t : List ℕ) (w : Network) → Drawn d t w → checkOf x t ≡ checks.same → Computes d w
   pub right-is-same : (t : List ℕ) (w : Network) → Drawn d t w → Computes d w → checkOf x t ≡ checks.same

@@ -22,7 +22,7 @@ use Rattle.network.specs.CompareLaws.{compared-same}
 use Rattle.emit.specs.StoredLaws.{stored-text, stored-at, stored-after}
 use Rattle.mapper.specs.Map.{MapAnswer, mapped, OutcomeFor, too-many-classes, no-network, buffer-short, written, OutcomeOf, Outcome}
 use Rattle.demands.specs.OutcomeLaws.{outcome-for}
-use Rattle.demands.specs.Demand2.{TableRight, RightNetwork, Demand2}
+use Rattle.demands.specs.Demand2.{TableRight, RightNetwork, MapRight, Demand2}
 use Rattle.demands.specs.Demand3Laws.{mapped-not-refused, mapped-length, permitted-drawn}
 
 -- ---- Table
@@ -70,15 +70,20 @@ map-right : (d : Design) (b : List ℕ) {a : MapAnswer} {b' : List ℕ} (u n : �
     → WellFormed d
     → OutcomeFor d b a b'
     → a ≡ mapped u n
-    → RightNetwork d (take n b')
+    → MapRight d n b b'
 map-right d b u n f (too-many-classes h) e = absurd (mapped-not-refused (sym e))
 map-right d b u n f (no-network h k) e = absurd (mapped-not-refused (sym e))
 map-right d b u n f (buffer-short w h p k) e = absurd (mapped-not-refused (sym e))
 map-right d b u n f (written w h p k) e =
-    let t = sets b 0 (printNetwork d w) in
-    let read : take n t ≡ printNetwork d w =
-    ap (λ (i : ℕ). take i t) (sym (mapped-length e)) ∙ stored-text b (printNetwork d w) k in
-    subst (RightNetwork d) (sym read) (record { said = w; drawn = permitted-drawn d f w (p .permitted); values = p .permitted .computes })
+    let t = printNetwork d w in
+    let right : RightNetwork d t = record { said = w; drawn = permitted-drawn d f w (p .permitted); values = p .permitted .computes } in
+    subst (λ (m : ℕ). MapRight d m b (sets b 0 t)) (mapped-length e)
+    (record {
+      writes = subst (RightNetwork d) (sym (stored-text b t k)) right;
+      fits = k;
+      same-length = length-sets b 0 t;
+      later = stored-after b t k;
+    })
 
 design-demand-2 : (d : Design) (o : ℕ) (b : List ℕ) (a : MapAnswer) (b' : List ℕ)
     → WellFormed d

@@ -2,11 +2,11 @@
 use mathlib.Core.Path.{_≡_, refl, sym, ap, _∙_, subst}
 use mathlib.Core.List.{List}
 use mathlib.Core.Logic.{⊎-elim}
-use Prim.Native.Nat.{ℕ, _+_, _≤_}
+use Prim.Native.Nat.{ℕ, _+_, _≤_, _<_}
 use native.Mathlib.Omega.{arith}
 use lib.ListN.{length, take}
 use lib.Seq.{sets}
-use Rattle.limits.specs.Limits.{maxClasses, firstLut}
+use Rattle.limits.specs.Limits.{maxClasses, maxNetwork, firstLut}
 use Rattle.text.specs.Line.{lines, lineAt}
 use Rattle.sheet.specs.Examine.{Design, Examined, valid, examine}
 use Rattle.sheet.specs.WellFormed.{WellFormed}
@@ -24,10 +24,11 @@ use Rattle.network.specs.CompareLaws.{same-or-differs, compared-same}
 use Rattle.network.specs.CheckLaws.{check-compares}
 use Rattle.network.specs.PrintedLaws.{printed-drawn, printed-same, drawn-wellformed, drawn-within}
 use Rattle.emit.specs.StoredLaws.{stored-text}
-use Rattle.mapper.specs.Map.{Permitted, MapAnswer, refused-by, mapped, OutcomeFor, too-many-classes, no-network, buffer-short, written, OutcomeOf, Outcome}
+use Rattle.mapper.specs.Map.{Permitted, First, MapAnswer, refused-by, mapped, OutcomeFor, too-many-classes, no-network, buffer-short, written, OutcomeOf, Outcome}
+use Rattle.mapper.specs.FunctionLaws.{first-one}
 use Rattle.demands.specs.OutcomeLaws.{outcome-for}
 use Rattle.demands.specs.SizeLaws.{print-fits}
-use Rattle.demands.specs.Demand3.{Differs, Cells, Demand3}
+use Rattle.demands.specs.Demand3.{Differs, Cells, TooShort, Demand3}
 
 -- ---- Check on a network that passes 10 and 11 says "same" or "differs"
 same-differs : (a : Checked) → a ≡ same → Differs a → ⊥
@@ -88,12 +89,28 @@ module _ (d : Design) (f : WellFormed d) where
         let m = design-named d f in
         p .fewest v (drawn-wellformed d v m t r) (drawn-within d v m t r) (compared-same d v (sym (check-compares d t v r) ∙ g))
 
+  -- ---- the buffer
+  -- a buffer that holds one first network's print holds that of any other
+  not-too-short : (b : List ℕ) (w : Network) → First d w → length (printNetwork d w) ≤ length b → TooShort d b → ⊥
+  not-too-short b w q h s =
+      let e = ap length (first-one d (s .network) w (s .is-first) q .0) in
+      let l = s .shorter in
+      omega (arith, e, l, h)
+
+  long-not-short : (b : List ℕ) → TooShort d b → maxNetwork ≤ length b → ⊥
+  long-not-short b s h =
+      let p = s .is-first .permitted in
+      let fits = print-fits d (s .network) f (p .wellformed) (p .within) in
+      let l = s .shorter in
+      omega (arith, fits, l, h)
+
   -- ---- each outcome
   demand-written : (b : List ℕ) (w : Network)
-      → Permitted d w
+      → First d w
       → length (printNetwork d w) ≤ length b
       → Demand3 (valid d) d b (mapped (length (w .luts)) (length (printNetwork d w))) (sets b 0 (printNetwork d w))
-  demand-written b w p h =
+  demand-written b w q h =
+      let p = q .permitted in
       let un = length (w .luts) in
       let nn = length (printNetwork d w) in
       let t = sets b 0 (printNetwork d w) in
@@ -102,6 +119,9 @@ module _ (d : Design) (f : WellFormed d) where
         refusal-is-true = λ e. absurd (mapped-not-refused e);
         true-refusal = λ g.
             absurd (same-differs (checkOf (valid d) (printNetwork d w)) (permitted-same w p) (g (printNetwork d w) w (permitted-drawn w p)));
+        short-is-true = λ e. absurd (mapped-not-refused e);
+        true-short = λ s. absurd (not-too-short b w q h s);
+        long-enough = λ _ e. mapped-not-refused e;
         otherwise-mapped = λ _ _. (un, nn, refl);
         counted = λ u n e.
             (let i = mapped-count e in
@@ -121,19 +141,30 @@ module _ (d : Design) (f : WellFormed d) where
       record {
         refusal-is-true = λ _ t w r. differs-or-computes d t w r (h w (drawn-wellformed d w m t r) (drawn-within d w m t r));
         true-refusal = λ _. refl;
+        short-is-true = λ e. absurd (nine-eight (sym e));
+        true-short = λ s. (let p = s .is-first .permitted in absurd (h (s .network) (p .wellformed) (p .within) (p .computes)));
+        long-enough = λ _ e. nine-eight (sym e);
         otherwise-mapped = λ e _. absurd (e refl);
         counted = λ u n e. absurd (mapped-not-refused (sym e));
         same-as-design = λ u n e. absurd (mapped-not-refused (sym e));
         fewest-cells = λ u n e. absurd (mapped-not-refused (sym e));
       }
 
-  demand-short : (b : List ℕ) (w : Network) → Permitted d w → Demand3 (valid d) d b (refused-by 9 0) b
-  demand-short b w p =
+  demand-short : (b : List ℕ) (w : Network)
+      → First d w
+      → length b < length (printNetwork d w)
+      → Demand3 (valid d) d b (refused-by 9 0) b
+  demand-short b w q h =
+      let p = q .permitted in
+      let short : TooShort d b = record { network = w; is-first = q; shorter = h } in
       record {
         refusal-is-true = λ e. absurd (nine-eight e);
         true-refusal = λ g.
             absurd (same-differs (checkOf (valid d) (printNetwork d w)) (permitted-same w p) (g (printNetwork d w) w (permitted-drawn w p)));
-        otherwise-mapped = λ _ g. absurd (g refl);
+        short-is-true = λ _. short;
+        true-short = λ _. refl;
+        long-enough = λ k _. long-not-short b short k;
+        otherwise-mapped = λ _ g. absurd (g short);
         counted = λ u n e. absurd (mapped-not-refused (sym e));
         same-as-design = λ u n e. absurd (mapped-not-refused (sym e));
         fewest-cells = λ u n e. absurd (mapped-not-refused (sym e));
@@ -145,8 +176,8 @@ module _ (d : Design) (f : WellFormed d) where
       → Demand3 (valid d) d b a b'
   design-demand-3 b few (too-many-classes h) = absurd (omega (arith, h, few))
   design-demand-3 b few (no-network h n) = demand-none b n
-  design-demand-3 b few (buffer-short w h p n) = demand-short b w (p .permitted)
-  design-demand-3 b few (written w h p n) = demand-written b w (p .permitted) n
+  design-demand-3 b few (buffer-short w h p n) = demand-short b w p n
+  design-demand-3 b few (written w h p n) = demand-written b w p n
 
 -- ======== Demand 3 for every examination's answer that is a well-formed design
 pub demand-3 : (x : Examined) (d : Design) (b : List ℕ) (a : MapAnswer) (b' : List ℕ)

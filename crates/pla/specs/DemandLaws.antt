@@ -58,7 +58,7 @@ pub panel-demand-1 : (p s t : List ℕ) (o : ℕ) (b : List ℕ) (a : MapAnswer)
     → OutcomeOf (examine p s) b a b'
     → PanelDemand1 p s t o b a b'
 panel-demand-1 p s t o b a b' h =
-    let d = demand-1 (examine p s) t o b a b' (panel-well-formed p s) h in
+    let d = demand-1 (examine p s) t o b a b' h in
     record {
       refusals = d;
       table-number = λ q l f. table-number p s o (length b) q l (d .table-because q l f);
