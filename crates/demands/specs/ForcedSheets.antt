@@ -20,6 +20,7 @@ use Rattle.network.specs.Answers.{Computes, readCount}
 use Rattle.demands.specs.Each.{digits-are}
 use Rattle.demands.specs.Computing.{computing}
 use Rattle.demands.specs.NeededCells.{AtLeast, one-needed}
+use Rattle.demands.specs.FirstTest.{Plain, testing}
 use Rattle.mapper.specs.Map.{Permitted}
 use Rattle.demands.specs.Designs.{designF, designH, bits, node, network}
 use Rattle.demands.specs.Worked.{sheetA, networkA, sheetF, networkF, sheetH, networkH, Prints}
@@ -95,9 +96,13 @@ f-only w p =
     let n : length ds ≡ 4 = p .wellformed .node-fits 0 (subst (λ (k : ℕ). 0 < k) (sym b) (lit< tt)) .counted ∙ ap (λ (k : ℕ). 2 ^ (k + 2)) c in
     e ∙ ap (λ (x : List Bool). network [] (node [] x ∷ [])) (f-node ds n (subst (Computes designF) e (p .computes)))
 
+f-plain : Plain designF f-network
+unfolding computing testing
+f-plain = record { zero-first = tt; entries = (refl, tt) }
+
 pub f-printed : Prints sheetF 0 networkF
 unfolding computing
-f-printed = prints-only sheetF networkF designF f-network f-fewest refl f-only
+f-printed = prints-only sheetF networkF designF f-network f-fewest refl f-plain f-only
 
 -- ---- H
 h-cells : AtLeast 1 designH
@@ -165,9 +170,13 @@ h-only w p =
     ∙ h-tables (getD (w .luts) 0 []) (nodeAt (w .nodes) 0 .digits) (p .wellformed .lut-digits 0 k) (node-digits designH w 0 p (lit< tt) r)
     (p .zero-first 0 k) (subst (Computes designH) e (p .computes))
 
+h-plain : Plain designH h-network
+unfolding computing testing
+h-plain = record { zero-first = (refl, tt); entries = (refl, tt) }
+
 pub h-printed : Prints sheetH 1 networkH
 unfolding computing
-h-printed = prints-only sheetH networkH designH h-network h-fewest refl h-only
+h-printed = prints-only sheetH networkH designH h-network h-fewest refl h-plain h-only
 
 -- ---- A
 a-cells : AtLeast 1 designA
@@ -241,6 +250,10 @@ a-only w p =
     (node-digits designA w 0 p (lit< tt) r) (node-digits designA w 1 p (lit< tt) q) (p .zero-first 0 k)
     (subst (Computes designA) e (p .computes))
 
+a-plain : Plain designA a-network
+unfolding computing testing
+a-plain = record { zero-first = (refl, tt); entries = (refl, (refl, tt)) }
+
 pub a-printed : Prints sheetA 1 networkA
 unfolding computing
-a-printed = prints-only sheetA networkA designA a-network a-fewest refl a-only
+a-printed = prints-only sheetA networkA designA a-network a-fewest refl a-plain a-only

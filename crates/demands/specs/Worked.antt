@@ -8,22 +8,30 @@ use Prim.Native.String.{String}
 use lib.ListN.{length}
 use lib.Seq.{sets}
 use Rattle.text.specs.Bytes.{bytes}
-use Rattle.sheet.specs.Examine.{Design, valid, examine}
+use Rattle.sheet.specs.Examine.{Design, Examined, valid, examine}
 use Rattle.design.specs.Tabulate.{tabulate, untouched}
 use Rattle.classes.specs.Classes.{localCount, globalCount}
 use Rattle.classes.specs.Width.{width}
 use Rattle.network.specs.Check as checks
 use Rattle.network.specs.Check.{check}
-use Rattle.mapper.specs.Map.{MapAnswer, refused-by, mapped, Outcome}
+use Rattle.mapper.specs.Map.{MapAnswer, refused-by, mapped, OutcomeOf, Outcome}
 
--- ======== what is said of Map on a sheet s, for all buffers and every outcome that its definition allows
+-- the definition allows an outcome of Map on what was examined and the buffer b
+pub record HasOutcome (x : Examined) (b : List ℕ) : Type 0 where
+  pub answer : MapAnswer
+  pub buffer : List ℕ
+  pub is-outcome : OutcomeOf x b answer buffer
+
+-- ======== what is said of Map on a sheet s, for all buffers and every outcome that its definition allows; and that it allows one
 -- it refuses by number q and line l
 pub record Refuses (s : List ℕ) (q l : ℕ) : Type 0 where
+  pub has-outcome : (b : List ℕ) → HasOutcome (examine s) b
   pub answers : (b : List ℕ) (a : MapAnswer) (b' : List ℕ) → Outcome s b a b' → a ≡ refused-by q l
   pub untouched : (b : List ℕ) (a : MapAnswer) (b' : List ℕ) → Outcome s b a b' → b' ≡ b
 
 -- it maps, with U = u and the length n; a buffer of fewer bytes is refused by 9
 pub record Maps (s : List ℕ) (u n : ℕ) : Type 0 where
+  pub has-outcome : (b : List ℕ) → HasOutcome (examine s) b
   pub answers : (b : List ℕ) (a : MapAnswer) (b' : List ℕ) → n ≤ length b → Outcome s b a b' → a ≡ mapped u n
   pub short : (b : List ℕ) (a : MapAnswer) (b' : List ℕ) → length b < n → Outcome s b a b' → a ≡ refused-by 9 0
   pub untouched : (b : List ℕ) (a : MapAnswer) (b' : List ℕ) → length b < n → Outcome s b a b' → b' ≡ b

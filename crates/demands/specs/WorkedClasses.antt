@@ -10,7 +10,7 @@ use Rattle.sheet.specs.Examine.{Design, valid, examine}
 use Rattle.classes.specs.Classes.{globalCount}
 use Rattle.demands.specs.Computing.{computing}
 use Rattle.mapper.specs.Map.{MapAnswer, refused-by, OutcomeFor, too-many-classes, no-network, buffer-short, written}
-use Rattle.demands.specs.OutcomeLaws.{outcome-for}
+use Rattle.demands.specs.OutcomeLaws.{outcome-for, outcome-of}
 use Rattle.demands.specs.Designs.{designI4}
 use Rattle.demands.specs.ClassSheets.{i4-classes}
 use Rattle.demands.specs.Worked.{Refuses}
@@ -32,6 +32,7 @@ module _ (s : List ℕ) (d : Design) (e : examine s ≡ valid d) (many : maxClas
   refuses-7 : Refuses s 7 0
   refuses-7 =
       record {
+        has-outcome = λ b. record { answer = refused-by 7 0; buffer = b; is-outcome = outcome-of d e (too-many-classes many) };
         answers = λ b a b' o. says-7 (outcome-for d e o) .0;
         untouched = λ b a b' o. says-7 (outcome-for d e o) .1;
       }

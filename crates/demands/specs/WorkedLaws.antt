@@ -7,9 +7,12 @@ use mathlib.Core.Option.{none}
 use Prim.Native.Nat.{ℕ, suc, _≤_, _<_}
 use native.Mathlib.Omega.{arith}
 use native.Mathlib.Nat.{le-antisymm}
+use native.Mathlib.Decide.{decLt}
 use lib.ListN.{length}
 use lib.Seq.{sets}
 use Rattle.limits.specs.Limits.{maxClasses}
+use Rattle.order.specs.Order.{before}
+use Rattle.order.specs.OrderLaws.{before-self}
 use Rattle.sheet.specs.Examine.{Design, refused, valid, examine}
 use Rattle.sheet.specs.WellFormed.{WellFormed}
 use Rattle.sheet.specs.ExaminationLaws.{valid-well-formed}
@@ -27,21 +30,19 @@ use Rattle.network.specs.Check.{same}
 use Rattle.network.specs.Value.{lutAt}
 use Rattle.network.specs.NamedLaws.{design-named}
 use Rattle.network.specs.CompareLaws.{compared-same}
-use Rattle.network.specs.LoweredLaws.{spells-length}
-use Rattle.network.specs.PrintedLaws.{drawn-wellformed, drawn-within, drawn-spells}
+use Rattle.network.specs.PrintedLaws.{drawn-wellformed, drawn-within}
 use Rattle.serving.specs.NetworkCore.{networkCore}
 use Rattle.serving.specs.Tells.{core-length}
 use Rattle.serving.specs.TheoremA.{drawn-serves}
 use Rattle.serving.specs.FullReads.{reads-width}
 use Rattle.mapper.specs.Map.{Permitted, First, MapAnswer, refused-by, mapped, OutcomeFor, too-many-classes, no-network, buffer-short, written}
-use Rattle.demands.specs.LengthLaws.{same-length}
 use Rattle.mapper.specs.FunctionLaws.{first-one}
 use Rattle.demands.specs.Each.{each-below}
 use Rattle.demands.specs.NeededCells.{AtLeast}
 use Rattle.demands.specs.FirstTest.{Ask, Tested, Plain}
 use Rattle.demands.specs.FirstTestLaws.{first-tested, plain-unproduced}
-use Rattle.demands.specs.OutcomeLaws.{outcome-for, outcome-refused}
-use Rattle.demands.specs.Worked.{Refuses, Maps, Prints}
+use Rattle.demands.specs.OutcomeLaws.{outcome-for, outcome-refused, outcome-of, refusal-outcome}
+use Rattle.demands.specs.Worked.{HasOutcome, Refuses, Prints}
 
 least-network : (s : List ℕ) (d : Design) (u : ℕ)
     → examine s ≡ valid d
@@ -71,6 +72,7 @@ module _ (s : List ℕ) (d : Design) (e : examine s ≡ valid d) (few : globalCo
   pub refuses-8 : Refuses s 8 0
   refuses-8 =
       record {
+        has-outcome = λ b. record { answer = refused-by 8 0; buffer = b; is-outcome = outcome-of d e (no-network few none-within) };
         answers = λ b a b' o. says-8 (outcome-for d e o) .0;
         untouched = λ b a b' o. says-8 (outcome-for d e o) .1;
       }
@@ -130,34 +132,6 @@ module _ (s t : List ℕ) (d : Design) (w : Network) (x : Fewest s t d w) where
   pub reads-of : (v : Network) → Permitted d v → (o : ℕ) → o < length (d .outputs) → readCount v o ≡ budget d (d .bound) o
   reads-of v p = reads-width d v proper (p .wellformed) (p .within) (p .computes)
 
-  length-of : (v : Network) → Permitted d v → length (printNetwork d v) ≡ length t
-  length-of v p =
-      same-length d v w (p .wellformed) well (count-of v p)
-      (λ o h.
-      (let k = subst (λ (n : ℕ). o < n) (p .wellformed .node-each) h in
-      reads-of v p o k ∙ sym (reads-width d w proper well inside drawn-computes o k)))
-      ∙ sym (spells-length d w t (drawn-spells d w named t (x .drawn)))
-
-  says-mapped : {b : List ℕ} {a : MapAnswer} {b' : List ℕ} → length t ≤ length b → OutcomeFor d b a b' → a ≡ mapped (length (w .luts)) (length t)
-  says-mapped k (too-many-classes h) = let f = x .few in absurd (omega (arith, h, f))
-  says-mapped k (no-network h n) = absurd (n w well inside drawn-computes)
-  says-mapped k (buffer-short v h p n) = let g = length-of v (p .permitted) in absurd (omega (arith, g, n, k))
-  says-mapped k (written v h p n) = ap₂ mapped (count-of v (p .permitted)) (length-of v (p .permitted))
-
-  says-short : {b : List ℕ} {a : MapAnswer} {b' : List ℕ} → length b < length t → OutcomeFor d b a b' → (a ≡ refused-by 9 0) × (b' ≡ b)
-  says-short k (too-many-classes h) = let f = x .few in absurd (omega (arith, h, f))
-  says-short k (no-network h n) = absurd (n w well inside drawn-computes)
-  says-short k (buffer-short v h p n) = (refl, refl)
-  says-short k (written v h p n) = let g = length-of v (p .permitted) in absurd (omega (arith, g, n, k))
-
-  maps-fewest : Maps s (length (w .luts)) (length t)
-  maps-fewest =
-      record {
-        answers = λ b a b' k o. says-mapped k (outcome-for d e o);
-        short = λ b a b' k o. says-short k (outcome-for d e o) .0;
-        untouched = λ b a b' k o. says-short k (outcome-for d e o) .1;
-      }
-
   -- ---- a network whose tables are 0 at vertex 0, with 0 in the entries of codes that no vertex has, is permitted
   pub plain-permitted : Plain d w → Permitted d w
   plain-permitted p =
@@ -174,37 +148,72 @@ module _ (s t : List ℕ) (d : Design) (w : Network) (x : Fewest s t d w) where
   tested-first : (n : ℕ) (ks : List Ask) → Plain d w → Tested d n w ks → First d w
   tested-first n ks p k = first-tested d formed n w ks (plain-permitted p) k
 
-  -- ---- where the sheet is its network's print, and no other is first, the sheet is what is written
-  module _ (printed : t ≡ printNetwork d w) where
-    says-text : ((v : Network) → First d v → printNetwork d v ≡ printNetwork d w)
-        → {b : List ℕ} {a : MapAnswer} {b' : List ℕ}
+  -- and where no other is permitted
+  only-first : Plain d w → ((v : Network) → Permitted d v → v ≡ w) → First d w
+  only-first p only =
+      record {
+        permitted = plain-permitted p;
+        none-before = λ v q.
+            ap (λ (u : Network). before (printNetwork d u) (printNetwork d w)) (only v q) ∙ before-self (printNetwork d w);
+      }
+
+  -- ---- where the sheet is the first network's print, it is what is written
+  module _ (printed : t ≡ printNetwork d w) (first : First d w) where
+    text-of : (v : Network) → First d v → printNetwork d v ≡ t
+    text-of v p = first-one d v w p first .0 ∙ sym printed
+
+    length-of : (v : Network) → First d v → length (printNetwork d v) ≡ length t
+    length-of v p = ap length (text-of v p)
+
+    says-mapped : {b : List ℕ} {a : MapAnswer} {b' : List ℕ}
         → length t ≤ length b
         → OutcomeFor d b a b'
-        → b' ≡ sets b 0 t
-    says-text alike k (too-many-classes h) = let f = x .few in absurd (omega (arith, h, f))
-    says-text alike k (no-network h n) = absurd (n w well inside drawn-computes)
-    says-text alike k (buffer-short v h p n) = let g = length-of v (p .permitted) in absurd (omega (arith, g, n, k))
-    says-text alike {b = b} k (written v h p n) = ap (sets b 0) (alike v p ∙ sym printed)
+        → (a ≡ mapped (length (w .luts)) (length t)) × (b' ≡ sets b 0 t)
+    says-mapped k (too-many-classes h) = let f = x .few in absurd (omega (arith, h, f))
+    says-mapped k (no-network h n) = absurd (n w well inside drawn-computes)
+    says-mapped k (buffer-short v h p n) = let g = length-of v p in absurd (omega (arith, g, n, k))
+    says-mapped {b = b} k (written v h p n) = (ap₂ mapped (count-of v (p .permitted)) (length-of v p), ap (sets b 0) (text-of v p))
 
-    prints-alike : ((v : Network) → First d v → printNetwork d v ≡ printNetwork d w) → Prints s (length (w .luts)) t
-    prints-alike alike =
+    says-short : {b : List ℕ} {a : MapAnswer} {b' : List ℕ} → length b < length t → OutcomeFor d b a b' → (a ≡ refused-by 9 0) × (b' ≡ b)
+    says-short k (too-many-classes h) = let f = x .few in absurd (omega (arith, h, f))
+    says-short k (no-network h n) = absurd (n w well inside drawn-computes)
+    says-short k (buffer-short v h p n) = (refl, refl)
+    says-short k (written v h p n) = let g = length-of v p in absurd (omega (arith, g, n, k))
+
+    some-outcome : (b : List ℕ) → HasOutcome (examine s) b
+    some-outcome b =
+        let n = length-of w first in
+        elim (decLt (length b) (length t)) as (λ _. HasOutcome (examine s) b) [
+          | yes h ↦ record { answer = _; buffer = _; is-outcome = outcome-of d e (buffer-short w (x .few) first (omega (arith, n, h))) }
+          | no g ↦ record { answer = _; buffer = _; is-outcome = outcome-of d e (written w (x .few) first (omega (arith, n, g))) }
+        ]
+
+    prints-first : Prints s (length (w .luts)) t
+    prints-first =
         record {
-          maps = maps-fewest;
-          writes = λ b a b' k o. says-text alike k (outcome-for d e o);
+          maps =
+              record {
+                has-outcome = some-outcome;
+                answers = λ b a b' k o. says-mapped k (outcome-for d e o) .0;
+                short = λ b a b' k o. says-short k (outcome-for d e o) .0;
+                untouched = λ b a b' k o. says-short k (outcome-for d e o) .1;
+              };
+          writes = λ b a b' k o. says-mapped k (outcome-for d e o) .1;
         }
 
-    -- since it is the only one that is permitted
-    pub prints-only : ((v : Network) → Permitted d v → v ≡ w) → Prints s (length (w .luts)) t
-    prints-only only = prints-alike (λ v p. ap (printNetwork d) (only v (p .permitted)))
+  -- since it is the only one that is permitted
+  pub prints-only : t ≡ printNetwork d w → Plain d w → ((v : Network) → Permitted d v → v ≡ w) → Prints s (length (w .luts)) t
+  prints-only printed p only = prints-first printed (only-first p only)
 
-    -- since it passes the test
-    pub prints-tested : (n : ℕ) (ks : List Ask) → Plain d w → Tested d n w ks → Prints s (length (w .luts)) t
-    prints-tested n ks p k = prints-alike (λ v q. first-one d v w q (tested-first n ks p k) .0)
+  -- since it passes the test
+  pub prints-tested : t ≡ printNetwork d w → (n : ℕ) (ks : List Ask) → Plain d w → Tested d n w ks → Prints s (length (w .luts)) t
+  prints-tested printed n ks p k = prints-first printed (tested-first n ks p k)
 
 -- ---- a sheet that the examination refuses
 pub refuses-sheet : (s : List ℕ) (q l : ℕ) → examine s ≡ refused q l → Refuses s q l
 refuses-sheet s q l e =
     record {
+      has-outcome = λ b. record { answer = refused-by q l; buffer = b; is-outcome = refusal-outcome q l b e };
       answers = λ b a b' o. outcome-refused q l e o .refusal;
       untouched = λ b a b' o. outcome-refused q l e o .untouched;
     }
