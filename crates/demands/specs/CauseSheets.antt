@@ -113,7 +113,7 @@ i-gh : SameDrawn (part 6 (designI 3))
 unfolding computing part selected
 i-gh = same-drawn (network (tableB5 ∷ tableC5 ∷ []) (withX 0 ∷ withX 1 ∷ [])) refl refl refl
 
-i-said : examine (sheetI "3") ≡ valid (designI 3)
+pub i-said : examine (sheetI "3") ≡ valid (designI 3)
 unfolding computing
 i-said = refl
 
@@ -124,7 +124,7 @@ i-few = omega (arith, i-classes 3)
 i-cells : AtLeast 4 (designI 3)
 i-cells = classes-needed (designI 3) 3 (let e = i-classes 3 in omega (arith, e))
 
-i-refused : Refuses (sheetI "3") 8 0
+pub i-refused : Refuses (sheetI "3") 8 0
 i-refused = refuses-8 (sheetI "3") (designI 3) i-said i-few i-cells
 
 i-cause : CauseIs (sheetI "3") (outputs-of 7)

@@ -119,10 +119,20 @@ designI n =
 abbrev pub designI4 : ℕ → Design
 designI4 n =
     sevenInputs n
-    (output "p" (or2 (and2 (named "a") (named "x")) (and2 (named "e") (named "y")))
-    ∷ output "q" (xor2 (named "b") (named "x"))
-    ∷ output "r" (xor2 (named "c") (named "x"))
-    ∷ output "s" (xor2 (named "d") (named "x"))
+    (output "f" (or2 (and2 (named "a") (named "x")) (and2 (named "e") (named "y")))
+    ∷ output "g" (xor2 (named "b") (named "x"))
+    ∷ output "h" (xor2 (named "c") (named "x"))
+    ∷ output "i" (xor2 (named "d") (named "x"))
+    ∷ [])
+
+-- where a is 0 all outputs are 0; where it is 1 each of them sees another bound input
+abbrev pub design17 : ℕ → Design
+design17 n =
+    sevenInputs n
+    (output "f" (and2 (named "a") (xor2 (named "b") (named "x")))
+    ∷ output "g" (and2 (named "a") (xor2 (named "c") (named "x")))
+    ∷ output "h" (and2 (named "a") (xor2 (named "d") (named "x")))
+    ∷ output "i" (and2 (named "a") (xor2 (named "e") (named "x")))
     ∷ [])
 
 -- digits, and a node by what it reads and its digits

@@ -32,7 +32,8 @@ pub mod CapitalSheets
 pub mod WorkedUnproduced
 pub mod UnproducedSheets
 pub mod ConstantSheets
-pub mod WorkedClasses
 pub mod WorkedCauseLaws
 pub mod WorkedCauses
 pub mod CauseSheets
+pub mod WorkedClasses
+pub mod ClassRefusals

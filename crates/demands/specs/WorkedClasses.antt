@@ -1,54 +1,39 @@
--- Sheet I with a fourth output (clause 16.9): 32 classes, and so a refusal by 7 at limit 0 too, about the definitions. Assumes nothing.
-use mathlib.Core.Path.{_≡_, refl}
+-- Question 7 at its border, about the definitions: sheet I has 16 global classes and is asked 8; a sheet with 17, and sheet I with its
+-- fourth output, which has 32, are refused by 7, at limit 0 too (clauses 9.7 and 16.9). Assumes nothing.
+use mathlib.Core.Path.{_≡_}
 use mathlib.Core.List.{List, _++_}
-use Prim.Native.Nat.{ℕ, _<_}
+use Prim.Native.Nat.{ℕ}
 use Prim.Native.String.{String}
-use native.Mathlib.Omega.{arith}
-use Rattle.limits.specs.Limits.{maxClasses}
 use Rattle.text.specs.Bytes.{bytes}
-use Rattle.sheet.specs.Examine.{Design, valid, examine}
+use Rattle.sheet.specs.Examine.{valid, examine}
 use Rattle.classes.specs.Classes.{globalCount}
-use Rattle.demands.specs.Computing.{computing}
-use Rattle.mapper.specs.Map.{MapAnswer, refused-by, OutcomeFor, too-many-classes, no-network, buffer-short, written}
-use Rattle.demands.specs.OutcomeLaws.{outcome-for, outcome-of}
-use Rattle.demands.specs.Designs.{designI4}
-use Rattle.demands.specs.ClassSheets.{i4-classes}
+use Rattle.demands.specs.Designs.{designI, designI4, design17}
 use Rattle.demands.specs.Worked.{Refuses}
+use Rattle.demands.specs.WorkedCauses.{sheetI}
 
--- by its limit
-abbrev sheetI4 : String → List ℕ
-sheetI4 n =
-    bytes "(design 1)\n(in a b c d e x y)\n(bound a b c d e)\n(limit "
-    ++ (bytes n ++ bytes ")\n(out p (or (and a x) (and e y)))\n(out q (xor b x))\n(out r (xor c x))\n(out s (xor d x))\n(end)\n")
+-- by its limit and its outputs
+abbrev sheetFive : String → String → List ℕ
+sheetFive n os = bytes "(design 1)\n(in a b c d e x y)\n(bound a b c d e)\n(limit " ++ (bytes n ++ (bytes ")\n" ++ (bytes os ++ bytes "(end)\n")))
 
--- ---- a sheet with too many classes is refused by 7
-module _ (s : List ℕ) (d : Design) (e : examine s ≡ valid d) (many : maxClasses < globalCount d (d .bound)) where
-  says-7 : {b : List ℕ} {a : MapAnswer} {b' : List ℕ} → OutcomeFor d b a b' → (a ≡ refused-by 7 0) × (b' ≡ b)
-  says-7 (too-many-classes h) = (refl, refl)
-  says-7 (no-network h n) = absurd (omega (arith, h, many))
-  says-7 (buffer-short w h p n) = absurd (omega (arith, h, many))
-  says-7 (written w h p n) = absurd (omega (arith, h, many))
+abbrev pub sheetI4 : String → List ℕ
+sheetI4 n = sheetFive n "(out f (or (and a x) (and e y)))\n(out g (xor b x))\n(out h (xor c x))\n(out i (xor d x))\n"
 
-  refuses-7 : Refuses s 7 0
-  refuses-7 =
-      record {
-        has-outcome = λ b. record { answer = refused-by 7 0; buffer = b; is-outcome = outcome-of d e (too-many-classes many) };
-        answers = λ b a b' o. says-7 (outcome-for d e o) .0;
-        untouched = λ b a b' o. says-7 (outcome-for d e o) .1;
-      }
+abbrev pub sheet17 : String → List ℕ
+sheet17 n =
+    sheetFive n "(out f (and a (xor b x)))\n(out g (and a (xor c x)))\n(out h (and a (xor d x)))\n(out i (and a (xor e x)))\n"
 
 pub record WorkedClasses : Type 0 where
-  pub classes-i : (n : ℕ) → globalCount (designI4 n) (designI4 n .bound) ≡ 32
-  pub said : examine (sheetI4 "4") ≡ valid (designI4 4)
-  pub sheet-i-4 : Refuses (sheetI4 "4") 7 0
-  pub sheet-i-0 : Refuses (sheetI4 "0") 7 0
-
-pub worked-classes : WorkedClasses
-unfolding computing
-worked-classes =
-    record {
-      classes-i = i4-classes;
-      said = refl;
-      sheet-i-4 = refuses-7 (sheetI4 "4") (designI4 4) refl (let e = i4-classes 4 in omega (arith, e));
-      sheet-i-0 = refuses-7 (sheetI4 "0") (designI4 0) refl (let e = i4-classes 0 in omega (arith, e));
-    }
+  -- 16 pass
+  pub said-i : examine (sheetI "3") ≡ valid (designI 3)
+  pub classes-i : (n : ℕ) → globalCount (designI n) (designI n .bound) ≡ 16
+  pub sheet-i-3 : Refuses (sheetI "3") 8 0
+  -- 17 do not
+  pub said-17 : examine (sheet17 "6") ≡ valid (design17 6)
+  pub classes-17 : (n : ℕ) → globalCount (design17 n) (design17 n .bound) ≡ 17
+  pub sheet-17-6 : Refuses (sheet17 "6") 7 0
+  pub sheet-17-0 : Refuses (sheet17 "0") 7 0
+  -- nor do 32
+  pub said-i4 : examine (sheetI4 "4") ≡ valid (designI4 4)
+  pub classes-i4 : (n : ℕ) → globalCount (designI4 n) (designI4 n .bound) ≡ 32
+  pub sheet-i4-4 : Refuses (sheetI4 "4") 7 0
+  pub sheet-i4-0 : Refuses (sheetI4 "0") 7 0
