@@ -1,4 +1,4 @@
--- BLIF: what a text says (clause 12.5). A model has inputs, outputs and blocks; a block has a cover, whose lines mark
+-- BLIF: what a text says (clause 12.5). A model has a name, inputs, outputs and blocks; a block has a cover, whose lines mark
 -- for each of the block's inputs whether it must be 0, must be 1, or does not matter. Assumes nothing.
 use mathlib.Core.Bool.{Bool}
 use mathlib.Core.List.{List, map}
@@ -21,6 +21,7 @@ abbrev pub drivesOf : List Block → List Signal
 drivesOf bs = map (λ (b : Block). b .drives) bs
 
 pub record Model : Type 0 where
+  pub name : List ℕ
   pub inputs : List Signal
   pub outputs : List Signal
   pub blocks : List Block

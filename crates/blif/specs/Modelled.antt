@@ -10,7 +10,7 @@ use Rattle.names.specs.Name.{Name}
 use Rattle.sheet.specs.Examine.{Design, outputNames}
 use Rattle.classes.specs.Columns.{free}
 use Rattle.network.specs.Network.{Network, Node}
-use Rattle.blif.specs.Printer.{cellName}
+use Rattle.blif.specs.Printer.{cellName, modelName}
 use Rattle.blif.specs.Model.{Mark, must-be, Block, Model}
 
 -- the rows of value 1 of n inputs, where ds are the digits from row r on
@@ -35,6 +35,7 @@ nodeBlocksOf fs (n ∷ ns) (x ∷ xs) = blockOf (map cellName (x .reads) ++ fs) 
 unfoldable pub modelOf : Design → Network → Model
 modelOf d w =
     record {
+      name = modelName;
       inputs = d .inputs;
       outputs = outputNames (d .outputs);
       blocks =

@@ -47,9 +47,13 @@ nodeBlocks fs [] xs = []
 nodeBlocks fs (n ∷ ns) [] = []
 nodeBlocks fs (n ∷ ns) (x ∷ xs) = block (map cellName (x .reads) ++ fs) n (x .digits) ++ nodeBlocks fs ns xs
 
+-- the name of the model
+abbrev pub modelName : List ℕ
+modelName = bytes "panel"
+
 unfoldable pub blifLines : Design → Network → List (List ℕ)
 blifLines d w =
-    bytes ".model panel"
+    (bytes ".model " ++ modelName)
     ∷ (bytes ".inputs" ++ printNames (d .inputs))
     ∷ (bytes ".outputs" ++ printNames (outputNames (d .outputs)))
     ∷ (lutBlocks (d .bound) 0 (w .luts)

@@ -23,7 +23,7 @@ use Rattle.network.specs.Network.{Network, Node}
 use Rattle.network.specs.Parts.{freeOf, namesOf}
 use Rattle.network.specs.PartLaws.{free-named, names-count}
 use Rattle.network.specs.NamedLaws.{design-named}
-use Rattle.blif.specs.Printer.{cellName, rowLine, rowLines, block, lutBlocks, nodeBlocks, blifLines, printBlif}
+use Rattle.blif.specs.Printer.{modelName, cellName, rowLine, rowLines, block, lutBlocks, nodeBlocks, blifLines, printBlif}
 use Rattle.blif.specs.Words.{plainByte, plain, allPlain, blank, words}
 use Rattle.blif.specs.Model.{Signal, Mark, must-be, Block, Model}
 use Rattle.blif.specs.Reader.{Said, inputs, outputs, names, cover, end, said, wordLines}
@@ -36,14 +36,14 @@ use Rattle.blif.specs.DesignWordLaws.{inputs-words, bound-words, frees-w
 use Rattle.blif.specs.SaidLaws.{Says, line-said, inputs-said, outputs-said, names-said, row-said, end-said}
 use Rattle.blif.specs.PlainLaws.{all-plain-unbroken, all-plain-append, names-plain, printed-plain, luts-plain, nodes-plain}
 
--- what a reader makes of the lines from some line on
+-- what a reader makes of the lines from some line on, in a model of the name that is printed
 abbrev readLines : List (List ℕ) → Option Rest
-readLines ls = readRest (map said (wordLines ls))
+readLines ls = readRest modelName (map said (wordLines ls))
 
 line-read : (l : List ℕ) (x : Said) (ls : List (List ℕ))
     → Says l x
-    → readLines (l ∷ ls) ≡ readRest (x ∷ map said (wordLines ls))
-line-read l x ls h = ap readRest (line-said l x ls h)
+    → readLines (l ∷ ls) ≡ readRest modelName (x ∷ map said (wordLines ls))
+line-read l x ls h = ap (readRest modelName) (line-said l x ls h)
 
 -- ---- rows
 row-read : (vs : List Bool) (c : List (List Mark)) (m : Model) (ls : List (List ℕ))
@@ -74,7 +74,7 @@ rows-long n r (false ∷ ds) = rows-long n (suc r) ds
 
 -- ---- blocks
 abbrev withBlocks : List Block → Model → Model
-withBlocks bs m = record { inputs = m .inputs; outputs = m .outputs; blocks = bs ++ m .blocks }
+withBlocks bs m = record { name = m .name; inputs = m .inputs; outputs = m .outputs; blocks = bs ++ m .blocks }
 
 -- the model alone, no cover line before it
 abbrev just : Model → Option Rest
@@ -125,32 +125,32 @@ nodes-read fs (n ∷ ns) (x ∷ xs) m ls h k e =
     (and-left (isWord n) (allWords ns) k)
     (nodes-read fs ns xs m ls h (and-right (isWord n) (allWords ns) k) e)
 
-end-read : readLines (bytes ".end" ∷ []) ≡ just (record { inputs = []; outputs = []; blocks = [] })
+end-read : readLines (bytes ".end" ∷ []) ≡ just (record { name = modelName; inputs = []; outputs = []; blocks = [] })
 unfolding readRest wordLines
 end-read = line-read (bytes ".end") end [] end-said
 
 -- ---- the lines before the blocks
 outputs-read : (ns : List Name) (bs : List Block) (ls : List (List ℕ))
     → allWords ns ≡ true
-    → readLines ls ≡ just (record { inputs = []; outputs = []; blocks = bs })
-    → readLines ((bytes ".outputs" ++ printNames ns) ∷ ls) ≡ just (record { inputs = []; outputs = ns; blocks = bs })
+    → readLines ls ≡ just (record { name = modelName; inputs = []; outputs = []; blocks = bs })
+    → readLines ((bytes ".outputs" ++ printNames ns) ∷ ls) ≡ just (record { name = modelName; inputs = []; outputs = ns; blocks = bs })
 unfolding readRest
 outputs-read ns bs ls h e =
     line-read (bytes ".outputs" ++ printNames ns) (outputs ns) ls (outputs-said ns h)
     ∙ ap (λ (r : Option Rest). onward r (withOutputs ns)) e
-    ∙ ap (λ (ms : List Signal). just (record { inputs = []; outputs = ms; blocks = bs })) (append-nil ns)
+    ∙ ap (λ (ms : List Signal). just (record { name = modelName; inputs = []; outputs = ms; blocks = bs })) (append-nil ns)
 
 inputs-read : (ns os : List Name) (bs : List Block) (ls : List (List ℕ))
     → allWords ns ≡ true
-    → readLines ls ≡ just (record { inputs = []; outputs = os; blocks = bs })
-    → readLines ((bytes ".inputs" ++ printNames ns) ∷ ls) ≡ just (record { inputs = ns; outputs = os; blocks = bs })
+    → readLines ls ≡ just (record { name = modelName; inputs = []; outputs = os; blocks = bs })
+    → readLines ((bytes ".inputs" ++ printNames ns) ∷ ls) ≡ just (record { name = modelName; inputs = ns; outputs = os; blocks = bs })
 unfolding readRest
 inputs-read ns os bs ls h e =
     line-read (bytes ".inputs" ++ printNames ns) (inputs ns) ls (inputs-said ns h)
     ∙ ap (λ (r : Option Rest). onward r (withInputs ns)) e
-    ∙ ap (λ (ms : List Signal). just (record { inputs = ms; outputs = os; blocks = bs })) (append-nil ns)
+    ∙ ap (λ (ms : List Signal). just (record { name = modelName; inputs = ms; outputs = os; blocks = bs })) (append-nil ns)
 
-model-read : (ls : List (List ℕ)) → readModel (wordLines (bytes ".model panel" ∷ ls)) ≡ readLines ls
+model-read : (ls : List (List ℕ)) → readModel (wordLines ((bytes ".model " ++ modelName) ∷ ls)) ≡ readLines ls
 unfolding wordLines words blank same
 model-read ls = refl
 
@@ -176,14 +176,14 @@ module _ (d : Design) (w : Network) (f : WellFormed d) where
       let nodesOf = nodeBlocksOf (freeOf d) (namesOf d) (w .nodes) in
       let blocks = luts ++ (nodes ++ last) in
       let below = (bytes ".outputs" ++ printNames (namesOf d)) ∷ blocks in
-      let e : readLines (nodes ++ last) ≡ just (record { inputs = []; outputs = []; blocks = nodesOf }) =
-      nodes-read (freeOf d) (namesOf d) (w .nodes) (record { inputs = []; outputs = []; blocks = [] }) last
+      let e : readLines (nodes ++ last) ≡ just (record { name = modelName; inputs = []; outputs = []; blocks = nodesOf }) =
+      nodes-read (freeOf d) (namesOf d) (w .nodes) (record { name = modelName; inputs = []; outputs = []; blocks = [] }) last
       (frees-words d f) (outputs-words d f) end-read
-      ∙ ap (λ (bs : List Block). just (record { inputs = []; outputs = []; blocks = bs })) (append-nil nodesOf) in
+      ∙ ap (λ (bs : List Block). just (record { name = modelName; inputs = []; outputs = []; blocks = bs })) (append-nil nodesOf) in
       model-read ((bytes ".inputs" ++ printNames (d .inputs)) ∷ below)
       ∙ inputs-read (d .inputs) (namesOf d) (lutsOf ++ nodesOf) below (inputs-words d f)
       (outputs-read (namesOf d) (lutsOf ++ nodesOf) blocks (outputs-words d f)
-      (luts-read (d .bound) 0 (w .luts) (record { inputs = []; outputs = []; blocks = nodesOf }) (nodes ++ last) (bound-words d f) e))
+      (luts-read (d .bound) 0 (w .luts) (record { name = modelName; inputs = []; outputs = []; blocks = nodesOf }) (nodes ++ last) (bound-words d f) e))
 
   lines-plain : allPlain (blifLines d w) ≡ true
   unfolding blifLines allPlain plain plainByte

@@ -94,14 +94,14 @@ abbrev pub withInputs : List Signal → Rest → Option Rest
 withInputs ss r =
     let m = r .model in
     pick (noCover (r .cover))
-    (some (record { cover = []; model = record { inputs = ss ++ m .inputs; outputs = m .outputs; blocks = m .blocks } }))
+    (some (record { cover = []; model = record { name = m .name; inputs = ss ++ m .inputs; outputs = m .outputs; blocks = m .blocks } }))
     none
 
 abbrev pub withOutputs : List Signal → Rest → Option Rest
 withOutputs ss r =
     let m = r .model in
     pick (noCover (r .cover))
-    (some (record { cover = []; model = record { inputs = m .inputs; outputs = ss ++ m .outputs; blocks = m .blocks } }))
+    (some (record { cover = []; model = record { name = m .name; inputs = m .inputs; outputs = ss ++ m .outputs; blocks = m .blocks } }))
     none
 
 -- a cover line marks as many inputs as its block has
@@ -114,25 +114,26 @@ withBlock ss s r =
     let m = r .model in
     let b : Block = record { reads = ss; drives = s; cover = r .cover } in
     pick (allLong (length ss) (r .cover))
-    (some (record { cover = []; model = record { inputs = m .inputs; outputs = m .outputs; blocks = b ∷ m .blocks } }))
+    (some (record { cover = []; model = record { name = m .name; inputs = m .inputs; outputs = m .outputs; blocks = b ∷ m .blocks } }))
     none
 
 abbrev pub withCover : List Mark → Rest → Option Rest
 withCover ms r = some (record { cover = ms ∷ r .cover; model = r .model })
 
 -- `.end` is the last
-abbrev pub ended : List Said → Option Rest
-ended [] = some (record { cover = []; model = record { inputs = []; outputs = []; blocks = [] } })
-ended (l ∷ ls) = none
+abbrev pub ended : List ℕ → List Said → Option Rest
+ended n [] = some (record { cover = []; model = record { name = n; inputs = []; outputs = []; blocks = [] } })
+ended n (l ∷ ls) = none
 
-unfoldable pub readRest : List Said → Option Rest
-readRest [] = none
-readRest (inputs ss ∷ ls) = onward (readRest ls) (withInputs ss)
-readRest (outputs ss ∷ ls) = onward (readRest ls) (withOutputs ss)
-readRest (names ss s ∷ ls) = onward (readRest ls) (withBlock ss s)
-readRest (cover ms ∷ ls) = onward (readRest ls) (withCover ms)
-readRest (end ∷ ls) = ended ls
-readRest (not-understood ∷ ls) = none
+-- in the model of name n
+unfoldable pub readRest : List ℕ → List Said → Option Rest
+readRest n [] = none
+readRest n (inputs ss ∷ ls) = onward (readRest n ls) (withInputs ss)
+readRest n (outputs ss ∷ ls) = onward (readRest n ls) (withOutputs ss)
+readRest n (names ss s ∷ ls) = onward (readRest n ls) (withBlock ss s)
+readRest n (cover ms ∷ ls) = onward (readRest n ls) (withCover ms)
+readRest n (end ∷ ls) = ended n ls
+readRest n (not-understood ∷ ls) = none
 
 -- the words of each line; a line without a word says nothing
 abbrev pub kept : List Signal → List (List Signal) → List (List Signal)
@@ -144,15 +145,19 @@ wordLines [] = []
 wordLines (l ∷ ls) = kept (words l) (wordLines ls)
 
 -- `.model` and one name come first
-abbrev pub isModel : List Signal → Bool
-isModel [] = false
-isModel (w ∷ []) = false
-isModel (w ∷ n ∷ []) = same w (bytes ".model")
-isModel (w ∷ n ∷ m ∷ ws) = false
+abbrev pub modelLine : List (List ℕ) → Option (List ℕ)
+modelLine [] = none
+modelLine (w ∷ []) = none
+modelLine (w ∷ n ∷ []) = pick (same w (bytes ".model")) (some n) none
+modelLine (w ∷ n ∷ m ∷ ws) = none
+
+abbrev pub readNamed : Option (List ℕ) → List (List Signal) → Option Rest
+readNamed none ls = none
+readNamed (some n) ls = readRest n (map said ls)
 
 abbrev pub readModel : List (List Signal) → Option Rest
 readModel [] = none
-readModel (l ∷ ls) = pick (isModel l) (readRest (map said ls)) none
+readModel (l ∷ ls) = readNamed (modelLine l) ls
 
 -- ---- no signal is driven twice, by inputs and blocks together
 unfoldable pub once : List Signal → Bool

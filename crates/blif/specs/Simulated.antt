@@ -8,6 +8,7 @@ use Prim.Native.Nat.{ℕ, _^_, _≤_, _<_}
 use lib.ListN.{length, getD, take}
 use Rattle.limits.specs.Limits.{maxBlif}
 use Rattle.rows.specs.Row.{valuesOf}
+use Rattle.text.specs.Bytes.{bytes}
 use Rattle.sheet.specs.Examine.{Design, Examined, valid, outputNames}
 use Rattle.sheet.specs.Value.{outputOn}
 use Rattle.network.specs.Network.{Network}
@@ -25,11 +26,12 @@ use Rattle.blif.specs.Export.{exportOf, refused-by, written}
 abbrev pub outputSignal : Design → ℕ → Signal
 outputSignal d o = getD (outputNames (d .outputs)) o []
 
--- the text t is read in BLIF, its inputs and outputs are those of the design in the order of its sheet, and on every row every
--- output has the value that f says
+-- the text t is read in BLIF, its model is `panel`, its inputs and outputs are those of the design in the order of its sheet, and on
+-- every row every output has the value that f says
 pub record Simulates (d : Design) (f : ℕ → ℕ → Bool) (t : List ℕ) : Type 0 where
   pub model : Model
   pub is-read : readBlif t ≡ some model
+  pub name-is : model .name ≡ bytes "panel"
   pub inputs-are : model .inputs ≡ d .inputs
   pub outputs-are : model .outputs ≡ outputNames (d .outputs)
   pub valued : (o r : ℕ)

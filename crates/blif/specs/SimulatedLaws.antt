@@ -38,6 +38,7 @@ simulated d w f g =
     record {
       model = modelOf d w;
       is-read = text-read d w f (signals-once d w f g);
+      name-is = refl;
       inputs-are = refl;
       outputs-are = refl;
       valued = λ o r l m. output-valued d w f g r o l;
@@ -52,6 +53,7 @@ simulates-another d f g t h s =
     record {
       model = s .model;
       is-read = s .is-read;
+      name-is = s .name-is;
       inputs-are = s .inputs-are;
       outputs-are = s .outputs-are;
       valued = λ o r l m. s .valued o r l m ∙ ap some (h o r l m);

@@ -8,6 +8,7 @@ use mathlib.Core.Option.{Option, some, none}
 use Prim.Native.Nat.{ℕ}
 use Prim.Native.String.{String}
 use Rattle.text.specs.Bytes.{bytes}
+use Rattle.design.specs.Sheets.{sheetCapitals}
 use Rattle.blif.specs.Model.{Model}
 use Rattle.blif.specs.Reader.{readBlif}
 use Rattle.blif.specs.Value.{valueIn}
@@ -45,6 +46,18 @@ blanks = bytes "                                                                
 abbrev buffer : List ℕ
 buffer = blanks ++ (blanks ++ bytes " !?")
 
+-- sheet A with capitals, and a network of it with every name in another case: the text spells each name as the sheet first gives it
+abbrev networkOtherCase : List ℕ
+networkOtherCase =
+    bytes "(network 1)\n(lut _0 (a b c) 01101001)\n"
+    ++ bytes "(node f (_0 D) 0110)\n(node G (_0 D) 0001)\n(count 1)\n(end)\n"
+
+abbrev textCapitals : List ℕ
+textCapitals =
+    bytes ".model panel\n.inputs A B C d\n.outputs F g\n"
+    ++ (bytes ".names A B C CC_0\n001 1\n010 1\n100 1\n111 1\n"
+    ++ bytes ".names CC_0 d F\n01 1\n10 1\n.names CC_0 d g\n11 1\n.end\n")
+
 -- a sheet of constants, whose network has no cells
 abbrev constants : List ℕ
 constants = bytes "(design 1)\n(in a)\n(bound a)\n(limit 0)\n(out f 1)\n(out g 0)\n(end)\n"
@@ -59,6 +72,14 @@ constantText = bytes ".model panel\n.inputs a\n.outputs f g\n.names f\n1\n.names
 abbrev valueOf : Option Model → List Bool → Option Bool
 valueOf none vs = none
 valueOf (some m) vs = valueIn m vs (bytes "f")
+
+-- the name of the model that a text says
+abbrev nameOf : Option Model → Option (List ℕ)
+nameOf none = none
+nameOf (some m) = some (m .name)
+
+abbrev nameIn : List ℕ → Option (List ℕ)
+nameIn t = nameOf (readBlif t)
 
 abbrev atF : List ℕ → List Bool → Option Bool
 atF t vs = valueOf (readBlif t) vs
@@ -82,7 +103,10 @@ pub record Worked : Type 0 where
   pub over-its-width : export sheet wide [] ≡ untouched 11 5 []
   pub constants-written : export constants constantNetwork blanks
       ≡ record { answer = written 61; buffer = constantText ++ bytes "             " }
+  pub capitals-written : export sheetCapitals networkOtherCase buffer ≡ record { answer = written 136; buffer = textCapitals ++ bytes "             !?" }
   -- reading
+  pub model-named : nameIn text ≡ some (bytes "panel")
+  pub other-name : nameIn other ≡ some (bytes "m")
   pub f-odd : atF text (true ∷ false ∷ false ∷ false ∷ []) ≡ some true
   pub f-even : atF text (true ∷ false ∷ false ∷ true ∷ []) ≡ some false
   pub constant-one : atF constantText (false ∷ []) ≡ some true
@@ -122,6 +146,9 @@ worked =
       one-byte-short = refl;
       over-its-width = refl;
       constants-written = refl;
+      capitals-written = refl;
+      model-named = refl;
+      other-name = refl;
       f-odd = refl;
       f-even = refl;
       constant-one = refl;
