@@ -100,9 +100,9 @@ pub extern "C" fn cellmapper_export(
 }
 
 #[no_mangle]
-pub extern "C" fn cellmapper_line(
-    sheet: &[u8],
-    network: &[u8],
+pub extern "C" fn cellmapper_line<'a>(
+    sheet: &'a [u8],
+    network: &'a [u8],
     number: usize,
     line: usize,
     second: &mut usize,
