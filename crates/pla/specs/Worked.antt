@@ -13,7 +13,7 @@ use Rattle.design.specs.Tabulate.{tableOf, untouched}
 use Rattle.network.specs.Check as checks
 use Rattle.network.specs.Check.{checkOf}
 use Rattle.mapper.specs.Map.{MapAnswer, refused-by, mapped, OutcomeOf}
-use Rattle.demands.specs.Worked.{sheetA, networkA, networkJ, complementJ}
+use Rattle.demands.specs.Worked.{HasOutcome, sheetA, networkA, networkJ, complementJ}
 use Rattle.panel.specs.Worked.{plaA, boardA}
 use Rattle.panel.specs.Examine.{examine}
 use Rattle.pla.specs.SameTables.{SameAnswers}
@@ -33,6 +33,7 @@ pub record WorkedPla : Type 0 where
   pub check-complement : checkOf pairA complementJ ≡ checks.same
   -- Map: "exactly 96 bytes"
   pub network-bytes : length networkA ≡ 96
+  pub map-has-outcome : (b : List ℕ) → HasOutcome pairA b
   pub map-answers : (b : List ℕ) (a : MapAnswer) (b' : List ℕ) → 96 ≤ length b → OutcomeOf pairA b a b' → a ≡ mapped 1 96
   pub map-writes : (b : List ℕ) (a : MapAnswer) (b' : List ℕ) → 96 ≤ length b → OutcomeOf pairA b a b' → b' ≡ sets b 0 networkA
   pub map-short : (b : List ℕ) (a : MapAnswer) (b' : List ℕ) → length b < 96 → OutcomeOf pairA b a b' → a ≡ refused-by 9 0
@@ -41,5 +42,6 @@ pub record WorkedPla : Type 0 where
   pub as-sheet : SameAnswers pairA (sheets.examine sheetA)
   -- a pair that the examination refuses
   pub refused-table : (o : ℕ) (b : List ℕ) → tableOf (examine [] boardA) o b ≡ untouched 12 0 b
+  pub refused-has-outcome : (b : List ℕ) → HasOutcome (examine [] boardA) b
   pub refused-map : (b : List ℕ) (a : MapAnswer) (b' : List ℕ) → OutcomeOf (examine [] boardA) b a b' → a ≡ refused-by 12 0
   pub refused-check : (t : List ℕ) → checkOf (examine [] boardA) t ≡ checks.refused-by 12 0

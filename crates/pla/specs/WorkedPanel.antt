@@ -10,10 +10,10 @@ use Rattle.sheet.specs.Examine as sheets
 use Rattle.sheet.specs.Examine.{refused, valid}
 use Rattle.sheet.specs.Value.{outputOn}
 use Rattle.design.specs.Sheets.{designA}
-use Rattle.mapper.specs.Map.{MapAnswer, OutcomeOf}
+use Rattle.mapper.specs.Map.{MapAnswer, refused-by, OutcomeOf}
 use Rattle.demands.specs.Computing as demands
-use Rattle.demands.specs.OutcomeLaws.{outcome-refused}
-use Rattle.demands.specs.Worked.{sheetA}
+use Rattle.demands.specs.OutcomeLaws.{outcome-refused, refusal-outcome}
+use Rattle.demands.specs.Worked.{HasOutcome, sheetA}
 use Rattle.demands.specs.ForcedSheets.{a-printed}
 use Rattle.panel.specs.Computing as panels
 use Rattle.panel.specs.Examine.{examine}
@@ -66,6 +66,10 @@ as-sheet = pair-as-sheet plaA boardA sheetA panelA designA pair-said sheet-said 
 there : (b : List ℕ) (a : MapAnswer) (b' : List ℕ) → OutcomeOf (examine plaA boardA) b a b' → OutcomeOf (sheets.examine sheetA) b a b'
 there = as-sheet .map-there
 
+-- and one on the sheet is one on the pair
+pair-has : (b : List ℕ) → HasOutcome (sheets.examine sheetA) b → HasOutcome (examine plaA boardA) b
+pair-has b h = record { answer = h .answer; buffer = h .buffer; is-outcome = as-sheet .map-back b (h .answer) (h .buffer) (h .is-outcome) }
+
 pub worked-pla : WorkedPla
 unfolding demands.computing panels.computing
 worked-pla =
@@ -77,12 +81,14 @@ worked-pla =
       check-differs = refl;
       check-complement = refl;
       network-bytes = refl;
+      map-has-outcome = λ b. pair-has b (a-printed .maps .has-outcome b);
       map-answers = λ b a b' k x. a-printed .maps .answers b a b' k (there b a b' x);
       map-writes = λ b a b' k x. a-printed .writes b a b' k (there b a b' x);
       map-short = λ b a b' k x. a-printed .maps .short b a b' k (there b a b' x);
       map-untouched = λ b a b' k x. a-printed .maps .untouched b a b' k (there b a b' x);
       as-sheet = as-sheet;
       refused-table = λ o b. refl;
+      refused-has-outcome = λ b. record { answer = refused-by 12 0; buffer = b; is-outcome = refusal-outcome 12 0 b pair-refused };
       refused-map = λ b a b' x. outcome-refused 12 0 pair-refused x .refusal;
       refused-check = λ t. refl;
     }
