@@ -99,7 +99,8 @@ def refusal_faults(header):
 def function_faults(header):
     declared = set(re.findall(r"^uint32_t (cellmapper_\w+)\(", header, re.M))
     code = (ROOT / "crates/cellmapper/src/lib.rt").read_text()
-    return [f"{name} is not both declared and there" for name in sorted(declared ^ set(re.findall(r'^pub extern "C" fn (\w+)(?:<'a>)?\(', code, re.M)))]
+    there = set(re.findall(r"""^pub extern "C" fn (\w+)(?:<'a>)?\(""", code, re.M))
+    return [f"{name} is not both declared and there" for name in sorted(declared ^ there)]
 
 
 def version_faults(header):
