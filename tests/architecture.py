@@ -1,8 +1,10 @@
 #!/usr/bin/env python3
-"""Compares docs/ARCHITECTURE.md with crates.txt, and crates.txt with the imports of the code: every crate stands in one table
-of the page, none before one that it is built on unless the two are in different sections; every crate stands in the page's
-drawing, and every name in square brackets there is a crate; docs/PROVING.md has a time for every crate and for nothing else;
-and every crate that a crate's files import is among those that crates.txt says it rests on."""
+"""Compares docs/ARCHITECTURE.md with crates.txt, and crates.txt with the code: every crate stands in one table of the page,
+none before one that it is built on unless the two are in different sections; every crate stands in the page's drawing, and
+every name in square brackets there is a crate; docs/PROVING.md has a time for every crate and for nothing else; and crates.txt
+lists for each crate, in the order of its lines, the crates that it needs itself and no others. Needed are the crates that its
+files import, and those that declare a type which its code reaches: a type in the signature of a function that the code names,
+in the fields or in the methods' signatures of a type that it names, and so on from these types."""
 import pathlib
 import re
 import sys
@@ -11,26 +13,53 @@ ROOT = pathlib.Path(__file__).resolve().parent.parent
 PAGE = "docs/ARCHITECTURE.md"
 TIMES = "docs/PROVING.md"
 CRATE = re.compile(r"`([a-z0-9_]+)`")
+BLOCK = re.compile(r"^(?:pub )?(?:struct|enum|impl(?:<.*?>)?) (\w+)(.*?)(?=^\S|\Z)", re.M | re.S)
+TYPE = re.compile(r"(?:\b(\w+)::)?\b([A-Z]\w*)")
 LAST_SECTION = "## What is still to come"
 TIMES_SECTION = "## How long each crate takes"
 
 
 def listed():
-    """NAME: the names that it rests on, from crates.txt"""
+    """NAME: the names that its line of crates.txt lists"""
     lines = (line.split("#")[0].strip() for line in (ROOT / "crates.txt").read_text().splitlines())
     return {name.strip(): rest.split() for name, rest in (line.split(":") for line in lines if line)}
 
 
-def imported(name, crates):
-    """the repository's crates that the files of a crate name in their imports"""
-    found = set()
-    for path in (ROOT / "crates" / name).rglob("*"):
-        if path.suffix == ".rt":
-            found |= set(re.findall(r"\b([a-z0-9_]+)::", path.read_text()))
-            found |= set(re.findall(r"Rattle·([a-z0-9_]+)", path.read_text()))
-        elif path.suffix == ".antt":
-            found |= set(re.findall(r"^use Rattle·([a-z0-9_]+)", path.read_text(), re.M))
-    return (found & set(crates)) - {name}
+def source(name):
+    """the code of a crate, without its comments"""
+    return "".join(re.sub("//.*", "", path.read_text()) for path in (ROOT / "crates" / name).rglob("*.rt"))
+
+
+def imported(name):
+    """the crates that the files of a crate name in their imports"""
+    found = re.findall(r"\b([a-z0-9_]+)::", source(name)) + re.findall(r"Rattle·([a-z0-9_]+)", source(name))
+    for path in (ROOT / "crates" / name).rglob("*.antt"):
+        found += re.findall(r"^use Rattle·([a-z0-9_]+)", path.read_text(), re.M)
+    return set(found)
+
+
+def shown(name):
+    """each function and type of a crate, as (CRATE, ITEM): such pairs for the types in the function's signature, or in the type's
+    fields and its methods' signatures"""
+    code = source(name)
+    owner = {item: crate for crate, item in re.findall(r"^use (\w+)::(\w+);", code, re.M)}
+    parts = re.findall(r"\bfn (\w+)([^{]*)", code)
+    for item, block in BLOCK.findall(code):
+        fields, *methods = block.split("fn ")
+        parts += [(item, fields)] + [(item, method.split("{")[0]) for method in methods]
+    types = {(name, item): set() for item, _ in parts}
+    for item, part in parts:
+        types[name, item] |= {(crate or owner.get(word, name), word) for crate, word in TYPE.findall(part)}
+    return types
+
+
+def reached(name, types):
+    """the crates whose functions and types the code of a crate names, and those of the types that are reached from there"""
+    seen, more = set(), set(re.findall(r"\b(\w+)::(\w+)", source(name))) & set(types)
+    while more:
+        seen |= more
+        more = {other for item in more for other in types[item] if other in types} - seen
+    return {crate for crate, _ in seen}
 
 
 def tabled(page, crates):
@@ -70,14 +99,23 @@ def one_each(names, crates, what):
     return missing + [f"{what} has {name}, which is no crate" for name in sorted(set(names) - set(crates))]
 
 
+def in_lines(crates, needs):
+    """what is wrong with the lines of crates.txt"""
+    wrong = []
+    for i, name in enumerate(crates):
+        right = [other for other in crates if other in needs[name]]
+        if [other for other in crates[name] if other in crates] != right:
+            wrong.append(f"{name} needs, in this order, {' '.join(right)}: crates.txt lists something else for it")
+        wrong += [f"crates.txt has {name} before {later}, which it needs" for later in list(crates)[i + 1:] if later in right]
+    return wrong
+
+
 def main():
     crates = listed()
-    needs = {name: imported(name, crates) for name in crates}
+    types = {item: others for name in crates for item, others in shown(name).items()}
+    needs = {name: (imported(name) | reached(name, types)) & set(crates) - {name} for name in crates}
     page = (ROOT / PAGE).read_text()
-    wrong = []
-    for name in crates:
-        for other in sorted(needs[name] - set(crates[name])):
-            wrong.append(f"{name} imports {other}, which crates.txt does not list for it")
+    wrong = in_lines(crates, needs)
     wrong += in_tables(page, crates, needs)
     wrong += one_each(drawn(page), crates, f"the drawing of {PAGE}")
     wrong += one_each(timed(), crates, f"the table of times of {TIMES}")
