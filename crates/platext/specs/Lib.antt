@@ -7,6 +7,7 @@ pub mod LineLaws
 pub mod TextPrintLaws
 pub mod TextReadLaws
 pub mod TextLaws
+pub mod BadLineLaws
 pub mod WritableLaws
 pub mod LinePassLaws
 pub mod CountLaws

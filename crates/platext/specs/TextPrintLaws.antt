@@ -107,7 +107,7 @@ lines-unbroken x w =
     (cubes-unbroken (x .cubes) (w .cubes-fit))
 
 -- ---- the text
-print-lines : (x : Pla) → Writable x → lines (printPla x) ≡ plaLines x
+pub print-lines : (x : Pla) → Writable x → lines (printPla x) ≡ plaLines x
 unfolding printPla
 print-lines x w = lines-of-ended (plaLines x) (lines-unbroken x w)
 
