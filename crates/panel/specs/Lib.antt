@@ -5,7 +5,9 @@ pub mod Board
 pub mod Examine
 pub mod Held
 pub mod Panel
+pub mod OnceLaws
 pub mod WalkLaws
+pub mod RefusalLaws
 pub mod DesignLaws
 pub mod ValueLaws
 pub mod PassLaws

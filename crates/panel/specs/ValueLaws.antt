@@ -23,6 +23,7 @@ use Rattle.platext.specs.Text.{Pla}
 use Rattle.platext.specs.WritableLaws.{cube-fits-at}
 use Rattle.panel.specs.Examine.{outputsFrom}
 use Rattle.panel.specs.Panel.{Panel}
+use Rattle.panel.specs.OnceLaws.{distinct-first}
 use Rattle.panel.specs.DesignLaws.{outputs-count}
 
 -- the formula of each output is its cover
@@ -43,14 +44,16 @@ module _ {p b : List ℕ} {d : Design} (h : Panel p b d) (o r : ℕ) (l : o < le
   unfolding outputOn
   panel-value =
       let x = h .text in
-      let fits = pla-print-of-read p x (h .is-read) .writable in
+      let passed = h .passed in
+      let fits = pla-print-of-read p x (passed .board-passed .text-passed .is-read) .writable in
+      let once = distinct-first (x .inputs) (x .outputs) (passed .names-once) in
       let inside : o < length (x .outputs) = omega (arith, ap length (h .same-outputs), outputs-count x 0 (x .outputs)) in
       let zero-first : 0 + o ≡ o = omega arith in
       let formula : outputAt (d .outputs) o .formula ≡ coverFormula (x .inputs) (x .cubes) o
       = ap (λ (os : List Output). outputAt os o .formula) (h .same-outputs) ∙ output-from x 0 (x .outputs) o inside
       ∙ ap (coverFormula (x .inputs) (x .cubes)) zero-first in
       ap₂ (λ (ns : List Name) (f : Formula). value (onRow ns r) f) (h .same-inputs) formula
-      ∙ cover-value (x .inputs) (x .cubes) o r (h .inputs-once) (λ k i. cube-fits-at (fits .cubes-fit) k i .literals-counted)
+      ∙ cover-value (x .inputs) (x .cubes) o r once (λ k i. cube-fits-at (fits .cubes-fit) k i .literals-counted)
 
 -- in the PLA's own words
 pub panel-says : (p b : List ℕ) (d : Design) (h : Panel p b d) (o r : ℕ)

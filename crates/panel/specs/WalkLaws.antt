@@ -1,16 +1,17 @@
 -- A walk over questions 3 to 5 in the order in which a pair is asked them: the names of the inputs, of each output, and then the
--- second text. What holds of every refusal on the way, and of what is left at the end, holds of the answer. Assumes nothing.
-use mathlib.Core.Path.{_≡_, refl, sym, _∙_}
+-- second text. What holds of every refusal on the way, and of what is left at the end, holds of the answer. A cover is never too deep
+-- and names inputs alone, so of an output only question 4 can be answered "no". Assumes nothing.
+use mathlib.Core.Path.{_≡_, refl, sym, ap, _∙_}
 use mathlib.Core.Bool.{Bool, true, false, not, _&&_}
 use mathlib.Core.List.{List, [], _∷_, _++_, map, append-assoc, append-nil}
 use mathlib.Core.Option.{some}
-use Prim.Native.Nat.{ℕ, suc, _≤_}
+use Prim.Native.Nat.{ℕ, suc, _+_, _≤_, _<_}
 use native.Mathlib.Omega.{arith}
 use lib.Dec.{leb, ltb}
-use lib.ListN.{length}
-use borrow.Author.Tests.{leb-true, ltb-true, not-true}
+use lib.ListN.{length, length-append}
+use borrow.Author.Tests.{leb-true, leb-false, le-leb, lt-ltb, not-true}
 use Rattle.bits.specs.Logic.{pick}
-use Rattle.bits.specs.LogicLaws.{and-left, and-right}
+use Rattle.bits.specs.LogicLaws.{never-both, and-left, and-right, and-both}
 use Rattle.limits.specs.Limits.{maxBound, maxLimit, maxOutputs, maxDepth}
 use Rattle.names.specs.Name.{Name, isName, among, distinct, allAmong}
 use Rattle.names.specs.Spelled.{spelledBy}
@@ -24,49 +25,54 @@ use Rattle.sheet.specs.WellFormed.{RightBound, RightOutputs}
 use Rattle.sheet.specs.AskedLaws.{AllYes}
 use Rattle.sheet.specs.LineRightLaws.{bound-names-right}
 use Rattle.sheet.specs.FurtherOutputLaws.{outputs-more}
-use Rattle.cubes.specs.TermsLaws.{cover-spelled}
+use Rattle.cubes.specs.TermsLaws.{cover-depth, cover-knows, cover-spelled}
 use Rattle.platext.specs.Lines.{outputNamesLine}
 use Rattle.platext.specs.Text.{Pla}
 use Rattle.panel.specs.Board.{boundLine, limitLine}
 use Rattle.panel.specs.Examine.{outputsFrom, askOutputs, askBoard}
+use Rattle.panel.specs.OnceLaws.{designNames, names-with-output, new-once, old-twice}
 
 -- ---- questions in turn
--- the questions after question 2
-abbrev pub Later : List (ℕ × Bool) → Type 0
-Later [] = Unit {0}
-Later (q ∷ qs) = (3 ≤ q .0) × (q .0 ≤ 5) × Later qs
-
--- a "no" to a question after question 2, at line n, has the property P
-abbrev pub Refusable : (Examined → Type 0) → ℕ → Type 0
-Refusable P n = (q : ℕ) → 3 ≤ q → q ≤ 5 → P (refused q n)
+-- the first "no", at line n, has the property P
+abbrev pub Noes : (Examined → Type 0) → ℕ → List (ℕ × Bool) → Type 0
+Noes P n [] = Unit {0}
+Noes P n (q ∷ qs) = (q .1 ≡ false → P (refused (q .0) n)) × (q .1 ≡ true → Noes P n qs)
 
 pub ask-walk : (P : Examined → Type 0) (qs : List (ℕ × Bool)) (t : Step) (n : ℕ) (k : Place → Design → Examined)
-    → Refusable P n
-    → Later qs
+    → Noes P n qs
     → (AllYes qs → P (follow t n k))
     → P (follow (ask qs t) n k)
-ask-walk P [] t n k h l f = f tt
-ask-walk P (q ∷ qs) t n k h l f = go (q .1) refl (λ g. ask-walk P qs t n k h (l .2) g)
+ask-walk P [] t n k h f = f tt
+ask-walk P (q ∷ qs) t n k h f = go (q .1) refl (ask-walk P qs t n k)
   where
     go : (b : Bool)
         → q .1 ≡ b
-        → ((AllYes qs → P (follow t n k)) → P (follow (ask qs t) n k))
+        → (Noes P n qs → (AllYes qs → P (follow t n k)) → P (follow (ask qs t) n k))
         → P (follow (pick b (ask qs t) (no-to (q .0))) n k)
-    go true e g = g (λ y. f (e, y))
-    go false e g = h (q .0) (l .0) (l .1)
+    go true e g = g (h .1 e) (λ y. f (e, y))
+    go false e g = h .0 e
 
 -- ---- the outputs
--- outputs whose names are names, and whose formulas' names are
-abbrev pub Writables : List Output → Type 0
-Writables [] = Unit {0}
-Writables (o ∷ os) = OutputWritable o × Writables os
+-- an output of which question 4 alone is open, beside the inputs ns
+pub record RightCover (ns : List Name) (o : Output) : Type 0 where
+  pub writable : OutputWritable o
+  pub shallow : depth (o .formula) ≤ maxDepth
+  pub known : knows ns (o .formula) ≡ true
 
-pub outputs-writable : (x : Pla) (o : ℕ) (ns : List Name) → allNames (x .inputs) ≡ true → allNames ns ≡ true → Writables (outputsFrom x o ns)
+abbrev pub RightCovers : List Name → List Output → Type 0
+RightCovers ns [] = Unit {0}
+RightCovers ns (o ∷ os) = RightCover ns o × RightCovers ns os
+
+pub covers-right : (x : Pla) (o : ℕ) (ns : List Name) → allNames (x .inputs) ≡ true → allNames ns ≡ true → RightCovers (x .inputs) (outputsFrom x o ns)
 unfolding outputsFrom allNames
-outputs-writable x o [] e f = tt
-outputs-writable x o (n ∷ ns) e f = (
-  record { named = and-left (isName n) (allNames ns) f; formed = cover-spelled (x .inputs) (x .cubes) o e },
-  outputs-writable x (suc o) ns e (and-right (isName n) (allNames ns) f),
+covers-right x o [] e f = tt
+covers-right x o (n ∷ ns) e f = (
+  record {
+    writable = record { named = and-left (isName n) (allNames ns) f; formed = cover-spelled (x .inputs) (x .cubes) o e };
+    shallow = omega (arith, cover-depth (x .inputs) (x .cubes) o);
+    known = cover-knows (x .inputs) (x .cubes) o;
+  },
+  covers-right x (suc o) ns e (and-right (isName n) (allNames ns) f),
 )
 
 -- the design e is d with the outputs os after its own
@@ -74,50 +80,76 @@ pub record WithOutputs (d : Design) (os : List Output) (e : Design) : Type 0 whe
   pub inputs-kept : e .inputs ≡ d .inputs
   pub outputs-added : e .outputs ≡ d .outputs ++ os
   pub outputs-right : RightOutputs (e .inputs) (e .outputs)
+  pub names-once : distinct (designNames e) ≡ true
 
 pub outputs-walk : (P : Examined → Type 0) (os : List Output) (d : Design) (onward : Design → Examined)
-    → Refusable P outputNamesLine
+    → length (d .outputs) + length os ≤ maxOutputs
+    → RightCovers (d .inputs) os
     → RightOutputs (d .inputs) (d .outputs)
-    → Writables os
+    → distinct (designNames d) ≡ true
+    → (distinct (designNames d ++ outputNames os) ≡ false → P (refused 4 outputNamesLine))
     → ((e : Design) → WithOutputs d os e → P (onward e))
     → P (askOutputs d os onward)
 unfolding askOutputs askOut
-outputs-walk P [] d onward h r w f =
-    f d (record { inputs-kept = refl; outputs-added = sym (append-nil (d .outputs)); outputs-right = r })
-outputs-walk P (o ∷ os) d onward h r w f =
+outputs-walk P [] d onward l c r u h f =
+    f d (record { inputs-kept = refl; outputs-added = sym (append-nil (d .outputs)); outputs-right = r; names-once = u })
+outputs-walk P (o ∷ os) d onward l c r u h f =
     let few = ltb (length (d .outputs)) maxOutputs in
     let shallow = leb (depth (o .formula)) maxDepth in
     let free = not (among (o .name) (d .inputs)) in
     let new = not (among (o .name) (outputNames (d .outputs))) in
+    let room : length (d .outputs) < maxOutputs = omega arith in
+    let in-range = and-both few shallow (lt-ltb (length (d .outputs)) maxOutputs room) (le-leb (depth (o .formula)) maxDepth (c .0 .shallow)) in
+    let later : designNames (withOutput d o) ++ outputNames os ≡ designNames d ++ (o .name ∷ outputNames os)
+    = ap (λ (ns : List Name). ns ++ outputNames os) (names-with-output d o) ∙ append-assoc (designNames d) (o .name ∷ []) (outputNames os) in
     ask-walk P
     ((3, few && shallow) ∷ (4, newName d (o .name)) ∷ (5, knows (d .inputs) (o .formula)) ∷ [])
-    (next at-out (withOutput d o)) outputNamesLine (λ _ e. askOutputs e os onward)
-    h (omega arith)
+    (next at-out (withOutput d o)) outputNamesLine (λ _ e. askOutputs e os onward) (
+      λ e. absurd (never-both in-range e),
+      λ _. (
+        λ e. h (old-twice d (o .name) (outputNames os) e),
+        λ _.
+            (λ e. absurd (never-both (c .0 .known) e), λ _. tt),
+      ),
+    )
     (λ y.
-    outputs-walk P os (withOutput d o) onward h
+    outputs-walk P os (withOutput d o) onward
+    (omega (arith, length-append (d .outputs) (o ∷ [])))
+    (c .1)
     (outputs-more (d .inputs) (d .outputs) o r
     (record {
-      named = w .0 .named;
+      named = c .0 .writable .named;
       new = not-true (among (o .name) (d .inputs)) (and-left free new (y .1 .0));
-      shallow = leb-true (depth (o .formula)) maxDepth (and-right few shallow (y .0));
-      known = y .1 .1 .0;
-      formed = w .0 .formed;
+      shallow = c .0 .shallow;
+      known = c .0 .known;
+      formed = c .0 .writable .formed;
     })
-    (ltb-true (length (d .outputs)) maxOutputs (and-left few shallow (y .0)))
+    room
     (not-true (among (o .name) (outputNames (d .outputs))) (and-right free new (y .1 .0))))
-    (w .1)
+    (new-once d o u (y .1 .0))
+    (λ e. h (ap distinct (sym later) ∙ e))
     (λ e g.
     f e
     (record {
       inputs-kept = g .inputs-kept;
       outputs-added = g .outputs-added ∙ append-assoc (d .outputs) (o ∷ []) os;
       outputs-right = g .outputs-right;
+      names-once = g .names-once;
     })))
 
 -- ---- the second text
+-- what questions 3 to 5 leave of the bound names
+pub record BoundPassed (ns bs : List Name) : Type 0 where
+  pub counted : within 1 maxBound (length bs) ≡ true
+  pub once : distinct bs ≡ true
+  pub known : allAmong bs ns ≡ true
+
+abbrev pub boundQuestions : List Name → List Name → List (ℕ × Bool)
+boundQuestions ns bs = (3, within 1 maxBound (length bs)) ∷ (4, distinct bs) ∷ (5, allAmong bs ns) ∷ []
+
 pub board-walk : (P : Examined → Type 0) (bs : List Name) (n : ℕ) (d : Design)
-    → Refusable P boundLine
-    → Refusable P limitLine
+    → Noes P boundLine (boundQuestions (d .inputs) bs)
+    → (BoundPassed (d .inputs) bs → maxLimit < n → P (refused 3 limitLine))
     → (RightBound (d .inputs) (map (spelledBy (d .inputs)) bs)
     → n ≤ maxLimit
     → P (valid (withLimit (withBound d (map (spelledBy (d .inputs)) bs)) n)))
@@ -125,13 +157,12 @@ pub board-walk : (P : Examined → Type 0) (bs : List Name) (n : ℕ) (d : Desig
 unfolding askBound askLimit
 board-walk P bs n d h k f =
     let e = withBound d (map (spelledBy (d .inputs)) bs) in
-    ask-walk P
-    ((3, within 1 maxBound (length bs)) ∷ (4, distinct bs) ∷ (5, allAmong bs (d .inputs)) ∷ [])
+    ask-walk P (boundQuestions (d .inputs) bs)
     (next at-limit e) boundLine (λ _ g. follow (askLimit g (some n)) limitLine (λ _ f. valid f))
-    h (omega arith)
+    h
     (λ y.
     ask-walk P
     ((3, leb n maxLimit) ∷ [])
     (next at-out (withLimit e n)) limitLine (λ _ f. valid f)
-    k (omega arith)
+    (λ z. k (record { counted = y .0; once = y .1 .0; known = y .1 .1 .0 }) (leb-false n maxLimit z), λ _. tt)
     (λ z. f (bound-names-right (d .inputs) bs (y .0) (y .1 .0) (y .1 .1 .0)) (leb-true n maxLimit (z .0))))

@@ -23,6 +23,7 @@ use Rattle.platext.specs.Text.{Pla, Answer, bad-line, pla, readLines, readPla, 
 use Rattle.panel.specs.Questions.{furtherAsked, examineText}
 use Rattle.panel.specs.Board.{readBoard}
 use Rattle.panel.specs.Examine.{outputsOf, withBoard, besideText, examine}
+use Rattle.panel.specs.Panel.{pla-text, second-text, refusedText}
 use Rattle.panel.specs.Computing.{computing}
 
 -- ======== how texts are written here
@@ -198,6 +199,7 @@ pub record WorkedPanels : Type 0 where
   pub p-too-many : asked (afterNames (".p 2" ∷ "1- 1" ∷ ".e" ∷ [])) ≡ refused 12 7
   pub p-too-few : asked (afterNames (".p 0" ∷ "1- 1" ∷ ".e" ∷ [])) ≡ refused 12 7
   pub end-missing : asked (afterNames (".p 1" ∷ "1- 1" ∷ [])) ≡ refused 12 7
+  pub end-missing-lines : length (lines (afterNames (".p 1" ∷ "1- 1" ∷ []))) ≡ 6
   pub text-after-end : asked (afterNames (".p 1" ∷ "1- 1" ∷ ".e" ∷ ".e" ∷ [])) ≡ refused 12 8
   pub last-not-ended : asked (afterNames (".p 1" ∷ "1- 1" ∷ []) ++ bytes ".e") ≡ refused 12 7
   -- ---- 13, asked before 14
@@ -231,6 +233,12 @@ pub record WorkedPanels : Type 0 where
   pub bound-again : askedBeside (board "(bound a a z)" "(limit 9)") ≡ refused 4 1
   pub bound-unknown : askedBeside (board "(bound z)" "(limit 7)") ≡ refused 5 1
   pub limit-7 : askedBeside (board "(bound a)" "(limit 7)") ≡ refused 3 2
+  -- ---- the text that number and line tell, for `end-missing`, `input-again`, `output-again`, `bound-again` and `limit-7`
+  pub end-missing-told : refusedText 12 7 ≡ pla-text
+  pub input-again-told : refusedText 4 3 ≡ pla-text
+  pub output-again-told : refusedText 4 4 ≡ pla-text
+  pub bound-again-told : refusedText 4 1 ≡ second-text
+  pub limit-7-told : refusedText 3 2 ≡ second-text
 
 longest : (p : List ℕ) → length p ≡ 32768 → readPla p ≡ readLines (endsLine p) (lines p)
 unfolding readPla
@@ -300,6 +308,7 @@ worked-panels =
       p-too-many = refl;
       p-too-few = refl;
       end-missing = refl;
+      end-missing-lines = refl;
       text-after-end = refl;
       last-not-ended = refl;
       eleven-inputs = refl;
@@ -326,4 +335,9 @@ worked-panels =
       bound-again = refl;
       bound-unknown = refl;
       limit-7 = refl;
+      end-missing-told = refl;
+      input-again-told = refl;
+      output-again-told = refl;
+      bound-again-told = refl;
+      limit-7-told = refl;
     }

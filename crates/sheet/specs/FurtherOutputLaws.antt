@@ -28,7 +28,7 @@ unfolding among
 among-after n m [] ms e = neither-first (sameName m n) (among n ms) e
 among-after n m (k ∷ ns) ms e = among-after n m ns ms (neither-second (sameName k n) (among n (ns ++ (m ∷ ms))) e)
 
-distinct-more : (ns : List Name) (n : Name) → distinct ns ≡ true → among n ns ≡ false → distinct (ns ++ (n ∷ [])) ≡ true
+pub distinct-more : (ns : List Name) (n : Name) → distinct ns ≡ true → among n ns ≡ false → distinct (ns ++ (n ∷ [])) ≡ true
 unfolding distinct among
 distinct-more [] n e h = refl
 distinct-more (m ∷ ns) n e h =
