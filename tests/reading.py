@@ -49,6 +49,7 @@ THEOREMS = [
     ("blif", "SimulatedLaws", "sheet-export-demand"),
     ("blif", "SimulatedLaws", "export-demand"),
     ("panel", "ValueLaws", "panel-says"),
+    ("panel", "DesignLaws", "panel-refused"),
     ("pla", "SameAnswersLaws", "pair-as-sheet"),
     ("pla", "DemandLaws", "panel-demand-1"),
     ("pla", "DemandLaws", "panel-demand-2"),
