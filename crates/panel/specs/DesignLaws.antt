@@ -1,38 +1,35 @@
 -- What a pair's examination answers: a refusal by the first question that is answered "no", or a design that says what the two texts
 -- say and keeps every rule of a design. One walk over the questions, in their order, gives both. Assumes nothing.
-use mathlib.Core.Path.{_≡_, refl, sym, ap, ap₂, _∙_, subst}
+use mathlib.Core.Path.{_≡_, refl, sym, ap, _∙_, subst}
 use mathlib.Core.Bool.{Bool, true, false}
-use mathlib.Core.List.{List, [], _∷_, _++_, map, append-nil}
+use mathlib.Core.List.{List, map}
 use mathlib.Core.Option.{Option, some, none}
-use Prim.Native.Nat.{ℕ, suc, _≤_}
+use Prim.Native.Nat.{ℕ, _≤_}
 use native.Mathlib.Omega.{arith}
 use lib.Dec.{leb}
 use lib.ListN.{length}
-use borrow.Author.Tests.{leb-true, leb-false, le-leb}
+use borrow.Author.Tests.{leb-true, leb-false}
 use Rattle.bits.specs.Logic.{pick}
-use Rattle.bits.specs.LogicLaws.{never-both, and-both}
 use Rattle.limits.specs.Limits.{maxInputs, maxLimit, maxOutputs}
 use Rattle.platext.specs.TextReadLaws.{pla-print-of-read}
 use Rattle.text.specs.Line.{lines}
 use Rattle.names.specs.Name.{Name, distinct, allAmong}
 use Rattle.names.specs.Spelled.{spelledBy}
 use Rattle.names.specs.Names.{allNames}
-use Rattle.sheet.specs.Lines.{Output}
-use Rattle.sheet.specs.Examine.{Design, Examined, refused, valid, at-bound, next, within, askIn, sized, outputNames, withInputs, withBound, withLimit, nothing}
-use Rattle.sheet.specs.WellFormed.{RightBound, RightOutputs, WellFormed}
-use Rattle.sheet.specs.LineRightLaws.{no-output-wrong}
-use Rattle.platext.specs.Lines.{inputNamesLine, outputsLine, inputsLine, firstCube}
+use Rattle.sheet.specs.Examine.{Design, Examined, refused, valid, sized, withBound, withLimit}
+use Rattle.sheet.specs.WellFormed.{WellFormed}
+use Rattle.sheet.specs.LineRightLaws.{bound-names-right}
+use Rattle.platext.specs.Lines.{outputsLine, inputsLine, firstCube}
 use Rattle.platext.specs.Text.{Pla, Answer, bad-line, pla, readPla}
-use Rattle.platext.specs.Writable.{Writable}
 use Rattle.panel.specs.Questions as text
 use Rattle.panel.specs.Questions.{tooMany, otherMark, refusedAt, furtherAsked, examineText}
 use Rattle.panel.specs.Board.{Board, misspelled, board, readBoard}
-use Rattle.panel.specs.Examine.{outputsFrom, outputsOf, askOutputs, askNames, askBoard, withBoard, besideText, examine}
+use Rattle.panel.specs.Examine.{askNames, askBoard, withBoard, besideText, examine}
 use Rattle.panel.specs.Panel.{TextPassed, BoardPassed, NamesPassed, Panel, PanelText, pla-text, second-text, PanelRefuses, PanelRefusal}
 use Rattle.panel.specs.Panel.{by-spelling, by-inputs-count, by-outputs-count, by-mark, by-size, by-board, by-input-again, by-output-again}
 use Rattle.panel.specs.Panel.{by-bound-count, by-bound-again, by-bound-unknown, by-limit}
-use Rattle.panel.specs.OnceLaws.{designNames, distinct-first}
-use Rattle.panel.specs.WalkLaws.{WithOutputs, ask-walk, covers-right, outputs-walk, board-walk}
+use Rattle.panel.specs.OnceLaws.{distinct-first}
+use Rattle.panel.specs.WalkLaws.{outputs-count, NamesTaken, names-walk, BoundPassed, board-walk}
 use Rattle.panel.specs.RefusalLaws.{refusal-right}
 
 -- ---- what a pair comes to
@@ -41,94 +38,63 @@ abbrev PairRight : List ℕ → List ℕ → Examined → Type 0
 PairRight p b (refused q l) = (t : PanelText) × PanelRefuses p b t q l
 PairRight p b (valid d) = Panel p b d × WellFormed d
 
-pub outputs-count : (x : Pla) (o : ℕ) (ns : List Name) → length (outputsFrom x o ns) ≡ length ns
-unfolding outputsFrom
-outputs-count x o [] = refl
-outputs-count x o (n ∷ ns) = ap suc (outputs-count x (suc o) ns)
-
-outputs-named : (x : Pla) (o : ℕ) (ns : List Name) → outputNames (outputsFrom x o ns) ≡ ns
-unfolding outputsFrom
-outputs-named x o [] = refl
-outputs-named x o (n ∷ ns) = ap (λ (ms : List Name). n ∷ ms) (outputs-named x (suc o) ns)
-
-module _ (p b : List ℕ) (x : Pla) (bs : List Name) (n : ℕ) (h : BoardPassed p b x bs n) where
-  written : Writable x
-  written = pla-print-of-read p x (h .text-passed .is-read) .writable
-
+-- ---- questions 3 to 5
+module _ (p b : List ℕ) (x : Pla) (bs : List Name) (n : ℕ) where
   panel-right : (e : Design)
+      → NamesTaken x e
       → NamesPassed p b x bs n
-      → e .inputs ≡ x .inputs
-      → e .outputs ≡ outputsOf x
-      → RightOutputs (e .inputs) (e .outputs)
-      → RightBound (e .inputs) (map (spelledBy (e .inputs)) bs)
+      → BoundPassed (e .inputs) bs
       → n ≤ maxLimit
       → PairRight p b (valid (withLimit (withBound e (map (spelledBy (e .inputs)) bs)) n))
-  panel-right e k i o r c l = (
-    record {
-      text = x;
-      board-bound = bs;
-      board-limit = n;
-      passed = k;
-      same-inputs = i;
-      same-bound = ap (λ (ns : List Name). map (spelledBy ns) bs) i;
-      same-limit = refl;
-      same-outputs = o;
-    },
-    record {
-      inputs-right =
-          record {
-            filled = omega (arith, written .inputs-some, ap length i);
-            few = omega (arith, h .text-passed .inputs-few, ap length i);
-            once = ap distinct i ∙ distinct-first (x .inputs) (x .outputs) (k .names-once);
-            named = ap allNames i ∙ written .inputs-named;
-          };
-      bound-right = c;
-      limit-right = l;
-      outputs-right = r;
-      some-output = omega (arith, written .outputs-some, ap length o, outputs-count x 0 (x .outputs));
-    },
-  )
+  panel-right e w k c l =
+      let t = k .board-passed .text-passed in
+      let written = pla-print-of-read p x (t .is-read) .writable in
+      let i = w .same-inputs in
+      let o = w .same-outputs in (
+        record {
+          text = x;
+          board-bound = bs;
+          board-limit = n;
+          passed = k;
+          same-inputs = i;
+          same-bound = ap (λ (ns : List Name). map (spelledBy ns) bs) i;
+          same-limit = refl;
+          same-outputs = o;
+        },
+        record {
+          inputs-right =
+              record {
+                filled = omega (arith, written .inputs-some, ap length i);
+                few = omega (arith, t .inputs-few, ap length i);
+                once = ap distinct i ∙ distinct-first (x .inputs) (x .outputs) (k .names-once);
+                named = ap allNames i ∙ written .inputs-named;
+              };
+          bound-right = bound-names-right (e .inputs) bs (c .counted) (c .once) (c .known);
+          limit-right = l;
+          outputs-right = w .outputs-right;
+          some-output = omega (arith, written .outputs-some, ap length o, outputs-count x 0 (x .outputs));
+        },
+      )
 
-  board-asked : (e : Design) → WithOutputs (withInputs nothing (x .inputs)) (outputsOf x) e → PairRight p b (askBoard bs n e)
-  board-asked e g =
-      let i = g .inputs-kept in
-      let names : designNames e ≡ x .inputs ++ x .outputs
-      = ap₂ (λ (ns : List Name) (os : List Output). ns ++ outputNames os) i (g .outputs-added)
-      ∙ ap (λ (ns : List Name). x .inputs ++ ns) (outputs-named x 0 (x .outputs)) in
-      let k : NamesPassed p b x bs n = record { board-passed = h; names-once = ap distinct (sym names) ∙ g .names-once } in
-      board-walk (PairRight p b) bs n e (
-        λ c. (second-text, by-bound-count x bs n k c),
-        λ c. (
-          λ o. (second-text, by-bound-again x bs n k c o),
-          λ o.
-              (λ a. (second-text, by-bound-unknown x bs n k c o (ap (allAmong bs) (sym i) ∙ a)), λ _. tt),
+  names-right : BoardPassed p b x bs n → PairRight p b (askNames x (askBoard bs n))
+  names-right h =
+      let P = PairRight p b in
+      names-walk P p x (askBoard bs n) (h .text-passed)
+      (λ f. (pla-text, by-input-again x bs n h f))
+      (λ f g. (pla-text, by-output-again x bs n h f g))
+      (λ e w.
+      let k : NamesPassed p b x bs n = record { board-passed = h; names-once = w .names-once } in
+      let known = ap (allAmong bs) (sym (w .same-inputs)) in
+      board-walk P bs n e (
+        λ f. (second-text, by-bound-count x bs n k f),
+        λ f. (
+          λ g. (second-text, by-bound-again x bs n k f g),
+          λ g.
+              (λ i. (second-text, by-bound-unknown x bs n k f g (known ∙ i)), λ _. tt),
         ),
       )
-      (λ f l. (second-text, by-limit x bs n k (f .counted) (f .once) (ap (allAmong bs) (sym i) ∙ f .known) l))
-      (panel-right e k i (g .outputs-added) (g .outputs-right))
-
-  names-right : PairRight p b (askNames x (askBoard bs n))
-  unfolding askIn
-  names-right =
-      let P = PairRight p b in
-      let t = h .text-passed in
-      let d = withInputs nothing (x .inputs) in
-      let count = length (x .inputs) in
-      let in-range = and-both (leb 1 count) (leb count maxInputs) (le-leb 1 count (written .inputs-some)) (le-leb count maxInputs (t .inputs-few)) in
-      let names : (x .inputs ++ []) ++ outputNames (outputsOf x) ≡ x .inputs ++ x .outputs
-      = ap₂ (λ (ns ms : List Name). ns ++ ms) (append-nil (x .inputs)) (outputs-named x 0 (x .outputs)) in
-      ask-walk P
-      ((3, within 1 maxInputs count) ∷ (4, distinct (x .inputs)) ∷ [])
-      (next at-bound d) inputNamesLine (λ _ e. askOutputs e (outputsOf x) (askBoard bs n))
-      (λ e. absurd (never-both in-range e), λ _. (λ e. (pla-text, by-input-again x bs n h e), λ _. tt))
-      (λ y.
-      outputs-walk P (outputsOf x) d (askBoard bs n)
-      (omega (arith, t .outputs-few, outputs-count x 0 (x .outputs)))
-      (covers-right x 0 (x .outputs) (written .inputs-named) (written .outputs-named))
-      (no-output-wrong (x .inputs) [] refl)
-      (ap distinct (append-nil (x .inputs)) ∙ y .1 .0)
-      (λ e. (pla-text, by-output-again x bs n h (y .1 .0) (ap distinct (sym names) ∙ e)))
-      board-asked)
+      (λ c l. (second-text, by-limit x bs n k (c .counted) (c .once) (known ∙ c .known) l))
+      (λ c l. panel-right e w k c l))
 
 -- ---- questions 1 and 2 on the second text
 with-board-right : (p b : List ℕ) (x : Pla) (y : Board) → TextPassed p x → sized b ≡ true → readBoard (lines b) ≡ y → PairRight p b (withBoard y x)

@@ -9,6 +9,7 @@ pub mod OnceLaws
 pub mod WalkLaws
 pub mod RefusalLaws
 pub mod DesignLaws
+pub mod QuestionLaws
 pub mod ValueLaws
 pub mod PassLaws
 pub mod MarkLaws

@@ -24,7 +24,7 @@ use Rattle.platext.specs.WritableLaws.{cube-fits-at}
 use Rattle.panel.specs.Examine.{outputsFrom}
 use Rattle.panel.specs.Panel.{Panel}
 use Rattle.panel.specs.OnceLaws.{distinct-first}
-use Rattle.panel.specs.DesignLaws.{outputs-count}
+use Rattle.panel.specs.WalkLaws.{outputs-count}
 
 -- the formula of each output is its cover
 output-from : (x : Pla) (k : ℕ) (ns : List Name) (o : ℕ)
