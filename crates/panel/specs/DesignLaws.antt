@@ -29,7 +29,7 @@ use Rattle.panel.specs.Panel.{TextPassed, BoardPassed, NamesPassed, Pane
 use Rattle.panel.specs.Panel.{by-spelling, by-inputs-count, by-outputs-count, by-mark, by-size, by-board, by-input-again, by-output-again}
 use Rattle.panel.specs.Panel.{by-bound-count, by-bound-again, by-bound-unknown, by-limit}
 use Rattle.panel.specs.OnceLaws.{distinct-first}
-use Rattle.panel.specs.WalkLaws.{outputs-count, NamesTaken, names-walk, BoundPassed, board-walk}
+use Rattle.panel.specs.WalkLaws.{outputs-count, NamesTaken, names-walk, BoundTaken, board-walk}
 use Rattle.panel.specs.RefusalLaws.{refusal-right}
 
 -- ---- what a pair comes to
@@ -43,7 +43,7 @@ module _ (p b : List ℕ) (x : Pla) (bs : List Name) (n : ℕ) where
   panel-right : (e : Design)
       → NamesTaken x e
       → NamesPassed p b x bs n
-      → BoundPassed (e .inputs) bs
+      → BoundTaken (e .inputs) bs
       → n ≤ maxLimit
       → PairRight p b (valid (withLimit (withBound e (map (spelledBy (e .inputs)) bs)) n))
   panel-right e w k c l =

@@ -20,7 +20,7 @@ use Rattle.panel.specs.Examine.{askNames, askBoard, withBoard, examine}
 use Rattle.panel.specs.Panel as refusals
 use Rattle.panel.specs.Panel.{TextPassed, BoardPassed, NamesPassed, PanelText, PanelRefuses}
 use Rattle.panel.specs.OnceLaws.{distinct-first}
-use Rattle.panel.specs.WalkLaws.{Noes, names-walk, BoundPassed, boundQuestions, board-walk}
+use Rattle.panel.specs.WalkLaws.{Noes, names-walk, BoundTaken, boundQuestions, board-walk}
 
 module _ (p b : List ℕ) where
   -- ---- what is passed is asked no more
@@ -53,15 +53,15 @@ module _ (p b : List ℕ) where
     board-refuses : (q l : ℕ)
         → NamesPassed p b x bs n
         → Noes (λ (y : Examined). y ≡ refused q l) boundLine (boundQuestions (x .inputs) bs)
-        → (BoundPassed (x .inputs) bs → maxLimit < n → refused 3 limitLine ≡ refused q l)
-        → (BoundPassed (x .inputs) bs → n ≤ maxLimit → ⊥)
+        → (BoundTaken (x .inputs) bs → maxLimit < n → refused 3 limitLine ≡ refused q l)
+        → (BoundTaken (x .inputs) bs → n ≤ maxLimit → ⊥)
         → examine p b ≡ refused q l
     board-refuses q l h f g k =
         let P : Examined → Type 0 = λ y. y ≡ refused q l in
         board-passed (h .board-passed)
         ∙ names-passed P h
         (λ e i.
-        let there : BoundPassed (e .inputs) bs → BoundPassed (x .inputs) bs = subst (λ (ns : List Name). BoundPassed ns bs) i in
+        let there : BoundTaken (e .inputs) bs → BoundTaken (x .inputs) bs = subst (λ (ns : List Name). BoundTaken ns bs) i in
         board-walk P bs n e
         (subst (λ (ns : List Name). Noes P boundLine (boundQuestions ns bs)) (sym i) f)
         (λ c. g (there c))

@@ -196,7 +196,7 @@ names-walk P p x onward h f g k =
 
 -- ---- the second text
 -- what questions 3 to 5 leave of the bound names
-pub record BoundPassed (ns bs : List Name) : Type 0 where
+pub record BoundTaken (ns bs : List Name) : Type 0 where
   pub counted : within 1 maxBound (length bs) ≡ true
   pub once : distinct bs ≡ true
   pub known : allAmong bs ns ≡ true
@@ -206,8 +206,8 @@ boundQuestions ns bs = (3, within 1 maxBound (length bs)) ∷ (4, distinct bs) �
 
 pub board-walk : (P : Examined → Type 0) (bs : List Name) (n : ℕ) (d : Design)
     → Noes P boundLine (boundQuestions (d .inputs) bs)
-    → (BoundPassed (d .inputs) bs → maxLimit < n → P (refused 3 limitLine))
-    → (BoundPassed (d .inputs) bs → n ≤ maxLimit → P (valid (withLimit (withBound d (map (spelledBy (d .inputs)) bs)) n)))
+    → (BoundTaken (d .inputs) bs → maxLimit < n → P (refused 3 limitLine))
+    → (BoundTaken (d .inputs) bs → n ≤ maxLimit → P (valid (withLimit (withBound d (map (spelledBy (d .inputs)) bs)) n)))
     → P (askBoard bs n d)
 unfolding askBound askLimit
 board-walk P bs n d h k f =
@@ -216,7 +216,7 @@ board-walk P bs n d h k f =
     (next at-limit e) boundLine (λ _ g. follow (askLimit g (some n)) limitLine (λ _ f. valid f))
     h
     (λ y.
-    let passed : BoundPassed (d .inputs) bs = record { counted = y .0; once = y .1 .0; known = y .1 .1 .0 } in
+    let passed : BoundTaken (d .inputs) bs = record { counted = y .0; once = y .1 .0; known = y .1 .1 .0 } in
     ask-walk P
     ((3, leb n maxLimit) ∷ [])
     (next at-out (withLimit e n)) limitLine (λ _ f. valid f)
