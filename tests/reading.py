@@ -51,6 +51,7 @@ THEOREMS = [
     ("blif", "SimulatedLaws", "export-demand"),
     ("panel", "ValueLaws", "panel-says"),
     ("panel", "DesignLaws", "panel-refused"),
+    ("panel", "QuestionLaws", "question-refuses"),
     ("pla", "SameAnswersLaws", "pair-as-sheet"),
     ("pla", "DemandLaws", "panel-demand-1"),
     ("pla", "DemandLaws", "panel-demand-2"),

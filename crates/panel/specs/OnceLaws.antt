@@ -4,17 +4,13 @@ use mathlib.Core.Path.{_≡_, refl, sym, ap, _∙_}
 use mathlib.Core.Bool.{Bool, true, false, not, _&&_, _||_}
 use mathlib.Core.List.{List, [], _∷_, _++_, append-assoc, map-append}
 use borrow.Author.Tests.{not-true}
-use Rattle.bits.specs.LogicLaws.{true-false, false-unless, and-left, and-right, and-both, neither-first}
+use Rattle.bits.specs.LogicLaws.{true-false, false-unless, and-left, and-right, and-both, neither-first, or-assoc}
 use Rattle.names.specs.Name.{Name, sameName, among, distinct}
 use Rattle.sheet.specs.Lines.{Output}
 use Rattle.sheet.specs.Examine.{Design, outputNames, newName, withOutput}
 use Rattle.sheet.specs.FurtherOutputLaws.{distinct-more, distinct-before}
 
 -- ---- lists of names
-or-assoc : (a b c : Bool) → a || (b || c) ≡ (a || b) || c
-or-assoc true b c = refl
-or-assoc false b c = refl
-
 among-append : (n : Name) (ns ms : List Name) → among n (ns ++ ms) ≡ among n ns || among n ms
 unfolding among
 among-append n [] ms = refl

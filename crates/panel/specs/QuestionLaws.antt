@@ -67,41 +67,41 @@ module _ (p b : List ℕ) where
         (λ c. g (there c))
         (λ c m. absurd (k (there c) m)))
 
-  -- ---- every question
-  pub question-refuses : (t : PanelText) (q l : ℕ) → PanelRefuses p b t q l → examine p b ≡ refused q l
-  unfolding examine examineText tooMany
-  question-refuses t q l (refusals.by-spelling m e) = rw e refl
-  question-refuses t q l (refusals.by-inputs-count x e h) = rw (e, lt-leb (length (x .inputs)) maxInputs h) refl
-  question-refuses t q l (refusals.by-outputs-count x e g h) =
-      rw (e, le-leb (length (x .inputs)) maxInputs g, lt-leb (length (x .outputs)) maxOutputs h) refl
-  question-refuses t q l (refusals.by-mark x m e g h i) =
-      rw (e, le-leb (length (x .inputs)) maxInputs g, le-leb (length (x .outputs)) maxOutputs h, i) refl
-  question-refuses t q l (refusals.by-size x h e) = text-passed x h ∙ rw e refl
-  question-refuses t q l (refusals.by-board x m h e g) = text-passed x h ∙ rw (e, g) refl
-  question-refuses t q l (refusals.by-input-again x bs n h e) =
-      board-passed x bs n h
-      ∙ names-walk (λ (y : Examined). y ≡ refused 4 inputNamesLine) p x (askBoard bs n) (h .text-passed) (λ _. refl)
-      (λ f _. absurd (never-both f e))
-      (λ _ w. absurd (never-both (distinct-first (x .inputs) (x .outputs) (w .names-once)) e))
-  question-refuses t q l (refusals.by-output-again x bs n h e g) =
-      board-passed x bs n h
-      ∙ names-walk (λ (y : Examined). y ≡ refused 4 outputNamesLine) p x (askBoard bs n) (h .text-passed) (λ f. absurd (never-both e f))
-      (λ _ _. refl)
-      (λ _ w. absurd (never-both (w .names-once) g))
-  question-refuses t q l (refusals.by-bound-count x bs n h e) =
-      board-refuses x bs n 3 boundLine h (λ _. refl, λ f. absurd (never-both f e)) (λ c. absurd (never-both (c .counted) e))
-      (λ c. absurd (never-both (c .counted) e))
-  question-refuses t q l (refusals.by-bound-again x bs n h e g) =
-      board-refuses x bs n 4 boundLine h (λ f. absurd (never-both e f), λ _. (λ _. refl, λ f. absurd (never-both f g)))
-      (λ c. absurd (never-both (c .once) g))
-      (λ c. absurd (never-both (c .once) g))
-  question-refuses t q l (refusals.by-bound-unknown x bs n h e g i) =
-      board-refuses x bs n 5 boundLine h
-      (λ f. absurd (never-both e f), λ _. (λ f. absurd (never-both g f), λ _. (λ _. refl, λ _. tt)))
-      (λ c. absurd (never-both (c .known) i))
-      (λ c. absurd (never-both (c .known) i))
-  question-refuses t q l (refusals.by-limit x bs n h e g i j) =
-      board-refuses x bs n 3 limitLine h
-      (λ f. absurd (never-both e f), λ _. (λ f. absurd (never-both g f), λ _. (λ f. absurd (never-both i f), λ _. tt)))
-      (λ _ _. refl)
-      (λ _ m. omega arith)
+-- ---- every question
+pub question-refuses : (p b : List ℕ) (t : PanelText) (q l : ℕ) → PanelRefuses p b t q l → examine p b ≡ refused q l
+unfolding examine examineText tooMany
+question-refuses p b t q l (refusals.by-spelling m e) = rw e refl
+question-refuses p b t q l (refusals.by-inputs-count x e h) = rw (e, lt-leb (length (x .inputs)) maxInputs h) refl
+question-refuses p b t q l (refusals.by-outputs-count x e g h) =
+    rw (e, le-leb (length (x .inputs)) maxInputs g, lt-leb (length (x .outputs)) maxOutputs h) refl
+question-refuses p b t q l (refusals.by-mark x m e g h i) =
+    rw (e, le-leb (length (x .inputs)) maxInputs g, le-leb (length (x .outputs)) maxOutputs h, i) refl
+question-refuses p b t q l (refusals.by-size x h e) = text-passed p b x h ∙ rw e refl
+question-refuses p b t q l (refusals.by-board x m h e g) = text-passed p b x h ∙ rw (e, g) refl
+question-refuses p b t q l (refusals.by-input-again x bs n h e) =
+    board-passed p b x bs n h
+    ∙ names-walk (λ (y : Examined). y ≡ refused 4 inputNamesLine) p x (askBoard bs n) (h .text-passed) (λ _. refl)
+    (λ f _. absurd (never-both f e))
+    (λ _ w. absurd (never-both (distinct-first (x .inputs) (x .outputs) (w .names-once)) e))
+question-refuses p b t q l (refusals.by-output-again x bs n h e g) =
+    board-passed p b x bs n h
+    ∙ names-walk (λ (y : Examined). y ≡ refused 4 outputNamesLine) p x (askBoard bs n) (h .text-passed) (λ f. absurd (never-both e f))
+    (λ _ _. refl)
+    (λ _ w. absurd (never-both (w .names-once) g))
+question-refuses p b t q l (refusals.by-bound-count x bs n h e) =
+    board-refuses p b x bs n 3 boundLine h (λ _. refl, λ f. absurd (never-both f e)) (λ c. absurd (never-both (c .counted) e))
+    (λ c. absurd (never-both (c .counted) e))
+question-refuses p b t q l (refusals.by-bound-again x bs n h e g) =
+    board-refuses p b x bs n 4 boundLine h (λ f. absurd (never-both e f), λ _. (λ _. refl, λ f. absurd (never-both f g)))
+    (λ c. absurd (never-both (c .once) g))
+    (λ c. absurd (never-both (c .once) g))
+question-refuses p b t q l (refusals.by-bound-unknown x bs n h e g i) =
+    board-refuses p b x bs n 5 boundLine h
+    (λ f. absurd (never-both e f), λ _. (λ f. absurd (never-both g f), λ _. (λ _. refl, λ _. tt)))
+    (λ c. absurd (never-both (c .known) i))
+    (λ c. absurd (never-both (c .known) i))
+question-refuses p b t q l (refusals.by-limit x bs n h e g i j) =
+    board-refuses p b x bs n 3 limitLine h
+    (λ f. absurd (never-both e f), λ _. (λ f. absurd (never-both g f), λ _. (λ f. absurd (never-both i f), λ _. tt)))
+    (λ _ _. refl)
+    (λ _ m. omega arith)
