@@ -6,11 +6,10 @@ use mathlib.Core.List.{List}
 use Prim.Native.Nat.{ℕ, _+_, _≤_, _<_}
 use lib.ListN.{length, take}
 use Rattle.limits.specs.Limits.{firstLut, maxNetwork}
-use Rattle.text.specs.Line.{lines}
+use Rattle.text.specs.Line.{lines, lineAt}
 use Rattle.sheet.specs.Examine.{Design, Examined}
 use Rattle.network.specs.Network.{Network}
 use Rattle.network.specs.Printer.{printCount, printNetwork}
-use Rattle.text.specs.Line.{lineAt}
 use Rattle.network.specs.Check.{Checked, same, differs, checkOf}
 use Rattle.network.specs.Answers.{Drawn}
 use Rattle.mapper.specs.Map.{First, MapAnswer, refused-by, mapped}

@@ -129,7 +129,7 @@ module _ (d : Design) (v w : Network) (f : NetworkFor d v) (g : NetworkFor d w) 
         digits = x .counted ∙ ap (λ (n : ℕ). 2 ^ (n + length fs)) r ∙ sym (y .counted);
       }
 
-  pub same-length : ((o : ℕ) → o < length (v .nodes) → readCount v o ≡ readCount w o) → length (printNetwork d v) ≡ length (printNetwork d w)
+  same-length : ((o : ℕ) → o < length (v .nodes) → readCount v o ≡ readCount w o) → length (printNetwork d v) ≡ length (printNetwork d w)
   unfolding printNetwork networkLines
   same-length r =
       ended-alike

@@ -1,7 +1,6 @@
 -- `line_at`: the place of the line lies in its sheet, and the part there is the line. Assumes nothing.
 use mathlib.Core.Path.{ap}
 use mathlib.Core.Bool.{Bool}
-use native.Mathlib.Omega.{arith}
 use borrow.Author.Needs.{needs}
 use Rattle.locate.specs.Located.{sheetOf}
 use Rattle.locate.specs.PlaceLaws.{range-rises, range-within, line-is}
