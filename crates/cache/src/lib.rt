@@ -157,7 +157,7 @@ pub struct Reply {
 
 // What is asked of sets of outputs: the number of vertices, those where cell 0 has known digits and these digits, the outputs' rows,
 // and the limit of nodes for each set.
-#[derive(Drop)]
+#[derive(Clone, Copy)]
 pub struct Query {
     pub vertices: usize,
     pub kn: u32,

@@ -15,7 +15,7 @@ use limits::Vertex;
 use sheet::Sheet;
 
 // The rows of a design by their parts: vertex x and free row y stand on row vertex[x] + free[y].
-#[derive(Drop)]
+#[derive(Clone, Copy)]
 pub struct Shape {
     pub vertices: usize,
     pub frees: usize,
@@ -24,14 +24,14 @@ pub struct Shape {
 }
 
 // The number of a local class of one output.
-#[derive(Drop)]
+#[derive(Clone, Copy)]
 pub struct LocalClass(pub usize);
 
 // The number of a global class.
-#[derive(Drop)]
+#[derive(Clone, Copy)]
 pub struct GlobalClass(pub usize);
 
-#[derive(Drop)]
+#[derive(Clone, Copy)]
 pub struct Locals {
     pub count: usize,
     pub classes: [LocalClass; limits::MAX_VERTICES],

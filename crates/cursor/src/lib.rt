@@ -16,13 +16,13 @@ ghost use Rattle.cursor.specs.Item.{MovedIs, NumberIs, NameIs, OpeningIs, NamesA
 
 use names::Operator;
 
-#[derive(Drop)]
+#[derive(Clone, Copy)]
 pub struct Cursor {
     pub at: usize,
 }
 
 // What reading a fixed text finds.
-#[derive(Drop)]
+#[derive(Clone, Copy)]
 pub enum Moved {
     To(Cursor),
     Bad,
@@ -41,7 +41,7 @@ pub enum NameRead {
 }
 
 // The operators of two or more operands.
-#[derive(Drop)]
+#[derive(Clone, Copy)]
 pub enum Gate {
     And,
     Or,
@@ -59,7 +59,7 @@ pub enum Opening {
 }
 
 // The names of a list up to its closing bracket: how many they are, and the first ten.
-#[derive(Drop)]
+#[derive(Clone, Copy)]
 pub struct NameList {
     pub ok: bool,
     pub next: Cursor,

@@ -13,7 +13,7 @@ ghost use Rattle.first.specs.Drawn.{Lowest, Upto, Stands, Remembers, Replied};
 use limits::{MAX_VERTICES, SEARCH_OUTPUTS};
 
 // What is asked about: the outputs' budgets, the numbers of vertices, outputs and cells.
-#[derive(Drop)]
+#[derive(Clone, Copy)]
 struct Problem {
     budgets: [u8; SEARCH_OUTPUTS],
     vertices: usize,

@@ -22,7 +22,7 @@ use names::Position;
 
 // What reading a formula finds: whether it is spelled right, and then the cursor after it, its depth as far as it
 // matters, whether its names are inputs, and its value on each row.
-#[derive(Drop)]
+#[derive(Clone, Copy)]
 pub struct Part {
     pub ok: bool,
     pub next: Cursor,

@@ -454,7 +454,7 @@ fn lacking(cl: &[u8], base: &[u8], o: usize, p: u8, l: usize, has: u8, wants: u8
 }
 
 // How many blocks each class holds, and how many it needs.
-#[derive(Drop)]
+#[derive(Clone, Copy)]
 struct Counts {
     owns: [u8; MAX_VERTICES],
     wants: [u8; MAX_VERTICES],
@@ -462,7 +462,7 @@ struct Counts {
 
 // An output whose sets are narrowed: its number, 2 to the number of its private cells, and of all that it reads; and how many
 // vertices there are.
-#[derive(Drop)]
+#[derive(Clone, Copy)]
 struct Output {
     number: usize,
     cap: u8,

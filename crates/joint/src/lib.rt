@@ -15,7 +15,7 @@ use problem::LABELS_AND_PARTS;
 
 // The number of a joint class of the outputs in question: vertices that have the same class for each of them, and of which the
 // same is known of cell 0.
-#[derive(Drop)]
+#[derive(Clone, Copy)]
 struct JointClass(usize);
 
 // What stands for a digit of cell 0 that is not known.

@@ -62,5 +62,5 @@ pub const LABELS: usize = SEARCH_OUTPUTS * MAX_VERTICES;
 pub const BLOCKS: usize = SEARCH_OUTPUTS * MAX_CODES;
 
 // The number of a vertex, below MAX_VERTICES: the columns of a design and the search for cells count the same vertices.
-#[derive(Drop)]
+#[derive(Clone, Copy)]
 pub struct Vertex(pub usize);

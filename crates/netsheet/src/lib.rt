@@ -18,7 +18,7 @@ use sheet::Sheet;
 
 // What a network sheet says: its first bad line, or how many shared tables there are, where the digits of each stand, the
 // shared tables that each output reads, as a mask, and where the digits of its own table stand.
-#[derive(Drop)]
+#[derive(Clone, Copy)]
 pub struct NetworkSheet {
     pub ok: bool,
     pub line: usize,
@@ -29,7 +29,7 @@ pub struct NetworkSheet {
 }
 
 // Which line is wanted: a node line has the number of its output.
-#[derive(Drop)]
+#[derive(Clone, Copy)]
 enum Place {
     Network,
     Luts,
@@ -40,7 +40,7 @@ enum Place {
 }
 
 // What the lines so far say, and the place of the next; after a bad line it is not ok.
-#[derive(Drop)]
+#[derive(Clone, Copy)]
 struct Reading {
     ok: bool,
     place: Place,
@@ -51,7 +51,7 @@ struct Reading {
 }
 
 // The names of a design that the lines of a network sheet repeat: bound inputs, free inputs and outputs.
-#[derive(Drop)]
+#[derive(Clone, Copy)]
 struct Named {
     bounds: usize,
     bound: [u64; network::MAX_NAMES],

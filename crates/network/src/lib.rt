@@ -42,7 +42,7 @@ struct Reads {
 pub const MAX_NAMES: usize = limits::MAX_CELLS + limits::MAX_INPUTS;
 
 // Names in a row: how many, and the numbers that hold them.
-#[derive(Drop)]
+#[derive(Clone, Copy)]
 pub struct Names {
     pub count: usize,
     pub list: [u64; MAX_NAMES],

@@ -59,7 +59,7 @@ pub struct Codes {
 // What a search for codes is asked for: for each output its shared and its private cells, and 2 to the number of the private
 // ones and of all that it reads; the numbers of vertices and outputs; and the vertices where cell 0 has known digits, and
 // these digits.
-#[derive(Drop)]
+#[derive(Clone, Copy)]
 pub struct Problem {
     pub ms: [u8; SEARCH_OUTPUTS],
     pub ps: [u8; SEARCH_OUTPUTS],

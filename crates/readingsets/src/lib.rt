@@ -20,7 +20,7 @@ pub const MAX_GIVEN: u8 = 10;
 // What a choice of rows is asked for: the budgets of the outputs, the numbers of vertices and outputs, of open cells and of
 // given tables, the vertices where cell 0 has known digits and these digits, the limits of nodes for a subproblem about some of
 // the outputs and for one about all, and for each output the rows that a count for it alone leaves (`alone`).
-#[derive(Drop)]
+#[derive(Clone, Copy)]
 pub struct Problem {
     pub budgets: [u8; SEARCH_OUTPUTS],
     pub vertices: usize,

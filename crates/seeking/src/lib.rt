@@ -12,7 +12,7 @@ use limits::{MAX_VERTICES, SEARCH_OUTPUTS};
 
 // What is sought: the budgets of the outputs, the numbers of vertices and outputs, of open cells and of given tables, and the
 // vertices where cell 0 has known digits and these digits.
-#[derive(Drop)]
+#[derive(Clone, Copy)]
 pub struct Problem {
     pub budgets: [u8; SEARCH_OUTPUTS],
     pub vertices: usize,

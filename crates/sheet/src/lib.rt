@@ -18,14 +18,14 @@ use formula::Part;
 use names::Position;
 
 // A whole truth table.
-#[derive(Drop)]
+#[derive(Clone, Copy)]
 pub struct Rows {
     pub words: [u64; limits::TABLE_WORDS],
 }
 
 // What is known of a sheet: the inputs' names, the places of the bound inputs among them, the limit, and the outputs'
 // names and tables, each list with its count.
-#[derive(Drop)]
+#[derive(Clone, Copy)]
 pub struct Sheet {
     pub inputs: usize,
     pub names: [u64; limits::MAX_INPUTS],

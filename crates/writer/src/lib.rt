@@ -27,7 +27,7 @@ const EDITION: usize = 1;
 
 // What a network sheet is written from: the design, the names of its bound and of its free inputs, the number of shared
 // tables, for each output a mask of the tables that it reads, and for each vertex a code of the tables' values.
-#[derive(Drop)]
+#[derive(Clone, Copy)]
 struct Plan {
     sheet: Sheet,
     shape: Shape,
