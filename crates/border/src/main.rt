@@ -7,6 +7,7 @@
 // of the first open cell or . at each vertex. Where something is known vertex 0 counts as known to be 0. A problem that differs
 // from the one before in its known digits and limit alone is asked with what was remembered of subproblems that do not read the
 // first open cell.
+#![tactic(auto)]
 ghost use Rattle.std.specs.Prelude.{◌≡◌, ℕ, ◌+◌, ◌<◌, ◌≤◌, true, ◌⊎◌, length};
 ghost use Rattle.limits.specs.Limits.{search_outputs, max_vertices, label_count};
 ghost use Rattle.problem.specs.Problem.{item};

@@ -1,6 +1,7 @@
 // Takes a design sheet on standard input and prints its network, or `refused N line L` (clause 15.3). Everything that matters
 // is in mapper. One byte more than a sheet may have is kept, so that a longer sheet is seen to be too long; the rest is read and
 // dropped. The buffer holds every network sheet, so question 9 is always answered yes.
+#![tactic(auto)]
 use mapper::Mapped;
 
 // Maps a sheet, with a buffer for its network. Answers whether the answer was written.

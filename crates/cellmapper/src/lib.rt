@@ -2,6 +2,7 @@
 // the cause on PLA panels, for a caller in C, as include/cellmapper.h declares them: a slice is a pointer and a length, and what a
 // function has to say beside its result goes through references that the caller lends. Rests on design, mapper, checker, blif,
 // locate and pla, and adds nothing to what they answer; on reports for what a caller is told of an answer.
+#![tactic(auto)]
 ghost use Rattle.std.specs.Prelude.{◌≡◌};
 ghost use Rattle.sheet.specs.Examine as sheets;
 ghost use Rattle.design.specs.Tabulate.{tabulate, table_of};

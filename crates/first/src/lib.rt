@@ -2,6 +2,7 @@
 // first reading sets. The tables are found digit by digit from cells that serve: where a digit is 0 it is the least, and where it is 1
 // the search is asked for cells with the digits before it and 0 there. It rests on fewest for the number of cells, on seeking for
 // what is asked, on order for why the digits found are those of the first tables, and on picking for the reading sets.
+#![tactic(auto)]
 ghost use Rattle.std.specs.Prelude.{◌≡◌, ◌+◌, ◌*◌, ◌<◌, ◌≤◌, length};
 ghost use Rattle.limits.specs.Limits.{search_outputs, max_vertices, max_cells};
 ghost use Rattle.relation.specs.Relation.{Classes};

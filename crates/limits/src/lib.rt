@@ -1,6 +1,7 @@
 // Every limit (clause 2.1) and what follows from them, named once, and the number of a vertex, which the classes and the
 // search share. The definitions name the same limits in specs/; the proofs of the crates above hold the two
 // together. Rests on nothing.
+#![tactic(auto)]
 
 // The design sheet: names of the `in` line, names of the `bound` line, N, `out` lines, brackets.
 pub const MAX_INPUTS: usize = 10;

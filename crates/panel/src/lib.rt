@@ -2,6 +2,7 @@
 // answers as that of a sheet does, by 12 to 14 on the first text, 1 and 2 on the second, and 3 to 5 on both; and the tables that
 // the cubes say. Rests on platext for the PLA text, on cubes for the rows of a cube, and on sheet and design for what a sheet is
 // asked.
+#![tactic(auto)]
 ghost use Rattle.std.specs.Prelude.{◌≡◌, true, List, ℕ, ◌+◌, ◌≤◌, length};
 ghost use Rattle.std.proofs.Math.Option.{some};
 ghost use Rattle.limits.specs.Limits.{max_outputs};

@@ -1,6 +1,7 @@
 // Table, Map, the cause of a refusal by 8, and Check on a panel that arrives as a PLA text and a second text: the examination of both, and then what a sheet's
 // examination is followed by. Rests on panel for the examination, on design, mapper and checker for the operations, and on
 // demands for what is proved of them.
+#![tactic(auto)]
 ghost use Rattle.std.specs.Prelude.{◌≡◌};
 ghost use Rattle.design.specs.Tabulate.{table_of};
 ghost use Rattle.design.specs.Answer.{table_answer};

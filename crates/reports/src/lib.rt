@@ -1,6 +1,7 @@
 // What a caller in C is told of each answer of Table, Map, Check and Export: the refusal's number, 0 where no question was answered
 // "no", and a value for each out-parameter. Rests on design, mapper, checker and blif for what the answers say, and calls none of
 // them.
+#![tactic(auto)]
 ghost use Rattle.std.specs.Prelude.{◌≡◌};
 ghost use Rattle.design.specs.Answer.{table_answer};
 ghost use Rattle.mapper.specs.Answer.{map_answer, cause_answer};

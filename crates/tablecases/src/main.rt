@@ -3,6 +3,7 @@
 // Standard input holds blocks. A block is a line `NAME OUTPUT BUFFER LENGTH EXPECTED`, where EXPECTED is
 // `refused N line L` or `written K DIGITS`; then LENGTH bytes, the sheet; then 0x0A. Table is lent BUFFER bytes, each
 // of them a mark that it never writes, so a byte that it should have left alone shows.
+#![tactic(auto)]
 ghost use Rattle.std.specs.Prelude.{◌≡◌, ◌≤◌, ◌<◌, length};
 
 use design::Tabled;

@@ -1,6 +1,7 @@
 // The first set of outputs that no cells within a limit serve. Sets are asked about by number, then in order, each by one question
 // to the search. Rests on subsets for sets, on dominance for the outputs that stand for all, on seeking for the search, and on the
 // laws of fewest.
+#![tactic(auto)]
 ghost use Rattle.std.specs.Prelude.{◌≡◌, ◌*◌, ◌≤◌, length};
 ghost use Rattle.limits.specs.Limits.{search_outputs, max_vertices, max_cells};
 ghost use Rattle.relation.specs.Relation.{Classes};

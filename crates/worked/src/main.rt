@@ -1,6 +1,7 @@
 // Executes the sheets to try (section 16 of docs/SPECIFICATION.md) that no theorem speaks of, and B, which needs a buffer of the caller's own:
 // Map on sheet A with a buffer of 95 bytes, which stays as it was, with one of 96, and with one of 97, whose last byte stays;
 // and on sheet I within 4 cells, within 3, and with a fourth output. Everything that matters is in mapper.
+#![tactic(auto)]
 use libc::STDOUT_FILENO;
 use mapper::Mapped;
 

@@ -1,0 +1,12 @@
+-- `put_inputs`: each turn puts the value of one input more, the first input first. Assumes nothing.
+use native.Mathlib.Omega.{arith}
+use borrow.Author.Rules.{rules}
+use Rattle.emit.specs.PutLaws.{put_length}
+use Rattle.blif.specs.ItemLaws.{Inputs, inputs_none, inputs_more, inputs_all}
+use Rattle.blif.proofs.put_inputs.Given as goal
+
+abbrev pub invariant-loop-i : goal.invariant-loop-i
+invariant-loop-i l = Inputs l.n l.r l.initial.buf l.buf l.at l.p l.i
+
+abbrev pub decreases-loop-i : goal.decreases-loop-i
+decreases-loop-i l = l.i

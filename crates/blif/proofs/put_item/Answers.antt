@@ -1,0 +1,11 @@
+-- `put_item`: a space, and the name after it. Assumes nothing.
+use mathlib.Core.Path.{refl}
+use native.Mathlib.Omega.{arith}
+use borrow.Author.Rules.{rules}
+use Rattle.emit.specs.PutLaws.{put_next}
+use Rattle.blif.proofs.put_item.Goals as goal
+
+pub returns : goal.returns
+returns c =     let put-name = c.put_name in
+    let put_byte = c.put_byte-p in
+    put_next put_byte.ensures put-name.ensures refl (omega arith)

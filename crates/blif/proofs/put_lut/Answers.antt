@@ -1,0 +1,32 @@
+-- `put_lut`: the block's first line, part after part, and its rows. Assumes nothing.
+use mathlib.Core.Path.{ap, ◌∙◌, sym}
+use native.Mathlib.Omega.{arith}
+use borrow.Author.Rules.{rules}
+use Rattle.names.specs.Pack.{name_of}
+use Rattle.names.specs.Name.{Name}
+use Rattle.emit.specs.PutLaws.{put_next, put_then}
+use Rattle.network.specs.Shown.{shown}
+use Rattle.blif.specs.Texts.{digits_at, block_text}
+use Rattle.blif.specs.BlockLaws.{block_text_lem}
+use Rattle.blif.proofs.Arrays.{shown-counted}
+use Rattle.blif.proofs.put_lut.Goals as goal
+
+-- LEFT slice-aggregate-put-text : tie.Need-slice-aggregate-put-text
+-- LEFT slice-aggregate-put-text c = search rules
+
+pub returns : goal.returns
+returns c =     let put-rows = c.put_rows in
+    let put_byte = c.put_byte-s in
+    let put_item = c.put_item-r in
+    let cell-name = c.cell_name in
+    let put-listed = c.put_listed-q in
+    let put-text = c.put_text-p in
+    let args = c.args in
+    let good = c.well-formed in
+    let pre = c.requires in
+    let bs = args.bs in
+    let f = digits_at args.t.now args.place in
+    let counted = sym (shown-counted bs good.1.1.1.0 (omega (arith, pre.1))) in
+    let text = block_text_lem (name_of cell-name.result) f bs.count (shown bs) counted in
+    put_next put-text.ensures (put_then put-listed.ensures (put_then put_item.ensures (put_then put_byte.ensures put-rows.ensures)))
+    (text ∙ ap (λ (n : Name). block_text (shown bs) n f) cell-name.ensures) (omega arith)

@@ -1,0 +1,47 @@
+use mathlib.Core.Path.{refl}
+use Prim.Native.Nat.{◌-◌}
+use native.Mathlib.Omega.{arith}
+use borrow.Author.Rules.{rules}
+use Rattle.emit.specs.UptoLaws.{Texts, texts_none, texts_put, texts_all}
+use Rattle.emit.specs.PutLaws.{put_length}
+use Rattle.network.specs.Shown.{shown}
+use Rattle.blif.specs.Texts.{lut_text}
+use Rattle.blif.specs.Room.{block_room}
+use Rattle.blif.proofs.put_luts.Goals as goal
+
+pub loop-i-init : goal.loop-i-init
+loop-i-init c = texts_none _ _ _ _ _
+
+pub offset_bounds-lutat-i : goal.offset_bounds-lutat-i
+offset_bounds-lutat-i c =     let loop-test = c.loop-i-test in
+    let pre = c.requires in
+    omega (arith, pre.2.few, loop-test.true)
+
+pub bounds-lutat-i : goal.bounds-lutat-i
+bounds-lutat-i c =     let loop-test = c.loop-i-test in
+    let pre = c.requires in
+    omega (arith, pre.2.few, loop-test.true)
+
+pub put_lut-p-requires : goal.put_lut-p-requires
+put_lut-p-requires c =     let loop-test = c.loop-i-test in
+    let loop = c.loop-i in
+    let pre = c.requires in
+    let few = pre.2.few in
+    let ready = pre.2.stand _ loop-test.true in
+    (omega (arith, few, pre.0, loop-test.true, loop.invariant.so_far.place, loop.invariant.so_far.short), pre.1, omega (arith, few, loop-test.true), ready)
+
+pub loop-i-preserved : goal.loop-i-preserved
+loop-i-preserved c =     let put-lut = c.put_lut-p in
+    let loop-test = c.loop-i-test in
+    let loop = c.loop-i in
+    texts_put loop.invariant loop-test.true put-lut.ensures
+
+pub shape_of-buf : goal.shape_of-buf
+shape_of-buf c =     let loop = c.loop-i in
+    put_length loop.invariant.so_far
+
+pub returns : goal.returns
+returns c =     let loop-test = c.loop-i-test in
+    let loop = c.loop-i in
+    let pre = c.requires in
+    texts_all loop.invariant loop-test.false (omega (arith, pre.2.few)) refl

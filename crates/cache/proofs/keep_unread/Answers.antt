@@ -1,0 +1,37 @@
+use Rattle.cache.specs.CacheLaws.{unread_start, unread_same, unread_less, honest_unread}
+use Rattle.std.proofs.Common.{◌≡◌, ℕ, ◌+◌, ◌-◌, ◌≤◌, List, length, sym, ◌∙◌, subst, ⊎_elim, arith, rules}
+use Rattle.cache.specs.Cache.{Unread}
+use Rattle.cache.proofs.keep_unread.Goals as goal
+
+pub loop-i-init : goal.loop-i-init
+loop-i-init c = (omega arith, c.requires, unread_start c.args.mem.now)
+
+pub reads_cell_0-requires : goal.reads_cell_0-requires
+reads_cell_0-requires c = let s = c.loop.invariant in (s.2.long ∙ s.1, c.loop-test.true)
+
+pub bounds-mem-i : goal.bounds-mem-i
+bounds-mem-i c = let h = c.loop-test.true in let s = c.loop.invariant in let b = s.1 in let l = s.2.long in search rules
+
+pub loop-i-preserved : goal.loop-i-preserved
+loop-i-preserved c =     let h = c.loop-test.true in
+    let l = c.loop in
+    let old = c.before.args.mem.now in
+    let P : List ℕ → Type 0 = Unread old (l.i + 1) in (
+      omega arith,
+      l.invariant.1,
+      ⊎_elim
+          (λ w. subst P (sym w.1) (unread_less old l.i l.mem l.invariant.2 l.invariant.1 h))
+          (λ w. subst P (sym w.1) (unread_same old l.i l.mem l.invariant.2 (c.reads_cell_0.ensures w.0.left)))
+          c.if-reads_cell_0.branch,
+    )
+
+pub shape_of-mem : goal.shape_of-mem
+shape_of-mem c = c.loop-i.invariant.2.long
+
+pub returns : goal.returns
+returns c =     let e = c.loop-i-test.false in
+    let l = c.loop-i in
+    let h = l.invariant.0 in
+    let old = c.args.mem.now in
+    let s : Unread old 2048 l.mem = subst (λ (i : ℕ). Unread old i l.mem) (omega arith) l.invariant.2 in
+    λ cl given kn val kn' val' v free honest. honest_unread cl given kn val v kn' val' old l.mem free s honest

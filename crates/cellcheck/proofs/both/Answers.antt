@@ -1,0 +1,11 @@
+-- `both`: the two parts lie within the text. Assumes nothing.
+use mathlib.Core.Path.{sym}
+use native.Mathlib.Omega.{arith}
+use lib.Seq.{length-take-le}
+use borrow.Author.Rules.{rules}
+use Rattle.cellcheck.proofs.both.Goals as goal
+
+pub slice_bounds-answer-end : goal.slice_bounds-answer-end
+slice_bounds-answer-end c =     let two-sheets = c.two-sheets in
+    let args = c.before.args in
+    sym (length-take-le two-sheets.result.end args.s.now (omega (arith, two-sheets.ensures)))

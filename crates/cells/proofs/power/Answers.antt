@@ -1,0 +1,6 @@
+use borrow.Author.Rules.{rules}
+use Rattle.cells.specs.SetsLaws.{power_is}
+use Rattle.cells.proofs.power.Goals as goal
+
+pub returns : goal.returns
+returns c = power_is c.args.k c.requires

@@ -1,0 +1,14 @@
+-- `check`: Check on what the design sheet's examination answers. Assumes nothing.
+use Rattle.sheet.specs.Examine as sheets
+use Rattle.comparing.specs.Answer.{checked_of}
+use Rattle.checker.specs.CheckLaws.{sheet_right, answer_of_sheet}
+use borrow.Author.Rules.{rules}
+use Rattle.checker.proofs.check.Goals as goal
+
+pub check_of-requires : goal.check_of-requires
+check_of-requires c = c.examine.ensures.1
+
+pub returns : goal.returns
+returns c =     let a = c.args in
+    answer_of_sheet a.sheet.now a.network.now (checked_of c.check_of.result)
+    (c.check_of.ensures (sheets.examine a.sheet.now) c.examine.ensures.0 (sheet_right a.sheet.now))

@@ -1,0 +1,12 @@
+-- `offending`: each turn asks one output. Assumes nothing.
+use Prim.Native.Nat.{◌≤◌, ◌-◌}
+use native.Mathlib.Omega.{arith}
+use Rattle.checker.specs.LimitsLaws.{luts_judged, node_judged, none_judged, Kept, kept_more}
+use borrow.Author.Rules.{rules}
+use Rattle.checker.proofs.offending.Given as goal
+
+abbrev pub invariant-loop-o : goal.invariant-loop-o
+invariant-loop-o l = (l.o ≤ l.outputs) × Kept l.luts l.reads l.widths l.o
+
+abbrev pub decreases-loop-o : goal.decreases-loop-o
+decreases-loop-o l = l.outputs - l.o

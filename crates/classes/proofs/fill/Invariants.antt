@@ -1,0 +1,18 @@
+-- `fill`: each turn stores one row. Assumes nothing.
+use mathlib.Core.Path.{refl}
+use Prim.Native.Nat.{ℕ, ◌≤◌, ◌-◌, ◌*◌}
+use native.Mathlib.Omega.{arith}
+use borrow.Author.Rules.{rules}
+use lib.ListN.{length}
+use Rattle.limits.specs.Limits.{max_free_rows}
+use Rattle.bits.specs.Filled.{Filled}
+use Rattle.bits.specs.FilledLaws.{filled_none, filled_more}
+use Rattle.classes.specs.Seen.{gathered}
+use Rattle.classes.proofs.Rows.{product_small}
+use Rattle.classes.proofs.fill.Given as goal
+
+abbrev pub invariant-loop-i : goal.invariant-loop-i
+invariant-loop-i l = Filled (length l.initial.out) (λ (k : ℕ). gathered l.digits (k * l.step)) l.i l.out
+
+abbrev pub decreases-loop-i : goal.decreases-loop-i
+decreases-loop-i l = length l.initial.out - l.i

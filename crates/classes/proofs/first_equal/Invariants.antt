@@ -1,0 +1,14 @@
+-- `first_equal`: each turn passes one vertex with another column. Assumes nothing.
+use mathlib.Core.Path.{sym, ◌∙◌}
+use Prim.Native.Nat.{◌-◌}
+use native.Mathlib.Omega.{arith}
+use borrow.Author.Rules.{rules}
+use Rattle.classes.proofs.Search.{Unlike, unlike_none, unlike_more, like-found, like_itself}
+use Rattle.classes.specs.Seen.{alike_seen}
+use Rattle.classes.proofs.first_equal.Given as goal
+
+abbrev pub invariant-loop-y : goal.invariant-loop-y
+invariant-loop-y l = Unlike (alike_seen l.t l.vertex l.free) l.i l.y
+
+abbrev pub decreases-loop-y : goal.decreases-loop-y
+decreases-loop-y l = l.i - l.y

@@ -1,0 +1,17 @@
+-- `gather`: each turn adds one input to the row, by doubling. Assumes nothing.
+use mathlib.Core.Path.{◌≡◌, ◌∙◌}
+use Prim.Native.Nat.{◌≤◌, ◌-◌}
+use native.Mathlib.Omega.{arith}
+use borrow.Author.Rules.{rules}
+use lib.ListN.{length, take}
+use Rattle.bits.specs.Logic.{bit}
+use Rattle.bits.specs.LogicLaws.{bit_le}
+use Rattle.classes.proofs.Rows.{gather_none, gather_more, gather_all, gather_small}
+use Rattle.classes.specs.Seen.{gathered}
+use Rattle.classes.proofs.gather.Given as goal
+
+abbrev pub invariant-loop-i : goal.invariant-loop-i
+invariant-loop-i l = (l.i ≤ length l.digits) × (l.r ≡ gathered (take l.i l.digits) l.z)
+
+abbrev pub decreases-loop-i : goal.decreases-loop-i
+decreases-loop-i l = length l.digits - l.i

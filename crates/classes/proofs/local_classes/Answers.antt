@@ -1,0 +1,35 @@
+use mathlib.Core.Logic.{⊎_elim}
+use mathlib.Core.Path.{refl}
+use Prim.Native.Nat.{◌≤◌, ◌-◌}
+use native.Mathlib.Omega.{arith}
+use borrow.Author.Rules.{rules}
+use lib.ListN.{length}
+use Rattle.classes.proofs.Numbering.{Numbered, numbered_none, numbered_old, numbered_new, numbered_few, numbered_all}
+use Rattle.classes.specs.ColumnLaws.{same-column}
+use Rattle.classes.specs.Seen.{seen, alike_seen}
+use Rattle.classes.specs.declared.LocalClass.{LocalClass}
+use Rattle.classes.proofs.local_classes.Goals as goal
+
+pub loop-x-init : goal.loop-x-init
+loop-x-init c = (search rules, numbered_none (search rules))
+
+pub first_equal-first-requires : goal.first_equal-first-requires
+first_equal-first-requires c = (c.requires.0, c.loop-x-test.true)
+
+pub overflow_add-count : goal.overflow_add-count
+overflow_add-count c =     omega (arith, numbered_few c.loop-x.invariant.1, c.loop-x-test.true, c.requires.1)
+
+pub loop-x-preserved : goal.loop-x-preserved
+loop-x-preserved c =     let l = c.loop-x-test.true in
+    let m = c.requires.1 in
+    let columns = seen c.args.t.now c.args.vertex.now c.args.free.now in
+    let equivalence = same-column columns (length c.args.free.now) in (
+      omega arith,
+      ⊎_elim
+          (λ w. numbered_old equivalence c.loop-x.invariant.1 (omega arith) w.0.taken c.first_equal-first.ensures w.2 w.3)
+          (λ w. numbered_new c.loop-x.invariant.1 (omega arith) w.0.left c.first_equal-first.ensures w.1 refl w.2)
+          c.if-y-x.branch,
+    )
+
+pub returns : goal.returns
+returns c =     numbered_all c.loop-x.invariant.1 (let a = c.loop-x.invariant.0 in let b = c.loop-x-test.false in omega arith)

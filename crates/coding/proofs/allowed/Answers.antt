@@ -1,0 +1,23 @@
+use Rattle.std.proofs.Common.{◌≡◌, ℕ, ◌-◌, ◌≤◌, List, subst, arith, rules}
+use Rattle.problem.specs.Problem.{Blocks}
+use Rattle.coding.specs.Values.{Groups, Marks, Over, Canon}
+use Rattle.coding.specs.ValuesLaws.{canon_start, canon_more}
+use Rattle.coding.proofs.allowed.Goals as goal
+
+pub loop-k-init : goal.loop-k-init
+loop-k-init c = (omega arith, λ gs sh o b g m. canon_start gs c.args.used sh c.args.all o g)
+
+pub loop-k-preserved : goal.loop-k-preserved
+loop-k-preserved c =     let used = c.args.used in
+    let l = c.loop-k in
+    let new = c.fresh-b in
+    let h = c.loop-k-test.true in
+    (omega arith, λ gs sh o b g m. canon_more gs used sh l.k l.can new.result h g m (new.ensures gs b) (l.invariant.1 gs sh o b g m))
+
+pub returns : goal.returns
+returns c =     let used = c.args.used in
+    let l = c.loop-k in
+    let left = c.loop-k-test.false in
+    let upto = l.invariant.0 in
+    let e : l.k ≡ 3 = omega arith in
+    λ gs sh o b g m. subst (λ (n : ℕ). Canon gs used sh n l.can) e (l.invariant.1 gs sh o b g m)

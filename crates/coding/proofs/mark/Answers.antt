@@ -1,0 +1,22 @@
+use Rattle.std.proofs.Common.{◌≡◌, ℕ, ◌-◌, ◌≤◌, List, subst, arith, rules}
+use Rattle.problem.specs.Problem.{Blocks}
+use Rattle.coding.specs.Values.{Marked}
+use Rattle.coding.specs.ValuesLaws.{marked_start, marked_more}
+use Rattle.coding.proofs.mark.Goals as goal
+
+pub loop-k-init : goal.loop-k-init
+loop-k-init c = (omega arith, λ gs b. marked_start gs c.args.used c.args.c (search rules))
+
+pub loop-k-preserved : goal.loop-k-preserved
+loop-k-preserved c =     let a = c.args in
+    let l = c.loop-k in
+    let h = c.loop-k-test.true in
+    (omega arith, λ gs b. marked_more gs a.used a.c l.k _ l.r h (b.each l.k a.c h c.requires.1) (l.invariant.1 gs b))
+
+pub returns : goal.returns
+returns c =     let a = c.args in
+    let l = c.loop-k in
+    let left = c.loop-k-test.false in
+    let upto = l.invariant.0 in
+    let e : l.k ≡ 3 = omega arith in
+    λ gs b. subst (λ (n : ℕ). Marked gs a.used a.c n l.r) e (l.invariant.1 gs b)

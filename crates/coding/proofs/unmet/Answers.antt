@@ -1,0 +1,24 @@
+use Rattle.std.proofs.Common.{◌+◌, ◌-◌, ◌*◌, ◌≤◌, ⊎_elim, arith, rules}
+use Rattle.coding.proofs.unmet.Goals as goal
+
+pub bounds-met-o : goal.bounds-met-o
+bounds-met-o c =     let p = c.requires in
+    let h = c.loop-o-test.true in
+    let j = p.1 in
+    let long = p.3 in
+    search rules
+
+pub in_set-requires : goal.in_set-requires
+in_set-requires c =     let loop = c.loop-o in
+    let p = c.requires in
+    let h = c.loop-o-test.true in
+    let j = p.1 in
+    let x = p.2 in
+    let z = p.0.low (loop.o * 32 + c.args.x) (omega arith) in
+    let e = c.label-l.ensures in
+    omega arith
+
+pub loop-o-preserved : goal.loop-o-preserved
+loop-o-preserved c =     let h = c.loop-o-test.true in
+    let z = c.loop-o.invariant.1 in
+    (omega arith, ⊎_elim (λ w. let e = w.1 in omega arith) (λ w. let e = w.1 in omega arith) c.if-not-in_set.branch)

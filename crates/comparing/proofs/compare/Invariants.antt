@@ -1,0 +1,25 @@
+-- `compare`: the outer loop's outputs agree on every row, the inner loop's rows agree in this output, and the loops are left
+-- at the first difference. Assumes nothing.
+use mathlib.Core.Path.{refl, sym, ◌∙◌}
+use mathlib.Core.Logic.{⊎_elim}
+use Prim.Native.Nat.{◌-◌, ◌≤◌}
+use native.Mathlib.Omega.{arith}
+use Rattle.limits.specs.Limits.{max_rows}
+use Rattle.sheet.specs.Known.{table_at}
+use Rattle.comparing.specs.Drawing.{places_of}
+use Rattle.comparing.specs.CompareLaws.{Agreed, AgreedRows, Ended, rows_few, agreed_none, rows_none, rows_more, agreed_more}
+use Rattle.comparing.specs.CompareLaws.{ended_agreed, ended_differs, answer_differs, answer_same, some_ready}
+use borrow.Author.Rules.{rules}
+use Rattle.comparing.proofs.compare.Given as goal
+
+abbrev pub invariant-loop-r : goal.invariant-loop-r
+invariant-loop-r l =     AgreedRows l.t l.k (record { l.luts = l.luts; l.lutat = l.lutat; l.reads = l.reads; l.nodeat = l.nodeat }) l.shape l.o l.r
+
+abbrev pub decreases-loop-r : goal.decreases-loop-r
+decreases-loop-r l = l.rows - l.r
+
+abbrev pub invariant-outputs : goal.invariant-outputs
+invariant-outputs l =     Agreed l.t l.k (record { l.luts = l.luts; l.lutat = l.lutat; l.reads = l.reads; l.nodeat = l.nodeat }) l.shape l.o
+
+abbrev pub decreases-outputs : goal.decreases-outputs
+decreases-outputs l = l.outputs - l.o

@@ -1,0 +1,13 @@
+-- `covered`: one literal after another. Assumes nothing.
+use Prim.Native.Nat.{◌-◌}
+use native.Mathlib.Omega.{arith}
+use lib.ListN.{length}
+use Rattle.cubes.specs.RowsLaws.{Narrowed, narrowed_none, narrowed_more, narrowed_all}
+use borrow.Author.Rules.{rules}
+use Rattle.cubes.proofs.covered.Given as goal
+
+abbrev pub invariant-loop-i : goal.invariant-loop-i
+invariant-loop-i l = Narrowed l.l l.i l.t
+
+abbrev pub decreases-loop-i : goal.decreases-loop-i
+decreases-loop-i l = length l.l - l.i

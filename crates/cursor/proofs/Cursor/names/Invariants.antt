@@ -1,0 +1,16 @@
+-- `Cursor::names`: the loop keeps the names passed; its laws are those of GatheredLaws. Assumes nothing.
+use mathlib.Core.Bool.{true, false}
+use mathlib.Core.Path.{refl}
+use Prim.Native.Nat.{◌-◌}
+use native.Mathlib.Omega.{arith}
+use lib.ListN.{length}
+use borrow.Author.Rules.{rules}
+use Rattle.cursor.specs.NextName.{NameNext}
+use Rattle.cursor.specs.GatheredLaws.{Gathered, gathered_none, gathered_more, gathered_all, gathered_bad}
+use Rattle.cursor.proofs.Cursor.names.Given as goal
+
+abbrev pub invariant-loop-v : goal.invariant-loop-v
+invariant-loop-v l = Gathered l.s l.self.at l.c.at l.count l.names
+
+abbrev pub decreases-loop-v : goal.decreases-loop-v
+decreases-loop-v l = length l.s - l.c.at

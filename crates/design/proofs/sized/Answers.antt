@@ -1,0 +1,41 @@
+use Rattle.design.specs.SizeLaws.{sized-empty, sized_long, sized-rest, walk_on, walk_stopped, walk_last}
+use Rattle.sheet.specs.Examine.{plain_lines}
+use borrow.Author.Tests.{not-true, not-false}
+use lib.ListN.{drop}
+use Prim.Native.Nat.{◌≤◌, ◌-◌}
+use mathlib.Core.Path.{◌≡◌, sym, refl, ◌∙◌}
+use native.Mathlib.Omega.{arith}
+use borrow.Author.Rules.{rules}
+use Rattle.design.proofs.sized.Goals as goal
+
+pub returns-then-n-lt1 : goal.returns-then-n-lt1
+returns-then-n-lt1 c = sized-empty c.args.s.now c.if-n-lt1.true
+
+pub returns-then-n-gt-MAX_SHEET : goal.returns-then-n-gt-MAX_SHEET
+returns-then-n-gt-MAX_SHEET c = sized_long c.args.s.now c.if-n-gt-MAX_SHEET.true
+
+pub loop-i-init : goal.loop-i-init
+loop-i-init c = (omega arith, refl)
+
+pub returns-then-not-plain : goal.returns-then-not-plain
+returns-then-not-plain c =     let plain = c.plain in
+    let loop-test = c.loop-i-test in
+    let loop = c.loop-i in
+    let if2 = c.if-n-gt-MAX_SHEET in
+    let if1 = c.if-n-lt1 in
+    let args = c.args in
+    walk_stopped args.s.now loop.i loop-test.true (sym (not-true _ c.if-not-plain.true-raw) ∙ plain.ensures) ∙ sym loop.invariant.1 ∙ sym (sized-rest args.s.now if1.false if2.false)
+
+pub loop-i-preserved : goal.loop-i-preserved
+loop-i-preserved c =     let plain = c.plain in
+    let loop-test = c.loop-i-test in
+    let loop = c.loop-i in
+    let args = c.args in
+    (omega arith, loop.invariant.1 ∙ walk_on args.s.now loop.i loop-test.true (sym (not-false _ c.if-not-plain.false-raw) ∙ plain.ensures))
+
+pub returns : goal.returns
+returns c =     let loop = c.loop-i in
+    let if2 = c.if-n-gt-MAX_SHEET in
+    let if1 = c.if-n-lt1 in
+    let args = c.args in
+    sym (sized-rest args.s.now if1.false if2.false ∙ loop.invariant.1 ∙ walk_last args.s.now loop.i if1.false (omega arith))

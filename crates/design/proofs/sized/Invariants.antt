@@ -1,0 +1,15 @@
+use Rattle.design.specs.SizeLaws.{sized-empty, sized_long, sized-rest, walk_on, walk_stopped, walk_last}
+use Rattle.sheet.specs.Examine.{plain_lines}
+use borrow.Author.Tests.{not-true, not-false}
+use lib.ListN.{drop}
+use Prim.Native.Nat.{◌≤◌, ◌-◌}
+use mathlib.Core.Path.{◌≡◌, sym, refl, ◌∙◌}
+use native.Mathlib.Omega.{arith}
+use borrow.Author.Rules.{rules}
+use Rattle.design.proofs.sized.Given as goal
+
+abbrev pub invariant-loop-i : goal.invariant-loop-i
+invariant-loop-i l = (l.i ≤ l.n - 1) × (plain_lines l.s ≡ plain_lines (drop l.i l.s))
+
+abbrev pub decreases-loop-i : goal.decreases-loop-i
+decreases-loop-i l = l.n - l.i

@@ -1,0 +1,111 @@
+use mathlib.Core.Path.{refl, sym, subst}
+use mathlib.Core.List.{List}
+use mathlib.Core.Logic.{⊎_elim}
+use Prim.Native.Nat.{ℕ, ◌+◌, ◌≤◌, ◌-◌}
+use native.Mathlib.Omega.{arith}
+use lib.ListN.{set}
+use Rattle.problem.specs.Problem.{item}
+use Rattle.dominance.specs.Dominance.{Choosing}
+use Rattle.dominance.specs.DominanceLaws.{choosing_start, choosing-dominated, choosing-kept, choosing_all}
+use borrow.Author.Rules.{rules}
+use Rattle.cells.specs.ListLaws.{zeros_are}
+use Rattle.dominance.proofs.chosen.Goals as goal
+
+pub ranks-requires : goal.ranks-requires
+ranks-requires c = let p = c.requires in (p.0, p.1, p.2)
+
+pub falling-order-requires : goal.falling-order-requires
+falling-order-requires c = c.requires.2
+
+pub loop-i-init : goal.loop-i-init
+loop-i-init c = let a = c.args in (omega arith, choosing_start a.cl.now a.budgets a.v a.m c.falling-order.result _ _ refl refl (zeros_are 8))
+
+pub bounds-order-i : goal.bounds-order-i
+bounds-order-i c =     let b = c.requires.2 in
+    let h = c.loop-i-test.true in
+    let z = c.falling-order.ensures.1.long in
+    search rules
+
+pub overflow_cast-o : goal.overflow_cast-o
+overflow_cast-o c =     let z = c.falling-order.ensures.0.low c.loop-i.i c.loop-i-test.true in
+    let b = c.requires.2 in
+    record { fits = omega arith }
+
+pub dominator-k-requires : goal.dominator-k-requires
+dominator-k-requires c =     let p = c.requires in
+    let s = c.loop-i.invariant.1 in
+    let h = c.loop-i-test.true in
+    let z = c.falling-order.ensures.0.low c.loop-i.i h in
+    let b = p.2 in
+    let f = s.few in
+    (p.0, p.1, s.indices, omega arith, omega arith)
+
+pub overflow_cast-by : goal.overflow_cast-by
+overflow_cast-by c =     let b = c.requires.2 in
+    let h = c.loop-i-test.true in
+    let f = c.loop-i.invariant.1.few in
+    let k = c.dominator-k.ensures.under in
+    record { fits = omega arith }
+
+pub bounds-by-o : goal.bounds-by-o
+bounds-by-o c =     let loop = c.loop-i in
+    let b = c.requires.2 in
+    let z = c.falling-order.ensures.0.low loop.i c.loop-i-test.true in
+    let l = c.loop-i.invariant.1.long in
+    search rules
+
+pub overflow_cast-from : goal.overflow_cast-from
+overflow_cast-from c =     let loop = c.loop-i in
+    let loop-test = c.loop-i-test in
+    let b = c.requires.2 in
+    let z = c.falling-order.ensures.0.low loop.i loop-test.true in
+    record { fits = omega arith }
+
+pub bounds-from-n : goal.bounds-from-n
+bounds-from-n c =     let b = c.requires.2 in
+    let h = c.loop-i-test.true in
+    let s = c.loop-i.invariant.1 in
+    let f = s.few in
+    let l = s.indices.long in
+    search rules
+
+pub overflow_add-n : goal.overflow_add-n
+overflow_add-n c =     let b = c.requires.2 in
+    let h = c.loop-i-test.true in
+    let f = c.loop-i.invariant.1.few in
+    omega arith
+
+pub overflow_add-i : goal.overflow_add-i
+overflow_add-i c =     let b = c.requires.2 in
+    let h = c.loop-i-test.true in
+    omega arith
+
+pub loop-i-preserved : goal.loop-i-preserved
+loop-i-preserved c =     let a = c.args in
+    let b = c.requires.2 in
+    let f = c.falling-order in
+    let l = c.loop-i in
+    let h = c.loop-i-test.true in
+    let d = c.dominator-k in
+    let s = l.invariant.1 in
+    let few = s.few in
+    let under = d.ensures.under in
+    let o = item f.result l.i in
+    let low = f.ensures.0.low l.i h in
+    let P : List ℕ → ℕ → Type 0 = λ from n. Choosing a.cl.now a.budgets a.v a.m f.result (l.i + 1) n from (set l.by o d.result) in
+    let R : P c.if-k-n.from c.if-k-n.n = ⊎_elim
+    (λ w. subst (λ (r : List ℕ). P r c.if-k-n.n) (sym w.1) (subst (P (set l.from l.n o)) (sym w.2)
+    (choosing-kept a.cl.now a.budgets a.v a.m f.result l.i l.n l.from l.by d.result (omega arith) s w.0.taken (omega arith) low)))
+    (λ w. let e = w.0.left in subst (λ (r : List ℕ). P r c.if-k-n.n) (sym w.1) (subst (P l.from) (sym w.2)
+    (choosing-dominated a.cl.now a.budgets a.v a.m f.result l.i l.n l.from l.by d.result (omega arith) s
+    (omega arith) (d.ensures.dominates (omega arith)))))
+    c.if-k-n.branch in
+    (omega arith, R)
+
+pub returns : goal.returns
+returns c =     let a = c.args in
+    let b = c.requires.2 in
+    let f = c.falling-order in
+    let l = c.loop-i in
+    let z = l.invariant.0 in
+    choosing_all a.cl.now a.budgets a.v a.m f.result l.i l.n l.from l.by c.loop-i-test.false (omega arith) f.ensures.0 l.invariant.1

@@ -1,0 +1,31 @@
+use Rattle.dominance.specs.Dominance.{Picked}
+use mathlib.Core.Path.{refl, subst}
+use Prim.Native.Nat.{ℕ, ◌≤◌, ◌-◌}
+use native.Mathlib.Omega.{arith}
+use borrow.Author.Rules.{rules}
+use Rattle.bits.specs.FilledLaws.{filled_none, filled_more}
+use Rattle.dominance.proofs.picked.Goals as goal
+
+pub loop-i-init : goal.loop-i-init
+loop-i-init c = (omega arith, filled_none _ _ refl)
+
+pub overflow_cast-r : goal.overflow_cast-r
+overflow_cast-r c = let z = c.requires.small c.loop-i.i c.loop-i-test.true in record { fits = omega arith }
+
+pub bounds-budgets-from : goal.bounds-budgets-from
+bounds-budgets-from c = let z = c.requires.small c.loop-i.i c.loop-i-test.true in search rules
+
+pub bounds-r-i : goal.bounds-r-i
+bounds-r-i c = let h = c.loop-i-test.true in let l = c.loop-i.invariant.1.long in search rules
+
+pub loop-i-preserved : goal.loop-i-preserved
+loop-i-preserved c =     let l = c.loop-i in
+    let h = c.loop-i-test.true in
+    (omega arith, filled_more _ h refl l.invariant.1)
+
+pub returns : goal.returns
+returns c =     let a = c.args in
+    let l = c.loop-i in
+    let h = c.loop-i-test.false in
+    let z = l.invariant.0 in
+    subst (λ (z : ℕ). Picked a.t1 a.t2 z l.r) (omega arith) l.invariant.1

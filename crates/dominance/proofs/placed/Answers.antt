@@ -1,0 +1,41 @@
+use Rattle.dominance.specs.Kept.{Placed}
+use mathlib.Core.Path.{refl, subst}
+use Prim.Native.Nat.{ℕ, ◌≤◌, ◌-◌}
+use native.Mathlib.Omega.{arith}
+use borrow.Author.Rules.{rules}
+use Rattle.bits.specs.FilledLaws.{filled_none, filled_more}
+use Rattle.dominance.proofs.placed.Goals as goal
+
+pub loop-o-init : goal.loop-o-init
+loop-o-init c = (omega arith, filled_none _ _ refl)
+
+pub bounds-by-o : goal.bounds-by-o
+bounds-by-o c = let h = c.loop-o-test.true in let b = c.requires.0 in search rules
+
+pub overflow_cast-r : goal.overflow_cast-r
+overflow_cast-r c = let z = c.requires.1 c.loop-o.o c.loop-o-test.true in record { fits = omega arith }
+
+pub offset_bounds-rows-by : goal.offset_bounds-rows-by
+offset_bounds-rows-by c = let z = c.requires.1 c.loop-o.o c.loop-o-test.true in search rules
+
+pub bounds-rows-by : goal.bounds-rows-by
+bounds-rows-by c = let z = c.requires.1 c.loop-o.o c.loop-o-test.true in search rules
+
+pub offset_bounds-r-o : goal.offset_bounds-r-o
+offset_bounds-r-o c = let h = c.loop-o-test.true in let b = c.requires.0 in search rules
+
+pub bounds-r-o : goal.bounds-r-o
+bounds-r-o c = let h = c.loop-o-test.true in let b = c.requires.0 in let l = c.loop-o.invariant.1.long in search rules
+
+pub loop-o-preserved : goal.loop-o-preserved
+loop-o-preserved c =     let l = c.loop-o in
+    let h = c.loop-o-test.true in
+    let b = c.requires.0 in
+    (omega arith, filled_more _ (omega arith) refl l.invariant.1)
+
+pub returns : goal.returns
+returns c =     let a = c.args in
+    let l = c.loop-o in
+    let h = c.loop-o-test.false in
+    let z = l.invariant.0 in
+    subst (λ (z : ℕ). Placed a.t1 a.t2 z l.r) (omega arith) l.invariant.1

@@ -1,0 +1,22 @@
+use Prim.Native.Nat.{◌≤◌, ◌-◌}
+use native.Mathlib.Omega.{arith}
+use lib.ListN.{length, take}
+use borrow.Author.Rules.{rules}
+use Rattle.emit.specs.PutLaws.{put_none, put_next, put_same, put_length, taken_more, taken_all}
+use Rattle.emit.specs.Written.{Written}
+use Rattle.emit.proofs.put_text.Goals as goal
+
+pub loop-i-init : goal.loop-i-init
+loop-i-init c = (omega arith, put_none _ _)
+
+pub loop-i-preserved : goal.loop-i-preserved
+loop-i-preserved c =     let put_byte = c.put_byte-p in
+    let loop-test = c.loop-i-test in
+    let loop = c.loop-i in
+    (search rules, put_next loop.invariant.1 put_byte.ensures (taken_more _ _ loop-test.true) (omega arith))
+
+pub shape_of-buf : goal.shape_of-buf
+shape_of-buf c = put_length c.loop-i.invariant.1
+
+pub returns : goal.returns
+returns c = put_same c.loop-i.invariant.1 (taken_all _ _ c.loop-i-test.false) (search rules)

@@ -1,0 +1,16 @@
+use Rattle.fewest.specs.Count.{Opened}
+use mathlib.Core.Path.{refl}
+use Prim.Native.Nat.{◌-◌}
+use borrow.Author.Rules.{rules}
+use Rattle.bits.specs.FilledLaws.{filled_none, filled_more, filled_fewer}
+use Rattle.fewest.proofs.opened.Goals as goal
+
+pub loop-o-init : goal.loop-o-init
+loop-o-init c = filled_none _ _ refl
+
+pub loop-o-preserved : goal.loop-o-preserved
+loop-o-preserved c =     let loop = c.loop-o in
+    filled_more _ c.loop-o-test.true c.open_of.ensures.0 loop.invariant
+
+pub returns : goal.returns
+returns c = filled_fewer c.loop-o-test.false c.loop-o.invariant

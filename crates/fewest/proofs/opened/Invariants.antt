@@ -1,0 +1,12 @@
+use Rattle.fewest.specs.Count.{Opened}
+use mathlib.Core.Path.{refl}
+use Prim.Native.Nat.{◌-◌}
+use borrow.Author.Rules.{rules}
+use Rattle.bits.specs.FilledLaws.{filled_none, filled_more, filled_fewer}
+use Rattle.fewest.proofs.opened.Given as goal
+
+abbrev pub invariant-loop-o : goal.invariant-loop-o
+invariant-loop-o l = Opened l.rows l.o l.r
+
+abbrev pub decreases-loop-o : goal.decreases-loop-o
+decreases-loop-o l = 8 - l.o

@@ -1,0 +1,13 @@
+use Rattle.fewest.specs.Count.{Zeroed}
+use lib.ListN.{get_or}
+use Prim.Native.Nat.{◌-◌}
+use mathlib.Core.Path.{◌≡◌, refl}
+use borrow.Author.Rules.{rules}
+use Rattle.bits.specs.FilledLaws.{filled_none, filled_more, filled_fewer}
+use Rattle.fewest.proofs.zero_first.Given as goal
+
+abbrev pub invariant-loop-x : goal.invariant-loop-x
+invariant-loop-x l = (l.first ≡ get_or l.codes 0 0) × Zeroed l.codes l.x l.r
+
+abbrev pub decreases-loop-x : goal.decreases-loop-x
+decreases-loop-x l = 32 - l.x

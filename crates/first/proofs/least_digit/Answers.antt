@@ -1,0 +1,71 @@
+use Rattle.first.specs.LowestLaws.{lowest_same, lowest_zero, lowest_found, lowest_one, stands_found, stands_kept}
+use borrow.Author.Tests.{not-true, not-false}
+use native.Mathlib.Omega.{arith}
+use Prim.Native.Nat.{◌+◌}
+use mathlib.Core.Path.{sym, ◌∙◌}
+use borrow.Author.Rules.{rules}
+use Rattle.first.proofs.least_digit.Goals as goal
+
+pub in_set-requires : goal.in_set-requires
+in_set-requires c = let u = c.requires.3 in let l = c.requires.4 in omega arith
+
+pub returns-then-not-in_set : goal.returns-then-not-in_set
+returns-then-not-in_set c =     let p = c.requires in
+    let a = c.args in
+    let q = a.p in
+    let zero = sym c.in_set.ensures ∙ not-true _ c.if-not-in_set.true-raw in
+    (lowest_zero a.cl.now q.budgets q.vertices q.outputs q.cells a.i a.x a.t5 p.4 p.5 p.6 zero, p.7, p.8)
+
+pub ask-a-requires : goal.ask-a-requires
+ask-a-requires c =     let p = c.requires in
+    (p.0, p.1, p.2, p.3, p.4, p.5, p.6.witness, p.7, p.8)
+
+pub shape_of-mem-then-not-a : goal.shape_of-mem-then-not-a
+shape_of-mem-then-not-a c =     c.ask-a.ensures.1.honest.long ∙ sym c.requires.8.honest.long
+
+pub returns-then-not-a : goal.returns-then-not-a
+returns-then-not-a c =     let in-set = c.in_set in
+    let if1 = c.if-not-in_set in
+    let p = c.requires in
+    let a = c.args in
+    let q = a.p in
+    let k = c.ask-a in
+    let one = sym in-set.ensures ∙ not-false _ if1.false in (
+      lowest_one a.cl.now q.budgets q.vertices q.outputs q.cells a.i a.x a.t5 p.4 p.5 p.6 k.result.codes k.result.ok
+          (not-true _ c.if-not-a.true) one k.ensures.0,
+      p.7,
+      k.ensures.1,
+    )
+
+pub overflow_add-x : goal.overflow_add-x
+overflow_add-x c =     let p = c.requires in
+    let v = p.1 in
+    let h = p.5 in
+    omega arith
+
+pub sorted-least-requires : goal.sorted-least-requires
+sorted-least-requires c =     let p = c.requires in
+    let v = p.1 in
+    let h = p.5 in
+    (p.4, p.3, omega arith, p.1)
+
+pub shape_of-mem : goal.shape_of-mem
+shape_of-mem c =     c.ask-a.ensures.1.honest.long ∙ sym c.requires.8.honest.long
+
+pub returns : goal.returns
+returns c =     let if2 = c.if-not-a in
+    let p = c.requires in
+    let a = c.args in
+    let q = a.p in
+    let k = c.ask-a in
+    let s = c.sorted-least in
+    let found = not-false _ if2.false in
+    let low = lowest_found a.cl.now q.budgets q.vertices q.outputs q.cells a.i a.x a.t5 p.4 p.5 p.6 k.result.codes k.result.ok
+    found k.ensures.0 in
+    let stands = stands_found a.cl.now q.budgets q.vertices q.outputs q.cells a.i a.x a.t5 a.given.now k.result.codes k.result.ok
+    p.4 found k.ensures.0 p.7 in (
+      lowest_same a.cl.now q.budgets q.vertices q.outputs q.cells a.i (a.x + 1) k.result.codes s.result p.4 (let h = p.5 in omega arith)
+          low s.ensures.0 (s.ensures.1 a.cl.now q.budgets q.outputs low.witness),
+      stands_kept a.i (a.x + 1) q.vertices k.result.codes a.given.now s.result s.ensures.0 stands,
+      k.ensures.1,
+    )

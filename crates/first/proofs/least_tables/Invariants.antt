@@ -1,0 +1,13 @@
+use Rattle.first.specs.LowestLaws.{lowest_start}
+use Rattle.first.specs.Drawn.{Lowest}
+use lib.ListN.{length}
+use native.Mathlib.Omega.{arith}
+use Prim.Native.Nat.{ℕ, ◌≤◌, ◌-◌}
+use mathlib.Core.Path.{◌≡◌, sym, subst, ◌∙◌}
+use Rattle.first.proofs.least_tables.Given as goal
+
+abbrev pub invariant-loop-i : goal.invariant-loop-i
+invariant-loop-i l = (l.i ≤ l.p.cells) × Lowest l.cl l.p.budgets l.p.vertices l.p.outputs l.p.cells l.i 0 l.least × (length l.mem ≡ 18432)
+
+abbrev pub decreases-loop-i : goal.decreases-loop-i
+decreases-loop-i l = l.p.cells - l.i

@@ -1,0 +1,43 @@
+-- `input`: the name's place among the inputs decides. Assumes nothing.
+use Rattle.formula.specs.LookupLaws.{found_inside, found-row, found_among, nowhere_among, nowhere_row}
+use Rattle.rows.specs.WordLaws.{rowwise_same}
+use mathlib.Core.Path.{sym, refl}
+use native.Mathlib.Omega.{arith}
+use borrow.Author.Rules.{rules}
+use Rattle.formula.proofs.input.Goals as goal
+
+pub overflow_sub-inputs : goal.overflow_sub-inputs
+overflow_sub-inputs c =     let p = c.p-1 in
+    let find = c.find-p in
+    let args = c.args in
+    omega (arith, found_inside args.inputs.now args.n p.given.0.0 find.result find.ensures p.given.1)
+
+pub overflow_sub-inputs-in-At : goal.overflow_sub-inputs-in-At
+overflow_sub-inputs-in-At c =     let p = c.p-1 in
+    let find = c.find-p in
+    let args = c.args in
+    omega (arith, found_inside args.inputs.now args.n p.given.0.0 find.result find.ensures p.given.1)
+
+pub returns-in-At : goal.returns-in-At
+returns-in-At c =     let p = c.p-1 in
+    let find = c.find-p in
+    let args = c.args in
+    record {
+      good = refl;
+      moved = refl;
+      flat = refl;
+      named = sym (found_among args.inputs.now args.n p.given.0.0 find.result find.ensures p.given.1);
+      each = rowwise_same c.input.ensures (λ r l. sym (found-row args.inputs.now args.n p.given.0.0 find.result find.ensures p.given.1 r));
+    }
+
+pub returns-in-Nowhere : goal.returns-in-Nowhere
+returns-in-Nowhere c =     let enum_told = c.enum_told-1 in
+    let find = c.find-p in
+    let args = c.args in
+    record {
+      good = refl;
+      moved = refl;
+      flat = refl;
+      named = sym (nowhere_among args.inputs.now args.n find.result find.ensures enum_told.given.1);
+      each = rowwise_same c.constant.ensures (λ r l. sym (nowhere_row args.inputs.now args.n find.result find.ensures enum_told.given.1 r));
+    }

@@ -1,0 +1,10 @@
+-- `unread`: only the place after the formula is kept. Assumes nothing.
+use mathlib.Core.Path.{refl}
+use borrow.Author.Rules.{rules}
+use Rattle.formula.proofs.unread.Goals as goal
+
+pub returns-in-To : goal.returns-in-To
+returns-in-To c = rw c.m-1.given.1 (record { good = refl; moved = refl; flat = refl })
+
+pub returns-in-Bad : goal.returns-in-Bad
+returns-in-Bad c = rw c.enum_told-1.given.1 c.none.ensures

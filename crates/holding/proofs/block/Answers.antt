@@ -1,0 +1,11 @@
+use borrow.Author.Rules.{rules}
+use Rattle.holding.specs.BlocksLaws.{spans_block}
+use Rattle.holding.proofs.block.Goals as goal
+
+pub single-requires : goal.single-requires
+single-requires c = c.requires
+
+pub returns : goal.returns
+returns c =     let args = c.args in
+    let single = c.single in
+    spans_block args.mask args.c single.result c.spread.result c.requires single.ensures c.spread.ensures

@@ -1,0 +1,41 @@
+use native.Mathlib.Omega.{arith}
+use borrow.Author.Rules.{rules}
+use Rattle.holding.specs.ReachLaws.{tight_one}
+use Rattle.holding.specs.WantsLaws.{tight_end}
+use Rattle.holding.proofs.busiest.Goals as goal
+
+pub class_part-p-requires : goal.class_part-p-requires
+class_part-p-requires c = let p = c.requires in (p.0, p.2, omega arith)
+
+pub one_part-requires : goal.one_part-requires
+one_part-requires c = let p = c.requires in (p.0, p.2)
+
+pub lacks-a-requires : goal.lacks-a-requires
+lacks-a-requires c = c.requires
+
+pub tight_part-one-requires : goal.tight_part-one-requires
+tight_part-one-requires c = c.class_part-p.ensures.1
+
+pub returns-then-one_part : goal.returns-then-one_part
+returns-then-one_part c =     let a = c.args in
+    let p = c.class_part-p.result in
+    let s = c.lacks-a in
+    let r = s.result in
+    let t = c.tight_part-one in
+    (s.ensures, tight_one a.cl.now a.owns.now a.wants.now a.base.now a.o p r.total r.news a.spot t.result s.ensures t.ensures)
+
+pub totals-ts-requires : goal.totals-ts-requires
+totals-ts-requires c = let p = c.requires in (p.0, p.1, p.2, p.5)
+
+pub overflow_cast-q : goal.overflow_cast-q
+overflow_cast-q c = let l = c.largest-q.ensures in search rules
+
+pub lacks-b-requires : goal.lacks-b-requires
+lacks-b-requires c = c.requires
+
+pub returns : goal.returns
+returns c =     let a = c.args in
+    let t = c.totals-ts in
+    let f = c.tight_parts-tight in
+    let s = c.lacks-b.ensures in
+    (s, tight_end a.cl.now a.wants.now a.base.now a.o a.spot t.result f.result t.ensures f.ensures)

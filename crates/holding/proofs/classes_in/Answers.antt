@@ -1,0 +1,78 @@
+use mathlib.Core.Path.{sym, ◌∙◌, subst}
+use Prim.Native.Nat.{ℕ, ◌≤◌, ◌+◌, ◌-◌, ◌*◌}
+use native.Mathlib.Omega.{arith}
+use mathlib.Core.Logic.{⊎_elim}
+use borrow.Author.Tests.{not-true}
+use Rattle.holding.specs.Full.{Crowd}
+use borrow.Author.Rules.{rules}
+use Rattle.holding.specs.FullLaws.{crowd_start, crowd_same, crowd_more}
+use Rattle.holding.proofs.classes_in.Goals as goal
+
+pub strangers-seen-requires : goal.strangers-seen-requires
+strangers-seen-requires c =     (c.requires.0, c.requires.2)
+
+pub loop-y-init : goal.loop-y-init
+loop-y-init c =     let a = c.args in (omega arith, crowd_start a.cl.now a.codes.now a.o a.p a.b c.strangers-seen.result c.strangers-seen.ensures.rest)
+
+pub bounds-codes-y : goal.bounds-codes-y
+bounds-codes-y c =     let h = c.loop-y-test.true in
+    let z = c.requires.1 in
+    let n = c.requires.3 in
+    search rules
+
+pub label-l-requires : goal.label-l-requires
+label-l-requires c =     let h = c.loop-y-test.true in
+    let p = c.requires in
+    let a = p.1 in
+    let e = p.0.long in
+    (omega arith, p.2, omega arith)
+
+pub in_set-requires : goal.in_set-requires
+in_set-requires c =     let loop = c.loop-y in
+    let h = c.loop-y-test.true in
+    let p = c.requires in
+    let v = p.1 in
+    let o = p.2 in
+    let l = p.0.low (c.args.o * 32 + loop.y) (omega arith) in
+    let e = c.label-l.ensures in
+    omega arith
+
+pub with-seen-requires : goal.with-seen-requires
+with-seen-requires c =     let loop = c.loop-y in
+    let h = c.loop-y-test.true in
+    let p = c.requires in
+    let v = p.1 in
+    let o = p.2 in
+    let a = c.args in
+    let l = p.0.low (a.o * 32 + loop.y) (omega arith) in
+    let e = c.label-l.ensures in
+    omega arith
+
+pub overflow_add-count : goal.overflow_add-count
+overflow_add-count c =     let h = c.loop-y-test.true in
+    let v = c.requires.1 in
+    let z = c.loop-y.invariant.1.few in
+    search rules
+
+pub loop-y-preserved : goal.loop-y-preserved
+loop-y-preserved c =     let h = c.loop-y-test.true in
+    let p = c.requires in
+    let z = p.1 in
+    let o = p.2 in
+    let a = c.args in
+    let l = c.loop-y in
+    let low = p.0.low (a.o * 32 + l.y) (omega arith) in (
+      omega arith,
+      ⊎_elim
+          (λ w. let q = c.inside.ensures w.0.taken in let e = w.1.ensures in crowd_more a.cl.now a.codes.now a.o a.p a.b l.y l.seen l.count
+          w.1.result w.4.result _ _ e (omega arith) q.0 q.1 (sym w.2.ensures ∙ not-true _ w.3.taken) w.4.ensures w.5 w.6 l.invariant.1)
+          (⊎_elim
+          (λ w. crowd_same a.cl.now a.codes.now a.o a.p a.b l.y l.seen l.count _ _ w.4 w.5 l.invariant.1)
+          (λ w. crowd_same a.cl.now a.codes.now a.o a.p a.b l.y l.seen l.count _ _ w.1 w.2 l.invariant.1))
+          c.if-inside.branch,
+    )
+
+pub returns : goal.returns
+returns c =     let a = c.args in
+    let l = c.loop-y in
+    subst (λ (n : ℕ). Crowd a.cl.now a.codes.now a.o a.p a.b n l.seen l.count) (let h = c.loop-y-test.false in let z = l.invariant.0 in omega arith) l.invariant.1

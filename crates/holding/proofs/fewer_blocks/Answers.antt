@@ -1,0 +1,63 @@
+use Rattle.holding.specs.Reach.{Left}
+use Rattle.bits.specs.LogicLaws.{true_false}
+use Rattle.holding.specs.ReachLaws.{left-start, left_more, left_end}
+use Rattle.problem.specs.Problem.{Block}
+use borrow.Author.Tests.{ltb-true}
+use lib.ListN.{get_or}
+use native.Mathlib.Omega.{arith}
+use Prim.Native.Nat.{ℕ, ◌<◌, ◌+◌, ◌-◌, ◌*◌}
+use mathlib.Core.Path.{sym}
+use borrow.Author.Rules.{rules}
+use Rattle.holding.proofs.fewer_blocks.Goals as goal
+
+pub loop-rest-init : goal.loop-rest-init
+loop-rest-init c = λ mask b. left-start mask c.args.d
+
+pub returns-then-n-k : goal.returns-then-n-k
+returns-then-n-k c = λ e. absurd (true_false (sym e))
+
+pub lowest-c-requires : goal.lowest-c-requires
+lowest-c-requires c = c.loop-rest-test.true
+
+pub overflow_mul-b : goal.overflow_mul-b
+overflow_mul-b c = let z = c.requires.1 in search rules
+
+pub overflow_add-b : goal.overflow_add-b
+overflow_add-b c = let z = c.requires.1 in let l = c.lowest-c.ensures.0 in search rules
+
+pub offset_bounds-bs-o : goal.offset_bounds-bs-o
+offset_bounds-bs-o c =     let z = c.requires.1 in
+    let l = c.lowest-c.ensures.0 in
+    let e = c.requires.0 in
+    search rules
+
+pub bounds-bs-o : goal.bounds-bs-o
+bounds-bs-o c =     let z = c.requires.1 in
+    let l = c.lowest-c.ensures.0 in
+    let e = c.requires.0 in
+    search rules
+
+pub without-requires : goal.without-requires
+without-requires c = c.lowest-c.ensures.0
+
+pub overflow_add-k : goal.overflow_add-k
+overflow_add-k c = let h = c.if-n-k.false in search rules
+
+pub loop-rest-smaller : goal.loop-rest-smaller
+loop-rest-smaller c =     let lowest = c.lowest-c in
+    let a = c.minus-rest.ensures.less in let b = c.without.ensures.less lowest.ensures.1 in omega arith
+
+pub loop-rest-preserved : goal.loop-rest-preserved
+loop-rest-preserved c =     λ mask b.
+    let low = c.lowest-c in
+    let l = c.loop-rest in
+    let d = c.args.d in
+    let w = c.without in
+    let m = c.minus-rest in
+    left_more mask d l.rest l.k low.result _ w.result m.result (b low.result low.ensures.0) w.ensures m.ensures (l.invariant mask b)
+
+pub returns : goal.returns
+returns c =     λ e mask b.
+    let l = c.loop-rest in
+    let a = c.args in
+    left_end mask a.d l.rest l.k a.n c.loop-rest-test.false (ltb-true _ _ e) (l.invariant mask b)

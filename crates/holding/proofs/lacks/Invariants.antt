@@ -1,0 +1,14 @@
+use Rattle.holding.specs.Reach.{Lacks}
+use lib.ListN.{get_or}
+use native.Mathlib.Omega.{arith}
+use Prim.Native.Nat.{ℕ, ◌≤◌, ◌-◌, max}
+use mathlib.Core.Path.{refl, ap, ◌∙◌, subst}
+use borrow.Author.Rules.{rules}
+use Rattle.holding.specs.ReachLaws.{lacks_start, lacks_more}
+use Rattle.holding.proofs.lacks.Given as goal
+
+abbrev pub invariant-loop-l : goal.invariant-loop-l
+invariant-loop-l l = (l.l ≤ 32) × Lacks l.cl l.owns l.wants l.base l.o l.p l.l l.total l.news
+
+abbrev pub decreases-loop-l : goal.decreases-loop-l
+decreases-loop-l l = 32 - l.l

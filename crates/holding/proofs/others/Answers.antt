@@ -1,0 +1,33 @@
+use mathlib.Core.Path.{subst}
+use Prim.Native.Nat.{ℕ, ◌≤◌, ◌-◌}
+use native.Mathlib.Omega.{arith}
+use mathlib.Core.Logic.{⊎_elim}
+use Rattle.holding.specs.Full.{Others}
+use borrow.Author.Rules.{rules}
+use Rattle.holding.specs.FullLaws.{others-start, others_in, others_out}
+use Rattle.holding.proofs.others.Goals as goal
+
+pub loop-l-init : goal.loop-l-init
+loop-l-init c = (omega arith, others-start c.args.cl.now c.args.o c.args.p)
+
+pub class_part-q-requires : goal.class_part-q-requires
+class_part-q-requires c =     (c.requires.0, c.requires.1, c.loop-l-test.true)
+
+pub with-r-requires : goal.with-r-requires
+with-r-requires c = let h = c.loop-l-test.true in omega arith
+
+pub loop-l-preserved : goal.loop-l-preserved
+loop-l-preserved c =     let class-part = c.class_part-q in
+    let loop-test = c.loop-l-test in
+    let loop = c.loop-l in
+    let args = c.args in
+    let h = loop-test.true in (
+      omega arith,
+      ⊎_elim (λ w. others_out args.cl.now args.o args.p loop.l loop.r _ w.1.result w.1.ensures w.2 loop.invariant.1)
+          (λ w. others_in args.cl.now args.o args.p loop.l loop.r _ class-part.result class-part.ensures.0 w.0.left w.1 loop.invariant.1) c.if-q-p.branch,
+    )
+
+pub returns : goal.returns
+returns c =     let args = c.args in
+    let l = c.loop-l in
+    subst (λ (n : ℕ). Others args.cl.now args.o args.p n l.r) (let h = c.loop-l-test.false in let z = l.invariant.0 in omega arith) l.invariant.1

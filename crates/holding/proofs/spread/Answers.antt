@@ -1,0 +1,38 @@
+use mathlib.Core.Path.{◌≡◌, sym, ◌∙◌, subst}
+use mathlib.Core.Logic.{⊎_elim}
+use Prim.Native.Nat.{ℕ, ◌-◌, ◌≤◌}
+use native.Mathlib.Omega.{arith}
+use borrow.Author.Tests.{not-true, not-false}
+use Rattle.holding.specs.Joined.{Spreading}
+use borrow.Author.Rules.{rules}
+use Rattle.holding.specs.JoinedLaws.{spreading_start, spreading_same, spreading_more, spreading_end}
+use Rattle.holding.proofs.spread.Goals as goal
+
+pub loop-i-init : goal.loop-i-init
+loop-i-init c = (omega arith, spreading_start c.args.mask c.args.d)
+
+pub in_set-requires : goal.in_set-requires
+in_set-requires c = let h = c.loop-i-test.true in omega arith
+
+pub joined-r-requires : goal.joined-r-requires
+joined-r-requires c = c.loop-i-test.true
+
+pub loop-i-preserved : goal.loop-i-preserved
+loop-i-preserved c =     let in-set = c.in_set in
+    let h = c.loop-i-test.true in
+    let loop = c.loop-i in
+    let args = c.args in (
+      omega arith,
+      ⊎_elim
+          (λ w. spreading_more args.mask args.d loop.i loop.r _ w.1.result h (sym in-set.ensures ∙ not-true _ w.0.taken) w.1.ensures w.2 loop.invariant.1)
+          (λ w. spreading_same args.mask args.d loop.i loop.r _ (sym in-set.ensures ∙ not-false _ w.0.left) w.1 loop.invariant.1)
+          c.if-not-in_set.branch,
+    )
+
+pub returns : goal.returns
+returns c =     let loop = c.loop-i in
+    let args = c.args in
+    let h = c.loop-i-test.false in
+    let z = loop.invariant.0 in
+    let e : loop.i ≡ 6 = omega arith in
+    spreading_end args.mask args.d loop.r c.ranges.mask.fits (subst (λ (n : ℕ). Spreading args.mask args.d n loop.r) e loop.invariant.1)

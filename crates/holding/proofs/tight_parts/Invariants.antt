@@ -1,0 +1,14 @@
+use Rattle.holding.specs.Wants.{TightBelow}
+use mathlib.Core.Logic.{⊎_elim}
+use native.Mathlib.Omega.{arith}
+use Prim.Native.Nat.{ℕ, ◌≤◌, ◌-◌}
+use mathlib.Core.Path.{subst}
+use borrow.Author.Rules.{rules}
+use Rattle.holding.specs.WantsLaws.{tight_start, tight_same, tight_more}
+use Rattle.holding.proofs.tight_parts.Given as goal
+
+abbrev pub invariant-loop-p : goal.invariant-loop-p
+invariant-loop-p l = (l.p ≤ 32) × TightBelow l.ts l.spot l.p l.r
+
+abbrev pub decreases-loop-p : goal.decreases-loop-p
+decreases-loop-p l = 32 - l.p

@@ -1,0 +1,12 @@
+use Prim.Native.Nat.{◌-◌}
+use borrow.Author.Rules.{rules}
+use Rattle.holding.proofs.total.Goals as goal
+
+pub offset_bounds-ts-p : goal.offset_bounds-ts-p
+offset_bounds-ts-p c = let l = c.largest-p.ensures in search rules
+
+pub bounds-ts-p : goal.bounds-ts-p
+bounds-ts-p c = let l = c.largest-p.ensures in search rules
+
+pub returns : goal.returns
+returns c = let l = c.largest-p in let t = c.totals-ts.ensures in (l.result, t.each l.result l.ensures)

@@ -1,0 +1,41 @@
+use Rattle.joint.specs.Merge.{SameLabels}
+use borrow.Author.Tests.{eqb-true}
+use Rattle.bits.specs.LogicLaws.{true_false}
+use Rattle.joint.specs.MergeLaws.{alike_more}
+use native.Mathlib.Omega.{arith}
+use Prim.Native.Nat.{◌≤◌, ◌-◌}
+use mathlib.Core.Path.{sym, ◌∙◌}
+use borrow.Author.Rules.{rules}
+use Rattle.joint.proofs.alike.Goals as goal
+
+pub loop-o-init : goal.loop-o-init
+loop-o-init c = (omega arith, λ o h. absurd (omega arith))
+
+pub label-a-requires : goal.label-a-requires
+label-a-requires c = let h = c.loop-o-test.true in let p = c.requires in let a = p.1 in (let e = p.0.long in omega arith, omega arith, p.2)
+
+pub label-b-requires : goal.label-b-requires
+label-b-requires c = let h = c.loop-o-test.true in let p = c.requires in let a = p.1 in (let e = p.0.long in omega arith, omega arith, p.3)
+
+pub returns-then-a-b : goal.returns-then-a-b
+returns-then-a-b c = λ e. absurd (true_false (sym e))
+
+pub loop-o-preserved : goal.loop-o-preserved
+loop-o-preserved c =     let label2 = c.label-b in
+    let label = c.label-a in
+    let loop-test = c.loop-o-test in
+    let loop = c.loop-o in
+    let args = c.args in
+    let h = loop-test.true in (omega arith, alike_more args.cl.now loop.o args.x.0 args.y.0 (sym label.ensures ∙ c.if-a-b.false ∙ label2.ensures) loop.invariant.1)
+
+pub known_at-requires : goal.known_at-requires
+known_at-requires c = c.requires.2
+
+pub known_at-requires-2 : goal.known_at-requires-2
+known_at-requires-2 c = c.requires.3
+
+pub returns : goal.returns
+returns c = λ e.
+    let loop = c.loop-o in
+    let end = c.loop-o-test.false in
+    ((λ o h. loop.invariant.1 o (omega arith)), sym c.known_at_lem.ensures ∙ eqb-true _ _ e ∙ c.known_at-2.ensures)

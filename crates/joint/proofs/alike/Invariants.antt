@@ -1,0 +1,15 @@
+use Rattle.joint.specs.Merge.{SameLabels}
+use borrow.Author.Tests.{eqb-true}
+use Rattle.bits.specs.LogicLaws.{true_false}
+use Rattle.joint.specs.MergeLaws.{alike_more}
+use native.Mathlib.Omega.{arith}
+use Prim.Native.Nat.{◌≤◌, ◌-◌}
+use mathlib.Core.Path.{sym, ◌∙◌}
+use borrow.Author.Rules.{rules}
+use Rattle.joint.proofs.alike.Given as goal
+
+abbrev pub invariant-loop-o : goal.invariant-loop-o
+invariant-loop-o l = (l.o ≤ l.j) × SameLabels l.cl l.o l.x.0 l.y.0
+
+abbrev pub decreases-loop-o : goal.decreases-loop-o
+decreases-loop-o l = l.j - l.o

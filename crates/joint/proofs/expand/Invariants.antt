@@ -1,0 +1,13 @@
+use mathlib.Core.Path.{refl, subst}
+use Prim.Native.Nat.{ℕ, ◌≤◌, ◌-◌}
+use native.Mathlib.Omega.{arith}
+use Rattle.joint.specs.Merge.{Spread}
+use borrow.Author.Rules.{rules}
+use Rattle.bits.specs.FilledLaws.{filled_none, filled_more}
+use Rattle.joint.proofs.expand.Given as goal
+
+abbrev pub invariant-loop-x : goal.invariant-loop-x
+invariant-loop-x l = (l.x ≤ l.v) × Spread l.place l.codes l.x l.r
+
+abbrev pub decreases-loop-x : goal.decreases-loop-x
+decreases-loop-x l = l.v - l.x

@@ -1,0 +1,70 @@
+use mathlib.Core.Logic.{⊎_elim}
+use mathlib.Core.Path.{refl, subst}
+use Prim.Native.Nat.{ℕ, ◌≤◌, ◌-◌}
+use native.Mathlib.Omega.{arith}
+use Rattle.limits.specs.Limits.{max_vertices}
+use Rattle.joint.specs.MergeLaws.{vertices_zero, merged_start, at_new, at_old}
+use Rattle.joint.specs.Merge.{Merged}
+use borrow.Author.Rules.{rules}
+use Rattle.joint.proofs.merge.Goals as goal
+
+pub loop-x-init : goal.loop-x-init
+loop-x-init c = (omega arith, merged_start c.args.cl.now c.args.j c.args.kn c.args.val _ _ refl refl (vertices_zero max_vertices))
+
+pub class_of-q-requires : goal.class_of-q-requires
+class_of-q-requires c =     let p = c.requires in
+    let l = c.loop-x in
+    let h = c.loop-x-test.true in
+    let few = p.1 in
+    let f = l.invariant.1.few in
+    (p.0, p.2, omega arith, omega arith, l.invariant.1.small)
+
+pub offset_bounds-place-x : goal.offset_bounds-place-x
+offset_bounds-place-x c =     let h = c.loop-x-test.true in
+    let p = c.requires.1 in
+    let f = c.loop-x.invariant.1.few in
+    search rules
+
+pub bounds-place-x : goal.bounds-place-x
+bounds-place-x c =     let h = c.loop-x-test.true in
+    let p = c.requires.1 in
+    let f = c.loop-x.invariant.1.few in
+    search rules
+
+pub offset_bounds-first-n : goal.offset_bounds-first-n
+offset_bounds-first-n c =     let h = c.loop-x-test.true in
+    let p = c.requires.1 in
+    let f = c.loop-x.invariant.1.few in
+    search rules
+
+pub bounds-first-n : goal.bounds-first-n
+bounds-first-n c =     let h = c.loop-x-test.true in
+    let p = c.requires.1 in
+    let f = c.loop-x.invariant.1.few in
+    search rules
+
+pub overflow_add-n : goal.overflow_add-n
+overflow_add-n c =     let h = c.loop-x-test.true in
+    let p = c.requires.1 in
+    let f = c.loop-x.invariant.1.few in
+    omega arith
+
+pub loop-x-preserved : goal.loop-x-preserved
+loop-x-preserved c =     let l = c.loop-x in
+    let q = c.class_of-q in
+    let h = c.loop-x-test.true in
+    let p = c.requires.1 in (
+      omega arith,
+      ⊎_elim
+          (λ w. at_new c.args.cl.now c.args.j c.args.kn c.args.val l.x l.n l.first _ l.place _
+          q.result (omega arith) l.invariant.1 w.0.taken w.1 w.2)
+          (λ w. at_old c.args.cl.now c.args.j c.args.kn c.args.val l.x l.n l.first _ l.place _
+          q.result (omega arith) l.invariant.1 q.ensures w.0.left w.1 w.2)
+          c.if-q-n.branch,
+    )
+
+pub returns : goal.returns
+returns c =     let l = c.loop-x in
+    subst (λ (z : ℕ). Merged c.args.cl.now c.args.j c.args.kn c.args.val z l.n l.first l.place)
+    (let h = c.loop-x-test.false in let z = l.invariant.0 in omega arith)
+    l.invariant.1

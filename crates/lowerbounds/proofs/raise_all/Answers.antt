@@ -1,0 +1,58 @@
+use mathlib.Core.Path.{sym, ap, ◌∙◌, subst}
+use mathlib.Core.List.{List}
+use mathlib.Core.Logic.{⊎_elim}
+use Prim.Native.Nat.{ℕ, ◌≤◌, ◌-◌, ◌*◌, ◌^◌}
+use native.Mathlib.Omega.{arith}
+use borrow.Author.Rules.{rules}
+use Rattle.lowerbounds.specs.Reasons.{Based}
+use Rattle.lowerbounds.specs.RaisingLaws.{raised_based}
+use Rattle.lowerbounds.proofs.raise_all.Goals as goal
+
+pub loop-q-init : goal.loop-q-init
+loop-q-init c = (omega arith, c.requires.4)
+
+pub bounds-rows-q : goal.bounds-rows-q
+bounds-rows-q c =     let h = c.loop-q-test.true in
+    let few = c.requires.2 in
+    search rules
+
+pub bounds-rows-o : goal.bounds-rows-o
+bounds-rows-o c =     let few = c.requires.2 in
+    let one = c.requires.3 in
+    search rules
+
+pub kinds-requires : goal.kinds-requires
+kinds-requires c =     let pre = c.requires in
+    let h = c.loop-q-test.true in
+    let few = pre.2 in
+    let one = pre.3 in
+    (pre.0, pre.1, omega arith, omega arith)
+
+pub raise-requires : goal.raise-requires
+raise-requires c =     let loop = c.loop-q in
+    let size = c.size-d in
+    let pre = c.requires in
+    let few = pre.2 in
+    let one = pre.3 in
+    (loop.invariant.1.long, omega arith, size.ensures.1, λ l h. (c.kinds.ensures l h).few)
+
+pub loop-q-preserved : goal.loop-q-preserved
+loop-q-preserved c =     let a = c.args in
+    let pre = c.requires in
+    let loop = c.loop-q in
+    let h = c.loop-q-test.true in
+    let Next : List ℕ → Type 0 = Based a.cl.now a.t5 a.v a.j (a.j * 32) in (
+      omega arith,
+      ⊎_elim
+          (λ w. subst Next (sym w.7) (raised_based a.cl.now a.t5 a.v a.j a.o loop.q w.1.result w.3.result loop.base _ pre.3 h
+          (ap (λ (d : ℕ). 2 ^ d) w.1.ensures.0) w.3.ensures w.4.ensures loop.invariant.1))
+          (λ w. subst Next (sym w.2) loop.invariant.1) c.if-q-o.branch,
+    )
+
+pub shape_of-base : goal.shape_of-base
+shape_of-base c =     let old = c.requires.4.long in
+    let same = c.loop-q.invariant.1.long in
+    same ∙ sym old
+
+pub returns : goal.returns
+returns c = c.loop-q.invariant.1

@@ -1,0 +1,16 @@
+-- `raise_all`: each turn keeps the table or raises it by the kinds of one output, and either way its entries have reasons.
+use mathlib.Core.Path.{sym, ap, ◌∙◌, subst}
+use mathlib.Core.List.{List}
+use mathlib.Core.Logic.{⊎_elim}
+use Prim.Native.Nat.{ℕ, ◌≤◌, ◌-◌, ◌*◌, ◌^◌}
+use native.Mathlib.Omega.{arith}
+use borrow.Author.Rules.{rules}
+use Rattle.lowerbounds.specs.Reasons.{Based}
+use Rattle.lowerbounds.specs.RaisingLaws.{raised_based}
+use Rattle.lowerbounds.proofs.raise_all.Given as goal
+
+abbrev pub invariant-loop-q : goal.invariant-loop-q
+invariant-loop-q l = (l.q ≤ l.j) × Based l.cl l.rows l.v l.j (l.j * 32) l.base
+
+abbrev pub decreases-loop-q : goal.decreases-loop-q
+decreases-loop-q l = l.j - l.q

@@ -1,0 +1,26 @@
+use mathlib.Core.Path.{refl}
+use Rattle.classes.specs.ShapeLaws.{proper_counts}
+use Rattle.mapper.specs.PosedLaws.{budgets_ready, poses}
+use borrow.Author.Rules.{rules}
+use Rattle.mapper.proofs.pose.Goals as goal
+
+pub classes_of-c-requires : goal.classes_of-c-requires
+classes_of-c-requires c =     let pre = c.requires in
+    let args = c.args in
+    proper_counts pre.design args.k pre.holds pre.proper
+
+pub budgets-bs-requires : goal.budgets-bs-requires
+budgets-bs-requires c =     let classes-of = c.classes_of-c in
+    let pre = c.requires in
+    let args = c.args in
+    let q = classes-of.ensures pre.design pre.holds pre.proper in
+    budgets_ready pre.design args.k pre.holds classes-of.result q
+
+pub returns : goal.returns
+returns c =     let budgets = c.budgets-bs in
+    let labels = c.labels-cl in
+    let classes-of = c.classes_of-c in
+    let args = c.args in
+    λ d h p.
+    (let q = classes-of.ensures d h p in
+    poses d args.k h classes-of.result q _ labels.result budgets.result refl labels.ensures budgets.ensures)

@@ -1,0 +1,24 @@
+use mathlib.Core.Path.{sym, ◌∙◌}
+use Prim.Native.Nat.{◌-◌}
+use lib.ListN.{length}
+use borrow.Author.Rules.{rules}
+use Rattle.names.proofs.Lookup.{Missed, missed_none, missed_more, found_at, found_nowhere}
+use Rattle.names.proofs.find.Goals as goal
+
+pub loop-i-init : goal.loop-i-init
+loop-i-init c = missed_none c.args.among.now c.args.n
+
+pub returns-then-same_name : goal.returns-then-same_name
+returns-then-same_name c =     let loop = c.loop-i in
+    let loop-test = c.loop-i-test in
+    found_at loop.invariant loop-test.true
+    (sym c.same_name.ensures ∙ c.if-same_name.true)
+
+pub loop-i-preserved : goal.loop-i-preserved
+loop-i-preserved c =     let loop = c.loop-i in
+    let loop-test = c.loop-i-test in
+    missed_more loop.invariant loop-test.true
+    (sym c.same_name.ensures ∙ c.if-same_name.false)
+
+pub returns : goal.returns
+returns c = found_nowhere c.loop-i.invariant c.loop-i-test.false

@@ -1,0 +1,10 @@
+-- `is_operator_word`: the four numbers hold the operator words. Assumes nothing.
+use borrow.Author.Rules.{rules}
+use Rattle.names.proofs.Operators.{operator-found, operator_nowhere}
+use Rattle.names.proofs.is_operator_word.Goals as goal
+
+pub returns-in-At : goal.returns-in-At
+returns-in-At c = operator-found _ c.find-p.ensures c.enum_told-1.given.1
+
+pub returns-in-Nowhere : goal.returns-in-Nowhere
+returns-in-Nowhere c = operator_nowhere _ c.find-p.ensures c.enum_told-in-Nowhere-1.given.1

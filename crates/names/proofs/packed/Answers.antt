@@ -1,0 +1,30 @@
+use Prim.Native.Nat.{◌-◌}
+use native.Mathlib.Omega.{arith}
+use borrow.Author.Rules.{rules}
+use Rattle.names.proofs.Packs.{Packed, packed_none, packed_more, packed_room, packed_all}
+use Rattle.names.proofs.packed.Goals as goal
+
+pub loop-i-init : goal.loop-i-init
+loop-i-init c = packed_none c.args.s.now c.args.a c.args.e c.requires.0
+
+pub overflow_mul-v : goal.overflow_mul-v
+overflow_mul-v c = omega (arith, packed_room c.loop-i.invariant c.loop-i-test.true c.requires.1)
+
+pub overflow_cast-v : goal.overflow_cast-v
+overflow_cast-v c = omega (arith, c.shared_slice_known-1.given (c.loop-i.i - 1))
+
+pub overflow_add-v : goal.overflow_add-v
+overflow_add-v c =     let loop = c.loop-i in
+    omega (
+      arith,
+      packed_room loop.invariant c.loop-i-test.true c.requires.1,
+      c.shared_slice_known-1.given (loop.i - 1),
+    )
+
+pub loop-i-preserved : goal.loop-i-preserved
+loop-i-preserved c =     let loop = c.loop-i in
+    packed_more loop.invariant c.loop-i-test.true c.requires.2
+    (omega (arith, c.shared_slice_known-1.given (loop.i - 1)))
+
+pub returns : goal.returns
+returns c = packed_all c.loop-i.invariant c.loop-i-test.false

@@ -1,0 +1,34 @@
+use Prim.Native.Nat.{◌-◌}
+use native.Mathlib.Omega.{arith}
+use borrow.Author.Rules.{rules}
+use Rattle.emit.specs.PutLaws.{put_length}
+use Rattle.netlines.specs.Running.{VertexRow}
+use Rattle.netlines.specs.RunningLaws.{Running, row_small, bound-small, running_start, running_step, running_all}
+use Rattle.netlines.proofs.put_column.Goals as goal
+
+pub loop-z-init : goal.loop-z-init
+loop-z-init c = λ v. running_start v
+
+pub row-requires : goal.row-requires
+row-requires c =     let v = c.requires.1 in
+    omega (arith, (c.loop-z.invariant v).runs, row_small v c.loop-z.z)
+
+pub put_digit-p-requires : goal.put_digit-p-requires
+put_digit-p-requires c =     let pre = c.requires in
+    let so_far = (c.loop-z.invariant pre.1).put.so_far in
+    omega (arith, pre.0, c.loop-z-test.true, so_far.place, so_far.short)
+
+pub step-row-requires : goal.step-row-requires
+step-row-requires c =     let v = c.requires.1 in
+    (omega (arith, (c.loop-z.invariant v).runs, row_small v c.loop-z.z), bound-small v)
+
+pub loop-z-preserved : goal.loop-z-preserved
+loop-z-preserved c = λ v.
+    let row = c.row in
+    running_step v (c.loop-z.invariant v) c.loop-z-test.true c.put_digit-p.ensures row.ensures c.step-row.ensures
+
+pub shape_of-buf : goal.shape_of-buf
+shape_of-buf c = put_length (c.loop-z.invariant c.requires.1).put.so_far
+
+pub returns : goal.returns
+returns c = λ v. running_all v (c.loop-z.invariant v) c.loop-z-test.false

@@ -1,0 +1,29 @@
+use mathlib.Core.Path.{refl}
+use Prim.Native.Nat.{ℕ, ◌-◌}
+use native.Mathlib.Omega.{arith}
+use borrow.Author.Rules.{rules}
+use Rattle.network.specs.Shown.{shown, item}
+use Rattle.emit.specs.PutLaws.{put_length}
+use Rattle.network.specs.Printer.{print_lut}
+use Rattle.bits.specs.Values.{values_upto}
+use Rattle.bits.specs.Digit.{on}
+use Rattle.emit.specs.UptoLaws.{Texts, texts_none, texts_put, texts_all}
+use Rattle.netlines.specs.Lines.{ended}
+use Rattle.netlines.specs.Room.{lut_room}
+use Rattle.netlines.proofs.put_luts.Goals as goal
+
+pub loop-i-init : goal.loop-i-init
+loop-i-init c = texts_none _ _ _ _ _
+
+pub put_lut-p-requires : goal.put_lut-p-requires
+put_lut-p-requires c =     let loop = c.loop-i in
+    omega (arith, c.requires, loop.invariant.so_far.place, loop.invariant.so_far.short)
+
+pub loop-i-preserved : goal.loop-i-preserved
+loop-i-preserved c =     texts_put c.loop-i.invariant c.loop-i-test.true c.put_lut-p.ensures
+
+pub shape_of-buf : goal.shape_of-buf
+shape_of-buf c = put_length c.loop-i.invariant.so_far
+
+pub returns : goal.returns
+returns c = texts_all c.loop-i.invariant c.loop-i-test.false (omega (arith, c.requires)) refl

@@ -1,0 +1,16 @@
+-- `put_table`: each turn puts one digit more. Assumes nothing.
+use mathlib.Core.Path.{ap, ◌∙◌}
+use Prim.Native.Nat.{ℕ, ◌-◌}
+use native.Mathlib.Omega.{arith}
+use borrow.Author.Rules.{rules}
+use Rattle.network.specs.Shown.{item}
+use Rattle.emit.specs.PutLaws.{put_length}
+use Rattle.bits.specs.Digit.{on}
+use Rattle.netlines.specs.DigitLaws.{Digits, digits_none, digits_put, digits_all}
+use Rattle.netlines.proofs.put_table.Given as goal
+
+abbrev pub invariant-loop-x : goal.invariant-loop-x
+invariant-loop-x l = Digits (λ (y : ℕ). on (item l.codes y) l.i) l.n l.initial.buf l.buf l.at l.p l.x
+
+abbrev pub decreases-loop-x : goal.decreases-loop-x
+decreases-loop-x l = l.n - l.x

@@ -1,0 +1,15 @@
+-- `put_zeros`: each turn puts one digit more. Assumes nothing.
+use mathlib.Core.Path.{refl}
+use mathlib.Core.Bool.{false}
+use Prim.Native.Nat.{ℕ, ◌-◌}
+use native.Mathlib.Omega.{arith}
+use borrow.Author.Rules.{rules}
+use Rattle.emit.specs.PutLaws.{put_length}
+use Rattle.netlines.specs.DigitLaws.{Digits, digits_none, digits_put, digits_all}
+use Rattle.netlines.proofs.put_zeros.Given as goal
+
+abbrev pub invariant-loop-z : goal.invariant-loop-z
+invariant-loop-z l = Digits (λ (y : ℕ). false) l.n l.initial.buf l.buf l.at l.p l.z
+
+abbrev pub decreases-loop-z : goal.decreases-loop-z
+decreases-loop-z l = l.n - l.z

@@ -1,0 +1,37 @@
+use mathlib.Core.Path.{sym, ap, subst, ◌∙◌}
+use mathlib.Core.Logic.{⊎_elim}
+use Prim.Native.Nat.{ℕ, ◌-◌, ◌+◌}
+use native.Mathlib.Omega.{arith}
+use borrow.Author.Rules.{rules}
+use Rattle.bits.specs.Digit.{on}
+use Rattle.bits.specs.Logic.{bit}
+use Rattle.netnames.specs.NumbersLaws.{Coding, coding_none, coding_without, coding_with, coding_below, coding_all, digit_read}
+use Rattle.netnames.proofs.code_of.Goals as goal
+
+pub loop-i-init : goal.loop-i-init
+loop-i-init c = coding_none _ _ _
+
+pub overflow_mul-code : goal.overflow_mul-code
+overflow_mul-code c =     record { fits = omega (arith, coding_below c.loop-i.invariant c.requires) }
+
+pub overflow_add-code : goal.overflow_add-code
+overflow_add-code c =     let loop = c.loop-i in
+    let pre = c.requires in
+    record { fits = omega (arith, coding_below loop.invariant pre, c.bit_of.ensures.1) }
+
+pub loop-i-preserved : goal.loop-i-preserved
+loop-i-preserved c =     let has = c.has in
+    let wide = c.wide in
+    let loop-test = c.loop-i-test in
+    let loop = c.loop-i in
+    let args = c.args in
+    ⊎_elim
+    (λ w. subst (λ (k : ℕ). Coding args.mask args.n args.u (loop.i + 1) k) (sym w.4)
+    (coding_with loop.invariant loop-test.true (digit_read loop.i has.ensures wide.ensures w.0.taken)
+    (w.3.ensures.0 ∙ ap bit (w.2.ensures ∙ ap (λ (k : ℕ). on k loop.i) w.1.ensures))))
+    (λ w. subst (λ (k : ℕ). Coding args.mask args.n args.u (loop.i + 1) k) (sym w.1)
+    (coding_without loop.invariant loop-test.true (digit_read loop.i has.ensures wide.ensures w.0.left)))
+    c.if-has.branch
+
+pub returns : goal.returns
+returns c = coding_all c.loop-i.invariant c.loop-i-test.false c.requires

@@ -1,0 +1,26 @@
+use mathlib.Core.Path.{◌≡◌, refl}
+use Prim.Native.Nat.{◌-◌, ◌+◌}
+use native.Mathlib.Omega.{arith}
+use borrow.Author.Rules.{rules}
+use Rattle.names.specs.Pack.{name_of}
+use Rattle.network.specs.ShownLaws.{Growing, growing_none, growing_more, growing_all}
+use Rattle.network.specs.Shown.{shown}
+use Rattle.network.proofs.Arrays.{list_sized}
+use Rattle.netnames.proofs.joined.Goals as goal
+
+pub loop-i-init : goal.loop-i-init
+loop-i-init c = (growing_none refl, omega arith)
+
+pub pushed-r-requires : goal.pushed-r-requires
+pushed-r-requires c = omega arith
+
+pub loop-i-preserved : goal.loop-i-preserved
+loop-i-preserved c =     let loop-test = c.loop-i-test in
+    let loop = c.loop-i in
+    let args = c.args in
+    let good = c.well-formed in
+    let pre = c.requires in
+    (growing_more loop.invariant.0 loop-test.true (omega (arith, pre, list_sized args.b good.1.0)) c.pushed-r.ensures.0 refl, omega arith)
+
+pub returns : goal.returns
+returns c = (growing_all c.loop-i.invariant.0 c.loop-i-test.false, omega (arith, c.loop-i.invariant.0.within))

@@ -1,0 +1,16 @@
+-- `joined`: each turn adds one name of the second row. Assumes nothing.
+use mathlib.Core.Path.{◌≡◌, refl}
+use Prim.Native.Nat.{◌-◌, ◌+◌}
+use native.Mathlib.Omega.{arith}
+use borrow.Author.Rules.{rules}
+use Rattle.names.specs.Pack.{name_of}
+use Rattle.network.specs.ShownLaws.{Growing, growing_none, growing_more, growing_all}
+use Rattle.network.specs.Shown.{shown}
+use Rattle.network.proofs.Arrays.{list_sized}
+use Rattle.netnames.proofs.joined.Given as goal
+
+abbrev pub invariant-loop-i : goal.invariant-loop-i
+invariant-loop-i l = Growing name_of (shown l.initial.r) l.list l.n l.i (shown l.r) × (l.r.count ≡ l.initial.r.count + l.i)
+
+abbrev pub decreases-loop-i : goal.decreases-loop-i
+decreases-loop-i l = l.n - l.i

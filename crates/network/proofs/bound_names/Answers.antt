@@ -1,0 +1,24 @@
+use mathlib.Core.List.{[]}
+use mathlib.Core.Path.{◌≡◌, ap}
+use Prim.Native.Nat.{ℕ, ◌-◌}
+use native.Mathlib.Omega.{arith}
+use borrow.Author.Rules.{rules}
+use Rattle.names.specs.Pack.{name_of}
+use Rattle.network.specs.ShownLaws.{Growing, growing_none, growing_more, growing_all}
+use Rattle.network.specs.Shown.{shown, item}
+use Rattle.network.proofs.bound_names.Goals as goal
+
+pub loop-i-init : goal.loop-i-init
+loop-i-init c = (growing_none c.no_names-r.ensures.0, c.no_names-r.ensures.1)
+
+pub pushed-r-requires : goal.pushed-r-requires
+pushed-r-requires c = omega (arith, c.requires)
+
+pub loop-i-preserved : goal.loop-i-preserved
+loop-i-preserved c =     let input-name = c.input_name in
+    let loop-test = c.loop-i-test in
+    let loop = c.loop-i in
+    (growing_more loop.invariant.0 loop-test.true (omega arith) c.pushed-r.ensures.0 (ap name_of input-name.ensures), omega arith)
+
+pub returns : goal.returns
+returns c = (growing_all c.loop-i.invariant.0 c.loop-i-test.false, omega (arith, c.loop-i.invariant.0.within))

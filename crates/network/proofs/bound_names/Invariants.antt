@@ -1,0 +1,16 @@
+-- `bound_names`: each turn adds the name at one place more. Assumes nothing.
+use mathlib.Core.List.{[]}
+use mathlib.Core.Path.{◌≡◌, ap}
+use Prim.Native.Nat.{ℕ, ◌-◌}
+use native.Mathlib.Omega.{arith}
+use borrow.Author.Rules.{rules}
+use Rattle.names.specs.Pack.{name_of}
+use Rattle.network.specs.ShownLaws.{Growing, growing_none, growing_more, growing_all}
+use Rattle.network.specs.Shown.{shown, item}
+use Rattle.network.proofs.bound_names.Given as goal
+
+abbrev pub invariant-loop-i : goal.invariant-loop-i
+invariant-loop-i l = Growing (λ (p : ℕ). name_of (item l.names p)) [] l.places l.n l.i (shown l.r) × (l.r.count ≡ l.i)
+
+abbrev pub decreases-loop-i : goal.decreases-loop-i
+decreases-loop-i l = l.n - l.i

@@ -1,0 +1,11 @@
+-- `digits_at`: the digits are read one after the other. Assumes nothing.
+use native.Mathlib.Omega.{arith}
+use borrow.Author.Rules.{rules}
+use Rattle.network.specs.TablesLaws.{Skipping, skipping_none, skipping_missing, skipping_more, skipping_all}
+use Rattle.network.proofs.digits_at.Given as goal
+
+abbrev pub invariant-loop-left : goal.invariant-loop-left
+invariant-loop-left l = Skipping l.s l.n l.initial.next.at l.next l.left
+
+abbrev pub decreases-loop-left : goal.decreases-loop-left
+decreases-loop-left l = l.left

@@ -1,0 +1,36 @@
+-- `led_name`: the space, where the name is not the first item, and the name. Assumes nothing.
+use mathlib.Core.List.{[], ◌∷◌}
+use lib.ListN.{drop}
+use borrow.Author.Rules.{rules}
+use Rattle.text.specs.Bytes.{eat, space}
+use Rattle.names.specs.Pack.{name_of}
+use Rattle.network.specs.Given.{read_given}
+use Rattle.network.specs.ChainLaws.{part_missing, part_then}
+use Rattle.network.proofs.led_name.Goals as goal
+
+pub returns-then-first : goal.returns-then-first
+returns-then-first c = rw c.if-first.true c.name_at.ensures
+
+-- LEFT slice-aggregate-text : tie.Need-slice-aggregate-text
+-- LEFT slice-aggregate-text c = search rules
+
+pub returns-in_default : goal.returns-in_default
+returns-in_default c =     let text = c.text-m in
+    let if1 = c.if-first in
+    let a = c.args in
+    let gap = rw c.enum_told-1.given.1 at text.ensures in
+    rw if1.false (part_missing (eat (space ∷ []) (drop a.c.at a.s.now)) (read_given (name_of a.v)) gap)
+
+pub name_at-requires-2 : goal.name_at-requires-2
+name_at-requires-2 c =     let text = c.text-m in
+    let gap = rw c.m-1.given.1 at text.ensures in
+    gap.inside
+
+pub returns : goal.returns
+returns c =     let m = c.m-1 in
+    let text = c.text-m in
+    let if1 = c.if-first in
+    let args = c.args in
+    let a = args in
+    let gap = rw m.given.1 at text.ensures in
+    rw if1.false (part_then (eat (space ∷ []) (drop a.c.at a.s.now)) (read_given (name_of a.v)) gap c.name_at-2.result c.name_at-2.ensures)

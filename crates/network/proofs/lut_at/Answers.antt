@@ -1,0 +1,28 @@
+-- `lut_at`: the bytes of the name are those that are printed. Assumes nothing.
+use mathlib.Core.List.{List}
+use mathlib.Core.Path.{subst}
+use Prim.Native.Nat.{ℕ}
+use native.Mathlib.Omega.{arith}
+use lib.ListN.{drop}
+use borrow.Author.Rules.{rules}
+use Rattle.text.specs.Bytes.{eat}
+use Rattle.cursor.specs.Item.{MovedIs}
+use Rattle.network.specs.HeadLaws.{lut_first, lut_later}
+use Rattle.network.proofs.lut_at.Goals as goal
+
+pub overflow_add-w : goal.overflow_add-w
+overflow_add-w c = omega (arith, c.requires.1)
+
+pub returns-then-first : goal.returns-then-first
+returns-then-first c =     let if1 = c.if1 in
+    let args = c.before.args in
+    let pre = c.before.requires in
+    let a = args in
+    subst (λ (w : List ℕ). MovedIs a.s.now c.text.result (eat w (drop a.c.at a.s.now))) (lut_first a.i pre.1 a.first if1.true) c.text.ensures
+
+pub returns-else-first : goal.returns-else-first
+returns-else-first c =     let if1 = c.if-first in
+    let args = c.args in
+    let pre = c.requires in
+    let a = args in
+    subst (λ (w : List ℕ). MovedIs a.s.now c.text-else-first.result (eat w (drop a.c.at a.s.now))) (lut_later a.i pre.1 a.first if1.false) c.text-else-first.ensures

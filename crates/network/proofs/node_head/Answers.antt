@@ -1,0 +1,57 @@
+-- `node_head`: each part where the one before ends. Assumes nothing.
+use native.Mathlib.Omega.{arith}
+use borrow.Author.Rules.{rules}
+use Rattle.names.specs.Pack.{name_of}
+use Rattle.network.specs.HeadLaws.{node_no_word, node_no_name, node_list}
+use Rattle.network.proofs.node_head.Goals as goal
+
+-- LEFT slice-aggregate-text : tie.Need-slice-aggregate-text
+-- LEFT slice-aggregate-text c = search rules
+
+pub text-m-requires : goal.text-m-requires
+text-m-requires c = omega (arith, c.start.ensures)
+
+pub returns-in_default : goal.returns-in_default
+returns-in_default c =     let text = c.text-m in
+    let a = c.args in
+    let start = c.start in
+    let word = rw (c.enum_told-1.given.1, start.ensures) at text.ensures in
+    node_no_word a.l.now (name_of a.name) word
+
+pub name_at-m-requires : goal.name_at-m-requires
+name_at-m-requires c =     let text = c.text-m in
+    let start = c.start in
+    let word = rw (c.m-1.given.1, start.ensures) at text.ensures in
+    word.inside
+
+pub returns-in_default-m : goal.returns-in_default-m
+returns-in_default-m c =     let m = c.m-1 in
+    let text = c.text-m in
+    let name-at = c.name_at-m in
+    let a = c.args in
+    let start = c.start in
+    let word = rw (m.given.1, start.ensures) at text.ensures in
+    let name = rw c.enum_told-in_default-m-1.given.1 at name-at.ensures in
+    node_no_name a.l.now (name_of a.name) word name
+
+-- LEFT slice-aggregate-text-2 : tie.Need-slice-aggregate-text-2
+-- LEFT slice-aggregate-text-2 c = search rules
+
+pub text-requires : goal.text-requires
+text-requires c =     let m2 = c.m-in-To-m-2-1 in
+    let name-at = c.name_at-m in
+    let name = rw m2.given.1 at name-at.ensures in
+    name.inside
+
+pub returns : goal.returns
+returns c =     let m2 = c.m-in-To-m-2-1 in
+    let name-at = c.name_at-m in
+    let m = c.m-1 in
+    let text = c.text-m in
+    let start-here = c.start in
+    let args = c.args in
+    let a = args in
+    let start = start-here in
+    let word = rw (m.given.1, start.ensures) at text.ensures in
+    let name = rw m2.given.1 at name-at.ensures in
+    node_list a.l.now (name_of a.name) word name c.text.result c.text.ensures

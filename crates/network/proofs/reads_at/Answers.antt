@@ -1,0 +1,49 @@
+use mathlib.Core.Logic.{⊎_elim}
+use Prim.Native.Nat.{◌-◌}
+use native.Mathlib.Omega.{arith}
+use borrow.Author.Rules.{rules}
+use Rattle.network.specs.NumbersLaws.{shifted_byte, mask_fits}
+use Rattle.network.specs.GatherLaws.{Gathered, gathered_none, gathered_with, gathered-without, gathered_all}
+use Rattle.network.proofs.reads_at.Goals as goal
+
+pub loop-i-init : goal.loop-i-init
+loop-i-init c =     let a = c.args in
+    gathered_none a.s.now a.u a.c.at c.requires.0
+
+pub lut_at-m-requires : goal.lut_at-m-requires
+lut_at-m-requires c = (c.loop-i.invariant.inside, omega (arith, c.requires.1))
+
+pub overflow_shl-mask : goal.overflow_shl-mask
+overflow_shl-mask c = omega (arith, c.requires.1)
+
+pub overflow_add-mask : goal.overflow_add-mask
+overflow_add-mask c =     let pre = c.requires in
+    let turn = c.loop-i in
+    let h = c.loop-i-test.true in
+    record { fits = omega (arith, shifted_byte turn.i (omega (arith, pre.1)), mask_fits turn.i turn.mask (omega (arith, pre.1)) turn.invariant.small) }
+
+pub overflow_add-count : goal.overflow_add-count
+overflow_add-count c =     let loop = c.loop-i in
+    record { fits = omega (arith, loop.invariant.few, c.requires.1) }
+
+pub overflow_add-i : goal.overflow_add-i
+overflow_add-i c = omega (arith, c.requires.1)
+
+pub loop-i-smaller : goal.loop-i-smaller
+loop-i-smaller c = omega arith
+
+pub loop-i-preserved : goal.loop-i-preserved
+loop-i-preserved c =     let loop = c.loop-i in
+    let below = c.requires.1 in
+    let turn = c.loop-i-test.true in
+    ⊎_elim
+    (λ w.
+    let there = rw w.1.given.1 at c.lut_at-m.ensures in
+    rw (w.3, w.4, w.5, shifted_byte loop.i (omega arith)) (gathered_with loop.invariant turn there))
+    (λ w.
+    let missing = rw w.1.given.1 at c.lut_at-m.ensures in
+    rw (w.2, w.3, w.4) (gathered-without loop.invariant turn missing))
+    c.match-m.branch
+
+pub returns : goal.returns
+returns c = gathered_all c.loop-i.invariant c.loop-i-test.false

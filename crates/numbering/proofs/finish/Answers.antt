@@ -1,0 +1,58 @@
+use Rattle.numbering.specs.Number.{Finished}
+use native.Mathlib.Omega.{arith}
+use Prim.Native.Nat.{◌≤◌, ◌-◌}
+use borrow.Author.Rules.{rules}
+use Rattle.numbering.specs.NumberLaws.{written-whole, written_large, finished_start, finished_more, finished_all, finished_fixed, crowded}
+use Rattle.numbering.proofs.finish.Goals as goal
+
+pub loop-o-init : goal.loop-o-init
+loop-o-init c =     let a = c.args in
+    (omega arith, finished_start a.cl.now a.p.ms a.p.ps a.p.vertices a.codes (search rules))
+
+pub bounds-ms-o : goal.bounds-ms-o
+bounds-ms-o c = let h = c.loop-o-test.true in let z = c.requires.1 in search rules
+
+pub numbers-nums-requires : goal.numbers-nums-requires
+numbers-nums-requires c = let h = c.loop-o-test.true in let q = c.requires in let z = q.1 in (q.0, omega arith, q.2)
+
+pub bounds-caps-o : goal.bounds-caps-o
+bounds-caps-o c = let h = c.loop-o-test.true in let z = c.requires.1 in search rules
+
+pub bounds-ps-o : goal.bounds-ps-o
+bounds-ps-o c = let h = c.loop-o-test.true in let z = c.requires.1 in search rules
+
+pub write-w-requires : goal.write-w-requires
+write-w-requires c = c.requires.2
+
+pub returns-else-w : goal.returns-else-w
+returns-else-w c =     let loop-test = c.loop-o-test in
+    let a = c.args in
+    let p = a.p in
+    let numbers = c.numbers-nums in
+    let o = c.loop-o.o in
+    let b = written_large _ _ _ _ _ _ _ c.if-w.false c.write-w.ensures in
+    λ base spots dom kn val k. crowded a.cl.now base p.ms p.caps spots p.vertices p.outputs o kn val a.codes dom numbers.result b.0
+    loop-test.true b.1 c.requires.4 b.2 numbers.ensures
+
+pub loop-o-preserved : goal.loop-o-preserved
+loop-o-preserved c =     let write = c.write-w in
+    let a = c.args in
+    let p = a.p in
+    let numbers = c.numbers-nums in
+    let loop = c.loop-o in
+    let h = c.loop-o-test.true in (
+      omega arith,
+      finished_more a.cl.now p.ms p.ps p.caps p.vertices p.outputs c.requires.3 loop.o a.codes numbers.result loop.r _ h numbers.ensures
+          (written-whole _ _ _ _ _ _ _ c.if-w.true write.ensures) loop.invariant.1,
+    )
+
+pub returns : goal.returns
+returns c =     let a = c.args in
+    let p = a.p in
+    let q = c.requires in
+    let loop = c.loop-o in
+    let i = loop.invariant in
+    λ base spots dom kn val k. (
+      finished_all a.cl.now p.ms p.ps p.caps p.vertices p.outputs q.3 loop.o a.codes loop.r c.loop-o-test.false i.1,
+      finished_fixed a.cl.now p.ms p.ps p.caps p.vertices p.outputs q.3 loop.o kn val a.codes loop.r i.0 q.4 k i.1,
+    )

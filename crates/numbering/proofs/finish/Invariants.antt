@@ -1,0 +1,12 @@
+use Rattle.numbering.specs.Number.{Finished}
+use native.Mathlib.Omega.{arith}
+use Prim.Native.Nat.{◌≤◌, ◌-◌}
+use borrow.Author.Rules.{rules}
+use Rattle.numbering.specs.NumberLaws.{written-whole, written_large, finished_start, finished_more, finished_all, finished_fixed, crowded}
+use Rattle.numbering.proofs.finish.Given as goal
+
+abbrev pub invariant-loop-o : goal.invariant-loop-o
+invariant-loop-o l = (l.o ≤ l.j) × Finished l.cl l.ms l.ps l.v l.o l.codes l.r
+
+abbrev pub decreases-loop-o : goal.decreases-loop-o
+decreases-loop-o l = l.j - l.o

@@ -1,0 +1,15 @@
+use Rattle.numbering.specs.Number.{key, Passed}
+use Rattle.problem.specs.Problem.{label_at, part_of}
+use native.Mathlib.Omega.{arith}
+use Prim.Native.Nat.{ℕ, ◌≤◌, ◌-◌}
+use mathlib.Core.Logic.{⊎_elim}
+use mathlib.Core.Path.{◌≡◌, refl, sym, ap, ◌∙◌}
+use borrow.Author.Rules.{rules}
+use Rattle.numbering.specs.NumberLaws.{both_same, passed_start, number_old, at_miss, at_low, at_high, number_new}
+use Rattle.numbering.proofs.number.Given as goal
+
+abbrev pub invariant-loop-y : goal.invariant-loop-y
+invariant-loop-y l = (l.y ≤ l.x) × (l.block ≡ (key l.cl l.codes l.o l.mask l.x).1) × (l.class ≡ label_at l.cl l.o l.x) × Passed l.cl l.codes l.o l.mask l.x l.nums l.y l.next × (l.own ≡ part_of l.cl l.o l.x)
+
+abbrev pub decreases-loop-y : goal.decreases-loop-y
+decreases-loop-y l = l.x - l.y

@@ -1,0 +1,37 @@
+use Rattle.numbering.specs.Number.{Wrote}
+use native.Mathlib.Omega.{arith}
+use Prim.Native.Nat.{ℕ, ◌≤◌, ◌-◌}
+use mathlib.Core.Path.{◌≡◌, subst}
+use borrow.Author.Rules.{rules}
+use Rattle.numbering.specs.NumberLaws.{wrote-start, wrote_more}
+use Rattle.numbering.proofs.write.Goals as goal
+
+pub loop-x-init : goal.loop-x-init
+loop-x-init c = (omega arith, wrote-start c.args.nums c.args.p c.args.cap c.args.codes (search rules))
+
+pub returns-then-cap-n : goal.returns-then-cap-n
+returns-then-cap-n c = (c.loop-x.x, c.loop-x-test.true, c.if-cap-n.true)
+
+pub bounds-r-x : goal.bounds-r-x
+bounds-r-x c = let h = c.loop-x-test.true in let z = c.requires in search rules
+
+pub bounds-r-x-in-loop-x : goal.bounds-r-x-in-loop-x
+bounds-r-x-in-loop-x c = let h = c.loop-x-test.true in let z = c.requires in search rules
+
+pub loop-x-preserved : goal.loop-x-preserved
+loop-x-preserved c =     let a = c.args in
+    let l = c.loop-x in
+    let h = c.loop-x-test.true in
+    let few = c.requires in
+    let digits = c.spread in (
+      omega arith,
+      wrote_more a.t1 a.p a.cap l.x a.codes l.r digits.result (omega arith) c.ranges.p.fits c.if-cap-n.false digits.ensures l.invariant.1,
+    )
+
+pub returns : goal.returns
+returns c =     let a = c.args in
+    let l = c.loop-x in
+    let left = c.loop-x-test.false in
+    let upto = l.invariant.0 in
+    let e : l.x ≡ a.v = omega arith in
+    subst (λ (n : ℕ). Wrote a.t1 a.p a.cap n a.codes l.r) e l.invariant.1

@@ -1,0 +1,58 @@
+use mathlib.Core.Path.{sym, ◌∙◌}
+use Prim.Native.Nat.{◌-◌}
+use native.Mathlib.Omega.{arith}
+use borrow.Author.Tests.{not-true, not-false}
+use Rattle.panel.specs.OutputsLaws.{OutputsPassed, ready_few, outputs_start, outputs_held, outputs_room, outputs_more, outputs_stopped, outputs_all}
+use borrow.Author.Rules.{rules}
+use Rattle.panel.proofs.ask_outputs.Goals as goal
+
+pub loop-o-init : goal.loop-o-init
+loop-o-init c = outputs_start _ _ _ _
+
+pub offset_bounds-names-o : goal.offset_bounds-names-o
+offset_bounds-names-o c = omega (arith, ready_few _ _ _ _ c.requires)
+
+pub bounds-names-o : goal.bounds-names-o
+bounds-names-o c = omega (arith, ready_few _ _ _ _ c.requires)
+
+pub is_new-requires : goal.is_new-requires
+is_new-requires c =     let loop = c.loop-o in
+    let pre = c.requires in
+    outputs_held _ _ _ _ _ _ loop.invariant pre.text pre.design pre.ready
+
+pub returns-then-not-is_new : goal.returns-then-not-is_new
+returns-then-not-is_new c =     let loop = c.loop-o in
+    let loop-test = c.loop-o-test in
+    let is-new = c.is_new in
+    let if1 = c.if-not-is_new in
+    outputs_stopped _ _ _ _ _ _ loop.invariant loop-test.true (λ e h. sym (not-true _ if1.true) ∙ is-new.ensures e h) _ c.refused.ensures
+
+pub offset_bounds-tables-o : goal.offset_bounds-tables-o
+offset_bounds-tables-o c = omega (arith, ready_few _ _ _ _ c.requires)
+
+pub bounds-tables-o : goal.bounds-tables-o
+bounds-tables-o c = omega (arith, ready_few _ _ _ _ c.requires)
+
+pub with_output-next-requires : goal.with_output-next-requires
+with_output-next-requires c =     let loop = c.loop-o in
+    let loop-test = c.loop-o-test in
+    let pre = c.requires in
+    outputs_room _ _ _ _ _ _ loop.invariant loop-test.true pre.text pre.design pre.ready
+
+pub overflow_add-o : goal.overflow_add-o
+overflow_add-o c = omega arith
+
+pub loop-o-smaller : goal.loop-o-smaller
+loop-o-smaller c = omega arith
+
+pub loop-o-preserved : goal.loop-o-preserved
+loop-o-preserved c =     let loop = c.loop-o in
+    let loop-test = c.loop-o-test in
+    let is-new = c.is_new in
+    let if1 = c.if-not-is_new in
+    outputs_more _ _ _ _ _ _ loop.invariant loop-test.true _ (λ e h. sym (not-false _ if1.false) ∙ is-new.ensures e h) c.with_output-next.ensures
+
+pub returns : goal.returns
+returns c =     let loop = c.loop-o in
+    let loop-test = c.loop-o-test in
+    outputs_all _ _ _ _ _ _ loop.invariant loop-test.false _ c.passed.ensures

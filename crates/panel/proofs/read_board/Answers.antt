@@ -1,0 +1,72 @@
+-- `read_board`: the size, and then line after line. Assumes nothing.
+use mathlib.Core.Path.{◌≡◌, refl, sym, ◌∙◌}
+use mathlib.Core.Bool.{true}
+use lib.Seq.{length-take-le}
+use borrow.Author.Tests.{not-true, not-false}
+use Rattle.sheet.specs.Lines.{read_bound}
+use Rattle.sheet.specs.Examine.{sized}
+use Rattle.panel.specs.BoardLaws.{board_not_sized, no_bound, no_second, no-limit, third-line, board-right}
+use borrow.Author.Rules.{rules}
+use Rattle.panel.proofs.read_board.Goals as goal
+
+-- question 1 passed
+sizes : (c : goal.Else-not-sized) → true ≡ sized c.before.before.before.args.b.now
+sizes c = sym (not-false _ c.if-not-sized.false-raw) ∙ c.sized.ensures
+
+pub returns-then-not-sized : goal.returns-then-not-sized
+returns-then-not-sized c =     board_not_sized _ _ (sym (not-true _ c.if-not-sized.true-raw) ∙ c.sized.ensures) c.bad_board.ensures
+
+pub slice_bounds-names_line-end : goal.slice_bounds-names_line-end
+slice_bounds-names_line-end c =     let args = c.before.args in
+    let line-end = c.line-end in
+    sym (length-take-le line-end.result args.b.now line-end.ensures.inside)
+
+-- LEFT slice-aggregate-names-line-2 : tie.Need-slice-aggregate-names-line-2
+-- LEFT slice-aggregate-names-line-2 c = search rules
+
+pub returns-then-not-w : goal.returns-then-not-w
+unfolding read_bound
+returns-then-not-w c =     let first = c.line_end-e in
+    let w = c.names_line-w in
+    let b = c.args.b.now in
+    no_bound b (sizes (goal.at.returns-then-not-w c).Else-not-sized) first.result first.ensures w.result w.ensures (not-true _ c.if-not-w.true) _ c.bad_board-then-not-w.ensures
+
+pub returns-then-b-e : goal.returns-then-b-e
+unfolding read_bound
+returns-then-b-e c =     let first = c.line_end-e in
+    let w = c.names_line-w in
+    let b = c.args.b.now in
+    no_second b (sizes (goal.at.returns-then-b-e c).Else-not-sized) first.result first.ensures w.result w.ensures (not-false _ c.if-not-w.false)
+    c.if-b-e.true _ c.bad_board-then-b-e.ensures
+
+pub returns-in_default : goal.returns-in_default
+unfolding read_bound
+returns-in_default c =     let first = c.line_end-e in
+    let w = c.names_line-w in
+    let b = c.args.b.now in
+    let second = c.line_end-f in
+    let l = c.limit_line-l in
+    no-limit b (sizes (goal.at.returns-in_default c).Else-not-sized) first.result first.ensures w.result w.ensures (not-false _ c.if-not-w.false) c.if-b-e.false
+    second.result second.ensures l.result l.ensures c.enum_told-in_default-1.given.1 _ c.bad_board-in_default.ensures
+
+pub returns-then-f-b : goal.returns-then-f-b
+unfolding read_bound
+returns-then-f-b c =     let first = c.line_end-e in
+    let w = c.names_line-w in
+    let b = c.args.b.now in
+    let second = c.line_end-f in
+    let l = c.limit_line-l in
+    let n = c.enum_told-1.given in
+    third-line b (sizes (goal.at.returns-then-f-b c).Else-not-sized) first.result first.ensures w.result w.ensures (not-false _ c.if-not-w.false) c.if-b-e.false
+    second.result second.ensures l.result l.ensures n.0.0 n.1 c.if-f-b.true _ c.bad_board-then-f-b.ensures
+
+pub returns : goal.returns
+unfolding read_bound
+returns c =     let first = c.line_end-e in
+    let w = c.names_line-w in
+    let b = c.args.b.now in
+    let second = c.line_end-f in
+    let l = c.limit_line-l in
+    let n = c.enum_told-1.given in
+    board-right b (sizes (goal.at.returns c).Else-not-sized) first.result first.ensures w.result w.ensures (not-false _ c.if-not-w.false) c.if-b-e.false
+    second.result second.ensures l.result l.ensures n.0.0 n.1 c.if-f-b.false _ refl refl refl

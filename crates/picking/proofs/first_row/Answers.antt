@@ -1,0 +1,65 @@
+use mathlib.Core.Path.{◌≡◌, sym, ◌∙◌, subst}
+use mathlib.Core.Logic.{⊎_elim}
+use Prim.Native.Nat.{ℕ, ◌+◌, ◌-◌, ◌^◌, ◌≤◌, ◌<◌}
+use native.Mathlib.Omega.{arith}
+use lib.Pow.{pow_mono}
+use Rattle.picking.specs.Best.{Best}
+use Rattle.picking.specs.BestLaws.{best_start, best_unsuited, best_not_sooner, best_sooner}
+use borrow.Author.Rules.{rules}
+use Rattle.picking.proofs.first_row.Goals as goal
+
+pub single-end-requires : goal.single-end-requires
+single-end-requires c = let p = c.requires.4 in omega arith
+
+pub overflow_cast-end : goal.overflow_cast-end
+overflow_cast-end c =     let few : 2 ^ c.args.u ≤ 2 ^ 6 = pow_mono c.requires.4 in
+    let e = c.single-end.ensures in
+    record { fits = omega arith }
+
+pub loop-f-init : goal.loop-f-init
+loop-f-init c =     let a = c.args in
+    (omega arith, best_start a.cl.now a.codes.now a.v a.o a.u a.budget)
+
+pub sooner-requires : goal.sooner-requires
+sooner-requires c = c.requires.4
+
+pub suits-requires : goal.suits-requires
+suits-requires c = let p = c.requires in (p.0, p.1, p.2, p.3)
+
+pub overflow_add-f : goal.overflow_add-f
+overflow_add-f c =     let a = c.args in
+    let few : 2 ^ a.u ≤ 2 ^ 6 = pow_mono c.requires.4 in
+    let e = c.single-end.ensures in
+    let h = c.loop-f-test.true in
+    omega arith
+
+pub loop-f-smaller : goal.loop-f-smaller
+loop-f-smaller c = let h = c.loop-f-test.true in search rules
+
+pub loop-f-preserved : goal.loop-f-preserved
+loop-f-preserved c =     let single = c.single-end in
+    let a = c.args in
+    let l = c.loop-f in
+    let h = c.loop-f-test.true in
+    let first = c.sooner.ensures in
+    let low : l.f < 2 ^ a.u = subst (λ (n : ℕ). l.f < n) single.ensures h in
+    let B : ℕ → Type 0 = Best a.cl.now a.codes.now a.v a.o a.u a.budget (l.f + 1) in (
+      omega arith,
+      ⊎_elim
+          (λ w. subst B (sym w.3)
+          (best_sooner a.cl.now a.codes.now a.v a.o a.u a.budget l.f l.best low (sym first ∙ w.0.taken) (w.1.ensures.0 w.2.taken) l.invariant.1))
+          (⊎_elim
+          (λ w. subst B (sym w.3)
+          (best_unsuited a.cl.now a.codes.now a.v a.o a.u a.budget l.f l.best (w.1.ensures.1 w.2.left) l.invariant.1))
+          (λ w. subst B (sym w.1)
+          (best_not_sooner a.cl.now a.codes.now a.v a.o a.u a.budget l.f l.best low (sym first ∙ w.0.left) l.invariant.1)))
+          c.if-sooner.branch,
+    )
+
+pub returns : goal.returns
+returns c =     let a = c.args in
+    let l = c.loop-f in
+    let h = c.loop-f-test.false in
+    let z = l.invariant.0 in
+    let end : l.f ≡ 2 ^ a.u = (let e = c.single-end.ensures in omega arith) in
+    subst (λ (n : ℕ). Best a.cl.now a.codes.now a.v a.o a.u a.budget n l.best) end l.invariant.1

@@ -1,0 +1,47 @@
+use mathlib.Core.Path.{◌≡◌, sym, ap, ◌∙◌, subst}
+use mathlib.Core.Bool.{beq}
+use mathlib.Core.Logic.{⊎_elim}
+use Prim.Native.Nat.{ℕ, ◌<◌, ◌≤◌, ◌-◌}
+use native.Mathlib.Omega.{arith}
+use Rattle.bits.specs.LogicLaws.{true_false, beq_self, beq_equal}
+use Rattle.bits.specs.Digit.{on}
+use Rattle.bits.specs.CountLaws.{less_or_equal}
+use Rattle.picking.specs.SoonerLaws.{sooner_differ, sooner_same}
+use borrow.Author.Tests.{not-true, not-false}
+use borrow.Author.Rules.{rules}
+use Rattle.picking.proofs.sooner.Goals as goal
+
+pub loop-i-init : goal.loop-i-init
+loop-i-init c = (omega arith, λ j h. absurd (omega arith))
+
+pub in_set-a-requires : goal.in_set-a-requires
+in_set-a-requires c = let p = c.requires in let h = c.loop-i-test.true in omega arith
+
+pub in_set-requires : goal.in_set-requires
+in_set-requires c = let p = c.requires in let h = c.loop-i-test.true in omega arith
+
+pub returns-then-a-in_set : goal.returns-then-a-in_set
+returns-then-a-in_set c =     let a = c.args in
+    let l = c.loop-i in
+    let h = c.loop-i-test.true in
+    let i = c.in_set-a in
+    let k = c.in_set in
+    let d : on a.f l.i ≡ on a.g l.i → ⊥ =
+    λ e. true_false (sym (beq_self i.result) ∙ ap (beq i.result) (i.ensures ∙ e ∙ sym k.ensures) ∙ not-true _ c.if-a-in_set.true) in
+    i.ensures ∙ sooner_differ a.u a.f a.g l.i h l.invariant.1 d
+
+pub loop-i-preserved : goal.loop-i-preserved
+loop-i-preserved c =     let a = c.args in
+    let l = c.loop-i in
+    let h = c.loop-i-test.true in
+    let i = c.in_set-a in
+    let k = c.in_set in
+    let here : on a.f l.i ≡ on a.g l.i = sym i.ensures ∙ beq_equal i.result k.result (not-false _ c.if-a-in_set.false) ∙ k.ensures in
+    let same : ℕ → Type 0 = λ j. on a.f j ≡ on a.g j in
+    (omega arith, λ j k. ⊎_elim (l.invariant.1 j) (λ e. subst same (sym e) here) (less_or_equal j l.i (omega arith)))
+
+pub returns : goal.returns
+returns c =     let a = c.args in
+    let l = c.loop-i in
+    let h = c.loop-i-test.false in
+    sooner_same a.u a.f a.g (λ j k. l.invariant.1 j (omega arith))

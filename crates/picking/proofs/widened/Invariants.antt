@@ -1,0 +1,15 @@
+use mathlib.Core.Path.{◌≡◌, refl}
+use Prim.Native.Nat.{◌-◌}
+use lib.ListN.{length}
+use Rattle.picking.specs.BestLaws.{copied_all}
+use borrow.Author.Rules.{rules}
+use Rattle.bits.specs.Filled.{Filled}
+use Rattle.bits.specs.FilledLaws.{filled_none, filled_more, filled_fewer}
+use Rattle.problem.specs.Problem.{item}
+use Rattle.picking.proofs.widened.Given as goal
+
+abbrev pub invariant-loop-x : goal.invariant-loop-x
+invariant-loop-x l = Filled 32 (item l.codes) l.x l.r
+
+abbrev pub decreases-loop-x : goal.decreases-loop-x
+decreases-loop-x l = 32 - l.x

@@ -1,0 +1,51 @@
+-- `count_of`: the word, the number, and whether the line ends there. Assumes nothing.
+use mathlib.Core.Path.{refl, sym, ◌∙◌}
+use native.Mathlib.Omega.{arith}
+use lib.ListN.{length}
+use borrow.Author.Tests.{leb-true, leb-false}
+use Rattle.text.specs.Bytes.{eat}
+use Rattle.cursor.specs.Item.{MovedIs}
+use Rattle.cursor.specs.MovedLaws.{moved-start, moved_to}
+use Rattle.platext.specs.CountLaws.{no_count_word, no_number, whole-count, longer-count}
+use borrow.Author.Rules.{rules}
+use Rattle.platext.proofs.count_of.Goals as goal
+
+-- the cursor after the line's word
+word : (c : goal.After-text-m)
+    → MovedIs c.args.l.now c.text-m.result
+    (eat c.args.head.now c.args.l.now)
+word c =
+    let a = c.args in
+    let start = c.start in
+    moved-start a.l.now a.head.now c.text-m.result start.result start.ensures c.text-m.ensures
+
+pub text-m-requires : goal.text-m-requires
+text-m-requires c = omega (arith, c.start.ensures)
+
+pub returns-in_default : goal.returns-in_default
+returns-in_default c =     let text = (goal.at.returns-in_default c).After-text-m in
+    let a = c.args in
+    no_count_word a.head.now a.l.now (word text) c.enum_told-1.given.1 _ refl
+
+pub number-r-requires : goal.number-r-requires
+number-r-requires c = ((moved_to _ _ _ (word (goal.at.number-r-requires c).After-text-m) _ c.m-1.given.1).inside, omega arith)
+
+pub returns-in_default-r : goal.returns-in_default-r
+returns-in_default-r c =     let number = c.number-r in
+    let text = (goal.at.returns-in_default-r c).After-text-m in
+    let a = c.args in
+    no_number a.head.now a.l.now (word text) c.m-1.given.1 number.result number.ensures c.enum_told-in_default-r-1.given.1 _ refl
+
+pub returns-then-at_end : goal.returns-then-at_end
+returns-then-at_end c =     let number = c.number-r in
+    let text = (goal.at.returns-then-at_end c).After-text-m in
+    let a = c.args in
+    let e = leb-true (length a.l.now) _ (sym c.at_end.ensures ∙ c.if-at_end.true) in
+    whole-count a.head.now a.l.now (word text) c.m-1.given.1 number.result number.ensures c.r-1.given.1 e _ refl
+
+pub returns-else-at_end : goal.returns-else-at_end
+returns-else-at_end c =     let number = c.number-r in
+    let text = (goal.at.returns-else-at_end c).After-text-m in
+    let a = c.args in
+    let e = leb-false (length a.l.now) _ (sym c.at_end.ensures ∙ c.if-at_end.false) in
+    longer-count a.head.now a.l.now (word text) c.m-1.given.1 number.result number.ensures c.r-1.given.1 e _ refl

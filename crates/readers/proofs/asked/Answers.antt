@@ -1,0 +1,32 @@
+use mathlib.Core.Path.{◌≡◌, refl, sym, ◌∙◌}
+use mathlib.Core.Bool.{false}
+use mathlib.Core.Logic.{inl, inr}
+use Prim.Native.Nat.{ℕ, ◌<◌, ◌≤◌, ◌-◌}
+use native.Mathlib.Omega.{arith}
+use Rattle.bits.specs.Digit.{on}
+use Rattle.readers.specs.KnownLaws.{unread_more}
+use Rattle.problem.specs.Problem.{item}
+use borrow.Author.Rules.{rules}
+use Rattle.readers.proofs.asked.Goals as goal
+
+pub returns-then-kn-eq0 : goal.returns-then-kn-eq0
+returns-then-kn-eq0 c = inl refl
+
+pub loop-o-init : goal.loop-o-init
+loop-o-init c = (omega arith, λ o h. absurd (omega arith))
+
+pub bounds-rows-o : goal.bounds-rows-o
+bounds-rows-o c = let h = c.loop-o-test.true in let z = c.requires in search rules
+
+pub returns-then-in_set : goal.returns-then-in_set
+returns-then-in_set c = inl refl
+
+pub loop-o-preserved : goal.loop-o-preserved
+loop-o-preserved c =     let a = c.args in
+    let i = c.loop-o in
+    let h = c.loop-o-test.true in
+    (omega arith, unread_more a.t1 i.o (sym c.in_set.ensures ∙ c.if-in_set.false) i.invariant.1)
+
+pub returns : goal.returns
+returns c =     let end = c.loop-o-test.false in
+    inr (refl, λ o h. c.loop-o.invariant.1 o (omega arith))

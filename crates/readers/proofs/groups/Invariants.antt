@@ -1,0 +1,14 @@
+use mathlib.Core.Path.{refl}
+use Prim.Native.Nat.{◌≤◌, ◌-◌}
+use native.Mathlib.Omega.{arith}
+use mathlib.Core.Logic.{⊎_elim}
+use Rattle.readers.specs.Groups.{Grouping}
+use borrow.Author.Rules.{rules}
+use Rattle.readers.specs.GroupsLaws.{grouping_start, grouping_same, grouping_more}
+use Rattle.readers.proofs.groups.Given as goal
+
+abbrev pub invariant-loop-i : goal.invariant-loop-i
+invariant-loop-i l = (l.n ≤ 3) × Grouping l.rows l.gs l.sh l.j l.done
+
+abbrev pub decreases-loop-i : goal.decreases-loop-i
+decreases-loop-i l = 6 - l.i

@@ -1,0 +1,13 @@
+use Rattle.readers.specs.Masks.{Planned}
+use native.Mathlib.Omega.{arith}
+use Prim.Native.Nat.{ℕ, ◌≤◌, ◌-◌, ◌^◌}
+use mathlib.Core.Path.{refl, ap, ◌∙◌, subst}
+use borrow.Author.Rules.{rules}
+use Rattle.readers.specs.MasksLaws.{planned_start, planned_more}
+use Rattle.readers.proofs.plan.Given as goal
+
+abbrev pub invariant-loop-o : goal.invariant-loop-o
+invariant-loop-o l = (l.o ≤ l.j) × Planned l.rows l.sh l.o l.ms l.ps l.caps l.spots
+
+abbrev pub decreases-loop-o : goal.decreases-loop-o
+decreases-loop-o l = l.j - l.o

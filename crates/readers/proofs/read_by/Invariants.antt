@@ -1,0 +1,10 @@
+use native.Mathlib.Omega.{arith}
+use Prim.Native.Nat.{◌≤◌, ◌-◌}
+use borrow.Author.Rules.{rules}
+use Rattle.readers.proofs.read_by.Given as goal
+
+abbrev pub invariant-loop-o : goal.invariant-loop-o
+invariant-loop-o l = l.o ≤ l.j
+
+abbrev pub decreases-loop-o : goal.decreases-loop-o
+decreases-loop-o l = l.j - l.o

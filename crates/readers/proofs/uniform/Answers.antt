@@ -1,0 +1,28 @@
+use Rattle.coding.specs.Exchange.{Uniform}
+use Rattle.problem.specs.Problem.{item}
+use Rattle.bits.specs.LogicLaws.{true_false}
+use Rattle.readers.specs.GroupsLaws.{uniform_more}
+use native.Mathlib.Omega.{arith}
+use Prim.Native.Nat.{ℕ, ◌<◌, ◌≤◌, ◌-◌}
+use mathlib.Core.Logic.{◌⊎◌, inl, inr, ⊎_elim}
+use mathlib.Core.Path.{sym}
+use borrow.Author.Rules.{rules}
+use Rattle.readers.proofs.uniform.Goals as goal
+
+pub loop-o-init : goal.loop-o-init
+loop-o-init c = (omega arith, λ q h. absurd (omega arith))
+
+pub bounds-rows-o : goal.bounds-rows-o
+bounds-rows-o c = let h = c.loop-o-test.true in let z = c.requires in search rules
+
+pub returns-then-m-ne0 : goal.returns-then-m-ne0
+returns-then-m-ne0 c = λ e. absurd (true_false (sym e))
+
+pub loop-o-preserved : goal.loop-o-preserved
+loop-o-preserved c =     let loop-test = c.loop-o-test in
+    let loop = c.loop-o in
+    let args = c.args in
+    let h = loop-test.true in (omega arith, uniform_more args.t1 args.g loop.o (⊎_elim (λ w. inr w.1.left) (λ w. inl w.left) c.if-m-g.branch) loop.invariant.1)
+
+pub returns : goal.returns
+returns c = λ e o h. c.loop-o.invariant.1 o (let z = c.loop-o-test.false in omega arith)

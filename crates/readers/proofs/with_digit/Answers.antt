@@ -1,0 +1,12 @@
+use borrow.Author.Tests.{not-true}
+use Rattle.readers.specs.KnownLaws.{digit_unknown, digit_one, digit_zero}
+use Rattle.readers.proofs.with_digit.Goals as goal
+
+pub returns-then-not-known : goal.returns-then-not-known
+returns-then-not-known c = let a = c.args in digit_unknown a.c a.known a.d (not-true _ c.if-not-known.true-raw)
+
+pub returns-then-d : goal.returns-then-d
+returns-then-d c = let a = c.args in digit_one a.c a.known a.d c.if-d.true
+
+pub returns-else-d : goal.returns-else-d
+returns-else-d c = let a = c.args in digit_zero a.c a.known a.d c.if-d.false

@@ -1,0 +1,13 @@
+use mathlib.Core.Path.{◌≡◌, subst}
+use Prim.Native.Nat.{ℕ, ◌≤◌, ◌-◌}
+use native.Mathlib.Omega.{arith}
+use Rattle.readers.specs.Known.{Wrote}
+use borrow.Author.Rules.{rules}
+use Rattle.readers.specs.KnownLaws.{wrote-start, wrote_more}
+use Rattle.readers.proofs.written.Given as goal
+
+abbrev pub invariant-loop-x : goal.invariant-loop-x
+invariant-loop-x l = (l.x ≤ l.v) × Wrote l.kn l.val l.initial.r l.x l.r
+
+abbrev pub decreases-loop-x : goal.decreases-loop-x
+decreases-loop-x l = l.v - l.x

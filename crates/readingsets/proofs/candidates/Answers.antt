@@ -1,0 +1,36 @@
+use Rattle.std.proofs.Common.{◌≡◌, ◌+◌, ◌-◌, ◌^◌, ◌≤◌, ⊎_elim, arith, rules}
+use Rattle.readingsets.specs.ChoiceLaws.{number_room}
+use Rattle.readingsets.proofs.candidates.Goals as goal
+
+pub overflow_add-p : goal.overflow_add-p
+overflow_add-p c = let q = c.requires in let h = q.4 in let k = q.5 in omega arith
+
+pub power-end-requires : goal.power-end-requires
+power-end-requires c = let q = c.requires in let h = q.4 in let k = q.5 in omega arith
+
+pub loop-r-init : goal.loop-r-init
+loop-r-init c = let e = c.power-end.ensures in (e.0, e.1, omega arith, omega arith)
+
+pub row_of-row-requires : goal.row_of-row-requires
+row_of-row-requires c =     let power = c.power-end in
+    let p = c.args.p in
+    let q = c.requires in
+    let l = c.loop-r in
+    (q.4, number_room p.cells p.tables l.r power.result q.5 l.invariant.0 c.loop-r-test.true)
+
+pub overflow_add-n : goal.overflow_add-n
+overflow_add-n c = let i = c.loop-r.invariant in let a = i.1 in let b = i.2 in let d = i.3 in let h = c.loop-r-test.true in omega arith
+
+pub overflow_add-r : goal.overflow_add-r
+overflow_add-r c = let i = c.loop-r.invariant in let a = i.1 in let b = i.2 in let d = i.3 in let h = c.loop-r-test.true in omega arith
+
+pub loop-r-smaller : goal.loop-r-smaller
+loop-r-smaller c = let h = c.loop-r-test.true in search rules
+
+pub loop-r-preserved : goal.loop-r-preserved
+loop-r-preserved c =     let i = c.loop-r.invariant in
+    let a = i.1 in
+    let b = i.2 in
+    let d = i.3 in
+    let h = c.loop-r-test.true in
+    (i.0, a, ⊎_elim (λ w. let z = w.1 in omega arith) (λ w. let z = w.1 in omega arith) c.if-counts.branch, omega arith)

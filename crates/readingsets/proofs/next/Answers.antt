@@ -1,0 +1,62 @@
+use borrow.Author.Tests.{not-true, not-false}
+use Rattle.std.proofs.Common.{◌≡◌, ℕ, ◌+◌, ◌-◌, ◌≤◌, false, sym, ◌∙◌, subst, ⊎_elim, arith, rules}
+use Rattle.bits.specs.Digit.{on}
+use Rattle.readingsets.specs.Choice.{Next}
+use Rattle.readingsets.specs.ChoiceLaws.{next_start, next_here, next-found, next_done}
+use Rattle.readingsets.proofs.next.Goals as goal
+
+pub loop-o-init : goal.loop-o-init
+loop-o-init c =     (omega arith, c.requires.3, next_start c.args.done)
+
+pub overflow_cast-o : goal.overflow_cast-o
+overflow_cast-o c = let i = c.loop-o.invariant in let h = c.loop-o-test.true in let r = i.1 in search rules
+
+pub in_set-requires : goal.in_set-requires
+in_set-requires c = let i = c.loop-o.invariant in let h = c.loop-o-test.true in let r = i.1 in omega arith
+
+pub bounds-budgets-o : goal.bounds-budgets-o
+bounds-budgets-o c = let i = c.loop-o.invariant in let h = c.loop-o-test.true in let r = i.1 in search rules
+
+pub wanted-requires : goal.wanted-requires
+wanted-requires c = let q = c.requires in (q.4, q.5)
+
+pub candidates-n-requires : goal.candidates-n-requires
+candidates-n-requires c =     let q = c.requires in
+    let i = c.loop-o.invariant in
+    let h = c.loop-o-test.true in
+    let r = i.1 in
+    (q.0, q.1, q.2, omega arith, q.4, q.5)
+
+pub overflow_add-o : goal.overflow_add-o
+overflow_add-o c = let i = c.loop-o.invariant in let h = c.loop-o-test.true in let r = i.1 in omega arith
+
+pub loop-o-smaller : goal.loop-o-smaller
+loop-o-smaller c = let i = c.loop-o.invariant in let h = c.loop-o-test.true in let r = i.1 in search rules
+
+pub loop-o-preserved : goal.loop-o-preserved
+loop-o-preserved c =     let done = c.args.done in
+    let l = c.loop-o in
+    let i = l.invariant in
+    let r = i.1 in
+    let h = c.loop-o-test.true in
+    let e = c.in_set.ensures in
+    let N : ℕ → Type 0 = λ b. Next (l.o + 1) done b in
+    let here : on done l.o ≡ false → N l.o = next_here done l.o (omega arith) in (
+      omega arith,
+      i.1,
+      ⊎_elim
+          (λ w. subst N (sym w.4) (here (sym e ∙ not-true _ w.0.taken)))
+          (⊎_elim
+          (λ w. subst N (sym w.5) (here (sym e ∙ not-true _ w.0.taken)))
+          (⊎_elim
+          (λ w. subst N (sym w.5) (next-found done l.o l.best w.3.left i.2))
+          (λ w. subst N (sym w.1) (next_done done l.o l.best (sym e ∙ not-false _ w.0.left) i.2))))
+          c.if-not-in_set.branch,
+    )
+
+pub returns : goal.returns
+returns c =     let l = c.loop-o in
+    let i = l.invariant in
+    let a = i.0 in
+    let h = c.loop-o-test.false in
+    subst (λ (m : ℕ). Next m c.args.done l.best) (let e : l.o ≡ c.args.p.outputs = omega arith in e) i.2

@@ -1,0 +1,39 @@
+use Rattle.cache.specs.Cache.{Honest}
+use Rattle.bits.specs.LogicLaws.{true_false}
+use borrow.Author.Tests.{not-true}
+use Rattle.std.proofs.Common.{◌-◌, ◌≤◌, sym, ◌∙◌, ⊎_elim, arith, rules}
+use Rattle.readingsets.proofs.small_questions.Goals as goal
+
+pub with-last-requires : goal.with-last-requires
+with-last-requires c = c.requires.3
+
+pub loop-size-init : goal.loop-size-init
+loop-size-init c = c.requires.4
+
+pub settle-a-requires : goal.settle-a-requires
+settle-a-requires c =     let loop = c.loop-size in
+    let p = c.requires in (p.0, p.1, p.2, loop.invariant)
+
+pub shape_of-mem-then-not-a : goal.shape_of-mem-then-not-a
+shape_of-mem-then-not-a c =     let t = c.settle-a in
+    let p = c.requires in
+    t.ensures.0.long ∙ sym p.4.long
+
+pub returns-then-not-a : goal.returns-then-not-a
+returns-then-not-a c =     let t = c.settle-a in
+    (t.ensures.0, λ e. t.ensures.1 (not-true _ c.if-not-a.true))
+
+pub overflow_add-size : goal.overflow_add-size
+overflow_add-size c =     let h = c.loop-size-test.true in
+    let e = c.if-p-eq2 in
+    let low : e.end ≤ 3 = ⊎_elim (λ w. let z = w.1 in omega arith) (λ w. let z = w.1 in omega arith) e.branch in
+    search rules
+
+pub loop-size-preserved : goal.loop-size-preserved
+loop-size-preserved c = c.settle-a.ensures.0
+
+pub shape_of-mem : goal.shape_of-mem
+shape_of-mem c = c.loop-size.invariant.long ∙ sym c.requires.4.long
+
+pub returns : goal.returns
+returns c = (c.loop-size.invariant, λ e. absurd (true_false e))

@@ -1,0 +1,52 @@
+use native.Mathlib.Omega.{arith}
+use Prim.Native.Nat.{ℕ, ◌+◌, ◌≤◌, ◌-◌}
+use mathlib.Core.List.{List}
+use mathlib.Core.Logic.{⊎_elim}
+use mathlib.Core.Path.{sym, subst}
+use Rattle.relation.specs.Refining.{Cutting}
+use borrow.Author.Rules.{rules}
+use Rattle.relation.specs.RefiningLaws.{cutting_start, cutting_none, cutting_more, cutting_leaves}
+use Rattle.relation.proofs.cut.Goals as goal
+
+pub copied-r-requires : goal.copied-r-requires
+copied-r-requires c = let p = c.requires in (p.0, p.2, p.3)
+
+pub loop-i-init : goal.loop-i-init
+loop-i-init c =     let a = c.args in
+    let p = c.requires in
+    (omega arith, cutting_start a.cl.now a.given.now a.t3 a.t4 a.n a.v p.3 p.4 c.copied-r.result p.0 p.2 c.copied-r.ensures)
+
+pub offset_bounds-gs-i : goal.offset_bounds-gs-i
+offset_bounds-gs-i c = let z = c.requires.3 in search rules
+
+pub bounds-gs-i : goal.bounds-gs-i
+bounds-gs-i c = let z = c.requires.3 in search rules
+
+pub bounds-from-i : goal.bounds-from-i
+bounds-from-i c = let z = c.requires.3 in search rules
+
+pub refine-refined-requires : goal.refine-refined-requires
+refine-refined-requires c =     let p = c.requires in
+    let l = c.loop-i in
+    let h = c.loop-i-test.true in
+    let few = p.3 in
+    (p.0, p.1, p.2 l.i (omega arith), p.4, omega arith, l.invariant.1.whole)
+
+pub loop-i-preserved : goal.loop-i-preserved
+loop-i-preserved c =     let a = c.args in
+    let p = c.requires in
+    let l = c.loop-i in
+    let h = c.loop-i-test.true in
+    let Next : List ℕ → Type 0 = Cutting a.cl.now a.given.now a.t3 a.t4 a.n a.v (l.i + 1) in (
+      omega arith,
+      ⊎_elim
+          (λ w. subst Next (sym w.2) (cutting_more a.cl.now a.given.now a.t3 a.t4 a.n a.v p.3 p.4 l.i l.r _ h w.1.ensures l.invariant.1))
+          (λ w. subst Next (sym w.1) (cutting_none a.cl.now a.given.now a.t3 a.t4 a.n a.v p.3 p.4 l.i l.r h w.0.left l.invariant.1))
+          c.if-g-ne0.branch,
+    )
+
+pub returns : goal.returns
+returns c =     let a = c.args in
+    let p = c.requires in
+    let l = c.loop-i in
+    cutting_leaves a.cl.now a.given.now a.t3 a.t4 a.n a.v p.3 p.4 l.i l.r c.loop-i-test.false l.invariant.1

@@ -1,0 +1,57 @@
+use native.Mathlib.Omega.{arith}
+use Prim.Native.Nat.{ℕ, ◌<◌, ◌≤◌, ◌-◌}
+use mathlib.Core.Path.{◌≡◌, refl, sym, ◌∙◌, subst}
+use mathlib.Core.Logic.{⊎_elim}
+use lib.Bits.{bit_and}
+use Rattle.bits.specs.LogicLaws.{true_false}
+use Rattle.bits.specs.CountLaws.{less_or_equal}
+use Rattle.problem.specs.Problem.{item, label_at}
+use Rattle.relation.specs.Relation.{Left}
+use Rattle.relation.specs.RelationLaws.{different_conflict, equal_not_left}
+use borrow.Author.Rules.{rules}
+use Rattle.relation.proofs.told.Goals as goal
+
+pub loop-y-init : goal.loop-y-init
+loop-y-init c = (omega arith, refl, c.label-label.ensures, λ z h. absurd (omega arith))
+
+pub offset_bounds-given-y : goal.offset_bounds-given-y
+offset_bounds-given-y c = let z = c.requires.3 in search rules
+
+pub bounds-given-y : goal.bounds-given-y
+bounds-given-y c = let z = c.requires.3 in search rules
+
+pub label-requires : goal.label-requires
+label-requires c = let z = c.requires.3 in search rules
+
+pub returns-then-label : goal.returns-then-label
+returns-then-label c =     let if1 = c.if-given-y in
+    let a = c.args in
+    let l = c.loop-y in
+    let i = l.invariant in
+    let h = c.loop-y-test.true in
+    let there = c.label in (
+      λ e. absurd (true_false (sym e)),
+      λ e none. none l.y h (record {
+        conflict = different_conflict a.cl.now a.o a.x l.y (λ q. c.if-label.true (there.ensures ∙ sym q ∙ sym i.2));
+        agree = sym i.1 ∙ sym if1.true;
+      }),
+    )
+
+pub loop-y-preserved : goal.loop-y-preserved
+loop-y-preserved c =     let a = c.args in
+    let l = c.loop-y in
+    let i = l.invariant in
+    let h = c.loop-y-test.true in
+    let L : ℕ → Type 0 = Left a.cl.now a.given.now a.g a.o a.x in
+    let here : L l.y → ⊥ = ⊎_elim
+    (λ w. equal_not_left a.cl.now a.given.now a.g a.o a.x l.y (sym i.2 ∙ sym w.2.left ∙ w.1.ensures))
+    (λ w k. w.left (sym k.agree ∙ sym i.1))
+    c.if-given-y.branch in (
+      omega arith,
+      i.1,
+      i.2,
+      λ z k w. ⊎_elim (λ b. i.3 z b w) (λ q. here (subst L q w)) (less_or_equal z l.y (omega arith)),
+    )
+
+pub returns : goal.returns
+returns c = let l = c.loop-y in (λ e y h. l.invariant.3 y (let w = c.loop-y-test.false in omega arith), λ e. absurd (true_false e))

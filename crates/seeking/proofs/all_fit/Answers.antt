@@ -1,0 +1,34 @@
+use mathlib.Core.Path.{◌≡◌, sym, ◌∙◌}
+use mathlib.Core.Bool.{true}
+use Prim.Native.Nat.{ℕ, ◌-◌, ◌≤◌, ◌<◌}
+use native.Mathlib.Omega.{arith}
+use borrow.Author.Count.{below_more}
+use borrow.Author.Tests.{not-true, not-false}
+use Rattle.bits.specs.Digit.{on}
+use Rattle.bits.specs.LogicLaws.{true_false, never_both}
+use borrow.Author.Rules.{rules}
+use Rattle.seeking.proofs.all_fit.Goals as goal
+
+pub loop-o-init : goal.loop-o-init
+loop-o-init c = (omega arith, λ p h. absurd (omega arith))
+
+pub overflow_cast-o : goal.overflow_cast-o
+overflow_cast-o c = let room = c.requires in let h = c.loop-o-test.true in search rules
+
+pub in_set-requires : goal.in_set-requires
+in_set-requires c = let room = c.requires in let h = c.loop-o-test.true in omega arith
+
+pub returns-then-not-in_set : goal.returns-then-not-in_set
+returns-then-not-in_set c =     let o = c.loop-o.o in
+    let h = c.loop-o-test.true in
+    (λ t. absurd (true_false (sym t)), λ f all. never_both (all o h) (sym c.in_set.ensures ∙ not-true _ c.if-not-in_set.true-raw))
+
+pub loop-o-preserved : goal.loop-o-preserved
+loop-o-preserved c =     let loop = c.loop-o in
+    let h = c.loop-o-test.true in
+    (omega arith, below_more _ _ loop.invariant.1 (sym c.in_set.ensures ∙ not-false _ c.if-not-in_set.false-raw))
+
+pub returns : goal.returns
+returns c =     let loop = c.loop-o in
+    let h = c.loop-o-test.false in
+    (λ t o l. loop.invariant.1 o (omega arith), λ f. absurd (true_false f))

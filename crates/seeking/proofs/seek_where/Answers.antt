@@ -1,0 +1,20 @@
+use borrow.Author.Tests.{not-true, not-false}
+use Rattle.seeking.specs.SeekingLaws.{sought_where}
+use borrow.Author.Rules.{rules}
+use Rattle.seeking.proofs.seek_where.Goals as goal
+
+pub returns-then-not-all_fit : goal.returns-then-not-all_fit
+returns-then-not-all_fit c =     let pre = c.requires in
+    (λ all. absurd (c.all_fit.ensures.1 (not-true _ c.if-not-all_fit.true-raw) all), pre.7)
+
+pub returns : goal.returns
+returns c =     let if1 = c.if-not-all_fit in
+    let seek = c.seek in
+    let all = c.all_fit.ensures.0 (not-false _ if1.false) in
+    let args = c.args in
+    let p = args.p in
+    let r = seek.result in (
+      sought_where args.fits args.cl.now args.given.now p.budgets p.kn p.val p.vertices p.outputs p.cells p.tables r.ok r.rows r.codes
+          all seek.ensures.0,
+      seek.ensures.1,
+    )

@@ -1,0 +1,12 @@
+-- `ask_in`: the names of the line, asked. Assumes nothing.
+use borrow.Author.Rules.{rules}
+use Rattle.sheet.specs.InLaws.{in_reads}
+use Rattle.sheet.proofs.ask_in.Goals as goal
+
+-- LEFT slice-aggregate-names-line : tie.Need-slice-aggregate-names-line
+-- LEFT slice-aggregate-names-line c = search rules
+
+pub returns : goal.returns
+returns c =     λ d h f.
+    let w = c.names_line in
+    c.asked_in.ensures d _ (in_reads _ w.result w.ensures) h f

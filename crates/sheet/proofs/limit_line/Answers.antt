@@ -1,0 +1,60 @@
+-- `limit_line`: the head of the line, the number and the bracket, each where the one before ends. Assumes nothing.
+use mathlib.Core.Path.{sym, ◌∙◌}
+use native.Mathlib.Omega.{arith}
+use borrow.Author.Rules.{rules}
+use Rattle.text.specs.Bytes.{bytes, eat}
+use Rattle.cursor.specs.MovedLaws.{moved-start, moved_to, moved_nowhere}
+use Rattle.sheet.specs.LimitLaws.{limit_no_head, limit_no_number, limit_closed, limit_unclosed}
+use Rattle.sheet.proofs.limit_line.Goals as goal
+
+-- LEFT slice-aggregate-text : tie.Need-slice-aggregate-text
+-- LEFT slice-aggregate-text c = search rules
+
+pub text-m-requires : goal.text-m-requires
+text-m-requires c = omega (arith, c.start.ensures)
+
+pub returns-in_default : goal.returns-in_default
+returns-in_default c =     let l = c.args.l.now in
+    let t = c.text-m in
+    let o = c.start in
+    let h = moved-start l (bytes "(limit ") t.result o.result o.ensures t.ensures in
+    limit_no_head l (moved_nowhere l t.result (eat (bytes "(limit ") l) h c.enum_told-1.given.1)
+
+pub number-w-requires : goal.number-w-requires
+number-w-requires c =     let l = c.args.l.now in
+    let t = c.text-m in
+    let o = c.start in
+    let h = moved-start l (bytes "(limit ") t.result o.result o.ensures t.ensures in
+    let m = c.m-1.given in
+    ((moved_to l t.result (eat (bytes "(limit ") l) h m.0.0 m.1).inside, omega arith)
+
+pub returns-in_default-w : goal.returns-in_default-w
+returns-in_default-w c =     let number = c.number-w in
+    let l = c.args.l.now in
+    let t = c.text-m in
+    let o = c.start in
+    let h = moved-start l (bytes "(limit ") t.result o.result o.ensures t.ensures in
+    let m = c.m-1.given in
+    limit_no_number l (moved_to l t.result (eat (bytes "(limit ") l) h m.0.0 m.1) (rw c.enum_told-in_default-w-1.given.1 at number.ensures)
+
+pub returns-then-closes : goal.returns-then-closes
+returns-then-closes c =     let w = c.w-1 in
+    let number2 = c.number-w in
+    let l = c.args.l.now in
+    let t = c.text-m in
+    let o = c.start in
+    let h = moved-start l (bytes "(limit ") t.result o.result o.ensures t.ensures in
+    let m = c.m-1.given in
+    let number = rw w.given.1 at number2.ensures in
+    limit_closed l (moved_to l t.result (eat (bytes "(limit ") l) h m.0.0 m.1) number (sym c.closes.ensures ∙ c.if-closes.true)
+
+pub returns-else-closes : goal.returns-else-closes
+returns-else-closes c =     let w = c.w-1 in
+    let number2 = c.number-w in
+    let l = c.args.l.now in
+    let t = c.text-m in
+    let o = c.start in
+    let h = moved-start l (bytes "(limit ") t.result o.result o.ensures t.ensures in
+    let m = c.m-1.given in
+    let number = rw w.given.1 at number2.ensures in
+    limit_unclosed l (moved_to l t.result (eat (bytes "(limit ") l) h m.0.0 m.1) number (sym c.closes.ensures ∙ c.if-closes.false)

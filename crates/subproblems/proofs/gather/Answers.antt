@@ -1,0 +1,54 @@
+use Rattle.subproblems.specs.Gathering.{Gathered}
+use native.Mathlib.Omega.{arith}
+use Prim.Native.Nat.{ℕ, ◌+◌, ◌≤◌, ◌-◌}
+use mathlib.Core.Logic.{⊎_elim}
+use mathlib.Core.Path.{refl, sym, ◌∙◌, subst}
+use borrow.Author.Rules.{rules}
+use Rattle.subproblems.specs.GatheringLaws.{gathered-start, gathered_skip, gathered_more, gathered_same}
+use Rattle.cells.specs.ListLaws.{zeros_are}
+use Rattle.subproblems.proofs.gather.Goals as goal
+
+pub loop-o-init : goal.loop-o-init
+loop-o-init c = (omega arith, gathered-start c.args.asked c.args.rows _ _ _ refl refl refl (zeros_are 8))
+
+pub overflow_cast-o : goal.overflow_cast-o
+overflow_cast-o c = let h = c.loop-o-test.true in record { fits = omega arith }
+
+pub in_set-requires : goal.in_set-requires
+in_set-requires c = let h = c.loop-o-test.true in omega arith
+
+pub overflow_cast-from : goal.overflow_cast-from
+overflow_cast-from c = let h = c.loop-o-test.true in let f = c.loop-o.invariant.1.few in record { fits = omega arith }
+
+pub bounds-from-n : goal.bounds-from-n
+bounds-from-n c = let h = c.loop-o-test.true in let f = c.loop-o.invariant.1.few in search rules
+
+pub bounds-fs-n : goal.bounds-fs-n
+bounds-fs-n c = let h = c.loop-o-test.true in let f = c.loop-o.invariant.1.few in search rules
+
+pub offset_bounds-gs-n : goal.offset_bounds-gs-n
+offset_bounds-gs-n c = let h = c.loop-o-test.true in let f = c.loop-o.invariant.1.few in search rules
+
+pub bounds-gs-n : goal.bounds-gs-n
+bounds-gs-n c = let h = c.loop-o-test.true in let f = c.loop-o.invariant.1.few in search rules
+
+pub overflow_add-n : goal.overflow_add-n
+overflow_add-n c = let h = c.loop-o-test.true in let f = c.loop-o.invariant.1.few in omega arith
+
+pub loop-o-preserved : goal.loop-o-preserved
+loop-o-preserved c =     let h = c.loop-o-test.true in
+    let a = c.args in
+    let l = c.loop-o in (
+      omega arith,
+      ⊎_elim
+          (λ w. gathered_same a.asked a.t2 (l.o + 1) _ _ _ _ _ _ _ _ w.6 w.3 w.4 w.5
+          (gathered_more a.asked a.t2 l.o l.n l.from l.fs l.gs h l.invariant.1 _ _ (sym w.0.taken ∙ c.in_set.ensures) w.1.ensures.0 w.2.ensures.0))
+          (λ w. gathered_same a.asked a.t2 (l.o + 1) _ _ _ _ _ _ _ _ w.4 w.1 w.2 w.3
+          (gathered_skip a.asked a.t2 l.o l.n l.from l.fs l.gs h l.invariant.1 (sym w.0.left ∙ c.in_set.ensures)))
+          c.if-in_set.branch,
+    )
+
+pub returns : goal.returns
+returns c =     let a = c.args in
+    let l = c.loop-o in
+    subst (λ (z : ℕ). Gathered a.asked a.t2 z l.n l.from l.fs l.gs) (let h = c.loop-o-test.false in let z = l.invariant.0 in omega arith) l.invariant.1

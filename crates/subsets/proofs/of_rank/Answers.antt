@@ -1,0 +1,44 @@
+use Rattle.subsets.specs.Rank.{rank}
+use Rattle.subsets.specs.RankLaws.{rank_in, rank_out, rank_room}
+use mathlib.Core.Path.{◌≡◌, refl, sym, ap, ◌∙◌}
+use mathlib.Core.Logic.{⊎_elim}
+use Prim.Native.Nat.{ℕ, ◌+◌, ◌≤◌, ◌-◌}
+use native.Mathlib.Omega.{arith}
+use borrow.Author.Rules.{rules}
+use Rattle.subsets.proofs.of_rank.Goals as goal
+
+pub loop-i-init : goal.loop-i-init
+unfolding rank
+loop-i-init c = (omega arith, refl)
+
+pub overflow_mul-s : goal.overflow_mul-s
+overflow_mul-s c =     let a = c.args in
+    let p = c.requires in
+    let l = c.loop-i in
+    let z = rank_room l.i a.r (let h = c.loop-i-test.true in omega arith) in
+    omega arith
+
+pub overflow_add-s : goal.overflow_add-s
+overflow_add-s c =     let a = c.args in
+    let p = c.requires in
+    let l = c.loop-i in
+    let z = rank_room l.i a.r (let h = c.loop-i-test.true in omega arith) in
+    omega arith
+
+pub loop-i-preserved : goal.loop-i-preserved
+loop-i-preserved c =     let a = c.args in
+    let l = c.loop-i in
+    let h = c.loop-i-test.true in
+    let t = c.has.ensures in
+    let R : c.if-has.s ≡ rank (l.i + 1) a.r = ⊎_elim
+    (λ w. w.1 ∙ rank_in l.i a.r l.s (sym t ∙ w.0.taken) l.invariant.1)
+    (λ w. w.1 ∙ rank_out l.i a.r l.s (sym t ∙ w.0.left) l.invariant.1)
+    c.if-has.branch in
+    (omega arith, R)
+
+pub returns : goal.returns
+returns c =     let a = c.args in
+    let l = c.loop-i in
+    let h = c.loop-i-test.false in
+    let z : l.i ≡ a.m = (let b = l.invariant.0 in omega arith) in
+    l.invariant.1 ∙ ap (λ (i : ℕ). rank i a.r) z

@@ -1,0 +1,16 @@
+-- `line_end`: each turn passes a byte that is no 0x0A. Assumes nothing.
+use mathlib.Core.Path.{◌≡◌}
+use Prim.Native.Nat.{ℕ, ◌-◌, ◌≤◌, ◌<◌}
+use native.Mathlib.Omega.{arith}
+use lib.ListN.{length, get_or}
+use borrow.Author.Count.{below_more}
+use borrow.Author.Rules.{rules}
+use Rattle.text.specs.Bytes.{newline}
+use Rattle.text.specs.LineEndLaws.{line_ends}
+use Rattle.text.proofs.line_end.Given as goal
+
+abbrev pub invariant-loop-e : goal.invariant-loop-e
+invariant-loop-e l = (l.at ≤ l.e) × (l.e ≤ length l.s) × ((k : ℕ) → k < l.e → l.at ≤ k → get_or l.s k 0 ≡ newline → ⊥)
+
+abbrev pub decreases-loop-e : goal.decreases-loop-e
+decreases-loop-e l = length l.s - l.e
