@@ -2,7 +2,7 @@
 use Rattle.std.specs.Prelude.{◌≡◌, Bool, true, false, ◌&&◌, ◌||◌, ℕ, ◌≤◌, ◌<◌, leb}
 use Rattle.std.proofs.Math.Path.{refl, ap}
 use Rattle.std.proofs.Common.{◌∙◌, arith, le-leb}
-use Rattle.std.proofs.Math.Bool.{or_true}
+use Rattle.std.proofs.Math.Bool.{or-true}
 use Rattle.std.proofs.lemmas.Bool.{lt-leb}
 use Rattle.text.specs.Number.{numeral}
 use Rattle.names.specs.Case.{small, capital}
@@ -37,7 +37,7 @@ module _ (b : ℕ) where
 
   pub letter-capital : 0x41 ≤ b → b ≤ 0x5A → letter b ≡ true
   unfolding letter
-  letter-capital h g = ap (λ (t : Bool). small b || t) (is_capital h g) ∙ or_true (small b)
+  letter-capital h g = ap (λ (t : Bool). small b || t) (is_capital h g) ∙ or-true (small b)
 
   pub letter_below : b < 0x41 → letter b ≡ false
   unfolding letter
@@ -65,7 +65,7 @@ module _ (b : ℕ) where
 
   pub numeral_in_names : numeral b ≡ true → true ≡ name_byte b
   unfolding name_byte
-  numeral_in_names e = rw (e, or_true (letter b)) refl
+  numeral_in_names e = rw (e, or-true (letter b)) refl
 
   pub other_in_no_name : letter b ≡ false → numeral b ≡ false → false ≡ name_byte b
   unfolding name_byte

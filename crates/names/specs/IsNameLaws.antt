@@ -2,7 +2,7 @@
 use Rattle.std.specs.Prelude.{◌≡◌, refl, ◌⊎◌, Bool, true, false, ◌&&◌, List, [], ◌∷◌, ◌++◌, ℕ, ◌≤◌, ◌<◌, length}
 use Rattle.std.proofs.Common.{sym, ◌∙◌, ⊎_elim, arith, leb-true, le-leb}
 use Rattle.std.proofs.Math.Path.{ap}
-use Rattle.std.proofs.Math.Bool.{not, and_false}
+use Rattle.std.proofs.Math.Bool.{not, and-false}
 use Rattle.std.proofs.Math.Dec.{leb}
 use Rattle.std.proofs.lemmas.Bool.{lt-leb}
 use Rattle.bits.specs.LogicLaws.{true_false, and_left, and_right, and_both, or_cases}
@@ -92,10 +92,10 @@ module _ (n : Name) where
   unfolding is_name
   long_no_name h =
       ap (λ (t : Bool). starts_with_letter n && all_name_bytes n && t && not (among n operator_words)) (lt-leb (length n) max_name h)
-      ∙ ap (λ (t : Bool). t && not (among n operator_words)) (and_false (starts_with_letter n && all_name_bytes n))
+      ∙ ap (λ (t : Bool). t && not (among n operator_words)) (and-false (starts_with_letter n && all_name_bytes n))
 
   pub operator_no_name : among n operator_words ≡ true → is_name n ≡ false
   unfolding is_name
   operator_no_name e =
       ap (λ (t : Bool). starts_with_letter n && all_name_bytes n && leb (length n) max_name && not t) e
-      ∙ and_false (starts_with_letter n && all_name_bytes n && leb (length n) max_name)
+      ∙ and-false (starts_with_letter n && all_name_bytes n && leb (length n) max_name)

@@ -4,5 +4,5 @@ use Rattle.blif.specs.ItemLaws.{cell_held}
 use Rattle.blif.proofs.cell_name.Goals as goal
 
 pub returns : goal.returns
-returns c =     let pre = c.requires in
+returns c = let pre = c.requires in
     cell_held _ pre

@@ -6,11 +6,11 @@ use Rattle.blif.specs.AnswerLaws.{answer_of_sheet}
 use Rattle.blif.proofs.export.Goals as goal
 
 pub export_of-requires : goal.export_of-requires
-export_of-requires c =     let examine = c.examine in
+export_of-requires c = let examine = c.examine in
     examine.ensures.1
 
 pub returns : goal.returns
-returns c =     let export-of = c.export_of in
+returns c = let export-of = c.export_of in
     let examine = c.examine in
     let args = c.args in
     let s = args.sheet.now in

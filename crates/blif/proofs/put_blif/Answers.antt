@@ -8,7 +8,7 @@ use Rattle.blif.specs.PassedLaws.{bound-shown, free-shown, luts_ready, nodes_rea
 use Rattle.blif.proofs.put_blif.Goals as goal
 
 pub put_luts-q-requires : goal.put_luts-q-requires
-put_luts-q-requires c =     let put-head = c.put_head-p in
+put_luts-q-requires c = let put-head = c.put_head-p in
     let bound-names = c.bound_names-bs in
     let pre = c.requires in
     let p = pre.passed in
@@ -17,7 +17,7 @@ put_luts-q-requires c =     let put-head = c.put_head-p in
     (omega (arith, put-head.ensures.place, put-head.ensures.short), omega (arith, b, bound), luts_ready _ _ _ _ _ p _ b)
 
 pub put_nodes-r-requires : goal.put_nodes-r-requires
-put_nodes-r-requires c =     let put-luts = c.put_luts-q in
+put_nodes-r-requires c = let put-luts = c.put_luts-q in
     let put-head = c.put_head-p in
     let free_names = c.free_names-fs in
     let bound-names = c.bound_names-bs in
@@ -36,7 +36,7 @@ put_nodes-r-requires c =     let put-luts = c.put_luts-q in
 -- LEFT slice-aggregate-put-text c = search rules
 
 pub returns : goal.returns
-returns c =     let put-text = c.put_text in
+returns c = let put-text = c.put_text in
     let put-nodes = c.put_nodes-r in
     let put-luts = c.put_luts-q in
     let put-head = c.put_head-p in

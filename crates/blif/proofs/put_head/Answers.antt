@@ -12,19 +12,19 @@ use Rattle.blif.proofs.put_head.Goals as goal
 -- LEFT slice-aggregate-put-text c = search rules
 
 pub slice_bounds-names-end : goal.slice_bounds-names-end
-slice_bounds-names-end c =     let pre = c.requires in
+slice_bounds-names-end c = let pre = c.requires in
     let args = c.args in
     let good = c.well-formed in
     omega (arith, pre.1, names_sized args.k good.1.1.0)
 
 pub slice_bounds-put_items-end : goal.slice_bounds-put_items-end
-slice_bounds-put_items-end c =     let args = c.args in
+slice_bounds-put_items-end c = let args = c.args in
     let pre = c.requires in
     let good = c.well-formed in
     sym (inputs_counted args.k good.1.1.0 pre.1)
 
 pub put_items-q-requires : goal.put_items-q-requires
-put_items-q-requires c =     let put-text = c.put_text-p in
+put_items-q-requires c = let put-text = c.put_text-p in
     let args = c.args in
     let pre = c.requires in
     let good = c.well-formed in
@@ -35,7 +35,7 @@ put_items-q-requires c =     let put-text = c.put_text-p in
 -- LEFT slice-aggregate-put-text-2 c = search rules
 
 pub put_text-r-requires : goal.put_text-r-requires
-put_text-r-requires c =     let put-items = c.put_items-q in
+put_text-r-requires c = let put-items = c.put_items-q in
     let put-text = c.put_text-p in
     let args = c.args in
     let pre = c.requires in
@@ -46,19 +46,19 @@ put_text-r-requires c =     let put-items = c.put_items-q in
     omega (arith, pre, count, first.place, first.short, second.place, second.short)
 
 pub slice_bounds-outs-end : goal.slice_bounds-outs-end
-slice_bounds-outs-end c =     let pre = c.requires in
+slice_bounds-outs-end c = let pre = c.requires in
     let args = c.args in
     let good = c.well-formed in
     omega (arith, pre.2, outs_sized args.k good.1.1.0)
 
 pub slice_bounds-put_items-end-2 : goal.slice_bounds-put_items-end-2
-slice_bounds-put_items-end-2 c =     let args = c.args in
+slice_bounds-put_items-end-2 c = let args = c.args in
     let pre = c.requires in
     let good = c.well-formed in
     sym (outputs_counted args.k good.1.1.0 pre.2)
 
 pub put_items-s-requires : goal.put_items-s-requires
-put_items-s-requires c =     let put-text2 = c.put_text-r in
+put_items-s-requires c = let put-text2 = c.put_text-r in
     let put-items = c.put_items-q in
     let put-text = c.put_text-p in
     let args = c.args in
@@ -72,7 +72,7 @@ put_items-s-requires c =     let put-text2 = c.put_text-r in
     omega (arith, pre, inputs, outputs, first.place, first.short, second.place, second.short, third.place, third.short)
 
 pub put_byte-requires : goal.put_byte-requires
-put_byte-requires c =     let put-items2 = c.put_items-s in
+put_byte-requires c = let put-items2 = c.put_items-s in
     let put-text2 = c.put_text-r in
     let put-items = c.put_items-q in
     let put-text = c.put_text-p in
@@ -88,12 +88,12 @@ put_byte-requires c =     let put-items2 = c.put_items-s in
     omega (arith, pre, inputs, outputs, first.place, first.short, second.place, second.short, third.place, third.short, fourth.place, fourth.short)
 
 pub returns : goal.returns
-returns c =     let put_byte = c.put_byte in
+returns c = let put_byte = c.put_byte in
     let put-items2 = c.put_items-s in
     let put-text2 = c.put_text-r in
     let earlier = (goal.at.returns c).After-put_text-arg-6-1 in
-    let put-items = c.put-items in
-    let put-text = c.before.before.before.before.put-text in
+    let put-items = c.put_items-q in
+    let put-text = c.put_text-p in
     let args = c.args in
     let pre = c.requires in
     let good = c.well-formed in

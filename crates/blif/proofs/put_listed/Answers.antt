@@ -8,25 +8,25 @@ use Rattle.netlines.proofs.Arrays.{items_counted}
 use Rattle.blif.proofs.put_listed.Goals as goal
 
 pub slice_bounds-list-end : goal.slice_bounds-list-end
-slice_bounds-list-end c =     let pre = c.requires in
+slice_bounds-list-end c = let pre = c.requires in
     let args = c.args in
     let good = c.well-formed in
     omega (arith, pre.1, list_sized args.ns good.1.1.0)
 
 pub slice_bounds-put_items-end : goal.slice_bounds-put_items-end
-slice_bounds-put_items-end c =     let args = c.args in
+slice_bounds-put_items-end c = let args = c.args in
     let good = c.well-formed in
     let pre = c.requires in
     sym (items_counted args.ns good.1.1.0 (omega (arith, pre.1)))
 
 pub put_items-requires : goal.put_items-requires
-put_items-requires c =     let pre = c.requires in
+put_items-requires c = let pre = c.requires in
     let args = c.args in
     let good = c.well-formed in
     omega (arith, pre, items_counted args.ns good.1.1.0 (omega (arith, pre.1)))
 
 pub returns : goal.returns
-returns c =     let put-items = c.put_items in
+returns c = let put-items = c.put_items in
     let pre = c.requires in
     let args = c.args in
     let good = c.well-formed in

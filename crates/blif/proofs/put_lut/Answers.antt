@@ -15,7 +15,7 @@ use Rattle.blif.proofs.put_lut.Goals as goal
 -- LEFT slice-aggregate-put-text c = search rules
 
 pub returns : goal.returns
-returns c =     let put-rows = c.put_rows in
+returns c = let put-rows = c.put_rows in
     let put_byte = c.put_byte-s in
     let put_item = c.put_item-r in
     let cell-name = c.cell_name in

@@ -13,17 +13,17 @@ pub loop-i-init : goal.loop-i-init
 loop-i-init c = texts_none _ _ _ _ _
 
 pub offset_bounds-lutat-i : goal.offset_bounds-lutat-i
-offset_bounds-lutat-i c =     let loop-test = c.loop-i-test in
+offset_bounds-lutat-i c = let loop-test = c.loop-i-test in
     let pre = c.requires in
     omega (arith, pre.2.few, loop-test.true)
 
 pub bounds-lutat-i : goal.bounds-lutat-i
-bounds-lutat-i c =     let loop-test = c.loop-i-test in
+bounds-lutat-i c = let loop-test = c.loop-i-test in
     let pre = c.requires in
     omega (arith, pre.2.few, loop-test.true)
 
 pub put_lut-p-requires : goal.put_lut-p-requires
-put_lut-p-requires c =     let loop-test = c.loop-i-test in
+put_lut-p-requires c = let loop-test = c.loop-i-test in
     let loop = c.loop-i in
     let pre = c.requires in
     let few = pre.2.few in
@@ -31,17 +31,17 @@ put_lut-p-requires c =     let loop-test = c.loop-i-test in
     (omega (arith, few, pre.0, loop-test.true, loop.invariant.so_far.place, loop.invariant.so_far.short), pre.1, omega (arith, few, loop-test.true), ready)
 
 pub loop-i-preserved : goal.loop-i-preserved
-loop-i-preserved c =     let put-lut = c.put_lut-p in
+loop-i-preserved c = let put-lut = c.put_lut-p in
     let loop-test = c.loop-i-test in
     let loop = c.loop-i in
     texts_put loop.invariant loop-test.true put-lut.ensures
 
 pub shape_of-buf : goal.shape_of-buf
-shape_of-buf c =     let loop = c.loop-i in
+shape_of-buf c = let loop = c.loop-i in
     put_length loop.invariant.so_far
 
 pub returns : goal.returns
-returns c =     let loop-test = c.loop-i-test in
+returns c = let loop-test = c.loop-i-test in
     let loop = c.loop-i in
     let pre = c.requires in
     texts_all loop.invariant loop-test.false (omega (arith, pre.2.few)) refl

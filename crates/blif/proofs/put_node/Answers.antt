@@ -19,13 +19,13 @@ use Rattle.blif.proofs.put_node.Goals as goal
 -- LEFT slice-aggregate-put-text c = search rules
 
 pub put_rows-requires : goal.put_rows-requires
-put_rows-requires c =     let put_byte = c.put_byte-v in
+put_rows-requires c = let put_byte = c.put_byte-v in
     let put_item = c.put_item-s in
     let put-listed = c.put_listed-r in
     let earlier = (goal.at.put_rows-requires c).After-put_listed-arg-1 in
-    let put-cells = c.put-cells in
-    let put-text = c.before.before.before.before.put-text in
-    let count = c.before.before.before.before.before.before.before.before.count in
+    let put-cells = c.put_cells-q in
+    let put-text = c.put_text-p in
+    let count = c.count in
     let args = c.args in
     let good = c.well-formed in
     let pre = c.requires in
@@ -51,13 +51,13 @@ put_rows-requires c =     let put_byte = c.put_byte-v in
     )
 
 pub returns : goal.returns
-returns c =     let put-rows = c.put_rows in
+returns c = let put-rows = c.put_rows in
     let put_byte = c.put_byte-v in
     let put_item = c.put_item-s in
     let earlier = (goal.at.returns c).After-slice_known-4-1 in
-    let put-listed = c.put-listed in
-    let put-cells = c.put-cells in
-    let put-text = c.before.before.before.before.put-text in
+    let put-listed = c.put_listed-r in
+    let put-cells = c.put_cells-q in
+    let put-text = c.put_text-p in
     let count = c.count in
     let args = c.args in
     let good = c.well-formed in

@@ -12,20 +12,20 @@ pub loop-r-init : goal.loop-r-init
 loop-r-init c = texts_none _ _ _ _ _
 
 pub overflow_add-place : goal.overflow_add-place
-overflow_add-place c =     let loop-test = c.loop-r-test in
+overflow_add-place c = let loop-test = c.loop-r-test in
     let power = c.power-rows in
     let pre = c.requires in
     let fits = c.ranges in
     omega (arith, pre, loop-test.true, power.ensures, fits)
 
 pub bounds-t-place : goal.bounds-t-place
-bounds-t-place c =     let loop-test = c.loop-r-test in
+bounds-t-place c = let loop-test = c.loop-r-test in
     let power = c.power-rows in
     let pre = c.requires in
     omega (arith, pre, loop-test.true, power.ensures)
 
 pub put_row-p-requires : goal.put_row-p-requires
-put_row-p-requires c =     let loop-test = c.loop-r-test in
+put_row-p-requires c = let loop-test = c.loop-r-test in
     let loop = c.loop-r in
     let power = c.power-rows in
     let pre = c.requires in
@@ -33,17 +33,17 @@ put_row-p-requires c =     let loop-test = c.loop-r-test in
     (omega (arith, pre.0, few, loop-test.true, loop.invariant.so_far.place, loop.invariant.so_far.short), pre.1)
 
 pub loop-r-preserved : goal.loop-r-preserved
-loop-r-preserved c =     let put-row = c.put_row-p in
+loop-r-preserved c = let put-row = c.put_row-p in
     let loop-test = c.loop-r-test in
     let loop = c.loop-r in
     texts_put loop.invariant loop-test.true put-row.ensures
 
 pub shape_of-buf : goal.shape_of-buf
-shape_of-buf c =     let loop = c.loop-r in
+shape_of-buf c = let loop = c.loop-r in
     put_length loop.invariant.so_far
 
 pub returns : goal.returns
-returns c =     let loop-test = c.loop-r-test in
+returns c = let loop-test = c.loop-r-test in
     let loop = c.loop-r in
     let power = c.power-rows in
     let pre = c.requires in

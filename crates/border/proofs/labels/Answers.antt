@@ -14,7 +14,7 @@ pub bounds-line-i : goal.bounds-line-i
 bounds-line-i c = let h = c.loop-i-test.true in let p = c.requires in search rules
 
 pub loop-i-preserved : goal.loop-i-preserved
-loop-i-preserved c =     let h = c.loop-i-test.true in
+loop-i-preserved c = let h = c.loop-i-test.true in
     let l = c.loop-i in
     (omega arith, low_more l.i _ l.cl h c.letter.ensures l.invariant.1)
 

@@ -9,11 +9,11 @@ pub loop-i-init : goal.loop-i-init
 loop-i-init c = (omega arith, refl, inl refl, honest_start _ _ 0 0 0 _ refl (zeros_are 18432))
 
 pub report-next-requires : goal.report-next-requires
-report-next-requires c =     let l = c.loop-i.invariant in
+report-next-requires c = let l = c.loop-i.invariant in
     (search rules, l.2, l.3)
 
 pub loop-i-preserved : goal.loop-i-preserved
-loop-i-preserved c =     let l = c.loop-i.invariant in
+loop-i-preserved c = let l = c.loop-i.invariant in
     let h = c.loop-i-test.true in
     let k = c.report-next.ensures in
     (omega arith, search rules, k.0, k.1)

@@ -2,7 +2,7 @@ use Rattle.std.proofs.Common.{arith, rules}
 use Rattle.border.proofs.report.Goals as goal
 
 pub solve-a-requires : goal.solve-a-requires
-solve-a-requires c =     let p = c.requires in
+solve-a-requires c = let p = c.requires in
     let whole = c.asked-whole in
     let k = c.kept-kept.ensures in
     let tables = c.given-tables.ensures in
@@ -21,10 +21,10 @@ solve-a-requires c =     let p = c.requires in
     )
 
 pub put_answer-requires : goal.put_answer-requires
-put_answer-requires c =     let p = c.requires in
+put_answer-requires c = let p = c.requires in
     p.0
 
 pub returns : goal.returns
-returns c =     let whole = c.asked-whole.ensures in
+returns c = let whole = c.asked-whole.ensures in
     let solved = c.solve-a.ensures in
     (whole.3, solved)

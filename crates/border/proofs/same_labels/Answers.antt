@@ -9,11 +9,11 @@ pub returns-then-a-i : goal.returns-then-a-i
 returns-then-a-i c = λ e. absurd (true_false (sym e))
 
 pub loop-i-preserved : goal.loop-i-preserved
-loop-i-preserved c =     let loop = c.loop-i in
+loop-i-preserved c = let loop = c.loop-i in
     let args = c.args in
     below_more (λ (k : ℕ). get_or args.a.now k 0 ≡ get_or args.b.now k 0) loop.i loop.invariant c.if-a-i.false
 
 pub returns : goal.returns
-returns c =     let past = c.loop-i-test.false in
+returns c = let past = c.loop-i-test.false in
     let long = c.requires.0 in
     λ e. ext_get_or 0 c.args.a.now c.args.b.now (long ∙ sym c.requires.1) (λ k h. c.loop-i.invariant k (omega arith))

@@ -7,7 +7,7 @@ pub loop-i-init : goal.loop-i-init
 loop-i-init c = (omega arith, c.requires, refl, λ cl given kn val v s. s)
 
 pub loop-i-preserved : goal.loop-i-preserved
-loop-i-preserved c =     let h = c.loop-i-test.true in
+loop-i-preserved c = let h = c.loop-i-test.true in
     let l = c.loop-i in (
       omega arith,
       ⊎_elim (λ w. ap length w.1 ∙ length-set l.mem _ _ ∙ l.invariant.1) (λ w. ap length w.1 ∙ l.invariant.1) c.if-mem-i-eq0.branch,

@@ -15,7 +15,7 @@ pub returns-then-mem-i-2 : goal.returns-then-mem-i-2
 returns-then-mem-i-2 c = λ e. absurd (true_false (sym e))
 
 pub loop-o-preserved : goal.loop-o-preserved
-loop-o-preserved c =     let h = c.loop-o-test.true in
+loop-o-preserved c = let h = c.loop-o-test.true in
     let a = c.args in
     let l = c.loop-o in (
       omega arith,
@@ -26,6 +26,6 @@ loop-o-preserved c =     let h = c.loop-o-test.true in
     )
 
 pub returns : goal.returns
-returns c =     let if1 = c.if-mem-i in
+returns c = let if1 = c.if-mem-i in
     let h = c.loop-o-test.false in
     λ e. (if1.false, λ o b. c.loop-o.invariant.1 o (omega arith))

@@ -6,7 +6,7 @@ pub holds-requires : goal.holds-requires
 holds-requires c = (c.requires, c.place.ensures)
 
 pub returns : goal.returns
-returns c =     λ cl given kn val v s e.
+returns c = λ cl given kn val v s e.
     let a = c.args in
     let i = c.place in
     let h = c.holds.ensures e in

@@ -7,15 +7,15 @@ pub loop-i-init : goal.loop-i-init
 loop-i-init c = (omega arith, c.requires, unread_start c.args.mem.now)
 
 pub reads_cell_0-requires : goal.reads_cell_0-requires
-reads_cell_0-requires c = let s = c.loop.invariant in (s.2.long ∙ s.1, c.loop-test.true)
+reads_cell_0-requires c = let s = c.loop-i.invariant in (s.2.long ∙ s.1, c.loop-i-test.true)
 
 pub bounds-mem-i : goal.bounds-mem-i
-bounds-mem-i c = let h = c.loop-test.true in let s = c.loop.invariant in let b = s.1 in let l = s.2.long in search rules
+bounds-mem-i c = let h = c.loop-i-test.true in let s = c.loop-i.invariant in let b = s.1 in let l = s.2.long in search rules
 
 pub loop-i-preserved : goal.loop-i-preserved
-loop-i-preserved c =     let h = c.loop-test.true in
-    let l = c.loop in
-    let old = c.before.args.mem.now in
+loop-i-preserved c = let h = c.loop-i-test.true in
+    let l = c.loop-i in
+    let old = c.args.mem.now in
     let P : List ℕ → Type 0 = Unread old (l.i + 1) in (
       omega arith,
       l.invariant.1,
@@ -29,7 +29,7 @@ pub shape_of-mem : goal.shape_of-mem
 shape_of-mem c = c.loop-i.invariant.2.long
 
 pub returns : goal.returns
-returns c =     let e = c.loop-i-test.false in
+returns c = let e = c.loop-i-test.false in
     let l = c.loop-i in
     let h = l.invariant.0 in
     let old = c.args.mem.now in

@@ -17,7 +17,7 @@ pub is_bad-requires : goal.is_bad-requires
 is_bad-requires c = c.requires
 
 pub returns-then-is_bad : goal.returns-then-is_bad
-returns-then-is_bad c =     let between = c.between in
+returns-then-is_bad c = let between = c.between in
     let if1 = c.if-between in
     let question = c.question-asks in
     λ cl given kn val v free s e.

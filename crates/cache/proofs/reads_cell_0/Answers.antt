@@ -8,7 +8,7 @@ pub loop-o-init : goal.loop-o-init
 loop-o-init c = (omega arith, joined-start c.args.mem.now c.args.i)
 
 pub loop-o-preserved : goal.loop-o-preserved
-loop-o-preserved c =     let h = c.loop-o-test.true in
+loop-o-preserved c = let h = c.loop-o-test.true in
     let a = c.args in
     let l = c.loop-o in (
       omega arith,
@@ -16,7 +16,7 @@ loop-o-preserved c =     let h = c.loop-o-test.true in
     )
 
 pub returns : goal.returns
-returns c =     let a = c.args in
+returns c = let a = c.args in
     let l = c.loop-o in
     let e = c.loop-o-test.false in
     let o = l.invariant.0 in

@@ -16,16 +16,16 @@ pub overflow_cast-a-then-between : goal.overflow_cast-a-then-between
 overflow_cast-a-then-between c = let h = c.loop-a-test.true in record { fits = omega arith }
 
 pub tell-t-requires : goal.tell-t-requires
-tell-t-requires c =     let loop = c.loop-a in
+tell-t-requires c = let loop = c.loop-a in
     let p = c.requires in (p.0, p.1, p.2, loop.invariant.1)
 
 pub shape_of-mem-then-not-t : goal.shape_of-mem-then-not-t
-shape_of-mem-then-not-t c =     let t = c.tell-t in
+shape_of-mem-then-not-t c = let t = c.tell-t in
     let p = c.requires in
     t.ensures.0.long ∙ sym p.3.long
 
 pub returns-then-not-t : goal.returns-then-not-t
-returns-then-not-t c =     let if2 = c.if-between in
+returns-then-not-t c = let if2 = c.if-between in
     let a = c.args in
     let t = c.tell-t in
     let i = c.loop-a.a in
@@ -37,7 +37,7 @@ pub overflow_add-a : goal.overflow_add-a
 overflow_add-a c = let h = c.loop-a-test.true in omega arith
 
 pub loop-a-preserved : goal.loop-a-preserved
-loop-a-preserved c =     let h = c.loop-a-test.true in
+loop-a-preserved c = let h = c.loop-a-test.true in
     let a = c.args in
     let l = c.loop-a in
     let P : List ℕ → Type 0 = Honest a.cl.now a.given.now a.q.kn a.q.val a.q.vertices in (

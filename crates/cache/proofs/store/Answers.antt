@@ -4,7 +4,7 @@ use Rattle.cache.specs.Cache.{Written}
 use Rattle.cache.proofs.store.Goals as goal
 
 pub loop-o-init : goal.loop-o-init
-loop-o-init c =     (omega arith, written_start c.args.mem.now c.place-i.result c.args.rows)
+loop-o-init c = (omega arith, written_start c.args.mem.now c.place-i.result c.args.rows)
 
 pub overflow_mul-mem : goal.overflow_mul-mem
 overflow_mul-mem c = let i = c.place-i.ensures in record { fits = omega arith }
@@ -22,7 +22,7 @@ pub bounds-mem-i : goal.bounds-mem-i
 bounds-mem-i c = let h = c.loop-o-test.true in let i = c.place-i.ensures in let l = c.loop-o.invariant.1.long in let p = c.requires in search rules
 
 pub loop-o-preserved : goal.loop-o-preserved
-loop-o-preserved c =     let h = c.loop-o-test.true in
+loop-o-preserved c = let h = c.loop-o-test.true in
     let a = c.args in
     let i = c.place-i in
     let l = c.loop-o in (
@@ -41,11 +41,11 @@ pub bounds-mem-i-2 : goal.bounds-mem-i-2
 bounds-mem-i-2 c = let i = c.place-i.ensures in let l = c.loop-o.invariant.1.long in let p = c.requires in search rules
 
 pub shape_of-mem : goal.shape_of-mem
-shape_of-mem c =     let loop = c.loop-o in
+shape_of-mem c = let loop = c.loop-o in
     length-set loop.mem _ _ ∙ loop.invariant.1.long
 
 pub returns : goal.returns
-returns c =     λ cl given kn val v b s.
+returns c = λ cl given kn val v b s.
     let a = c.args in
     let i = c.place-i in
     let l = c.loop-o in

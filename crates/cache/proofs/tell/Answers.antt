@@ -7,37 +7,37 @@ use borrow.Author.Tests.{not-false}
 use Rattle.cache.proofs.tell.Goals as goal
 
 pub is_bad-requires : goal.is_bad-requires
-is_bad-requires c = c.before.requires.3.long
+is_bad-requires c = c.requires.3.long
 
 pub returns-then-is_bad : goal.returns-then-is_bad
-returns-then-is_bad c =     let a = c.args in
+returns-then-is_bad c = let a = c.args in
     let p = a.q in
     let s = c.requires.3 in
-    let q = c.question in
+    let q = c.question-asks in
     let b = c.is_bad in
     let t = c.if-is_bad.true in
     let bad = b.ensures a.cl.now a.given.now p.kn p.val p.vertices s t in
     (s, λ e. q.ensures.barred a.cl.now a.given.now p.kn p.val p.vertices (λ n. eqb-true p.kn 0 (not-false _ n)) bad)
 
 pub holds-requires : goal.holds-requires
-holds-requires c = (c.before.before.requires.3.long, c.place.ensures)
+holds-requires c = (c.requires.3.long, c.place.ensures)
 
 pub returns-then-holds : goal.returns-then-holds
-returns-then-holds c = (c.before.before.requires.3, λ e. absurd (true_false e))
+returns-then-holds c = (c.requires.3, λ e. absurd (true_false e))
 
 pub ask-a-requires : goal.ask-a-requires
-ask-a-requires c = let p = c.before.before.requires in (p.0, p.1, p.2)
+ask-a-requires c = let p = c.requires in (p.0, p.1, p.2)
 
 pub store-requires : goal.store-requires
-store-requires c =     c.requires.3.long
+store-requires c = c.requires.3.long
 
 pub returns : goal.returns
-returns c =     let if3 = c.if-a in
+returns c = let if3 = c.if-a in
     let store = c.store in
     let a = c.args in
     let p = a.q in
     let s = c.requires.3 in
-    let q = c.question in
+    let q = c.question-asks in
     let k = c.ask-a in
     let bad : if3.type-inv ≡ false → Barred a.cl.now a.given.now p.kn p.val p.vertices a.asked (item q.result) = λ e. ⊎_elim
     (λ w. absurd (true_false (sym w.1 ∙ e)))

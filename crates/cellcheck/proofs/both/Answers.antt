@@ -6,6 +6,6 @@ use borrow.Author.Rules.{rules}
 use Rattle.cellcheck.proofs.both.Goals as goal
 
 pub slice_bounds-answer-end : goal.slice_bounds-answer-end
-slice_bounds-answer-end c =     let two-sheets = c.two-sheets in
-    let args = c.before.args in
+slice_bounds-answer-end c = let two-sheets = c.two_sheets-p in
+    let args = c.args in
     sym (length-take-le two-sheets.result.end args.s.now (omega (arith, two-sheets.ensures)))

@@ -8,7 +8,7 @@ use borrow.Author.Rules.{rules}
 use Rattle.cellmapper.proofs.cellmapper_check.Goals as goal
 
 pub report_check-r-requires : goal.report_check-r-requires
-report_check-r-requires c =     let a = c.args in
+report_check-r-requires c = let a = c.args in
     subst (CheckNumber panel_numbers) (sym c.check-c.ensures) (check-number (omega arith) a.sheet.now a.network.now)
 
 pub returns : goal.returns

@@ -10,7 +10,7 @@ use borrow.Author.Rules.{rules}
 use Rattle.cellmapper.proofs.cellmapper_pla_check.Goals as goal
 
 pub report_check-told-requires : goal.report_check-told-requires
-report_check-told-requires c =     let a = c.args in
+report_check-told-requires c = let a = c.args in
     let check = c.check-c in
     let p = a.pla.now in
     let b = a.board.now in

@@ -11,7 +11,7 @@ use borrow.Author.Rules.{rules}
 use Rattle.cellmapper.proofs.cellmapper_pla_table.Goals as goal
 
 pub report_table-told-requires : goal.report_table-told-requires
-report_table-told-requires c =     let a = c.args in
+report_table-told-requires c = let a = c.args in
     let table = c.table-t in
     let p = a.pla.now in
     let b = a.board.now in
@@ -19,7 +19,7 @@ report_table-told-requires c =     let a = c.args in
     (table_of_number (omega arith) (examine p b) a.output a.buffer.now (panel_number p b))
 
 pub returns : goal.returns
-returns c =     let table = c.table-t in
+returns c = let table = c.table-t in
     let report-table = c.report_table-told in
     let t = table.ensures in
     (report-table.ensures ∙ ap (λ (t : Tabulated). table_report t.answer) t, ap (λ (t : Tabulated). t.buffer) t)

@@ -7,5 +7,5 @@ use Rattle.cells.specs.SetsLaws.{without_power}
 use Rattle.cells.proofs.without.Goals as goal
 
 pub returns : goal.returns
-returns c =     let a = c.args in
+returns c = let a = c.args in
     subst (λ (z : ℕ). Without a.s a.k (bit_and a.s (2 ^ 64 - 1 - z))) (sym c.single.ensures) (without_power a.s a.k c.requires)

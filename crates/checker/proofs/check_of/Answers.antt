@@ -8,15 +8,15 @@ pub examine_pair-b-requires : goal.examine_pair-b-requires
 examine_pair-b-requires c = c.requires
 
 pub returns-then-not-b : goal.returns-then-not-b
-returns-then-not-b c =     λ x h g.
+returns-then-not-b c = λ x h g.
     answer_refused c.args.network.now c.examine_pair-b.result x (c.examine_pair-b.ensures x h g) (not-true _ c.if-not-b.true)
 
 pub compare-requires : goal.compare-requires
-compare-requires c =     let pre = c.requires in
+compare-requires c = let pre = c.requires in
     some_drawing c.args.network.now c.examine_pair-b.result pre.found (c.examine_pair-b.ensures pre.found pre.is pre.right)
     (not-false _ c.if-not-b.false)
 
 pub returns : goal.returns
-returns c =     λ x h g.
+returns c = λ x h g.
     answer_compared c.args.network.now c.examine_pair-b.result x (checked_of c.compare.result)
     (c.examine_pair-b.ensures x h g) (not-false _ c.if-not-b.false) c.compare.ensures

@@ -12,13 +12,13 @@ pub loop-i-init : goal.loop-i-init
 loop-i-init c = (omega arith, count_none c.args.mask)
 
 pub overflow_add-n : goal.overflow_add-n
-overflow_add-n c =     let loop = c.loop-i in
+overflow_add-n c = let loop = c.loop-i in
     let args = c.args in
     let pre = c.requires in
     record { fits = omega (arith, loop.invariant.1, count_most loop.i args.mask, pre) }
 
 pub loop-i-preserved : goal.loop-i-preserved
-loop-i-preserved c =     let mask = c.args.mask in
+loop-i-preserved c = let mask = c.args.mask in
     let told = c.has.ensures in
     let turn = c.loop-i-test.true in
     ⊎_elim
@@ -27,5 +27,5 @@ loop-i-preserved c =     let mask = c.args.mask in
     c.if-has.branch
 
 pub returns : goal.returns
-returns c =     let e : c.loop-i.i ≡ c.args.u = omega (arith, c.loop-i.invariant.0, c.loop-i-test.false) in
+returns c = let e : c.loop-i.i ≡ c.args.u = omega (arith, c.loop-i.invariant.0, c.loop-i-test.false) in
     c.loop-i.invariant.1 ∙ ap (λ (i : ℕ). length (numbers_of i c.args.mask)) e

@@ -29,14 +29,14 @@ read c g =
     c.read_network-n.ensures (not-false _ c.if-not-n.false)
 
 pub returns-then-not-e : goal.returns-then-not-e
-returns-then-not-e c =     λ x h g.
+returns-then-not-e c = λ x h g.
     refused-design c.args.network.now c.refusal.result x c.args.e h (not-true _ c.if-not-e.true) c.refusal.ensures
 
 pub read_network-n-requires : goal.read_network-n-requires
 read_network-n-requires c = designed_ranged (found c)
 
 pub returns-then-not-n : goal.returns-then-not-n
-returns-then-not-n c =     λ x h g.
+returns-then-not-n c = λ x h g.
     refused_line (says (goal.at.returns-then-not-n c).Else-not-e x h g) c.refusal-then-not-n.result c.args.network.now c.read_network-n.result
     c.read_network-n.ensures (not-true _ c.if-not-n.true) c.refusal-then-not-n.ensures
 
@@ -44,19 +44,19 @@ pub classes_of-c-requires : goal.classes_of-c-requires
 classes_of-c-requires c = designed_counts (found (goal.at.classes_of-c-requires c).Else-not-e)
 
 pub offending-line-requires : goal.offending-line-requires
-offending-line-requires c =     let passed = (goal.at.offending-line-requires c).Else-not-n in
+offending-line-requires c = let passed = (goal.at.offending-line-requires c).Else-not-n in
     let g = found (goal.at.offending-line-requires c).Else-not-e in
     small g (read passed g) c.classes_of-c.result c.classes_of-c.ensures
 
 pub returns-then-line-gt0 : goal.returns-then-line-gt0
-returns-then-line-gt0 c =     let passed = (goal.at.returns-then-line-gt0 c).Else-not-n in
+returns-then-line-gt0 c = let passed = (goal.at.returns-then-line-gt0 c).Else-not-n in
     λ x h g.
     let d = says (goal.at.returns-then-line-gt0 c).Else-not-e x h g in
     refused_limits d (read passed d) c.classes_of-c.result c.classes_of-c.ensures c.refusal-then-line-gt0.result
     c.offending-line.result c.offending-line.ensures c.if-line-gt0.true c.refusal-then-line-gt0.ensures
 
 pub returns : goal.returns
-returns c =     let passed = (goal.at.returns c).Else-not-n in
+returns c = let passed = (goal.at.returns c).Else-not-n in
     λ x h g.
     let d = says (goal.at.returns c).Else-not-e x h g in
     passed_pair d (read passed d) c.classes_of-c.result c.classes_of-c.ensures _

@@ -7,11 +7,11 @@ pub loop-i-init : goal.loop-i-init
 loop-i-init c = placed_none (search rules) (small-zeros max_inputs)
 
 pub loop-i-preserved-then-j-b : goal.loop-i-preserved-then-j-b
-loop-i-preserved-then-j-b c =     placed_bound c.loop-i.invariant c.requires.0 c.loop-i-test.true c.place-j.ensures c.requires.1
+loop-i-preserved-then-j-b c = placed_bound c.loop-i.invariant c.requires.0 c.loop-i-test.true c.place-j.ensures c.requires.1
     c.if-j-b.true
 
 pub loop-i-preserved : goal.loop-i-preserved
-loop-i-preserved c =     placed_free c.loop-i.invariant c.requires.0 c.loop-i-test.true c.place-j.ensures c.requires.1
+loop-i-preserved c = placed_free c.loop-i.invariant c.requires.0 c.loop-i-test.true c.place-j.ensures c.requires.1
     c.if-j-b.false
 
 pub returns : goal.returns

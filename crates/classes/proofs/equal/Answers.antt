@@ -10,25 +10,25 @@ pub loop-f-init : goal.loop-f-init
 loop-f-init c = agreeing_none
 
 pub overflow_add-a : goal.overflow_add-a
-overflow_add-a c =     omega (arith, c.requires.0.each c.args.x.0 c.loop-f.f c.requires.1 c.loop-f-test.true)
+overflow_add-a c = omega (arith, c.requires.0.each c.args.x.0 c.loop-f.f c.requires.1 c.loop-f-test.true)
 
 pub row-requires : goal.row-requires
-row-requires c =     (c.requires.0.each c.args.x.0 c.loop-f.f c.requires.1 c.loop-f-test.true)
+row-requires c = (c.requires.0.each c.args.x.0 c.loop-f.f c.requires.1 c.loop-f-test.true)
 
 pub overflow_add-b : goal.overflow_add-b
-overflow_add-b c =     omega (arith, c.requires.0.each c.args.y.0 c.loop-f.f c.requires.2 c.loop-f-test.true)
+overflow_add-b c = omega (arith, c.requires.0.each c.args.y.0 c.loop-f.f c.requires.2 c.loop-f-test.true)
 
 pub row-requires-in-loop-f : goal.row-requires-in-loop-f
-row-requires-in-loop-f c =     (c.requires.0.each c.args.y.0 c.loop-f.f c.requires.2 c.loop-f-test.true)
+row-requires-in-loop-f c = (c.requires.0.each c.args.y.0 c.loop-f.f c.requires.2 c.loop-f-test.true)
 
 pub returns-then-row : goal.returns-then-row
-returns-then-row c =     differing c.loop-f.invariant c.loop-f-test.true
+returns-then-row c = differing c.loop-f.invariant c.loop-f-test.true
     (read_differ c.args.t.now c.args.vertex.now c.args.free.now
     c.args.x.0 c.args.y.0 c.loop-f.f
     c.row.ensures c.row-in-loop-f.ensures c.if-row.true)
 
 pub loop-f-preserved : goal.loop-f-preserved
-loop-f-preserved c =     agreeing_more c.loop-f.invariant c.loop-f-test.true
+loop-f-preserved c = agreeing_more c.loop-f.invariant c.loop-f-test.true
     (read_agree c.args.t.now c.args.vertex.now c.args.free.now
     c.args.x.0 c.args.y.0 c.loop-f.f
     c.row.ensures c.row-in-loop-f.ensures c.if-row.false)

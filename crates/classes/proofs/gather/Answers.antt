@@ -13,27 +13,27 @@ pub loop-i-init : goal.loop-i-init
 loop-i-init c = (search rules, gather_none c.args.digits.now c.args.z)
 
 pub overflow_mul-r : goal.overflow_mul-r
-overflow_mul-r c =     omega
+overflow_mul-r c = omega
     (arith, gather_small c.args.digits.now c.args.z c.loop-i.i c.requires.0, c.loop-i.invariant.1)
 
 pub overflow_cast-digits : goal.overflow_cast-digits
-overflow_cast-digits c =     let loop = c.loop-i in
+overflow_cast-digits c = let loop = c.loop-i in
     omega (arith, c.requires.1.each loop.i)
 
 pub has-requires : goal.has-requires
-has-requires c =     let loop = c.loop-i in
+has-requires c = let loop = c.loop-i in
     c.requires.1.each loop.i
 
 pub overflow_add-r : goal.overflow_add-r
-overflow_add-r c =     let small = gather_small c.args.digits.now c.args.z c.loop-i.i c.requires.0 in
+overflow_add-r c = let small = gather_small c.args.digits.now c.args.z c.loop-i.i c.requires.0 in
     omega (arith, small, c.loop-i.invariant.1, c.bit.ensures, bit_le c.has.result)
 
 pub loop-i-preserved : goal.loop-i-preserved
-loop-i-preserved c =     (
+loop-i-preserved c = (
       search rules,
       gather_more c.args.digits.now c.args.z c.loop-i.i c.loop-i.r c.bit.result
           c.has.result c.loop-i-test.true c.loop-i.invariant.1 c.has.ensures c.bit.ensures,
     )
 
 pub returns : goal.returns
-returns c =     c.loop-i.invariant.1 ∙ gather_all c.args.digits.now c.args.z c.loop-i.i c.loop-i-test.false
+returns c = c.loop-i.invariant.1 ∙ gather_all c.args.digits.now c.args.z c.loop-i.i c.loop-i-test.false

@@ -14,10 +14,10 @@ pub loop-x-init : goal.loop-x-init
 loop-x-init c = (search rules, numbered_none (search rules))
 
 pub overflow_add-count : goal.overflow_add-count
-overflow_add-count c =     omega (arith, numbered_few c.loop-x.invariant.1, c.loop-x-test.true, c.requires)
+overflow_add-count c = omega (arith, numbered_few c.loop-x.invariant.1, c.loop-x-test.true, c.requires)
 
 pub loop-x-preserved : goal.loop-x-preserved
-loop-x-preserved c =     let l = c.loop-x-test.true in
+loop-x-preserved c = let l = c.loop-x-test.true in
     let m = c.requires in
     let equivalence = same_key_lem c.args.keys.now in (
       omega arith,
@@ -28,4 +28,4 @@ loop-x-preserved c =     let l = c.loop-x-test.true in
     )
 
 pub returns : goal.returns
-returns c =     numbered_all c.loop-x.invariant.1 (let a = c.loop-x.invariant.0 in let b = c.loop-x-test.false in omega arith)
+returns c = numbered_all c.loop-x.invariant.1 (let a = c.loop-x.invariant.0 in let b = c.loop-x-test.false in omega arith)

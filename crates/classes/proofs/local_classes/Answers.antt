@@ -17,10 +17,10 @@ pub first_equal-first-requires : goal.first_equal-first-requires
 first_equal-first-requires c = (c.requires.0, c.loop-x-test.true)
 
 pub overflow_add-count : goal.overflow_add-count
-overflow_add-count c =     omega (arith, numbered_few c.loop-x.invariant.1, c.loop-x-test.true, c.requires.1)
+overflow_add-count c = omega (arith, numbered_few c.loop-x.invariant.1, c.loop-x-test.true, c.requires.1)
 
 pub loop-x-preserved : goal.loop-x-preserved
-loop-x-preserved c =     let l = c.loop-x-test.true in
+loop-x-preserved c = let l = c.loop-x-test.true in
     let m = c.requires.1 in
     let columns = seen c.args.t.now c.args.vertex.now c.args.free.now in
     let equivalence = same-column columns (length c.args.free.now) in (
@@ -32,4 +32,4 @@ loop-x-preserved c =     let l = c.loop-x-test.true in
     )
 
 pub returns : goal.returns
-returns c =     numbered_all c.loop-x.invariant.1 (let a = c.loop-x.invariant.0 in let b = c.loop-x-test.false in omega arith)
+returns c = numbered_all c.loop-x.invariant.1 (let a = c.loop-x.invariant.0 in let b = c.loop-x-test.false in omega arith)

@@ -8,14 +8,14 @@ pub loop-k-init : goal.loop-k-init
 loop-k-init c = (omega arith, λ gs sh o b g m. canon_start gs c.args.used sh c.args.all o g)
 
 pub loop-k-preserved : goal.loop-k-preserved
-loop-k-preserved c =     let used = c.args.used in
+loop-k-preserved c = let used = c.args.used in
     let l = c.loop-k in
     let new = c.fresh-b in
     let h = c.loop-k-test.true in
     (omega arith, λ gs sh o b g m. canon_more gs used sh l.k l.can new.result h g m (new.ensures gs b) (l.invariant.1 gs sh o b g m))
 
 pub returns : goal.returns
-returns c =     let used = c.args.used in
+returns c = let used = c.args.used in
     let l = c.loop-k in
     let left = c.loop-k-test.false in
     let upto = l.invariant.0 in

@@ -5,7 +5,7 @@ use Rattle.holding.specs.NarrowLaws.{kept-start, kept_more}
 use Rattle.coding.proofs.bar_all.Goals as goal
 
 pub loop-o-init : goal.loop-o-init
-loop-o-init c =     let a = c.args in
+loop-o-init c = let a = c.args in
     let p = a.p in
     (omega arith, c.requires.7, λ base ms spots b. kept-start a.cl.now base ms p.caps spots p.vertices p.outputs a.codes.now a.dom.now)
 
@@ -30,7 +30,7 @@ pub bounds-caps-o : goal.bounds-caps-o
 bounds-caps-o c = let facts = bounds (goal.at.bounds-caps-o c).In-loop-o in search rules
 
 pub crowd-k-requires : goal.crowd-k-requires
-crowd-k-requires c =     let h = c.loop-o-test.true in
+crowd-k-requires c = let h = c.loop-o-test.true in
     let pre = c.requires in
     let a = pre.3 in
     (pre.0, pre.2, omega arith, pre.5, pre.6)
@@ -39,14 +39,14 @@ pub bounds-caps-o-in-loop-o : goal.bounds-caps-o-in-loop-o
 bounds-caps-o-in-loop-o c = let facts = bounds (goal.at.bounds-caps-o-in-loop-o c).In-loop-o in search rules
 
 pub shut-requires : goal.shut-requires
-shut-requires c =     let loop = c.loop-o in
+shut-requires c = let loop = c.loop-o in
     let h = c.loop-o-test.true in
     let pre = c.requires in
     let a = pre.3 in
     (pre.0, pre.2, omega arith, pre.6, loop.invariant.1)
 
 pub loop-o-preserved : goal.loop-o-preserved
-loop-o-preserved c =     let h = c.loop-o-test.true in
+loop-o-preserved c = let h = c.loop-o-test.true in
     let pre = c.requires in
     let a = c.args in
     let p = a.p in

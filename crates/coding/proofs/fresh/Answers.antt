@@ -4,10 +4,10 @@ use Rattle.coding.specs.ValuesLaws.{fresh-some, fresh_none}
 use Rattle.coding.proofs.fresh.Goals as goal
 
 pub returns-then-rest-eq0 : goal.returns-then-rest-eq0
-returns-then-rest-eq0 c =     λ gs b. fresh_none (item gs c.args.k) c.args.a _ _ c.ranges.a.fits refl c.if-rest-eq0.true
+returns-then-rest-eq0 c = λ gs b. fresh_none (item gs c.args.k) c.args.a _ _ c.ranges.a.fits refl c.if-rest-eq0.true
 
 pub returns : goal.returns
-returns c =     let a = c.args in
+returns c = let a = c.args in
     let low = c.lowest-c in
     λ gs b. fresh-some (item gs a.k) a.a _ low.result _ c.ranges.a.fits refl low.ensures.0 low.ensures.1
     (b.each a.k low.result c.requires.1 low.ensures.0)

@@ -8,13 +8,13 @@ pub loop-k-init : goal.loop-k-init
 loop-k-init c = (omega arith, λ gs b. marked_start gs c.args.used c.args.c (search rules))
 
 pub loop-k-preserved : goal.loop-k-preserved
-loop-k-preserved c =     let a = c.args in
+loop-k-preserved c = let a = c.args in
     let l = c.loop-k in
     let h = c.loop-k-test.true in
     (omega arith, λ gs b. marked_more gs a.used a.c l.k _ l.r h (b.each l.k a.c h c.requires.1) (l.invariant.1 gs b))
 
 pub returns : goal.returns
-returns c =     let a = c.args in
+returns c = let a = c.args in
     let l = c.loop-k in
     let left = c.loop-k-test.false in
     let upto = l.invariant.0 in

@@ -2,7 +2,7 @@ use Rattle.std.proofs.Common.{◌+◌, ◌-◌, ◌*◌, ◌≤◌, arith, rules
 use Rattle.coding.proofs.meet.Goals as goal
 
 pub with-requires : goal.with-requires
-with-requires c =     let loop = c.loop-o in
+with-requires c = let loop = c.loop-o in
     let p = c.requires in
     let h = c.loop-o-test.true in
     let j = p.1 in

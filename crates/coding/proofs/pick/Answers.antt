@@ -7,31 +7,31 @@ pub loop-y-init : goal.loop-y-init
 loop-y-init c = (omega arith, seeking_start c.args.codes.now)
 
 pub bounds-codes-y : goal.bounds-codes-y
-bounds-codes-y c =     let h = c.loop-y-test.true in
+bounds-codes-y c = let h = c.loop-y-test.true in
     let z = c.requires.2 in
     let n = c.requires.4 in
     search rules
 
 pub offset_bounds-dom-y : goal.offset_bounds-dom-y
-offset_bounds-dom-y c =     let h = c.loop-y-test.true in
+offset_bounds-dom-y c = let h = c.loop-y-test.true in
     let z = c.requires.2 in
     let n = c.requires.3 in
     search rules
 
 pub bounds-dom-y : goal.bounds-dom-y
-bounds-dom-y c =     let h = c.loop-y-test.true in
+bounds-dom-y c = let h = c.loop-y-test.true in
     let z = c.requires.2 in
     let n = c.requires.3 in
     search rules
 
 pub unmet-requires : goal.unmet-requires
-unmet-requires c =     let h = c.loop-y-test.true in
+unmet-requires c = let h = c.loop-y-test.true in
     let p = c.requires in
     let z = p.2 in
     (p.0, p.1, omega arith, p.5)
 
 pub loop-y-preserved : goal.loop-y-preserved
-loop-y-preserved c =     let loop-test = c.loop-y-test in
+loop-y-preserved c = let loop-test = c.loop-y-test in
     let loop = c.loop-y in
     let args = c.args in
     let h = loop-test.true in
@@ -46,6 +46,6 @@ loop-y-preserved c =     let loop-test = c.loop-y-test in
     )
 
 pub returns : goal.returns
-returns c =     let loop = c.loop-y in
+returns c = let loop = c.loop-y in
     let args = c.args in
     subst (λ (z : ℕ). Seeking args.codes.now z loop.best) (let h = c.loop-y-test.false in let z = loop.invariant.0 in omega arith) loop.invariant.1

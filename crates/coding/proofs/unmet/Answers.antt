@@ -2,14 +2,14 @@ use Rattle.std.proofs.Common.{◌+◌, ◌-◌, ◌*◌, ◌≤◌, ⊎_elim, ar
 use Rattle.coding.proofs.unmet.Goals as goal
 
 pub bounds-met-o : goal.bounds-met-o
-bounds-met-o c =     let p = c.requires in
+bounds-met-o c = let p = c.requires in
     let h = c.loop-o-test.true in
     let j = p.1 in
     let long = p.3 in
     search rules
 
 pub in_set-requires : goal.in_set-requires
-in_set-requires c =     let loop = c.loop-o in
+in_set-requires c = let loop = c.loop-o in
     let p = c.requires in
     let h = c.loop-o-test.true in
     let j = p.1 in
@@ -19,6 +19,6 @@ in_set-requires c =     let loop = c.loop-o in
     omega arith
 
 pub loop-o-preserved : goal.loop-o-preserved
-loop-o-preserved c =     let h = c.loop-o-test.true in
+loop-o-preserved c = let h = c.loop-o-test.true in
     let z = c.loop-o.invariant.1 in
     (omega arith, ⊎_elim (λ w. let e = w.1 in omega arith) (λ w. let e = w.1 in omega arith) c.if-not-in_set.branch)

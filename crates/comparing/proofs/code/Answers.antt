@@ -13,23 +13,23 @@ pub loop-i-init : goal.loop-i-init
 loop-i-init c = (omega arith, code_none c.args.t.now c.args.lutat c.args.mask c.args.x.0)
 
 pub overflow_mul-c : goal.overflow_mul-c
-overflow_mul-c c =     let few = c.requires.0 in
+overflow_mul-c c = let few = c.requires.0 in
     let turn = c.loop-i-test.true in
     let same = c.loop-i.invariant.1 in
     omega (arith, code_small c.args.t.now c.args.lutat c.args.mask c.args.x.0 c.loop-i.i (omega arith))
 
 pub overflow_add-p : goal.overflow_add-p
-overflow_add-p c =     let loop = c.loop-i in
+overflow_add-p c = let loop = c.loop-i in
     let loop-test = c.loop-i-test in
     omega (arith, c.requires.1 loop.i loop-test.true)
 
 pub bounds-t-p : goal.bounds-t-p
-bounds-t-p c =     let loop = c.loop-i in
+bounds-t-p c = let loop = c.loop-i in
     let loop-test = c.loop-i-test in
     c.requires.1 loop.i loop-test.true
 
 pub overflow_add-c : goal.overflow_add-c
-overflow_add-c c =     let few = c.requires.0 in
+overflow_add-c c = let few = c.requires.0 in
     let turn = c.loop-i-test.true in
     let same = c.loop-i.invariant.1 in
     let a = c.args in
@@ -41,7 +41,7 @@ overflow_add-c c =     let few = c.requires.0 in
     )
 
 pub loop-i-preserved : goal.loop-i-preserved
-loop-i-preserved c =     let told = c.has.ensures in
+loop-i-preserved c = let told = c.has.ensures in
     let turn = c.loop-i-test.true in
     let a = c.args in
     let before = c.loop-i in
@@ -60,5 +60,5 @@ loop-i-preserved c =     let told = c.has.ensures in
     c.if-has.branch
 
 pub returns : goal.returns
-returns c =     let e : c.loop-i.i ≡ c.args.luts = omega (arith, c.loop-i.invariant.0, c.loop-i-test.false) in
+returns c = let e : c.loop-i.i ≡ c.args.luts = omega (arith, c.loop-i.invariant.0, c.loop-i-test.false) in
     c.loop-i.invariant.1 ∙ ap (code_at c.args.t.now c.args.lutat c.args.mask c.args.x.0) e

@@ -24,22 +24,22 @@ pub offset_bounds-k-o : goal.offset_bounds-k-o
 offset_bounds-k-o c = omega (arith, c.requires.drawing.holds.outputs-few, c.outputs-test.true)
 
 pub bounds-k-o : goal.bounds-k-o
-bounds-k-o c =     omega (arith, c.requires.drawing.holds.outputs-few, c.outputs-test.true)
+bounds-k-o c = omega (arith, c.requires.drawing.holds.outputs-few, c.outputs-test.true)
 
 pub bounds-reads-o : goal.bounds-reads-o
-bounds-reads-o c =     let outputs-test = c.outputs-test in
+bounds-reads-o c = let outputs-test = c.outputs-test in
     omega (arith, c.requires.drawing.holds.outputs-few, outputs-test.true)
 
 pub offset_bounds-nodeat-o : goal.offset_bounds-nodeat-o
-offset_bounds-nodeat-o c =     let outputs-test = c.outputs-test in
+offset_bounds-nodeat-o c = let outputs-test = c.outputs-test in
     omega (arith, c.requires.drawing.holds.outputs-few, outputs-test.true)
 
 pub bounds-nodeat-o : goal.bounds-nodeat-o
-bounds-nodeat-o c =     let outputs-test = c.outputs-test in
+bounds-nodeat-o c = let outputs-test = c.outputs-test in
     omega (arith, c.requires.drawing.holds.outputs-few, outputs-test.true)
 
 pub in_rows-digits-requires : goal.in_rows-digits-requires
-in_rows-digits-requires c =     let outputs = c.outputs in
+in_rows-digits-requires c = let outputs = c.outputs in
     let outputs-test = c.outputs-test in
     some_ready c.requires outputs.o outputs-test.true
 
@@ -47,29 +47,29 @@ pub loop-r-init : goal.loop-r-init
 loop-r-init c = rows_none c.outputs.o
 
 pub differs-requires : goal.differs-requires
-differs-requires c =     let loop-test = c.loop-r-test in
+differs-requires c = let loop-test = c.loop-r-test in
     let counted = (goal.at.differs-requires c).After-power-rows in
     omega (arith, few counted, loop-test.true)
 
 pub overflow_add-r : goal.overflow_add-r
-overflow_add-r c =     let loop-test = c.loop-r-test in
+overflow_add-r c = let loop-test = c.loop-r-test in
     let counted = (goal.at.overflow_add-r c).After-power-rows in
     omega (arith, few counted, loop-test.true)
 
 pub loop-r-preserved : goal.loop-r-preserved
-loop-r-preserved c =     let counted = (goal.at.loop-r-preserved c).After-power-rows in
+loop-r-preserved c = let counted = (goal.at.loop-r-preserved c).After-power-rows in
     rows_more c.outputs.o c.loop-r.r c.power-rows.result
     (table_at c.args.k.tables c.outputs.o) c.in_rows-digits.result
     c.outputs-test.true c.loop-r-test.true c.power-rows.ensures (few counted)
     refl c.in_rows-digits.ensures c.loop-r.invariant (sym c.differs.ensures ∙ c.if-differs.false)
 
 pub overflow_add-o : goal.overflow_add-o
-overflow_add-o c =     let outputs-test = c.outputs-test in
+overflow_add-o c = let outputs-test = c.outputs-test in
     let pre = c.requires in
     omega (arith, pre.drawing.holds.outputs-few, outputs-test.true)
 
 pub outputs-preserved : goal.outputs-preserved
-outputs-preserved c =     agreed_more c.outputs.o c.loop-r.r c.power-rows.result c.outputs.invariant
+outputs-preserved c = agreed_more c.outputs.o c.loop-r.r c.power-rows.result c.outputs.invariant
     c.outputs-test.true c.power-rows.ensures c.loop-r.invariant c.loop-r-test.false
 
 -- what is known where the ways out of the loops meet

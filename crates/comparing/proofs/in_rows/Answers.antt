@@ -9,18 +9,18 @@ pub loop-x-init : goal.loop-x-init
 loop-x-init c = (omega arith, filled_none (search rules))
 
 pub code-c-requires : goal.code-c-requires
-code-c-requires c =     (c.requires.few-luts, λ i l. code_ready c.requires c.loop-x.x c.loop-x-test.true i l)
+code-c-requires c = (c.requires.few-luts, λ i l. code_ready c.requires c.loop-x.x c.loop-x-test.true i l)
 
 pub overflow_mul-c : goal.overflow_mul-c
-overflow_mul-c c =     let code = c.code-c in
+overflow_mul-c c = let code = c.code-c in
     omega (arith, (vertex_room c.requires c.loop-x.x code.result c.loop-x-test.true code.ensures).readable)
 
 pub overflow_add-at : goal.overflow_add-at
-overflow_add-at c =     let code = c.code-c in
+overflow_add-at c = let code = c.code-c in
     omega (arith, (vertex_room c.requires c.loop-x.x code.result c.loop-x-test.true code.ensures).readable)
 
 pub put_vertex-requires : goal.put_vertex-requires
-put_vertex-requires c =     let code = c.code-c in
+put_vertex-requires c = let code = c.code-c in
     let loop = c.loop-x in
     (
       loop.invariant.1.size,
@@ -29,10 +29,10 @@ put_vertex-requires c =     let code = c.code-c in
     )
 
 pub overflow_add-x : goal.overflow_add-x
-overflow_add-x c =     omega (arith, c.requires.few-vertices, c.loop-x-test.true)
+overflow_add-x c = omega (arith, c.requires.few-vertices, c.loop-x-test.true)
 
 pub loop-x-preserved : goal.loop-x-preserved
-loop-x-preserved c =     let code = c.code-c in
+loop-x-preserved c = let code = c.code-c in
     let loop = c.loop-x in
     let l = c.loop-x-test.true in
     (omega arith, filled_more loop.x code.result loop.invariant.1 code.ensures c.put_vertex.ensures)

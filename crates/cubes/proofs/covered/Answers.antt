@@ -24,7 +24,7 @@ pub loop-i-smaller : goal.loop-i-smaller
 loop-i-smaller c = omega arith
 
 pub loop-i-preserved : goal.loop-i-preserved
-loop-i-preserved c =     let loop = c.loop-i in
+loop-i-preserved c = let loop = c.loop-i in
     let loop-test = c.loop-i-test in
     let narrowed = c.narrowed-next in
     narrowed_more _ _ _ _ loop.invariant loop-test.true narrowed.ensures

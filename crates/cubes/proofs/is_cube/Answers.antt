@@ -25,7 +25,7 @@ pub bounds-l-k : goal.bounds-l-k
 bounds-l-k c = omega arith
 
 pub returns-then-not-literal : goal.returns-then-not-literal
-returns-then-not-literal c =     let loop-test = c.loop-k-test in
+returns-then-not-literal c = let loop-test = c.loop-k-test in
     let if3 = c.if-not-literal in
     let literal = c.literal in
     no_literal _ _ _ _ loop-test.true (sym (not-true _ if3.true) ∙ literal.ensures)
@@ -37,7 +37,7 @@ pub loop-k-smaller : goal.loop-k-smaller
 loop-k-smaller c = omega arith
 
 pub loop-k-preserved : goal.loop-k-preserved
-loop-k-preserved c =     let loop = c.loop-k in
+loop-k-preserved c = let loop = c.loop-k in
     let loop-test = c.loop-k-test in
     let literal = c.literal in
     let if3 = c.if-not-literal in
@@ -47,6 +47,6 @@ pub bounds-l-i : goal.bounds-l-i
 bounds-l-i c = omega arith
 
 pub returns : goal.returns
-returns c =     let loop = c.loop-k in
+returns c = let loop = c.loop-k in
     let loop-test = c.loop-k-test in
     by_space _ _ _ (omega arith) (literals_all _ _ _ _ loop.invariant loop-test.false)

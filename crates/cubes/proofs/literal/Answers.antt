@@ -6,18 +6,18 @@ use Rattle.cubes.proofs.literal.Goals as goal
 
 pub returns-in-48 : goal.returns-in-48
 unfolding is_literal
-returns-in-48 c = sym (ap is_literal c.in-48.keys1)
+returns-in-48 c = sym (ap is_literal c.in-48.is)
 
 pub returns-in-49 : goal.returns-in-49
 unfolding is_literal
-returns-in-49 c = sym (ap is_literal c.in-49.keys2)
+returns-in-49 c = sym (ap is_literal c.in-49.is)
 
 pub returns-in-45 : goal.returns-in-45
 unfolding is_literal
-returns-in-45 c = sym (ap is_literal c.in-45.keys3)
+returns-in-45 c = sym (ap is_literal c.in-45.is)
 
 pub returns-in_default : goal.returns-in_default
 unfolding is_literal
-returns-in_default c =     let b = c.args.b in
+returns-in_default c = let b = c.args.b in
     let none = c.in_default.rest in
     simp (ne_eqb b 0x30 none.0.0.1, ne_eqb b 0x31 none.0.1, ne_eqb b 0x2D none.1)

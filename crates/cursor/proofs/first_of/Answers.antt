@@ -5,7 +5,7 @@ use Rattle.cursor.specs.FirstLaws.{first_letter, first_digit, first_bracket, fir
 use Rattle.cursor.proofs.first_of.Goals as goal
 
 pub returns-in-40 : goal.returns-in-40
-returns-in-40 c = first_bracket _ c.in-40.keys1
+returns-in-40 c = first_bracket _ c.in-40.is
 
 pub returns-in-48-to-57 : goal.returns-in-48-to-57
 returns-in-48-to-57 c = first_digit _ (omega arith) (omega arith)
@@ -20,13 +20,13 @@ pub returns-in_default : goal.returns-in_default
 returns-in_default c = first_other _ (letter_below _ (omega arith)) (numeral_below _ (omega arith)) c.in_default-1.rest.1
 
 pub returns-in_default-2 : goal.returns-in_default-2
-returns-in_default-2 c =     let rest = c.in_default-1.rest in
+returns-in_default-2 c = let rest = c.in_default-1.rest in
     first_other _ (letter_below _ (omega arith)) (numeral_above _ (omega arith)) rest.1
 
 pub returns-in_default-3 : goal.returns-in_default-3
-returns-in_default-3 c =     let rest = c.in_default-1.rest in
+returns-in_default-3 c = let rest = c.in_default-1.rest in
     first_other _ (letter_amid _ (omega arith) (omega arith)) (numeral_above _ (omega arith)) rest.1
 
 pub returns-in_default-4 : goal.returns-in_default-4
-returns-in_default-4 c =     let rest = c.in_default-1.rest in
+returns-in_default-4 c = let rest = c.in_default-1.rest in
     first_other _ (letter_above _ (omega arith)) (numeral_above _ (omega arith)) rest.1

@@ -15,7 +15,7 @@ pub bounds-s-e : goal.bounds-s-e
 bounds-s-e c = omega arith
 
 pub returns-then-not-is_numeral : goal.returns-then-not-is_numeral
-returns-then-not-is_numeral c =     let loop = c.loop-e in
+returns-then-not-is_numeral c = let loop = c.loop-e in
     record { numerals = loop.invariant; stops = λ h. sym c.is_numeral.ensures ∙ not-true _ c.if-not-is_numeral.true-raw }
 
 pub overflow_add-e : goal.overflow_add-e
@@ -25,7 +25,7 @@ pub loop-e-smaller : goal.loop-e-smaller
 loop-e-smaller c = omega arith
 
 pub loop-e-preserved : goal.loop-e-preserved
-loop-e-preserved c =     let loop = c.loop-e in
+loop-e-preserved c = let loop = c.loop-e in
     let loop-test = c.loop-e-test in
     numerals_more _ _ _ loop.invariant loop-test.true
     (sym c.is_numeral.ensures ∙ not-false _ c.if-not-is_numeral.false-raw)

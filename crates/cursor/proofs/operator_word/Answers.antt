@@ -9,5 +9,5 @@ pub returns-then-e-a-gt-MAX_NAME : goal.returns-then-e-a-gt-MAX_NAME
 returns-then-e-a-gt-MAX_NAME c = long_no_operator _ (rw (word-length _ _ _ c.requires) (omega arith))
 
 pub returns : goal.returns
-returns c =     operator-held _ _ _ c.requires _ (omega arith) c.packed.ensures
+returns c = operator-held _ _ _ c.requires _ (omega arith) c.packed.ensures
     c.as_operator.result c.as_operator.ensures

@@ -14,7 +14,7 @@ pub bounds-s-i : goal.bounds-s-i
 bounds-s-i c = omega arith
 
 pub digit_value-requires : goal.digit_value-requires
-digit_value-requires c =     let loop = c.loop-i in
+digit_value-requires c = let loop = c.loop-i in
     c.requires.0.each _ c.loop-i-test.true
     loop.invariant.after-start
 
@@ -28,7 +28,7 @@ pub loop-i-smaller : goal.loop-i-smaller
 loop-i-smaller c = omega arith
 
 pub loop-i-preserved : goal.loop-i-preserved
-loop-i-preserved c =     let loop = c.loop-i in
+loop-i-preserved c = let loop = c.loop-i in
     let loop-test = c.loop-i-test in
     valued_more _ _ _ _ _ _ loop.invariant loop-test.true
     (omega arith) c.digit_value.ensures.0 c.digit_value.ensures.1

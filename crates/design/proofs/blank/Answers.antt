@@ -3,7 +3,7 @@ use native.Mathlib.Omega.{arith}
 use Rattle.design.proofs.blank.Goals as goal
 
 pub returns : goal.returns
-returns c =     record {
+returns c = record {
       inputs-counted = refl;
       inputs-few = omega arith;
       inputs-named = refl;

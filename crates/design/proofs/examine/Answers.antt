@@ -8,13 +8,13 @@ use borrow.Author.Rules.{rules}
 use Rattle.design.proofs.examine.Goals as goal
 
 pub returns-then-not-sized : goal.returns-then-not-sized
-returns-then-not-sized c =     let s = c.args.s.now in
+returns-then-not-sized c = let s = c.args.s.now in
     examined s _
     (not-sized s _ (sym (not-true _ c.if-not-sized.true-raw) ∙ c.sized.ensures)
     (record { not-ok = refl; number = refl; line = refl }))
 
 pub loop-at-init : goal.loop-at-init
-loop-at-init c =     let sized = c.sized in
+loop-at-init c = let sized = c.sized in
     let blank = c.blank-k in
     let args = c.args in
     along_start args.s.now blank.result (sym (not-false _ c.if-not-sized.false-raw) ∙ sized.ensures) blank.ensures
@@ -32,11 +32,11 @@ pub slice_bounds-ask_line-end : goal.slice_bounds-ask_line-end
 slice_bounds-ask_line-end c = omega (arith, c.line_end-e.ensures.inside)
 
 pub ask_line-a-requires : goal.ask_line-a-requires
-ask_line-a-requires c =     let loop = c.loop-at in
+ask_line-a-requires c = let loop = c.loop-at in
     (loop.invariant.holds.inputs-few, loop.invariant.holds.outputs-few)
 
 pub returns-then-not-a : goal.returns-then-not-a
-returns-then-not-a c =     let ask-line = c.ask_line-a in
+returns-then-not-a c = let ask-line = c.ask_line-a in
     let line-end = c.line_end-e in
     let loop-test = c.loop-at-test in
     let loop = c.loop-at in
@@ -50,16 +50,16 @@ pub overflow_add-at : goal.overflow_add-at
 overflow_add-at c = omega (arith, c.line_end-e.ensures.inside)
 
 pub overflow_add-n : goal.overflow_add-n
-overflow_add-n c =     let loop = c.loop-at in
+overflow_add-n c = let loop = c.loop-at in
     omega (arith, loop.invariant.few, loop.invariant.inside)
 
 pub loop-at-smaller : goal.loop-at-smaller
-loop-at-smaller c =     let line-end = c.line_end-e in
+loop-at-smaller c = let line-end = c.line_end-e in
     let loop-test = c.loop-at-test in
     omega (arith, line-end.ensures.after-start, loop-test.true)
 
 pub loop-at-preserved : goal.loop-at-preserved
-loop-at-preserved c =     let if2 = c.if-not-a in
+loop-at-preserved c = let if2 = c.if-not-a in
     let ask-line = c.ask_line-a in
     let line-end = c.line_end-e in
     let loop-test = c.loop-at-test in
@@ -70,7 +70,7 @@ loop-at-preserved c =     let if2 = c.if-not-a in
     (not-false _ if2.false)
 
 pub returns : goal.returns
-returns c =     let loop-test = c.loop-at-test in
+returns c = let loop-test = c.loop-at-test in
     let loop = c.loop-at in
     let args = c.args in
     examined args.s.now c.ended.result

@@ -2,7 +2,7 @@ use Rattle.design.specs.SizeLaws.{plain-newline, plain_inside, plain_below, plai
 use Rattle.design.proofs.plain.Goals as goal
 
 pub returns-in-10 : goal.returns-in-10
-returns-in-10 c = plain-newline c.args.b c.in-10.keys1
+returns-in-10 c = plain-newline c.args.b c.in-10.is
 
 pub returns-in-32-to-126 : goal.returns-in-32-to-126
 returns-in-32-to-126 c = plain_inside c.args.b c.if-b-lt32.false c.if-b-lt127.true
@@ -11,5 +11,5 @@ pub returns-in_default : goal.returns-in_default
 returns-in_default c = plain_below c.args.b c.if-b-lt32.true c.in_default-1.rest.1
 
 pub returns-in_default-2 : goal.returns-in_default-2
-returns-in_default-2 c =     let match = c.in_default-1 in
+returns-in_default-2 c = let match = c.in_default-1 in
     plain_above c.args.b c.if-b-lt127.false match.rest.1

@@ -8,5 +8,5 @@ pub table_of-requires : goal.table_of-requires
 table_of-requires c = c.examine.ensures.1
 
 pub returns : goal.returns
-returns c =     table_of_sheet c.args.s.now c.args.output c.args.buffer.now _
+returns c = table_of_sheet c.args.s.now c.args.output c.args.buffer.now _
     (c.table_of.ensures (spec.examine c.args.s.now) c.examine.ensures.0)

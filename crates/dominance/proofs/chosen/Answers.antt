@@ -21,18 +21,18 @@ pub loop-i-init : goal.loop-i-init
 loop-i-init c = let a = c.args in (omega arith, choosing_start a.cl.now a.budgets a.v a.m c.falling-order.result _ _ refl refl (zeros_are 8))
 
 pub bounds-order-i : goal.bounds-order-i
-bounds-order-i c =     let b = c.requires.2 in
+bounds-order-i c = let b = c.requires.2 in
     let h = c.loop-i-test.true in
     let z = c.falling-order.ensures.1.long in
     search rules
 
 pub overflow_cast-o : goal.overflow_cast-o
-overflow_cast-o c =     let z = c.falling-order.ensures.0.low c.loop-i.i c.loop-i-test.true in
+overflow_cast-o c = let z = c.falling-order.ensures.0.low c.loop-i.i c.loop-i-test.true in
     let b = c.requires.2 in
     record { fits = omega arith }
 
 pub dominator-k-requires : goal.dominator-k-requires
-dominator-k-requires c =     let p = c.requires in
+dominator-k-requires c = let p = c.requires in
     let s = c.loop-i.invariant.1 in
     let h = c.loop-i-test.true in
     let z = c.falling-order.ensures.0.low c.loop-i.i h in
@@ -41,28 +41,28 @@ dominator-k-requires c =     let p = c.requires in
     (p.0, p.1, s.indices, omega arith, omega arith)
 
 pub overflow_cast-by : goal.overflow_cast-by
-overflow_cast-by c =     let b = c.requires.2 in
+overflow_cast-by c = let b = c.requires.2 in
     let h = c.loop-i-test.true in
     let f = c.loop-i.invariant.1.few in
     let k = c.dominator-k.ensures.under in
     record { fits = omega arith }
 
 pub bounds-by-o : goal.bounds-by-o
-bounds-by-o c =     let loop = c.loop-i in
+bounds-by-o c = let loop = c.loop-i in
     let b = c.requires.2 in
     let z = c.falling-order.ensures.0.low loop.i c.loop-i-test.true in
     let l = c.loop-i.invariant.1.long in
     search rules
 
 pub overflow_cast-from : goal.overflow_cast-from
-overflow_cast-from c =     let loop = c.loop-i in
+overflow_cast-from c = let loop = c.loop-i in
     let loop-test = c.loop-i-test in
     let b = c.requires.2 in
     let z = c.falling-order.ensures.0.low loop.i loop-test.true in
     record { fits = omega arith }
 
 pub bounds-from-n : goal.bounds-from-n
-bounds-from-n c =     let b = c.requires.2 in
+bounds-from-n c = let b = c.requires.2 in
     let h = c.loop-i-test.true in
     let s = c.loop-i.invariant.1 in
     let f = s.few in
@@ -70,18 +70,18 @@ bounds-from-n c =     let b = c.requires.2 in
     search rules
 
 pub overflow_add-n : goal.overflow_add-n
-overflow_add-n c =     let b = c.requires.2 in
+overflow_add-n c = let b = c.requires.2 in
     let h = c.loop-i-test.true in
     let f = c.loop-i.invariant.1.few in
     omega arith
 
 pub overflow_add-i : goal.overflow_add-i
-overflow_add-i c =     let b = c.requires.2 in
+overflow_add-i c = let b = c.requires.2 in
     let h = c.loop-i-test.true in
     omega arith
 
 pub loop-i-preserved : goal.loop-i-preserved
-loop-i-preserved c =     let a = c.args in
+loop-i-preserved c = let a = c.args in
     let b = c.requires.2 in
     let f = c.falling-order in
     let l = c.loop-i in
@@ -103,7 +103,7 @@ loop-i-preserved c =     let a = c.args in
     (omega arith, R)
 
 pub returns : goal.returns
-returns c =     let a = c.args in
+returns c = let a = c.args in
     let b = c.requires.2 in
     let f = c.falling-order in
     let l = c.loop-i in

@@ -8,7 +8,7 @@ pub label-l-requires : goal.label-l-requires
 label-l-requires c = let p = c.requires in let h = c.loop-x-test.true in let b = p.1 in let w = p.0.long in (omega arith, p.2, omega arith)
 
 pub in_set-requires : goal.in_set-requires
-in_set-requires c =     let loop = c.loop-x in
+in_set-requires c = let loop = c.loop-x in
     let args = c.args in
     let pre = c.requires in
     let h = c.loop-x-test.true in
@@ -19,7 +19,7 @@ in_set-requires c =     let loop = c.loop-x in
     omega arith
 
 pub with-seen-requires : goal.with-seen-requires
-with-seen-requires c =     let label = c.label-l in
+with-seen-requires c = let label = c.label-l in
     let loop-test = c.loop-x-test in
     let loop = c.loop-x in
     let args = c.args in
@@ -32,7 +32,7 @@ with-seen-requires c =     let label = c.label-l in
     omega arith
 
 pub overflow_add-n : goal.overflow_add-n
-overflow_add-n c =     let loop-test = c.loop-x-test in
+overflow_add-n c = let loop-test = c.loop-x-test in
     let loop = c.loop-x in
     let pre = c.requires in
     let b = pre.1 in
@@ -44,7 +44,7 @@ pub overflow_add-x : goal.overflow_add-x
 overflow_add-x c = let b = c.requires.1 in let h = c.loop-x-test.true in omega arith
 
 pub loop-x-preserved : goal.loop-x-preserved
-loop-x-preserved c =     let loop-test = c.loop-x-test in
+loop-x-preserved c = let loop-test = c.loop-x-test in
     let loop = c.loop-x in
     let h = loop-test.true in
     let z = loop.invariant.1 in

@@ -11,14 +11,14 @@ pub bounds-from-k : goal.bounds-from-k
 bounds-from-k c = let p = c.requires in let n = p.3 in let h = c.loop-k-test.true in search rules
 
 pub overflow_cast-q : goal.overflow_cast-q
-overflow_cast-q c =     let p = c.requires in
+overflow_cast-q c = let p = c.requires in
     let n = p.3 in
     let h = c.loop-k-test.true in
     let z = p.2.small c.loop-k.k (omega arith) in
     record { fits = omega arith }
 
 pub bounds-budgets-q : goal.bounds-budgets-q
-bounds-budgets-q c =     let p = c.requires in
+bounds-budgets-q c = let p = c.requires in
     let n = p.3 in
     let h = c.loop-k-test.true in
     let z = p.2.small c.loop-k.k (omega arith) in
@@ -28,14 +28,14 @@ pub bounds-budgets-o : goal.bounds-budgets-o
 bounds-budgets-o c = let o = c.requires.4 in search rules
 
 pub inside-requires : goal.inside-requires
-inside-requires c =     let loop = c.loop-k in
+inside-requires c = let loop = c.loop-k in
     let p = c.requires in
     let n = p.3 in
     let h = c.loop-k-test.true in
     (p.0, p.4, p.2.small loop.k (omega arith), p.1)
 
 pub returns-then-inside : goal.returns-then-inside
-returns-then-inside c =     let if1 = c.if-budgets-q in
+returns-then-inside c = let if1 = c.if-budgets-q in
     let h = c.loop-k-test.true in record {
       under = omega arith;
       dominates = λ _. record { inside = c.inside.ensures c.if-inside.true; budget = sym if1.true };

@@ -5,14 +5,14 @@ pub chosen-c-requires : goal.chosen-c-requires
 chosen-c-requires c = let p = c.requires in (p.0, p.1, p.2)
 
 pub labels-taken-requires : goal.labels-taken-requires
-labels-taken-requires c =     let chosen = c.chosen-c in
+labels-taken-requires c = let chosen = c.chosen-c in
     (c.requires.0.long, chosen.ensures.indices)
 
 pub picked-bs-requires : goal.picked-bs-requires
 picked-bs-requires c = c.chosen-c.ensures.indices
 
 pub returns : goal.returns
-returns c =     let a = c.args in
+returns c = let a = c.args in
     let p = c.requires in
     let k = c.chosen-c in
     let t = c.labels-taken in

@@ -13,23 +13,23 @@ pub bounds-from-i : goal.bounds-from-i
 bounds-from-i c = let h = c.loop-i-test.true in search rules
 
 pub overflow_cast-from : goal.overflow_cast-from
-overflow_cast-from c =     let h = c.loop-i-test.true in
+overflow_cast-from c = let h = c.loop-i-test.true in
     let z = c.requires.1.small (c.loop-i.i / 32) (omega arith) in
     record { fits = omega arith }
 
 pub label-requires : goal.label-requires
-label-requires c =     let p = c.requires in
+label-requires c = let p = c.requires in
     let h = c.loop-i-test.true in
     let w = p.0 in
     (omega arith, p.1.small (c.loop-i.i / 32) (omega arith), omega arith)
 
 pub loop-i-preserved : goal.loop-i-preserved
-loop-i-preserved c =     let l = c.loop-i in
+loop-i-preserved c = let l = c.loop-i in
     let h = c.loop-i-test.true in
     (omega arith, filled_more _ h c.label.ensures l.invariant.1)
 
 pub returns : goal.returns
-returns c =     let a = c.args in
+returns c = let a = c.args in
     let l = c.loop-i in
     let h = c.loop-i-test.false in
     let z = l.invariant.0 in

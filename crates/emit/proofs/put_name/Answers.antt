@@ -14,11 +14,11 @@ pub returns-then-rest-eq0 : goal.returns-then-rest-eq0
 returns-then-rest-eq0 c = naming_over c.loop-left.invariant c.if-rest-eq0.true
 
 pub put_byte-p-requires : goal.put_byte-p-requires
-put_byte-p-requires c =     let loop = c.loop-left in
+put_byte-p-requires c = let loop = c.loop-left in
     omega (arith, loop.invariant.so_far.place, loop.invariant.so_far.short)
 
 pub loop-left-preserved : goal.loop-left-preserved
-loop-left-preserved c =     let put_byte = c.put_byte-p in
+loop-left-preserved c = let put_byte = c.put_byte-p in
     let if1 = c.if-rest-eq0 in
     let loop-test = c.loop-left-test in
     let loop = c.loop-left in

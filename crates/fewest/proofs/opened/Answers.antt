@@ -9,7 +9,7 @@ pub loop-o-init : goal.loop-o-init
 loop-o-init c = filled_none _ _ refl
 
 pub loop-o-preserved : goal.loop-o-preserved
-loop-o-preserved c =     let loop = c.loop-o in
+loop-o-preserved c = let loop = c.loop-o in
     filled_more _ c.loop-o-test.true c.open_of.ensures.0 loop.invariant
 
 pub returns : goal.returns

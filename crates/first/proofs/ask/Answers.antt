@@ -12,13 +12,13 @@ pub overflow_sub-q : goal.overflow_sub-q
 overflow_sub-q c = let h = c.requires.4 in omega arith
 
 pub vertices_upto-requires : goal.vertices_upto-requires
-vertices_upto-requires c =     let p = c.requires in
+vertices_upto-requires c = let p = c.requires in
     let v = p.1 in
     let h = p.5 in
     omega arith
 
 pub digits-requires : goal.digits-requires
-digits-requires c =     let p = c.requires in
+digits-requires c = let p = c.requires in
     let v = p.1 in
     let u = p.3 in
     let l = p.4 in
@@ -26,7 +26,7 @@ digits-requires c =     let p = c.requires in
     (omega arith, omega arith)
 
 pub seek-k-requires : goal.seek-k-requires
-seek-k-requires c =     let keep-unread = c.keep_unread in
+seek-k-requires c = let keep-unread = c.keep_unread in
     let p = c.requires in
     let a = c.args in
     let q = a.p in
@@ -48,10 +48,10 @@ seek-k-requires c =     let keep-unread = c.keep_unread in
     )
 
 pub shape_of-mem-then-not-k : goal.shape_of-mem-then-not-k
-shape_of-mem-then-not-k c =     c.seek-k.ensures.1.long ∙ sym c.requires.8.honest.long
+shape_of-mem-then-not-k c = c.seek-k.ensures.1.long ∙ sym c.requires.8.honest.long
 
 pub returns-then-not-k : goal.returns-then-not-k
-returns-then-not-k c =     let p = c.requires in
+returns-then-not-k c = let p = c.requires in
     let a = c.args in
     let q = a.p in
     let n = c.vertices_upto in
@@ -62,16 +62,16 @@ returns-then-not-k c =     let p = c.requires in
     s.ensures.0 (not-true _ c.if-not-k.true) s.ensures.1
 
 pub joined-found-requires : goal.joined-found-requires
-joined-found-requires c =     let p = c.requires in
+joined-found-requires c = let p = c.requires in
     let u = p.3 in
     let l = p.4 in
     omega arith
 
 pub shape_of-mem : goal.shape_of-mem
-shape_of-mem c =     c.seek-k.ensures.1.long ∙ sym c.requires.8.honest.long
+shape_of-mem c = c.seek-k.ensures.1.long ∙ sym c.requires.8.honest.long
 
 pub returns : goal.returns
-returns c =     let if1 = c.if-not-k in
+returns c = let if1 = c.if-not-k in
     let p = c.requires in
     let a = c.args in
     let q = a.p in

@@ -10,7 +10,7 @@ pub fewest-core-requires : goal.fewest-core-requires
 fewest-core-requires c = let p = c.requires in (p.0, p.1, p.2, p.3, refl)
 
 pub returns-then-not-core : goal.returns-then-not-core
-returns-then-not-core c =     let a = c.args in
+returns-then-not-core c = let a = c.args in
     let f = c.fewest-core in
     let r = f.result in
     answered_none a.cl.now a.budgets a.v a.m a.limit r.found r.count r.rows r.codes (not-true _ c.if-not-core.true) f.ensures.0
@@ -19,12 +19,12 @@ pub kept-kept-requires : goal.kept-kept-requires
 kept-kept-requires c = let p = c.requires in (p.0, p.1, p.2)
 
 pub least_tables-t-requires : goal.least_tables-t-requires
-least_tables-t-requires c =     let if1 = c.if1 in
-    let a = c.before.args in
-    let p = c.before.requires in
-    let f = c.fewest in
+least_tables-t-requires c = let if1 = c.if-not-core in
+    let a = c.args in
+    let p = c.requires in
+    let f = c.fewest-core in
     let r = f.result in
-    let k = c.kept in
+    let k = c.kept-kept in
     let n = k.result in
     let few = f.ensures.0.few in
     let b = p.3 in
@@ -39,17 +39,17 @@ least_tables-t-requires c =     let if1 = c.if1 in
     )
 
 pub first_rows-rows-requires : goal.first_rows-rows-requires
-first_rows-rows-requires c =     let p = c.before.requires in
-    let few = c.fewest.ensures.0.few in
+first_rows-rows-requires c = let p = c.requires in
+    let few = c.fewest-core.ensures.0.few in
     let b = p.3 in
     (p.0, p.1, p.2, omega arith)
 
 pub returns : goal.returns
-returns c =     let if1 = c.if1 in
-    let a = c.before.args in
-    let f = c.fewest in
+returns c = let if1 = c.if-not-core in
+    let a = c.args in
+    let f = c.fewest-core in
     let r = f.result in
-    let k = c.kept in
+    let k = c.kept-kept in
     let n = k.result in
     let t = c.least_tables-t in
     let w = c.first_rows-rows in

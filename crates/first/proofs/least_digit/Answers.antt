@@ -10,21 +10,21 @@ pub in_set-requires : goal.in_set-requires
 in_set-requires c = let u = c.requires.3 in let l = c.requires.4 in omega arith
 
 pub returns-then-not-in_set : goal.returns-then-not-in_set
-returns-then-not-in_set c =     let p = c.requires in
+returns-then-not-in_set c = let p = c.requires in
     let a = c.args in
     let q = a.p in
     let zero = sym c.in_set.ensures ∙ not-true _ c.if-not-in_set.true-raw in
     (lowest_zero a.cl.now q.budgets q.vertices q.outputs q.cells a.i a.x a.t5 p.4 p.5 p.6 zero, p.7, p.8)
 
 pub ask-a-requires : goal.ask-a-requires
-ask-a-requires c =     let p = c.requires in
+ask-a-requires c = let p = c.requires in
     (p.0, p.1, p.2, p.3, p.4, p.5, p.6.witness, p.7, p.8)
 
 pub shape_of-mem-then-not-a : goal.shape_of-mem-then-not-a
-shape_of-mem-then-not-a c =     c.ask-a.ensures.1.honest.long ∙ sym c.requires.8.honest.long
+shape_of-mem-then-not-a c = c.ask-a.ensures.1.honest.long ∙ sym c.requires.8.honest.long
 
 pub returns-then-not-a : goal.returns-then-not-a
-returns-then-not-a c =     let in-set = c.in_set in
+returns-then-not-a c = let in-set = c.in_set in
     let if1 = c.if-not-in_set in
     let p = c.requires in
     let a = c.args in
@@ -38,22 +38,22 @@ returns-then-not-a c =     let in-set = c.in_set in
     )
 
 pub overflow_add-x : goal.overflow_add-x
-overflow_add-x c =     let p = c.requires in
+overflow_add-x c = let p = c.requires in
     let v = p.1 in
     let h = p.5 in
     omega arith
 
 pub sorted-least-requires : goal.sorted-least-requires
-sorted-least-requires c =     let p = c.requires in
+sorted-least-requires c = let p = c.requires in
     let v = p.1 in
     let h = p.5 in
     (p.4, p.3, omega arith, p.1)
 
 pub shape_of-mem : goal.shape_of-mem
-shape_of-mem c =     c.ask-a.ensures.1.honest.long ∙ sym c.requires.8.honest.long
+shape_of-mem c = c.ask-a.ensures.1.honest.long ∙ sym c.requires.8.honest.long
 
 pub returns : goal.returns
-returns c =     let if2 = c.if-not-a in
+returns c = let if2 = c.if-not-a in
     let p = c.requires in
     let a = c.args in
     let q = a.p in

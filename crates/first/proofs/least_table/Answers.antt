@@ -15,7 +15,7 @@ pub clear-requires : goal.clear-requires
 clear-requires c = c.requires.6
 
 pub loop-x-init : goal.loop-x-init
-loop-x-init c =     let clear = c.clear in
+loop-x-init c = let clear = c.clear in
     let p = c.requires in
     let a = c.args in
     let q = a.p in
@@ -32,13 +32,13 @@ pub slice_bounds-least_digit-end : goal.slice_bounds-least_digit-end
 slice_bounds-least_digit-end c = sym c.loop-x.invariant.2.long
 
 pub least_digit-t-requires : goal.least_digit-t-requires
-least_digit-t-requires c =     let if1 = c.loop-x-test in
+least_digit-t-requires c = let if1 = c.loop-x-test in
     let p = c.requires in
     let l = c.loop-x.invariant in
     (p.0, p.1, p.2, p.3, p.4, if1.true, l.1, l.2, l.3)
 
 pub overflow_add-x : goal.overflow_add-x
-overflow_add-x c =     let v = c.requires.1 in
+overflow_add-x c = let v = c.requires.1 in
     let h = c.loop-x-test.true in
     omega arith
 
@@ -46,16 +46,16 @@ pub loop-x-smaller : goal.loop-x-smaller
 loop-x-smaller c = let h = c.loop-x-test.true in omega arith
 
 pub loop-x-preserved : goal.loop-x-preserved
-loop-x-preserved c =     let h = c.loop-x-test.true in
+loop-x-preserved c = let h = c.loop-x-test.true in
     let t = c.least_digit-t.ensures in
     (omega arith, t.0, t.1, t.2)
 
 pub shape_of-mem : goal.shape_of-mem
-shape_of-mem c =     let loop = c.loop-x in
+shape_of-mem c = let loop = c.loop-x in
     loop.invariant.3.honest.long ∙ sym c.requires.6
 
 pub returns : goal.returns
-returns c =     let p = c.requires in
+returns c = let p = c.requires in
     let a = c.args in
     let q = a.p in
     let l = c.loop-x in

@@ -7,7 +7,7 @@ pub overflow_sub-result : goal.overflow_sub-result
 overflow_sub-result c = (power_room c.args.x c.single.result c.requires c.single.ensures).0
 
 pub overflow_cast-result : goal.overflow_cast-result
-overflow_cast-result c =     let h = (power_room c.args.x c.single.result c.requires c.single.ensures).1 in
+overflow_cast-result c = let h = (power_room c.args.x c.single.result c.requires c.single.ensures).1 in
     record { fits = omega arith }
 
 pub returns : goal.returns

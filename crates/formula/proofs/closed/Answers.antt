@@ -8,14 +8,14 @@ use Rattle.formula.specs.WalkLaws.{closed_at, unclosed}
 use Rattle.formula.proofs.closed.Goals as goal
 
 pub returns-in_default : goal.returns-in_default
-returns-in_default c =     let a = c.args in
+returns-in_default c = let a = c.args in
     let m = c.followed-m in
     let x = then a.s.now a.p close_bracket in
-    unclosed a.s.now a.p c.none.result x (moved_nowhere a.s.now m.result x m.ensures c.enum_told-1.given.1)
+    unclosed a.s.now a.p c.none.result x (moved_nowhere a.s.now m.result x m.ensures c.in_default.is)
     c.none.ensures
 
 pub returns : goal.returns
-returns c =     let a = c.args in
+returns c = let a = c.args in
     let m = c.followed-m in
     let to = c.m-1.given in
     let x = then a.s.now a.p close_bracket in

@@ -7,19 +7,19 @@ use borrow.Author.Rules.{rules}
 use Rattle.formula.proofs.input.Goals as goal
 
 pub overflow_sub-inputs : goal.overflow_sub-inputs
-overflow_sub-inputs c =     let p = c.p-1 in
+overflow_sub-inputs c = let p = c.p-1 in
     let find = c.find-p in
     let args = c.args in
     omega (arith, found_inside args.inputs.now args.n p.given.0.0 find.result find.ensures p.given.1)
 
 pub overflow_sub-inputs-in-At : goal.overflow_sub-inputs-in-At
-overflow_sub-inputs-in-At c =     let p = c.p-1 in
+overflow_sub-inputs-in-At c = let p = c.p-1 in
     let find = c.find-p in
     let args = c.args in
     omega (arith, found_inside args.inputs.now args.n p.given.0.0 find.result find.ensures p.given.1)
 
 pub returns-in-At : goal.returns-in-At
-returns-in-At c =     let p = c.p-1 in
+returns-in-At c = let p = c.p-1 in
     let find = c.find-p in
     let args = c.args in
     record {
@@ -31,7 +31,7 @@ returns-in-At c =     let p = c.p-1 in
     }
 
 pub returns-in-Nowhere : goal.returns-in-Nowhere
-returns-in-Nowhere c =     let enum_told = c.enum_told-1 in
+returns-in-Nowhere c = let enum_told = c.enum_told-1 in
     let find = c.find-p in
     let args = c.args in
     record {

@@ -4,7 +4,7 @@ use borrow.Author.Rules.{rules}
 use Rattle.formula.proofs.unread.Goals as goal
 
 pub returns-in-To : goal.returns-in-To
-returns-in-To c = rw c.m-1.given.1 (record { good = refl; moved = refl; flat = refl })
+returns-in-To c = rw c.in-To.is (record { good = refl; moved = refl; flat = refl })
 
 pub returns-in-Bad : goal.returns-in-Bad
-returns-in-Bad c = rw c.enum_told-1.given.1 c.none.ensures
+returns-in-Bad c = rw c.in-Bad.is c.none.ensures

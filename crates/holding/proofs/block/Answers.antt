@@ -6,6 +6,6 @@ pub single-requires : goal.single-requires
 single-requires c = c.requires
 
 pub returns : goal.returns
-returns c =     let args = c.args in
+returns c = let args = c.args in
     let single = c.single in
     spans_block args.mask args.c single.result c.spread.result c.requires single.ensures c.spread.ensures

@@ -59,7 +59,7 @@ pub overflow_add-i : goal.overflow_add-i
 overflow_add-i c = let facts = bounds (goal.at.overflow_add-i c).In-loop-i in search rules
 
 pub loop-i-preserved : goal.loop-i-preserved
-loop-i-preserved c =     let loop = c.loop-i in
+loop-i-preserved c = let loop = c.loop-i in
     let args = c.args in
     let pre = c.requires in
     let h = c.loop-i-test.true in
@@ -72,5 +72,5 @@ loop-i-preserved c =     let loop = c.loop-i in
     )
 
 pub returns : goal.returns
-returns c =     let loop = c.loop-i in
+returns c = let loop = c.loop-i in
     subst (λ (z : ℕ). Table c.args.ms z loop.r) (let h = c.loop-i-test.false in let z = loop.invariant.0 in let e = loop.invariant.1 in omega arith) loop.invariant.2

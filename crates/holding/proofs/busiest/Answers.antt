@@ -17,7 +17,7 @@ pub tight_part-one-requires : goal.tight_part-one-requires
 tight_part-one-requires c = c.class_part-p.ensures.1
 
 pub returns-then-one_part : goal.returns-then-one_part
-returns-then-one_part c =     let a = c.args in
+returns-then-one_part c = let a = c.args in
     let p = c.class_part-p.result in
     let s = c.lacks-a in
     let r = s.result in
@@ -34,7 +34,7 @@ pub lacks-b-requires : goal.lacks-b-requires
 lacks-b-requires c = c.requires
 
 pub returns : goal.returns
-returns c =     let a = c.args in
+returns c = let a = c.args in
     let t = c.totals-ts in
     let f = c.tight_parts-tight in
     let s = c.lacks-b.ensures in

@@ -9,26 +9,26 @@ use Rattle.holding.specs.FullLaws.{crowd_start, crowd_same, crowd_more}
 use Rattle.holding.proofs.classes_in.Goals as goal
 
 pub strangers-seen-requires : goal.strangers-seen-requires
-strangers-seen-requires c =     (c.requires.0, c.requires.2)
+strangers-seen-requires c = (c.requires.0, c.requires.2)
 
 pub loop-y-init : goal.loop-y-init
-loop-y-init c =     let a = c.args in (omega arith, crowd_start a.cl.now a.codes.now a.o a.p a.b c.strangers-seen.result c.strangers-seen.ensures.rest)
+loop-y-init c = let a = c.args in (omega arith, crowd_start a.cl.now a.codes.now a.o a.p a.b c.strangers-seen.result c.strangers-seen.ensures.rest)
 
 pub bounds-codes-y : goal.bounds-codes-y
-bounds-codes-y c =     let h = c.loop-y-test.true in
+bounds-codes-y c = let h = c.loop-y-test.true in
     let z = c.requires.1 in
     let n = c.requires.3 in
     search rules
 
 pub label-l-requires : goal.label-l-requires
-label-l-requires c =     let h = c.loop-y-test.true in
+label-l-requires c = let h = c.loop-y-test.true in
     let p = c.requires in
     let a = p.1 in
     let e = p.0.long in
     (omega arith, p.2, omega arith)
 
 pub in_set-requires : goal.in_set-requires
-in_set-requires c =     let loop = c.loop-y in
+in_set-requires c = let loop = c.loop-y in
     let h = c.loop-y-test.true in
     let p = c.requires in
     let v = p.1 in
@@ -38,7 +38,7 @@ in_set-requires c =     let loop = c.loop-y in
     omega arith
 
 pub with-seen-requires : goal.with-seen-requires
-with-seen-requires c =     let loop = c.loop-y in
+with-seen-requires c = let loop = c.loop-y in
     let h = c.loop-y-test.true in
     let p = c.requires in
     let v = p.1 in
@@ -49,13 +49,13 @@ with-seen-requires c =     let loop = c.loop-y in
     omega arith
 
 pub overflow_add-count : goal.overflow_add-count
-overflow_add-count c =     let h = c.loop-y-test.true in
+overflow_add-count c = let h = c.loop-y-test.true in
     let v = c.requires.1 in
     let z = c.loop-y.invariant.1.few in
     search rules
 
 pub loop-y-preserved : goal.loop-y-preserved
-loop-y-preserved c =     let h = c.loop-y-test.true in
+loop-y-preserved c = let h = c.loop-y-test.true in
     let p = c.requires in
     let z = p.1 in
     let o = p.2 in
@@ -73,6 +73,6 @@ loop-y-preserved c =     let h = c.loop-y-test.true in
     )
 
 pub returns : goal.returns
-returns c =     let a = c.args in
+returns c = let a = c.args in
     let l = c.loop-y in
     subst (λ (n : ℕ). Crowd a.cl.now a.codes.now a.o a.p a.b n l.seen l.count) (let h = c.loop-y-test.false in let z = l.invariant.0 in omega arith) l.invariant.1

@@ -7,7 +7,7 @@ use Rattle.holding.specs.FullLaws.{crowd_one}
 use Rattle.holding.proofs.crowd.Goals as goal
 
 pub with-seen-requires : goal.with-seen-requires
-with-seen-requires c =     let a = c.args in
+with-seen-requires c = let a = c.args in
     let p = c.requires in
     let o = p.2 in
     let x = p.3 in
@@ -16,7 +16,7 @@ with-seen-requires c =     let a = c.args in
     omega arith
 
 pub returns-then-inside : goal.returns-then-inside
-returns-then-inside c =     let if3 = c.if-inside in
+returns-then-inside c = let if3 = c.if-inside in
     let if2 = c.if-x-v in
     let a = c.args in
     let part = c.part-p in
@@ -28,7 +28,7 @@ returns-then-inside c =     let if3 = c.if-inside in
     if2.true label.ensures (sym part.ensures.0) in_b.0 in_b.1 others.ensures c.with-seen.ensures)
 
 pub returns : goal.returns
-returns c =     let part = c.part-p in
+returns c = let part = c.part-p in
     let a = c.args in
     let k = c.classes_in in
     subst (λ (p : ℕ). Crowd a.cl.now a.codes.now a.o p a.b a.v k.result.seen k.result.count) part.ensures.0 k.ensures

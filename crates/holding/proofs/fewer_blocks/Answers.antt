@@ -26,13 +26,13 @@ pub overflow_add-b : goal.overflow_add-b
 overflow_add-b c = let z = c.requires.1 in let l = c.lowest-c.ensures.0 in search rules
 
 pub offset_bounds-bs-o : goal.offset_bounds-bs-o
-offset_bounds-bs-o c =     let z = c.requires.1 in
+offset_bounds-bs-o c = let z = c.requires.1 in
     let l = c.lowest-c.ensures.0 in
     let e = c.requires.0 in
     search rules
 
 pub bounds-bs-o : goal.bounds-bs-o
-bounds-bs-o c =     let z = c.requires.1 in
+bounds-bs-o c = let z = c.requires.1 in
     let l = c.lowest-c.ensures.0 in
     let e = c.requires.0 in
     search rules
@@ -44,11 +44,11 @@ pub overflow_add-k : goal.overflow_add-k
 overflow_add-k c = let h = c.if-n-k.false in search rules
 
 pub loop-rest-smaller : goal.loop-rest-smaller
-loop-rest-smaller c =     let lowest = c.lowest-c in
+loop-rest-smaller c = let lowest = c.lowest-c in
     let a = c.minus-rest.ensures.less in let b = c.without.ensures.less lowest.ensures.1 in omega arith
 
 pub loop-rest-preserved : goal.loop-rest-preserved
-loop-rest-preserved c =     λ mask b.
+loop-rest-preserved c = λ mask b.
     let low = c.lowest-c in
     let l = c.loop-rest in
     let d = c.args.d in
@@ -57,7 +57,7 @@ loop-rest-preserved c =     λ mask b.
     left_more mask d l.rest l.k low.result _ w.result m.result (b low.result low.ensures.0) w.ensures m.ensures (l.invariant mask b)
 
 pub returns : goal.returns
-returns c =     λ e mask b.
+returns c = λ e mask b.
     let l = c.loop-rest in
     let a = c.args in
     left_end mask a.d l.rest l.k a.n c.loop-rest-test.false (ltb-true _ _ e) (l.invariant mask b)

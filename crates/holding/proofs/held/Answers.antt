@@ -11,12 +11,12 @@ use Rattle.holding.specs.HeldLaws.{held_start, at_skip, at_old, at_new}
 use Rattle.holding.proofs.held.Goals as goal
 
 pub loop-y-init : goal.loop-y-init
-loop-y-init c =     let args = c.args in
+loop-y-init c = let args = c.args in
     let pre = c.requires in
     (omega arith, λ mask b. held_start args.cl.now args.codes.now args.o mask _ _ pre.6 pre.7 pre.8 pre.9)
 
 pub bounds-codes-y : goal.bounds-codes-y
-bounds-codes-y c =     let loop-test = c.loop-y-test in
+bounds-codes-y c = let loop-test = c.loop-y-test in
     let pre = c.requires in
     let d = loop-test.true in
     let few = pre.2 in
@@ -24,7 +24,7 @@ bounds-codes-y c =     let loop-test = c.loop-y-test in
     search rules
 
 pub label-l-requires : goal.label-l-requires
-label-l-requires c =     let loop-test = c.loop-y-test in
+label-l-requires c = let loop-test = c.loop-y-test in
     let pre = c.requires in
     let d = loop-test.true in
     let few = pre.2 in
@@ -60,7 +60,7 @@ pub bounds-own-l : goal.bounds-own-l
 bounds-own-l c = let facts = labelled (goal.at.bounds-own-l c).After-label-l in search rules
 
 pub in_set-requires : goal.in_set-requires
-in_set-requires c =     let if1 = c.if-c-lt-NO_CODE in
+in_set-requires c = let if1 = c.if-c-lt-NO_CODE in
     if1.true
 
 pub offset_bounds-own-l-then-not-in_set : goal.offset_bounds-own-l-then-not-in_set
@@ -70,13 +70,13 @@ pub bounds-own-l-then-not-in_set : goal.bounds-own-l-then-not-in_set
 bounds-own-l-then-not-in_set c = let facts = labelled (goal.at.bounds-own-l-then-not-in_set c).After-label-l in search rules
 
 pub overflow_mul-own : goal.overflow_mul-own
-overflow_mul-own c =     let pre = c.requires in
+overflow_mul-own c = let pre = c.requires in
     let outs = pre.3 in
     let o = pre.4 in
     search rules
 
 pub overflow_add-own : goal.overflow_add-own
-overflow_add-own c =     let if1 = c.if-c-lt-NO_CODE in
+overflow_add-own c = let if1 = c.if-c-lt-NO_CODE in
     let pre = c.requires in
     let outs = pre.3 in
     let o = pre.4 in
@@ -84,7 +84,7 @@ overflow_add-own c =     let if1 = c.if-c-lt-NO_CODE in
     search rules
 
 pub offset_bounds-bs-o : goal.offset_bounds-bs-o
-offset_bounds-bs-o c =     let if1 = c.if-c-lt-NO_CODE in
+offset_bounds-bs-o c = let if1 = c.if-c-lt-NO_CODE in
     let pre = c.requires in
     let outs = pre.3 in
     let o = pre.4 in
@@ -93,7 +93,7 @@ offset_bounds-bs-o c =     let if1 = c.if-c-lt-NO_CODE in
     search rules
 
 pub bounds-bs-o : goal.bounds-bs-o
-bounds-bs-o c =     let if1 = c.if-c-lt-NO_CODE in
+bounds-bs-o c = let if1 = c.if-c-lt-NO_CODE in
     let pre = c.requires in
     let outs = pre.3 in
     let o = pre.4 in
@@ -117,7 +117,7 @@ pub bounds-owns-l-then-not-in_set : goal.bounds-owns-l-then-not-in_set
 bounds-owns-l-then-not-in_set c = let facts = labelled (goal.at.bounds-owns-l-then-not-in_set c).After-label-l in search rules
 
 pub loop-y-preserved : goal.loop-y-preserved
-loop-y-preserved c =     let if1 = c.if-c-lt-NO_CODE in
+loop-y-preserved c = let if1 = c.if-c-lt-NO_CODE in
     let loop-test = c.loop-y-test in
     let loop = c.loop-y in
     let pre = c.requires in
@@ -140,21 +140,21 @@ loop-y-preserved c =     let if1 = c.if-c-lt-NO_CODE in
     )
 
 pub shape_of-own : goal.shape_of-own
-shape_of-own c =     let loop = c.loop-y in
+shape_of-own c = let loop = c.loop-y in
     let args = c.args in
     let pre = c.requires in
     let s = loop.invariant.1 (item args.ms args.o) (λ k h. pre.1.each args.o k pre.4 h) in
     s.own-long ∙ sym pre.6
 
 pub shape_of-owns : goal.shape_of-owns
-shape_of-owns c =     let loop = c.loop-y in
+shape_of-owns c = let loop = c.loop-y in
     let args = c.args in
     let pre = c.requires in
     let s = loop.invariant.1 (item args.ms args.o) (λ k h. pre.1.each args.o k pre.4 h) in
     s.owns-long ∙ sym pre.7
 
 pub returns : goal.returns
-returns c =     let loop-test = c.loop-y-test in
+returns c = let loop-test = c.loop-y-test in
     let loop = c.loop-y in
     let args = c.args in
     let pre = c.requires in

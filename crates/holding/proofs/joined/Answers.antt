@@ -33,5 +33,5 @@ pub overflow_shr-result : goal.overflow_shr-result
 overflow_shr-result c = let h = step-low c.args.i c.requires in search rules
 
 pub returns : goal.returns
-returns c =     let args = c.args in
+returns c = let args = c.args in
     joined_of args.d args.i _ c.without_cell-low.result (step_is args.i c.requires) c.without_cell-low.ensures

@@ -14,7 +14,7 @@ pub overflow_add-has-then-wants-has-2 : goal.overflow_add-has-then-wants-has-2
 overflow_add-has-then-wants-has-2 c = let z = c.requires in search rules
 
 pub returns-then-need-has-2 : goal.returns-then-need-has-2
-returns-then-need-has-2 c =     λ k l s. on_either c.args.own c.args.meet k (s.near c.if-wants-has-2.true c.if-need-has-2.true)
+returns-then-need-has-2 c = λ k l s. on_either c.args.own c.args.meet k (s.near c.if-wants-has-2.true c.if-need-has-2.true)
 
 pub returns-else-need-has : goal.returns-else-need-has
 returns-else-need-has c = λ k l s. on-ones 64 k l

@@ -15,6 +15,6 @@ pub label-requires : goal.label-requires
 label-requires c = let p = c.requires in let z = p.1 in (omega arith, p.2, p.3)
 
 pub returns : goal.returns
-returns c =     let a = c.args in
+returns c = let a = c.args in
     let n = c.larger-n in
     λ e i. subst (λ (z : ℕ). z ≤ a.has) (n.ensures.0 ∙ ap (max a.wants) c.label.ensures) (ltb-false _ _ e)

@@ -11,13 +11,13 @@ pub loop-l-init : goal.loop-l-init
 loop-l-init c = let a = c.args in (omega arith, lacks_start a.cl.now a.owns.now a.wants.now a.base.now a.o a.p)
 
 pub class_part-q-requires : goal.class_part-q-requires
-class_part-q-requires c =     (c.requires.0, c.requires.2, c.loop-l-test.true)
+class_part-q-requires c = (c.requires.0, c.requires.2, c.loop-l-test.true)
 
 pub bounds-wants-l : goal.bounds-wants-l
 bounds-wants-l c = let n = c.requires.5 in search rules
 
 pub label-requires : goal.label-requires
-label-requires c =     let loop-test = c.loop-l-test in
+label-requires c = let loop-test = c.loop-l-test in
     let z = c.requires.1 in
     (omega arith, c.requires.2, loop-test.true)
 
@@ -25,7 +25,7 @@ pub bounds-owns-l : goal.bounds-owns-l
 bounds-owns-l c = let n = c.requires.4 in search rules
 
 pub overflow_sub-n : goal.overflow_sub-n
-overflow_sub-n c =     let loop = c.loop-l in
+overflow_sub-n c = let loop = c.loop-l in
     let loop-test = c.loop-l-test in
     let e = c.larger-n.ensures.0 in
     let h = c.requires.3 loop.l loop-test.true in
@@ -35,7 +35,7 @@ pub overflow_cast-total : goal.overflow_cast-total
 overflow_cast-total c = let n = c.counted-t.ensures.1 in search rules
 
 pub overflow_add-total : goal.overflow_add-total
-overflow_add-total c =     let n = c.counted-t.ensures.1 in
+overflow_add-total c = let n = c.counted-t.ensures.1 in
     let h = c.loop-l-test.true in
     let z = c.loop-l.invariant.1.low in
     record { fits = omega arith }
@@ -44,13 +44,13 @@ pub overflow_cast-news : goal.overflow_cast-news
 overflow_cast-news c = let n = c.counted-s.ensures.1 in search rules
 
 pub overflow_add-news : goal.overflow_add-news
-overflow_add-news c =     let n = c.counted-s.ensures.1 in
+overflow_add-news c = let n = c.counted-s.ensures.1 in
     let h = c.loop-l-test.true in
     let z = c.loop-l.invariant.1.few in
     record { fits = omega arith }
 
 pub loop-l-preserved : goal.loop-l-preserved
-loop-l-preserved c =     let label = c.label in
+loop-l-preserved c = let label = c.label in
     let a = c.args in
     let l = c.loop-l in
     let h = c.loop-l-test.true in
@@ -65,7 +65,7 @@ loop-l-preserved c =     let label = c.label in
     )
 
 pub returns : goal.returns
-returns c =     let a = c.args in
+returns c = let a = c.args in
     let l = c.loop-l in
     let h = c.loop-l-test.false in
     let z = l.invariant.0 in

@@ -17,7 +17,7 @@ pub bounds-t-i : goal.bounds-t-i
 bounds-t-i c = let n = c.requires in search rules
 
 pub loop-i-preserved : goal.loop-i-preserved
-loop-i-preserved c =     let h = c.loop-i-test.true in
+loop-i-preserved c = let h = c.loop-i-test.true in
     (omega arith, ⊎_elim (λ w. let e = w.1 in omega arith) (λ w. let e = w.1 in let m = c.loop-i.invariant.1 in omega arith) c.if-t-m.branch)
 
 pub returns : goal.returns

@@ -9,20 +9,20 @@ use Rattle.holding.specs.NarrowLaws.{narrowed_start, narrowed_same, keep_more}
 use Rattle.holding.proofs.narrow.Goals as goal
 
 pub loop-y-init : goal.loop-y-init
-loop-y-init c =     let a = c.args in (
+loop-y-init c = let a = c.args in (
       omega arith,
       narrowed_start (Stays a.cl.now a.base.now a.t.number a.tight a.own.now a.meet.now a.n.owns a.n.wants) a.dom.now
           c.requires.8,
     )
 
 pub bounds-codes-y : goal.bounds-codes-y
-bounds-codes-y c =     let h = c.loop-y-test.true in
+bounds-codes-y c = let h = c.loop-y-test.true in
     let z = c.requires.2 in
     let n = c.requires.7 in
     search rules
 
 pub label-l-requires : goal.label-l-requires
-label-l-requires c =     let h = c.loop-y-test.true in
+label-l-requires c = let h = c.loop-y-test.true in
     let p = c.requires in
     let a = p.2 in
     let e = p.0.long in
@@ -44,14 +44,14 @@ labelled c =
     (omega arith, omega arith, pre.4, pre.5, loop.invariant.1.long)
 
 pub class_part-p-requires : goal.class_part-p-requires
-class_part-p-requires c =     let facts = labelled c in
+class_part-p-requires c = let facts = labelled c in
     let pre = c.requires in (pre.0, pre.3, facts.0)
 
 pub in_set-requires : goal.in_set-requires
 in_set-requires c = let h = c.class_part-p.ensures.1 in omega arith
 
 pub label-need-requires : goal.label-need-requires
-label-need-requires c =     let facts = labelled (goal.at.label-need-requires c).After-label-l in
+label-need-requires c = let facts = labelled (goal.at.label-need-requires c).After-label-l in
     let pre = c.requires in
     let z = pre.1 in
     (omega arith, pre.3, facts.0)
@@ -81,7 +81,7 @@ pub bounds-wants-l : goal.bounds-wants-l
 bounds-wants-l c = let facts = labelled (goal.at.bounds-wants-l c).After-label-l in search rules
 
 pub keep-requires : goal.keep-requires
-keep-requires c =     let facts = labelled (goal.at.keep-requires c).After-label-l in
+keep-requires c = let facts = labelled (goal.at.keep-requires c).After-label-l in
     let few = c.requires.6 in
     few c.label-l.result facts.0
 
@@ -92,7 +92,7 @@ pub bounds-dom-y-then-in_set : goal.bounds-dom-y-then-in_set
 bounds-dom-y-then-in_set c = let facts = labelled (goal.at.bounds-dom-y-then-in_set c).After-label-l in search rules
 
 pub loop-y-preserved : goal.loop-y-preserved
-loop-y-preserved c =     let h = c.loop-y-test.true in
+loop-y-preserved c = let h = c.loop-y-test.true in
     let z = c.requires.2 in
     let a = c.args in
     let l = c.loop-y in (
@@ -111,7 +111,7 @@ pub shape_of-dom : goal.shape_of-dom
 shape_of-dom c = c.loop-y.invariant.1.long ∙ sym c.requires.8
 
 pub returns : goal.returns
-returns c =     let a = c.args in
+returns c = let a = c.args in
     let l = c.loop-y in
     let h = c.loop-y-test.false in
     let z = l.invariant.0 in

@@ -9,25 +9,25 @@ use borrow.Author.Rules.{rules, elem_fits_field}
 use Rattle.holding.proofs.narrow_by.Goals as goal
 
 pub bounds-spots-o : goal.bounds-spots-o
-bounds-spots-o c =     let pre = c.requires in
+bounds-spots-o c = let pre = c.requires in
     let outs = pre.4 in
     let o = pre.5 in
     search rules
 
 pub overflow_cast-spot : goal.overflow_cast-spot
-overflow_cast-spot c =     let good = c.well-formed in
+overflow_cast-spot c = let good = c.well-formed in
     let args = c.args in
     let g = good.1.1.1.0 in
     elem_fits_field w8 w64 args.p.spots _ args.o g.1.1.1.1.1.0.1.1 tt
 
 pub bounds-caps-o : goal.bounds-caps-o
-bounds-caps-o c =     let pre = c.requires in
+bounds-caps-o c = let pre = c.requires in
     let outs = pre.4 in
     let o = pre.5 in
     search rules
 
 pub busiest-b-requires : goal.busiest-b-requires
-busiest-b-requires c =     let pre = c.requires in
+busiest-b-requires c = let pre = c.requires in
     let args = c.args in
     let outs = pre.4 in
     let o = pre.5 in
@@ -36,9 +36,9 @@ busiest-b-requires c =     let pre = c.requires in
     (pre.0, pre.1, omega arith, wanted_held _ _ _ _ _ _ _ args.n.wants args.meet.now w, s.owns-long, w.long)
 
 pub no_room-requires : goal.no_room-requires
-no_room-requires c =     let busiest = c.busiest in
-    let pre = c.before.requires in
-    let args = c.before.args in
+no_room-requires c = let busiest = c.busiest-b in
+    let pre = c.requires in
+    let args = c.args in
     let outs = pre.4 in
     let o = pre.5 in
     let s = pre.8 in
@@ -47,23 +47,23 @@ no_room-requires c =     let busiest = c.busiest in
     (pre.0, pre.1, pre.2.long, pre.3, omega arith, pre.7, s.own-long, pre.6, wanted, busiest.ensures.0)
 
 pub returns-then-no_room : goal.returns-then-no_room
-returns-then-no_room c =     let if1 = c.if-no_room in
+returns-then-no_room c = let if1 = c.if-no_room in
     let no_room = c.no_room in
-    let args = c.before.args in
-    let pre = c.before.requires in
+    let args = c.args in
+    let pre = c.requires in
     let p = args.p in
     let none = settled_no_room args.cl.now args.base.now p.ms _ _ p.vertices p.outputs args.o _ _ _ _ pre.0 pre.3 pre.4 pre.5 pre.8
     args.n.wants args.meet.now args.bs.now pre.9 (λ k l. pre.2.each args.o k pre.5 l) (no_room.ensures if1.true) in
     (kept-start args.cl.now args.base.now p.ms _ _ p.vertices p.outputs _ _, pre.7, λ e. none)
 
 pub returns-then-tight-eq0 : goal.returns-then-tight-eq0
-returns-then-tight-eq0 c =     let args = c.before.args in
-    let pre = c.before.requires in
+returns-then-tight-eq0 c = let args = c.args in
+    let pre = c.requires in
     let p = args.p in
     (kept-start args.cl.now args.base.now p.ms _ _ p.vertices p.outputs _ _, pre.7, λ e. absurd (true_false e))
 
 pub narrow-requires : goal.narrow-requires
-narrow-requires c =     let pre = c.before.requires in
+narrow-requires c = let pre = c.requires in
     let few = pre.3 in
     let outs = pre.4 in
     let o = pre.5 in
@@ -72,15 +72,15 @@ narrow-requires c =     let pre = c.before.requires in
     (pre.0, pre.1, few, omega arith, s.own-long, w.meet-long, λ l k. let z = s.less l k in omega arith, pre.6, pre.7)
 
 pub shape_of-dom : goal.shape_of-dom
-shape_of-dom c =     let narrow = c.narrow in
-    let pre = c.before.requires in
+shape_of-dom c = let narrow = c.narrow in
+    let pre = c.requires in
     narrow.ensures.long ∙ sym pre.7
 
 pub returns : goal.returns
-returns c =     let narrow = c.narrow in
-    let busiest = c.busiest in
-    let args = c.before.args in
-    let pre = c.before.requires in
+returns c = let narrow = c.narrow in
+    let busiest = c.busiest-b in
+    let args = c.args in
+    let pre = c.requires in
     let p = args.p in
     let n = narrow.ensures in
     let kept = settled_tight args.cl.now args.base.now p.ms _ _ p.vertices p.outputs args.o _ _ _ _ pre.0 pre.3 pre.4 pre.5 pre.8

@@ -13,10 +13,10 @@ pub loop-l-init : goal.loop-l-init
 loop-l-init c = (omega arith, λ e k h. absurd (omega arith))
 
 pub class_part-q-requires : goal.class_part-q-requires
-class_part-q-requires c =     (c.requires.0, c.requires.1, c.loop-l-test.true)
+class_part-q-requires c = (c.requires.0, c.requires.1, c.loop-l-test.true)
 
 pub loop-l-preserved : goal.loop-l-preserved
-loop-l-preserved c =     let a = c.args in
+loop-l-preserved c = let a = c.args in
     let l = c.loop-l in
     let h = c.loop-l-test.true in
     let q = c.class_part-q.ensures.0 in (

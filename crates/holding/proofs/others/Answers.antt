@@ -11,13 +11,13 @@ pub loop-l-init : goal.loop-l-init
 loop-l-init c = (omega arith, others-start c.args.cl.now c.args.o c.args.p)
 
 pub class_part-q-requires : goal.class_part-q-requires
-class_part-q-requires c =     (c.requires.0, c.requires.1, c.loop-l-test.true)
+class_part-q-requires c = (c.requires.0, c.requires.1, c.loop-l-test.true)
 
 pub with-r-requires : goal.with-r-requires
 with-r-requires c = let h = c.loop-l-test.true in omega arith
 
 pub loop-l-preserved : goal.loop-l-preserved
-loop-l-preserved c =     let class-part = c.class_part-q in
+loop-l-preserved c = let class-part = c.class_part-q in
     let loop-test = c.loop-l-test in
     let loop = c.loop-l in
     let args = c.args in
@@ -28,6 +28,6 @@ loop-l-preserved c =     let class-part = c.class_part-q in
     )
 
 pub returns : goal.returns
-returns c =     let args = c.args in
+returns c = let args = c.args in
     let l = c.loop-l in
     subst (λ (n : ℕ). Others args.cl.now args.o args.p n l.r) (let h = c.loop-l-test.false in let z = l.invariant.0 in omega arith) l.invariant.1

@@ -16,21 +16,21 @@ pub without-rest-requires : goal.without-rest-requires
 without-rest-requires c = c.lowest-p.ensures.0
 
 pub lacks-a-requires : goal.lacks-a-requires
-lacks-a-requires c =     let p = c.requires in
+lacks-a-requires c = let p = c.requires in
     (p.0, p.1, p.4, p.8, search rules, search rules)
 
 pub out_of_reach-requires : goal.out_of_reach-requires
-out_of_reach-requires c =     let p = c.requires in
+out_of_reach-requires c = let p = c.requires in
     (p.0, p.1, p.2, p.3, p.4, p.5, p.6, p.7)
 
 pub returns-then-out_of_reach : goal.returns-then-out_of_reach
-returns-then-out_of_reach c =     let a = c.lacks-a in
+returns-then-out_of_reach c = let a = c.lacks-a in
     let p = c.lowest-p.result in
     let r = c.out_of_reach.ensures c.if-out_of_reach.true in
     λ e. (r.0, (p, a.result.total, a.result.news, a.ensures, r.1))
 
 pub loop-rest-smaller : goal.loop-rest-smaller
-loop-rest-smaller c =     let without = c.without-rest in
+loop-rest-smaller c = let without = c.without-rest in
     let lowest = c.lowest-p in
     without.ensures.less lowest.ensures.1
 

@@ -11,17 +11,17 @@ use Rattle.holding.specs.ReachLaws.{reached_start, reached_same, reached_more}
 use Rattle.holding.proofs.reach.Goals as goal
 
 pub loop-y-init : goal.loop-y-init
-loop-y-init c =     let a = c.args in
+loop-y-init c = let a = c.args in
     (omega arith, reached_start a.cl.now a.base.now a.n.owns a.n.wants a.codes.now a.dom.now a.own.now a.t.number a.p)
 
 pub bounds-codes-y : goal.bounds-codes-y
-bounds-codes-y c =     let h = c.loop-y-test.true in
+bounds-codes-y c = let h = c.loop-y-test.true in
     let z = c.requires.2 in
     let n = c.requires.6 in
     search rules
 
 pub label-l-requires : goal.label-l-requires
-label-l-requires c =     let h = c.loop-y-test.true in
+label-l-requires c = let h = c.loop-y-test.true in
     let p = c.requires in
     let a = p.2 in
     let e = p.0.long in
@@ -48,7 +48,7 @@ pub bounds-wants-l : goal.bounds-wants-l
 bounds-wants-l c = let facts = labelled c in search rules
 
 pub lacking-requires : goal.lacking-requires
-lacking-requires c =     let facts = labelled c in
+lacking-requires c = let facts = labelled c in
     let pre = c.requires in (pre.0, pre.1, pre.3, facts.0)
 
 pub offset_bounds-dom-y : goal.offset_bounds-dom-y
@@ -64,7 +64,7 @@ pub bounds-own-l : goal.bounds-own-l
 bounds-own-l c = let facts = labelled (goal.at.bounds-own-l c).After-label-l in search rules
 
 pub loop-y-preserved : goal.loop-y-preserved
-loop-y-preserved c =     let h = c.loop-y-test.true in
+loop-y-preserved c = let h = c.loop-y-test.true in
     let z = c.requires.2 in
     let a = c.args in
     let l = c.loop-y in (
@@ -83,7 +83,7 @@ loop-y-preserved c =     let h = c.loop-y-test.true in
     )
 
 pub returns : goal.returns
-returns c =     let a = c.args in
+returns c = let a = c.args in
     let l = c.loop-y in
     let h = c.loop-y-test.false in
     let z = l.invariant.0 in

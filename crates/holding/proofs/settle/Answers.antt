@@ -6,30 +6,30 @@ use Rattle.cells.specs.ListLaws.{zeros_are}
 use Rattle.holding.proofs.settle.Goals as goal
 
 pub held-requires : goal.held-requires
-held-requires c =     let pre = c.requires in
+held-requires c = let pre = c.requires in
     (pre.0, pre.2, pre.3, pre.4, pre.5, pre.6, refl, refl, λ l h. zeros_are 32 l, λ l h. zeros_are 32 l)
 
 pub bounds-ms-o : goal.bounds-ms-o
-bounds-ms-o c =     let pre = c.requires in
+bounds-ms-o c = let pre = c.requires in
     let outs = pre.4 in
     let o = pre.5 in
     search rules
 
 pub slice_bounds-wanted-end : goal.slice_bounds-wanted-end
-slice_bounds-wanted-end c =     let held = c.held in
+slice_bounds-wanted-end c = let held = c.held in
     sym held.ensures.own-long
 
 pub slice_bounds-wanted-end-2 : goal.slice_bounds-wanted-end-2
-slice_bounds-wanted-end-2 c =     let held = c.held in
+slice_bounds-wanted-end-2 c = let held = c.held in
     sym held.ensures.owns-long
 
 pub slice_bounds-wanted-end-3 : goal.slice_bounds-wanted-end-3
-slice_bounds-wanted-end-3 c =     let held = c.held in
+slice_bounds-wanted-end-3 c = let held = c.held in
     sym held.ensures.owns-long
 
 pub wanted-requires : goal.wanted-requires
-wanted-requires c =     let held = c.held in
-    let pre = c.before.requires in
+wanted-requires c = let held = c.held in
+    let pre = c.requires in
     let few = pre.3 in
     let outs = pre.4 in
     let o = pre.5 in
@@ -37,24 +37,24 @@ wanted-requires c =     let held = c.held in
     (pre.0, few, omega arith, pre.7, s.own-long, s.owns-long, λ l k. let z = s.less l k in omega arith, refl, refl, all_ones 32)
 
 pub slice_bounds-narrow_by-end : goal.slice_bounds-narrow_by-end
-slice_bounds-narrow_by-end c =     let held = c.held in
+slice_bounds-narrow_by-end c = let held = c.held in
     sym held.ensures.own-long
 
 pub slice_bounds-narrow_by-end-2 : goal.slice_bounds-narrow_by-end-2
-slice_bounds-narrow_by-end-2 c =     let wanted = c.wanted in
+slice_bounds-narrow_by-end-2 c = let wanted = c.wanted in
     sym wanted.ensures.meet-long
 
 pub narrow_by-requires : goal.narrow_by-requires
-narrow_by-requires c =     let wanted = c.wanted in
+narrow_by-requires c = let wanted = c.wanted in
     let held = c.held in
-    let pre = c.before.requires in
+    let pre = c.requires in
     (pre.0, pre.1, pre.2, pre.3, pre.4, pre.5, pre.6, pre.7, held.ensures, wanted.ensures)
 
 pub shape_of-dom : goal.shape_of-dom
-shape_of-dom c =     let narrow-by = c.narrow_by in
-    let pre = c.before.requires in
+shape_of-dom c = let narrow-by = c.narrow_by in
+    let pre = c.requires in
     narrow-by.ensures.1 ∙ sym pre.7
 
 pub returns : goal.returns
-returns c =     let narrow-by = c.narrow_by in
+returns c = let narrow-by = c.narrow_by in
     narrow-by.ensures

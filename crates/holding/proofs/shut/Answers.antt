@@ -11,23 +11,23 @@ use Rattle.holding.specs.NarrowLaws.{narrowed_start, narrowed_same}
 use Rattle.holding.proofs.shut.Goals as goal
 
 pub loop-y-init : goal.loop-y-init
-loop-y-init c =     let a = c.args in
+loop-y-init c = let a = c.args in
     (omega arith, narrowed_start (Free a.cl.now a.o a.seen a.b) a.dom.now c.requires.4)
 
 pub bounds-codes-y : goal.bounds-codes-y
-bounds-codes-y c =     let h = c.loop-y-test.true in
+bounds-codes-y c = let h = c.loop-y-test.true in
     let z = c.requires.1 in
     let n = c.requires.3 in
     search rules
 
 pub label-l-requires : goal.label-l-requires
-label-l-requires c =     let h = c.loop-y-test.true in
+label-l-requires c = let h = c.loop-y-test.true in
     let p = c.requires in
     let a = p.1 in
     (let e = p.0.long in omega arith, p.2, omega arith)
 
 pub in_set-requires : goal.in_set-requires
-in_set-requires c =     let loop = c.loop-y in
+in_set-requires c = let loop = c.loop-y in
     let h = c.loop-y-test.true in
     let p = c.requires in
     let v = p.1 in
@@ -37,31 +37,31 @@ in_set-requires c =     let loop = c.loop-y in
     omega arith
 
 pub offset_bounds-dom-y : goal.offset_bounds-dom-y
-offset_bounds-dom-y c =     let n = c.loop-y.invariant.1.long in
+offset_bounds-dom-y c = let n = c.loop-y.invariant.1.long in
     let h = c.loop-y-test.true in
     let z = c.requires.1 in
     search rules
 
 pub bounds-dom-y : goal.bounds-dom-y
-bounds-dom-y c =     let n = c.loop-y.invariant.1.long in
+bounds-dom-y c = let n = c.loop-y.invariant.1.long in
     let h = c.loop-y-test.true in
     let z = c.requires.1 in
     search rules
 
 pub offset_bounds-dom-y-then-not-in_set : goal.offset_bounds-dom-y-then-not-in_set
-offset_bounds-dom-y-then-not-in_set c =     let n = c.loop-y.invariant.1.long in
+offset_bounds-dom-y-then-not-in_set c = let n = c.loop-y.invariant.1.long in
     let h = c.loop-y-test.true in
     let z = c.requires.1 in
     search rules
 
 pub bounds-dom-y-then-not-in_set : goal.bounds-dom-y-then-not-in_set
-bounds-dom-y-then-not-in_set c =     let n = c.loop-y.invariant.1.long in
+bounds-dom-y-then-not-in_set c = let n = c.loop-y.invariant.1.long in
     let h = c.loop-y-test.true in
     let z = c.requires.1 in
     search rules
 
 pub loop-y-preserved : goal.loop-y-preserved
-loop-y-preserved c =     let a = c.args in
+loop-y-preserved c = let a = c.args in
     let l = c.loop-y in
     let h = c.loop-y-test.true in let z = c.requires.1 in
     let P = Free a.cl.now a.o a.seen a.b in (
@@ -79,6 +79,6 @@ pub shape_of-dom : goal.shape_of-dom
 shape_of-dom c = c.loop-y.invariant.1.long ∙ sym c.requires.4
 
 pub returns : goal.returns
-returns c =     let a = c.args in
+returns c = let a = c.args in
     let l = c.loop-y in
     subst (λ (n : ℕ). Narrowed (Free a.cl.now a.o a.seen a.b) a.dom.now n l.dom) (let h = c.loop-y-test.false in let z = l.invariant.0 in omega arith) l.invariant.1

@@ -18,7 +18,7 @@ pub joined-r-requires : goal.joined-r-requires
 joined-r-requires c = c.loop-i-test.true
 
 pub loop-i-preserved : goal.loop-i-preserved
-loop-i-preserved c =     let in-set = c.in_set in
+loop-i-preserved c = let in-set = c.in_set in
     let h = c.loop-i-test.true in
     let loop = c.loop-i in
     let args = c.args in (
@@ -30,7 +30,7 @@ loop-i-preserved c =     let in-set = c.in_set in
     )
 
 pub returns : goal.returns
-returns c =     let loop = c.loop-i in
+returns c = let loop = c.loop-i in
     let args = c.args in
     let h = c.loop-i-test.false in
     let z = loop.invariant.0 in

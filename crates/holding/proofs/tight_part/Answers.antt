@@ -12,7 +12,7 @@ pub with-requires : goal.with-requires
 with-requires c = let h = c.requires in omega arith
 
 pub returns-then-t-spot : goal.returns-then-t-spot
-returns-then-t-spot c =     λ q e. (eqb-true q c.args.p (sym (ap (λ (b : Bool). orb b (eqb q c.args.p)) (on_zero q)) ∙ sym (c.with.ensures q) ∙ e), c.if-t-spot.true)
+returns-then-t-spot c = λ q e. (eqb-true q c.args.p (sym (ap (λ (b : Bool). orb b (eqb q c.args.p)) (on_zero q)) ∙ sym (c.with.ensures q) ∙ e), c.if-t-spot.true)
 
 pub returns-else-t-spot : goal.returns-else-t-spot
 returns-else-t-spot c = λ q e. absurd (never_both e (on_zero q))

@@ -17,7 +17,7 @@ pub with-r-requires : goal.with-r-requires
 with-r-requires c = let h = c.loop-p-test.true in omega arith
 
 pub loop-p-preserved : goal.loop-p-preserved
-loop-p-preserved c =     let a = c.args in
+loop-p-preserved c = let a = c.args in
     let l = c.loop-p in
     let h = c.loop-p-test.true in (
       omega arith,
@@ -28,6 +28,6 @@ loop-p-preserved c =     let a = c.args in
     )
 
 pub returns : goal.returns
-returns c =     let a = c.args in
+returns c = let a = c.args in
     let l = c.loop-p in
     subst (λ (n : ℕ). TightBelow a.ts.now a.spot n l.r) (let h = c.loop-p-test.false in let z = l.invariant.0 in omega arith) l.invariant.1

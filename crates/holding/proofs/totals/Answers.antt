@@ -10,16 +10,16 @@ use Rattle.cells.specs.ListLaws.{zeros_are}
 use Rattle.holding.proofs.totals.Goals as goal
 
 pub loop-l-init : goal.loop-l-init
-loop-l-init c =     let a = c.args in (omega arith, totals_start a.cl.now a.owns.now a.base.now a.o _ refl (λ p h. zeros_are 32 p))
+loop-l-init c = let a = c.args in (omega arith, totals_start a.cl.now a.owns.now a.base.now a.o _ refl (λ p h. zeros_are 32 p))
 
 pub class_part-p-requires : goal.class_part-p-requires
-class_part-p-requires c =     (c.requires.0, c.requires.2, c.loop-l-test.true)
+class_part-p-requires c = (c.requires.0, c.requires.2, c.loop-l-test.true)
 
 pub bounds-owns-l : goal.bounds-owns-l
 bounds-owns-l c = let n = c.requires.3 in search rules
 
 pub label-requires : goal.label-requires
-label-requires c =     let loop-test = c.loop-l-test in
+label-requires c = let loop-test = c.loop-l-test in
     let z = c.requires.1 in (omega arith, c.requires.2, loop-test.true)
 
 pub overflow_cast-n : goal.overflow_cast-n
@@ -51,7 +51,7 @@ pub bounds-t-p-in-loop-l : goal.bounds-t-p-in-loop-l
 bounds-t-p-in-loop-l c = let facts = needs-more c in search rules
 
 pub loop-l-preserved : goal.loop-l-preserved
-loop-l-preserved c =     let class-part = c.class_part-p in
+loop-l-preserved c = let class-part = c.class_part-p in
     let a = c.args in
     let l = c.loop-l in
     let h = c.loop-l-test.true in (
@@ -62,6 +62,6 @@ loop-l-preserved c =     let class-part = c.class_part-p in
     )
 
 pub returns : goal.returns
-returns c =     let a = c.args in
+returns c = let a = c.args in
     let l = c.loop-l in
     subst (λ (n : ℕ). Totals a.cl.now a.owns.now a.base.now a.o n l.t) (let h = c.loop-l-test.false in let z = l.invariant.0 in omega arith) l.invariant.1

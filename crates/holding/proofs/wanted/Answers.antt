@@ -10,12 +10,12 @@ use Rattle.holding.specs.WantsLaws.{wanted_start, wanted_same, wanted_more}
 use Rattle.holding.proofs.wanted.Goals as goal
 
 pub loop-y-init : goal.loop-y-init
-loop-y-init c =     let args = c.args in
+loop-y-init c = let args = c.args in
     let pre = c.requires in
     (omega arith, wanted_start args.cl.now args.o args.mask args.dom.now args.own.now args.owns.now _ _ pre.7 pre.5 pre.8 pre.9)
 
 pub label-l-requires : goal.label-l-requires
-label-l-requires c =     let loop-test = c.loop-y-test in
+label-l-requires c = let loop-test = c.loop-y-test in
     let pre = c.requires in
     let d = loop-test.true in
     let few = pre.1 in
@@ -81,7 +81,7 @@ pub bounds-wants-l : goal.bounds-wants-l
 bounds-wants-l c = let facts = labelled (goal.at.bounds-wants-l c).After-label-l in search rules
 
 pub loop-y-preserved : goal.loop-y-preserved
-loop-y-preserved c =     let if1 = c.if-dom-y-eq0 in
+loop-y-preserved c = let if1 = c.if-dom-y-eq0 in
     let label = c.label-l in
     let loop-test = c.loop-y-test in
     let loop = c.loop-y in
@@ -101,17 +101,17 @@ loop-y-preserved c =     let if1 = c.if-dom-y-eq0 in
     )
 
 pub shape_of-wants : goal.shape_of-wants
-shape_of-wants c =     let loop = c.loop-y in
+shape_of-wants c = let loop = c.loop-y in
     let pre = c.requires in
     loop.invariant.1.long ∙ sym (ap length pre.7 ∙ pre.5)
 
 pub shape_of-meet : goal.shape_of-meet
-shape_of-meet c =     let loop = c.loop-y in
+shape_of-meet c = let loop = c.loop-y in
     let pre = c.requires in
     loop.invariant.1.meet-long ∙ sym pre.8
 
 pub returns : goal.returns
-returns c =     let loop-test = c.loop-y-test in
+returns c = let loop-test = c.loop-y-test in
     let loop = c.loop-y in
     let args = c.args in
     let h = loop-test.false in

@@ -33,7 +33,7 @@ returns-then-i-eq4 c = at-cell 0x0000ffff0000ffff 4 c.args.i c.if-i-eq4.true ref
 
 pub returns-else-i-eq4 : goal.returns-else-i-eq4
 unfolding on digit every without_cell
-returns-else-i-eq4 c =     let i = c.args.i in
+returns-else-i-eq4 c = let i = c.args.i in
     let h = c.requires in
     let n0 = c.if-i-eq0.false in
     let n1 = c.if-i-eq1.false in

@@ -21,7 +21,7 @@ pub returns-then-a-b : goal.returns-then-a-b
 returns-then-a-b c = λ e. absurd (true_false (sym e))
 
 pub loop-o-preserved : goal.loop-o-preserved
-loop-o-preserved c =     let label2 = c.label-b in
+loop-o-preserved c = let label2 = c.label-b in
     let label = c.label-a in
     let loop-test = c.loop-o-test in
     let loop = c.loop-o in

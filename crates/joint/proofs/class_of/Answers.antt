@@ -10,7 +10,7 @@ pub bounds-first-i : goal.bounds-first-i
 bounds-first-i c = let h = c.loop-i-test.true in let z = c.requires.3 in search rules
 
 pub alike-requires : goal.alike-requires
-alike-requires c =     let loop = c.loop-i in
+alike-requires c = let loop = c.loop-i in
     let h = c.loop-i-test.true in
     let p = c.requires in
     let z = p.3 in

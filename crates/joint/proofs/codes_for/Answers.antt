@@ -8,17 +8,17 @@ pub merge-m-requires : goal.merge-m-requires
 merge-m-requires c = (c.requires.0, c.requires.1, c.requires.2)
 
 pub relabel-labels-requires : goal.relabel-labels-requires
-relabel-labels-requires c =     let merge = c.merge-m in
+relabel-labels-requires c = let merge = c.merge-m in
     (c.requires.0, c.requires.2, merge.ensures.small)
 
 pub drawn-known-requires : goal.drawn-known-requires
-drawn-known-requires c =     let merge = c.merge-m in
+drawn-known-requires c = let merge = c.merge-m in
     let few = merge.ensures.few in
     let pre = c.requires.1 in
     (omega arith, merge.ensures.small)
 
 pub drawn-digits-requires : goal.drawn-digits-requires
-drawn-digits-requires c =     let merge = c.merge-m in
+drawn-digits-requires c = let merge = c.merge-m in
     let few = merge.ensures.few in
     let pre = c.requires.1 in
     (omega arith, merge.ensures.small)
@@ -27,19 +27,19 @@ pub slice_bounds-codes_for-end : goal.slice_bounds-codes_for-end
 slice_bounds-codes_for-end c = sym c.relabel-labels.ensures.long
 
 pub codes_for-c-requires : goal.codes_for-c-requires
-codes_for-c-requires c =     let relabel = c.relabel-labels in
+codes_for-c-requires c = let relabel = c.relabel-labels in
     let merge = c.merge-m in
     let args = c.args in
     let pre = c.requires in
     let z = merge.ensures.few in let w = pre.1 in (picked_labels args.cl.now _ _ args.j pre.2 pre.0 merge.ensures.small relabel.ensures, omega arith, pre.2, pre.3)
 
 pub expand-codes-requires : goal.expand-codes-requires
-expand-codes-requires c =     let merge = c.merge-m in
+expand-codes-requires c = let merge = c.merge-m in
     let pre = c.requires in
     (pre.1, λ x h. let z = merge.ensures.within x h in let f = merge.ensures.few in let w = pre.1 in omega arith)
 
 pub returns : goal.returns
-returns c =     let codes-for = c.codes_for-c in
+returns c = let codes-for = c.codes_for-c in
     let digits = c.drawn-digits in
     let known = c.drawn-known in
     let relabel = c.relabel-labels in

@@ -20,7 +20,7 @@ pub bounds-first-i : goal.bounds-first-i
 bounds-first-i c = let h = c.loop-i-test.true in let p = c.requires in let few = p.0 in search rules
 
 pub overflow_cast-x : goal.overflow_cast-x
-overflow_cast-x c =     let loop = c.loop-i in
+overflow_cast-x c = let loop = c.loop-i in
     let h = c.loop-i-test.true in
     let p = c.requires in
     let few = p.0 in
@@ -28,7 +28,7 @@ overflow_cast-x c =     let loop = c.loop-i in
     omega arith
 
 pub in_set-requires : goal.in_set-requires
-in_set-requires c =     let loop = c.loop-i in
+in_set-requires c = let loop = c.loop-i in
     let h = c.loop-i-test.true in
     let p = c.requires in
     let few = p.0 in
@@ -42,7 +42,7 @@ pub with-r-requires : goal.with-r-requires
 with-r-requires c = let h = c.loop-i-test.true in let p = c.requires in let few = p.0 in omega arith
 
 pub loop-i-preserved : goal.loop-i-preserved
-loop-i-preserved c =     let a = c.args in
+loop-i-preserved c = let a = c.args in
     let h = c.loop-i-test.true in
     let l = c.loop-i in
     let d = sym c.in_set.ensures in (
@@ -54,7 +54,7 @@ loop-i-preserved c =     let a = c.args in
     )
 
 pub overflow_cast-result : goal.overflow_cast-result
-overflow_cast-result c =     let a = c.args in
+overflow_cast-result c = let a = c.args in
     let few = c.requires.0 in
     let l = c.loop-i in
     let i = l.invariant.0 in
@@ -62,7 +62,7 @@ overflow_cast-result c =     let a = c.args in
     omega arith
 
 pub returns : goal.returns
-returns c =     let a = c.args in
+returns c = let a = c.args in
     let l = c.loop-i in
     let end = c.loop-i-test.false in
     let i = l.invariant.0 in

@@ -12,7 +12,7 @@ pub loop-x-init : goal.loop-x-init
 loop-x-init c = (omega arith, merged_start c.args.cl.now c.args.j c.args.kn c.args.val _ _ refl refl (vertices_zero max_vertices))
 
 pub class_of-q-requires : goal.class_of-q-requires
-class_of-q-requires c =     let p = c.requires in
+class_of-q-requires c = let p = c.requires in
     let l = c.loop-x in
     let h = c.loop-x-test.true in
     let few = p.1 in
@@ -20,37 +20,37 @@ class_of-q-requires c =     let p = c.requires in
     (p.0, p.2, omega arith, omega arith, l.invariant.1.small)
 
 pub offset_bounds-place-x : goal.offset_bounds-place-x
-offset_bounds-place-x c =     let h = c.loop-x-test.true in
+offset_bounds-place-x c = let h = c.loop-x-test.true in
     let p = c.requires.1 in
     let f = c.loop-x.invariant.1.few in
     search rules
 
 pub bounds-place-x : goal.bounds-place-x
-bounds-place-x c =     let h = c.loop-x-test.true in
+bounds-place-x c = let h = c.loop-x-test.true in
     let p = c.requires.1 in
     let f = c.loop-x.invariant.1.few in
     search rules
 
 pub offset_bounds-first-n : goal.offset_bounds-first-n
-offset_bounds-first-n c =     let h = c.loop-x-test.true in
+offset_bounds-first-n c = let h = c.loop-x-test.true in
     let p = c.requires.1 in
     let f = c.loop-x.invariant.1.few in
     search rules
 
 pub bounds-first-n : goal.bounds-first-n
-bounds-first-n c =     let h = c.loop-x-test.true in
+bounds-first-n c = let h = c.loop-x-test.true in
     let p = c.requires.1 in
     let f = c.loop-x.invariant.1.few in
     search rules
 
 pub overflow_add-n : goal.overflow_add-n
-overflow_add-n c =     let h = c.loop-x-test.true in
+overflow_add-n c = let h = c.loop-x-test.true in
     let p = c.requires.1 in
     let f = c.loop-x.invariant.1.few in
     omega arith
 
 pub loop-x-preserved : goal.loop-x-preserved
-loop-x-preserved c =     let l = c.loop-x in
+loop-x-preserved c = let l = c.loop-x in
     let q = c.class_of-q in
     let h = c.loop-x-test.true in
     let p = c.requires.1 in (
@@ -64,7 +64,7 @@ loop-x-preserved c =     let l = c.loop-x in
     )
 
 pub returns : goal.returns
-returns c =     let l = c.loop-x in
+returns c = let l = c.loop-x in
     subst (λ (z : ℕ). Merged c.args.cl.now c.args.j c.args.kn c.args.val z l.n l.first l.place)
     (let h = c.loop-x-test.false in let z = l.invariant.0 in omega arith)
     l.invariant.1

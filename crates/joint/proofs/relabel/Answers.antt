@@ -14,11 +14,11 @@ pub overflow_mul-end : goal.overflow_mul-end
 overflow_mul-end c = let h = c.requires.1 in search rules
 
 pub loop-i-init : goal.loop-i-init
-loop-i-init c =     let args = c.args in
+loop-i-init c = let args = c.args in
     (omega arith, refl, picked_start args.cl.now args.t2 c.copied-r.result c.copied-r.ensures)
 
 pub label-requires : goal.label-requires
-label-requires c =     let p = c.requires in
+label-requires c = let p = c.requires in
     let l = c.loop-i in
     let h = c.loop-i-test.true in
     let e = l.invariant.1 in
@@ -27,26 +27,26 @@ label-requires c =     let p = c.requires in
     (omega arith, omega arith, p.2 (l.i % max_vertices) (omega arith))
 
 pub bounds-r-i : goal.bounds-r-i
-bounds-r-i c =     let h = c.loop-i-test.true in
+bounds-r-i c = let h = c.loop-i-test.true in
     let e = c.loop-i.invariant.1 in
     let p = c.requires.1 in
     search rules
 
 pub overflow_add-i : goal.overflow_add-i
-overflow_add-i c =     let h = c.loop-i-test.true in
+overflow_add-i c = let h = c.loop-i-test.true in
     let e = c.loop-i.invariant.1 in
     let p = c.requires.1 in
     search rules
 
 pub loop-i-preserved : goal.loop-i-preserved
-loop-i-preserved c =     let l = c.loop-i in
+loop-i-preserved c = let l = c.loop-i in
     let h = c.loop-i-test.true in
     let e = l.invariant.1 in
     let p = c.requires.1 in
     (omega arith, e, picked_more c.args.cl.now c.args.first l.i _ l.r (omega arith) c.label.ensures l.invariant.2)
 
 pub returns : goal.returns
-returns c =     let l = c.loop-i in
+returns c = let l = c.loop-i in
     subst (λ (z : ℕ). Picked c.args.cl.now c.args.first z l.r)
     (let h = c.loop-i-test.false in let z = l.invariant.0 in let e = l.invariant.1 in omega arith)
     l.invariant.2

@@ -10,30 +10,30 @@ pub loop-at-init : goal.loop-at-init
 loop-at-init c = (reached_start c.args.s.now, λ h. h)
 
 pub overflow_add-next : goal.overflow_add-next
-overflow_add-next c =     let i = c.line_end-e.ensures.inside in
+overflow_add-next c = let i = c.line_end-e.ensures.inside in
     let g = c.shared_slice_known-1.given in
     search rules
 
 pub returns-then-number-line : goal.returns-then-number-line
-returns-then-number-line c =     let loop-test = c.loop-at-test in
+returns-then-number-line c = let loop-test = c.loop-at-test in
     let a = c.args in
     let l = c.loop-at in
     let e = c.line_end-e in
     reached_hit a.s.now l.at l.number e.result loop-test.true e.ensures l.invariant.0 a.line c.if-number-line.true
 
 pub overflow_add-number : goal.overflow_add-number
-overflow_add-number c =     let h = c.loop-at-test.true in
+overflow_add-number c = let h = c.loop-at-test.true in
     let f = c.loop-at.invariant.0.few in
     let g = c.shared_slice_known-1.given in
     search rules
 
 pub loop-at-smaller : goal.loop-at-smaller
-loop-at-smaller c =     let h = c.loop-at-test.true in
+loop-at-smaller c = let h = c.loop-at-test.true in
     let a = c.line_end-e.ensures.after-start in
     omega arith
 
 pub loop-at-preserved : goal.loop-at-preserved
-loop-at-preserved c =     let loop-test = c.loop-at-test in
+loop-at-preserved c = let loop-test = c.loop-at-test in
     let a = c.args in
     let l = c.loop-at in
     let e = c.line_end-e in
@@ -45,6 +45,6 @@ loop-at-preserved c =     let loop-test = c.loop-at-test in
     )
 
 pub returns : goal.returns
-returns c =     let a = c.args in
+returns c = let a = c.args in
     let l = c.loop-at in
     reached_end a.s.now l.at l.number a.line c.loop-at-test.false l.invariant.1 l.invariant.0

@@ -22,18 +22,18 @@ moved {cl} {o} {q} {x} {seen} {seen'} {g} {g'} a b d s m =
     (subst (λ (z : List ℕ). Counting cl o q x z g') (sym a) (subst (Counting cl o q x seen) (sym b) s), subst (KindsSoFar cl o q x) (sym d) m)
 
 pub loop-x-init : goal.loop-x-init
-loop-x-init c =     let a = c.args in
+loop-x-init c = let a = c.args in
     (omega arith, counting_start a.cl.now a.o a.q _ _ refl refl (zeros_are 1024), kinds_start a.cl.now a.o a.q _ refl (zeros_are 32))
 
 pub label-l-requires : goal.label-l-requires
-label-l-requires c =     let pre = c.requires in
+label-l-requires c = let pre = c.requires in
     let h = c.loop-x-test.true in
     let few = pre.1 in
     let long = pre.0.long in
     (omega arith, pre.2, omega arith)
 
 pub label-k-requires : goal.label-k-requires
-label-k-requires c =     let pre = c.requires in
+label-k-requires c = let pre = c.requires in
     let h = c.loop-x-test.true in
     let few = pre.1 in
     let long = pre.0.long in
@@ -64,7 +64,7 @@ pub bounds-seen-l-then-not-in_set-2 : goal.bounds-seen-l-then-not-in_set-2
 bounds-seen-l-then-not-in_set-2 c = let facts = labelled (goal.at.bounds-seen-l-then-not-in_set-2 c).After-label-k in search rules
 
 pub part-p-requires : goal.part-p-requires
-part-p-requires c =     let pre = c.requires in
+part-p-requires c = let pre = c.requires in
     let h = c.loop-x-test.true in
     let few = pre.1 in
     (pre.0, pre.3, omega arith)
@@ -73,7 +73,7 @@ pub bounds-g-i : goal.bounds-g-i
 bounds-g-i c = let facts = labelled (goal.at.bounds-g-i c).After-label-k in let low_part = c.part-p.ensures.1 in search rules
 
 pub overflow_add-n : goal.overflow_add-n
-overflow_add-n c =     let label = c.label-l in
+overflow_add-n c = let label = c.label-l in
     let pre = c.requires in
     let loop = c.loop-x in
     let h = c.loop-x-test.true in
@@ -91,7 +91,7 @@ pub bounds-r-l-then-r-l : goal.bounds-r-l-then-r-l
 bounds-r-l-then-r-l c = let facts = labelled (goal.at.bounds-r-l-then-r-l c).After-label-k in search rules
 
 pub loop-x-preserved : goal.loop-x-preserved
-loop-x-preserved c =     let a = c.args in
+loop-x-preserved c = let a = c.args in
     let pre = c.requires in
     let loop = c.loop-x in
     let l = c.label-l in
@@ -116,7 +116,7 @@ loop-x-preserved c =     let a = c.args in
     (omega arith, next.0, next.1)
 
 pub returns : goal.returns
-returns c =     let a = c.args in
+returns c = let a = c.args in
     let loop = c.loop-x in
     let h = c.loop-x-test.false in
     let le = loop.invariant.0 in

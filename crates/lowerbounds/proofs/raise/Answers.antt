@@ -22,7 +22,7 @@ pub overflow_add-i : goal.overflow_add-i
 overflow_add-i c = let small = c.requires.1 in let h = c.loop-l-test.true in search rules
 
 pub overflow_add-b : goal.overflow_add-b
-overflow_add-b c =     let h = c.loop-l-test.true in
+overflow_add-b c = let h = c.loop-l-test.true in
     let few = c.requires.3 c.loop-l.l h in
     let power = c.power-p.ensures in
     let room = power.2 in
@@ -35,7 +35,7 @@ pub overflow_shr-b : goal.overflow_shr-b
 overflow_shr-b c = let low = c.requires.2 in search rules
 
 pub bounds-base-i : goal.bounds-base-i
-bounds-base-i c =     let pre = c.requires in
+bounds-base-i c = let pre = c.requires in
     let long = pre.0 in
     let small = pre.1 in
     let h = c.loop-l-test.true in
@@ -43,7 +43,7 @@ bounds-base-i c =     let pre = c.requires in
     search rules
 
 pub loop-l-preserved : goal.loop-l-preserved
-loop-l-preserved c =     let loop = c.loop-l in
+loop-l-preserved c = let loop = c.loop-l in
     let power = c.power-p in
     let a = c.args in
     let pre = c.requires in
@@ -61,7 +61,7 @@ pub shape_of-base : goal.shape_of-base
 shape_of-base c = c.loop-l.invariant.1.long
 
 pub returns : goal.returns
-returns c =     let a = c.args in
+returns c = let a = c.args in
     let loop = c.loop-l in
     let h = c.loop-l-test.false in
     let le = loop.invariant.0 in

@@ -12,24 +12,24 @@ pub loop-q-init : goal.loop-q-init
 loop-q-init c = (omega arith, c.requires.4)
 
 pub bounds-rows-q : goal.bounds-rows-q
-bounds-rows-q c =     let h = c.loop-q-test.true in
+bounds-rows-q c = let h = c.loop-q-test.true in
     let few = c.requires.2 in
     search rules
 
 pub bounds-rows-o : goal.bounds-rows-o
-bounds-rows-o c =     let few = c.requires.2 in
+bounds-rows-o c = let few = c.requires.2 in
     let one = c.requires.3 in
     search rules
 
 pub kinds-requires : goal.kinds-requires
-kinds-requires c =     let pre = c.requires in
+kinds-requires c = let pre = c.requires in
     let h = c.loop-q-test.true in
     let few = pre.2 in
     let one = pre.3 in
     (pre.0, pre.1, omega arith, omega arith)
 
 pub raise-requires : goal.raise-requires
-raise-requires c =     let loop = c.loop-q in
+raise-requires c = let loop = c.loop-q in
     let size = c.size-d in
     let pre = c.requires in
     let few = pre.2 in
@@ -37,7 +37,7 @@ raise-requires c =     let loop = c.loop-q in
     (loop.invariant.1.long, omega arith, size.ensures.1, λ l h. (c.kinds.ensures l h).few)
 
 pub loop-q-preserved : goal.loop-q-preserved
-loop-q-preserved c =     let a = c.args in
+loop-q-preserved c = let a = c.args in
     let pre = c.requires in
     let loop = c.loop-q in
     let h = c.loop-q-test.true in
@@ -50,7 +50,7 @@ loop-q-preserved c =     let a = c.args in
     )
 
 pub shape_of-base : goal.shape_of-base
-shape_of-base c =     let old = c.requires.4.long in
+shape_of-base c = let old = c.requires.4.long in
     let same = c.loop-q.invariant.1.long in
     same ∙ sym old
 

@@ -10,21 +10,21 @@ pub loop-o-init : goal.loop-o-init
 loop-o-init c = filled_none _ _ refl
 
 pub bounds-ws-o : goal.bounds-ws-o
-bounds-ws-o c =     let few = c.requires.0 in
+bounds-ws-o c = let few = c.requires.0 in
     let below = c.loop-o-test.true in
     omega arith
 
 pub overflow_cast-r : goal.overflow_cast-r
-overflow_cast-r c =     let small = c.requires.1 c.loop-o.o c.loop-o-test.true in
+overflow_cast-r c = let small = c.requires.1 c.loop-o.o c.loop-o-test.true in
     omega arith
 
 pub bounds-r-o : goal.bounds-r-o
-bounds-r-o c =     let few = c.requires.0 in
+bounds-r-o c = let few = c.requires.0 in
     let below = c.loop-o-test.true in
     omega arith
 
 pub loop-o-preserved : goal.loop-o-preserved
-loop-o-preserved c =     let few = c.requires.0 in
+loop-o-preserved c = let few = c.requires.0 in
     let below = c.loop-o-test.true in
     filled_more _ (omega arith) refl c.loop-o.invariant
 

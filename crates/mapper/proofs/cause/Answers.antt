@@ -4,11 +4,11 @@ use borrow.Author.Rules.{rules}
 use Rattle.mapper.proofs.cause.Goals as goal
 
 pub cause_of-requires : goal.cause_of-requires
-cause_of-requires c =     let examine = c.examine in
+cause_of-requires c = let examine = c.examine in
     examine.ensures.1
 
 pub returns : goal.returns
-returns c =     let cause-of = c.cause_of in
+returns c = let cause-of = c.cause_of in
     let examine = c.examine in
     let args = c.args in
     let s = args.sheet.now in

@@ -15,7 +15,7 @@ pub loop-i-init : goal.loop-i-init
 loop-i-init c = (omega arith, filled_none _ _ refl, λ k h. zeros_are label_count k)
 
 pub loop-i-preserved : goal.loop-i-preserved
-loop-i-preserved c =     let loop = c.loop-i in
+loop-i-preserved c = let loop = c.loop-i in
     let below = c.loop-i-test.true in (
       omega arith,
       filled_more _ (omega arith) c.label_of.ensures loop.invariant.1,
@@ -23,6 +23,6 @@ loop-i-preserved c =     let loop = c.loop-i in
     )
 
 pub returns : goal.returns
-returns c =     let loop = c.loop-i in
+returns c = let loop = c.loop-i in
     let most = loop.invariant.0 in
     record { given = filled_fewer c.loop-i-test.false loop.invariant.1; others = λ i h. loop.invariant.2 i (omega arith) }

@@ -4,11 +4,11 @@ use borrow.Author.Rules.{rules}
 use Rattle.mapper.proofs.map.Goals as goal
 
 pub map_of-requires : goal.map_of-requires
-map_of-requires c =     let examine = c.examine in
+map_of-requires c = let examine = c.examine in
     examine.ensures.1
 
 pub returns : goal.returns
-returns c =     let map_of = c.map_of in
+returns c = let map_of = c.map_of in
     let examine = c.examine in
     let args = c.args in
     let s = args.sheet.now in

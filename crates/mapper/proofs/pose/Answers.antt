@@ -5,19 +5,19 @@ use borrow.Author.Rules.{rules}
 use Rattle.mapper.proofs.pose.Goals as goal
 
 pub classes_of-c-requires : goal.classes_of-c-requires
-classes_of-c-requires c =     let pre = c.requires in
+classes_of-c-requires c = let pre = c.requires in
     let args = c.args in
     proper_counts pre.design args.k pre.holds pre.proper
 
 pub budgets-bs-requires : goal.budgets-bs-requires
-budgets-bs-requires c =     let classes-of = c.classes_of-c in
+budgets-bs-requires c = let classes-of = c.classes_of-c in
     let pre = c.requires in
     let args = c.args in
     let q = classes-of.ensures pre.design pre.holds pre.proper in
     budgets_ready pre.design args.k pre.holds classes-of.result q
 
 pub returns : goal.returns
-returns c =     let budgets = c.budgets-bs in
+returns c = let budgets = c.budgets-bs in
     let labels = c.labels-cl in
     let classes-of = c.classes_of-c in
     let args = c.args in

@@ -7,20 +7,20 @@ use Rattle.names.proofs.as_operator.Goals as goal
 
 pub returns-in-7630702 : goal.returns-in-7630702
 unfolding operator name_of unpack_within same
-returns-in-7630702 c = operator_of c.in-7630702.keys1
+returns-in-7630702 c = operator_of c.in-7630702.is
 
 pub returns-in-6581857 : goal.returns-in-6581857
 unfolding operator name_of unpack_within same
-returns-in-6581857 c = operator_of c.in-6581857.keys2
+returns-in-6581857 c = operator_of c.in-6581857.is
 
 pub returns-in-29295 : goal.returns-in-29295
 unfolding operator name_of unpack_within same
-returns-in-29295 c = operator_of c.in-29295.keys3
+returns-in-29295 c = operator_of c.in-29295.is
 
 pub returns-in-7499640 : goal.returns-in-7499640
 unfolding operator name_of unpack_within same
-returns-in-7499640 c = operator_of c.in-7499640.keys4
+returns-in-7499640 c = operator_of c.in-7499640.is
 
 pub returns-in_default : goal.returns-in_default
-returns-in_default c =     let none = c.in_default.rest in
+returns-in_default c = let none = c.in_default.rest in
     operator_none c.args.w c.ranges.w.fits none.0.0.0.1 none.0.0.1 none.0.1 none.1

@@ -9,13 +9,13 @@ pub loop-i-init : goal.loop-i-init
 loop-i-init c = missed_none c.args.among.now c.args.n
 
 pub returns-then-same_name : goal.returns-then-same_name
-returns-then-same_name c =     let loop = c.loop-i in
+returns-then-same_name c = let loop = c.loop-i in
     let loop-test = c.loop-i-test in
     found_at loop.invariant loop-test.true
     (sym c.same_name.ensures ∙ c.if-same_name.true)
 
 pub loop-i-preserved : goal.loop-i-preserved
-loop-i-preserved c =     let loop = c.loop-i in
+loop-i-preserved c = let loop = c.loop-i in
     let loop-test = c.loop-i-test in
     missed_more loop.invariant loop-test.true
     (sym c.same_name.ensures ∙ c.if-same_name.false)

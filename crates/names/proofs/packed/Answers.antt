@@ -14,7 +14,7 @@ pub overflow_cast-v : goal.overflow_cast-v
 overflow_cast-v c = omega (arith, c.shared_slice_known-1.given (c.loop-i.i - 1))
 
 pub overflow_add-v : goal.overflow_add-v
-overflow_add-v c =     let loop = c.loop-i in
+overflow_add-v c = let loop = c.loop-i in
     omega (
       arith,
       packed_room loop.invariant c.loop-i-test.true c.requires.1,
@@ -22,7 +22,7 @@ overflow_add-v c =     let loop = c.loop-i in
     )
 
 pub loop-i-preserved : goal.loop-i-preserved
-loop-i-preserved c =     let loop = c.loop-i in
+loop-i-preserved c = let loop = c.loop-i in
     packed_more loop.invariant c.loop-i-test.true c.requires.2
     (omega (arith, c.shared_slice_known-1.given (loop.i - 1)))
 

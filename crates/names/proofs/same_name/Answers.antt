@@ -10,13 +10,13 @@ pub returns-then-y-eq0 : goal.returns-then-y-eq0
 returns-then-y-eq0 c = second-ends c.loop-x.invariant c.loop-x-test.true c.if-y-eq0.true
 
 pub returns-then-lower : goal.returns-then-lower
-returns-then-lower c =     let first = c.lower in
+returns-then-lower c = let first = c.lower in
     let second = c.lower-in-loop-x in
     bytes-differ c.loop-x.invariant c.loop-x-test.true c.if-y-eq0.false
     (λ e. c.if-lower.true (first.ensures ∙ e ∙ sym second.ensures))
 
 pub loop-x-preserved : goal.loop-x-preserved
-loop-x-preserved c =     let first = c.lower in
+loop-x-preserved c = let first = c.lower in
     let second = c.lower-in-loop-x in
     matched-more c.loop-x.invariant c.loop-x-test.true c.if-y-eq0.false
     (sym first.ensures ∙ c.if-lower.false ∙ second.ensures)

@@ -10,16 +10,16 @@ pub loop-z-init : goal.loop-z-init
 loop-z-init c = λ v. running_start v
 
 pub row-requires : goal.row-requires
-row-requires c =     let v = c.requires.1 in
+row-requires c = let v = c.requires.1 in
     omega (arith, (c.loop-z.invariant v).runs, row_small v c.loop-z.z)
 
 pub put_digit-p-requires : goal.put_digit-p-requires
-put_digit-p-requires c =     let pre = c.requires in
+put_digit-p-requires c = let pre = c.requires in
     let so_far = (c.loop-z.invariant pre.1).put.so_far in
     omega (arith, pre.0, c.loop-z-test.true, so_far.place, so_far.short)
 
 pub step-row-requires : goal.step-row-requires
-step-row-requires c =     let v = c.requires.1 in
+step-row-requires c = let v = c.requires.1 in
     (omega (arith, (c.loop-z.invariant v).runs, row_small v c.loop-z.z), bound-small v)
 
 pub loop-z-preserved : goal.loop-z-preserved

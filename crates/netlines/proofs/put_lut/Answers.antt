@@ -9,7 +9,7 @@ use Rattle.netlines.proofs.put_lut.Goals as goal
 -- LEFT slice-aggregate-put-text c = search rules
 
 pub returns : goal.returns
-returns c =     let put-text = c.put_text in
+returns c = let put-text = c.put_text in
     let put-table = c.put_table-q in
     let put-lut-head = c.put_lut_head-p in
     let pre = c.requires in

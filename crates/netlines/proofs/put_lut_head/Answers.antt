@@ -12,7 +12,7 @@ use Rattle.netlines.proofs.put_lut_head.Goals as goal
 -- LEFT slice-aggregate-put-text-2 c = search rules
 
 pub returns : goal.returns
-returns c =     let put-list = c.put_list in
+returns c = let put-list = c.put_list in
     let put-text2 = c.put_text-r in
     let put-name = c.put_name-q in
     let lut-name = c.lut_name in

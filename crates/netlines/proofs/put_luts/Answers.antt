@@ -16,11 +16,11 @@ pub loop-i-init : goal.loop-i-init
 loop-i-init c = texts_none _ _ _ _ _
 
 pub put_lut-p-requires : goal.put_lut-p-requires
-put_lut-p-requires c =     let loop = c.loop-i in
+put_lut-p-requires c = let loop = c.loop-i in
     omega (arith, c.requires, loop.invariant.so_far.place, loop.invariant.so_far.short)
 
 pub loop-i-preserved : goal.loop-i-preserved
-loop-i-preserved c =     texts_put c.loop-i.invariant c.loop-i-test.true c.put_lut-p.ensures
+loop-i-preserved c = texts_put c.loop-i.invariant c.loop-i-test.true c.put_lut-p.ensures
 
 pub shape_of-buf : goal.shape_of-buf
 shape_of-buf c = put_length c.loop-i.invariant.so_far

@@ -20,15 +20,15 @@ pub put_node_head-p-requires : goal.put_node_head-p-requires
 put_node_head-p-requires c = omega (arith, c.requires.0)
 
 pub joined-requires : goal.joined-requires
-joined-requires c =     omega (arith, c.requires.1, c.requires.2, c.read_names-reads.ensures.2)
+joined-requires c = omega (arith, c.requires.1, c.requires.2, c.read_names-reads.ensures.2)
 
 pub put_list-q-requires : goal.put_list-q-requires
-put_list-q-requires c =     let place = c.put_node_head-p.ensures.place in
+put_list-q-requires c = let place = c.put_node_head-p.ensures.place in
     let short = c.put_node_head-p.ensures.short in
     (omega (arith, c.requires.0, place, short), omega (arith, c.requires.1, c.requires.2, c.read_names-reads.ensures.2, c.joined.ensures.1))
 
 pub put_entries-r-requires : goal.put_entries-r-requires
-put_entries-r-requires c =     let power = c.power-count in
+put_entries-r-requires c = let power = c.power-count in
     let codes = codes_few _ power.result power.ensures (omega (arith, c.requires.2, c.read_names-reads.ensures.2)) in
     let few = entries_few power.result (length c.args.free.now) codes c.requires.3.few-free in
     let a = c.put_node_head-p.ensures in
@@ -39,7 +39,7 @@ put_entries-r-requires c =     let power = c.power-count in
 -- LEFT slice-aggregate-put-text c = refl
 
 pub put_text-requires : goal.put_text-requires
-put_text-requires c =     let power = c.power-count in
+put_text-requires c = let power = c.power-count in
     let codes = codes_few _ power.result power.ensures (omega (arith, c.requires.2, c.read_names-reads.ensures.2)) in
     let few = entries_few power.result (length c.args.free.now) codes c.requires.3.few-free in
     let a = c.put_node_head-p.ensures in
@@ -48,10 +48,10 @@ put_text-requires c =     let power = c.power-count in
     omega (arith, c.requires.0, a.place, a.short, b.place, b.short, d.place, d.short)
 
 pub shape_of-buf : goal.shape_of-buf
-shape_of-buf c =     put_length (put_then c.put_node_head-p.ensures (put_then c.put_list-q.ensures (put_then c.put_entries-r.ensures c.put_text.ensures)))
+shape_of-buf c = put_length (put_then c.put_node_head-p.ensures (put_then c.put_list-q.ensures (put_then c.put_entries-r.ensures c.put_text.ensures)))
 
 pub returns : goal.returns
-returns c =     let power = c.power-count in
+returns c = let power = c.power-count in
     let codes = codes_few _ power.result power.ensures (omega (arith, c.requires.2, c.read_names-reads.ensures.2)) in
     let few = entries_few power.result (length c.args.free.now) codes c.requires.3.few-free in
     put_next c.put_node_head-p.ensures (put_then c.put_list-q.ensures (put_then c.put_entries-r.ensures c.put_text.ensures))

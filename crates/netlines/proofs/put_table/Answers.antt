@@ -12,12 +12,12 @@ pub loop-x-init : goal.loop-x-init
 loop-x-init c = digits_none _ _ _ _
 
 pub put_digit-p-requires : goal.put_digit-p-requires
-put_digit-p-requires c =     let loop = c.loop-x in
+put_digit-p-requires c = let loop = c.loop-x in
     let pre = c.requires in
     omega (arith, pre, loop.invariant.so_far.place, loop.invariant.so_far.short)
 
 pub loop-x-preserved : goal.loop-x-preserved
-loop-x-preserved c =     let put-digit = c.put_digit-p in
+loop-x-preserved c = let put-digit = c.put_digit-p in
     let has = c.has in
     let wide = c.wide in
     let loop-test = c.loop-x-test in

@@ -11,11 +11,11 @@ pub loop-z-init : goal.loop-z-init
 loop-z-init c = digits_none _ _ _ _
 
 pub put_digit-p-requires : goal.put_digit-p-requires
-put_digit-p-requires c =     let so_far = c.loop-z.invariant.so_far in
+put_digit-p-requires c = let so_far = c.loop-z.invariant.so_far in
     omega (arith, c.requires, so_far.place, so_far.short)
 
 pub loop-z-preserved : goal.loop-z-preserved
-loop-z-preserved c =     digits_put c.loop-z.invariant c.loop-z-test.true c.put_digit-p.ensures refl
+loop-z-preserved c = digits_put c.loop-z.invariant c.loop-z-test.true c.put_digit-p.ensures refl
 
 pub shape_of-buf : goal.shape_of-buf
 shape_of-buf c = put_length c.loop-z.invariant.so_far

@@ -12,15 +12,15 @@ pub loop-i-init : goal.loop-i-init
 loop-i-init c = coding_none _ _ _
 
 pub overflow_mul-code : goal.overflow_mul-code
-overflow_mul-code c =     record { fits = omega (arith, coding_below c.loop-i.invariant c.requires) }
+overflow_mul-code c = record { fits = omega (arith, coding_below c.loop-i.invariant c.requires) }
 
 pub overflow_add-code : goal.overflow_add-code
-overflow_add-code c =     let loop = c.loop-i in
+overflow_add-code c = let loop = c.loop-i in
     let pre = c.requires in
     record { fits = omega (arith, coding_below loop.invariant pre, c.bit_of.ensures.1) }
 
 pub loop-i-preserved : goal.loop-i-preserved
-loop-i-preserved c =     let has = c.has in
+loop-i-preserved c = let has = c.has in
     let wide = c.wide in
     let loop-test = c.loop-i-test in
     let loop = c.loop-i in

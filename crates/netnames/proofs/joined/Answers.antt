@@ -15,7 +15,7 @@ pub pushed-r-requires : goal.pushed-r-requires
 pushed-r-requires c = omega arith
 
 pub loop-i-preserved : goal.loop-i-preserved
-loop-i-preserved c =     let loop-test = c.loop-i-test in
+loop-i-preserved c = let loop-test = c.loop-i-test in
     let loop = c.loop-i in
     let args = c.args in
     let good = c.well-formed in

@@ -11,7 +11,7 @@ pub loop-i-init : goal.loop-i-init
 loop-i-init c = reading_none _ _ c.no_names-r.ensures.0 c.no_names-r.ensures.1
 
 pub loop-i-preserved : goal.loop-i-preserved
-loop-i-preserved c =     let has = c.has in
+loop-i-preserved c = let has = c.has in
     let wide = c.wide in
     let loop-test = c.loop-i-test in
     let loop = c.loop-i in

@@ -6,9 +6,9 @@ use borrow.Author.Rules.{rules}
 use Rattle.netsheet.proofs.after_node.Goals as goal
 
 pub returns-then-o-outputs : goal.returns-then-o-outputs
-returns-then-o-outputs c =     let a = c.args in
+returns-then-o-outputs c = let a = c.args in
     rw (lt-ltb (a.o + 1) a.outputs c.if-o-outputs.true) refl
 
 pub returns-else-o-outputs : goal.returns-else-o-outputs
-returns-else-o-outputs c =     let a = c.args in
+returns-else-o-outputs c = let a = c.args in
     rw (le-ltb (a.o + 1) a.outputs c.if-o-outputs.false) refl

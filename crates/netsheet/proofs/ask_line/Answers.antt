@@ -12,12 +12,12 @@ use Rattle.netsheet.proofs.ask_line.Goals as goal
 -- LEFT slice-aggregate-equal c = search rules
 
 pub ask_lut-requires : goal.ask_lut-requires
-ask_lut-requires c =     let pre = c.requires in
+ask_lut-requires c = let pre = c.requires in
     (pre.0, pre.1.few, pre.2)
 
 pub ask_node-requires : goal.ask_node-requires
-ask_node-requires c =     let pre = c.requires in
-    let o : PlaceFits (Place.Node c.p-1.given.0.0) = subst (λ (x : Place). PlaceFits x) c.p-1.given.1 pre.1.fits in
+ask_node-requires c = let pre = c.requires in
+    let o : PlaceFits (Place.Node c.in-Node.o) = subst (λ (x : Place). PlaceFits x) c.in-Node.is pre.1.fits in
     (pre.0, pre.1.few, o, pre.2)
 
 pub is_count-requires : goal.is_count-requires
@@ -27,7 +27,7 @@ is_count-requires c = omega (arith, c.requires.1.few)
 -- LEFT slice-aggregate-equal-2 c = search rules
 
 pub returns-in-Network : goal.returns-in-Network
-returns-in-Network c =     let enum_told = c.enum_told-1 in
+returns-in-Network c = let enum_told = c.enum_told-1 in
     let a = c.args in
     let is = c.onward.ensures ∙ ap (λ (b : Bool). moved a.s b Place.Luts) c.equal.ensures in (
       safe_moved a.s c.onward.result _ Place.Luts is c.requires.1.few tt,
@@ -35,21 +35,21 @@ returns-in-Network c =     let enum_told = c.enum_told-1 in
     )
 
 pub returns-in-Luts : goal.returns-in-Luts
-returns-in-Luts c =     let a = c.args in (
+returns-in-Luts c = let a = c.args in (
       c.ask_lut.ensures.0,
-      λ t d w q n kn some-outputs. luts_line a.l.now t d w a.s c.ask_lut.result kn c.enum_told-in-Luts-1.given.1
+      λ t d w q n kn some-outputs. luts_line a.l.now t d w a.s c.ask_lut.result kn c.in-Luts.is
           (λ none_yet. c.ask_lut.ensures.1 t d w q n kn.held none_yet some-outputs),
     )
 
 pub returns-in-Node : goal.returns-in-Node
-returns-in-Node c =     let p = c.p-1 in
+returns-in-Node c = let p = c.p-1 in
     let a = c.args in (
       c.ask_node.ensures.0,
       λ t d w q n kn some-outputs. node_line a.l.now t d w a.s c.ask_node.result kn p.given.0.0 p.given.1 (λ here below. c.ask_node.ensures.1 t d w q n kn.held here below),
     )
 
 pub returns-in-Count : goal.returns-in-Count
-returns-in-Count c =     let enum-told3 = c.enum_told-in-Count-1 in
+returns-in-Count c = let enum-told3 = c.enum_told-in-Count-1 in
     let a = c.args in
     let is = c.onward-in-Count.ensures ∙ ap (λ (b : Bool). moved a.s b Place.End) c.is_count.ensures in (
       safe_moved a.s c.onward-in-Count.result _ Place.End is c.requires.1.few tt,
@@ -57,7 +57,7 @@ returns-in-Count c =     let enum-told3 = c.enum_told-in-Count-1 in
     )
 
 pub returns-in-End : goal.returns-in-End
-returns-in-End c =     let enum-told4 = c.enum_told-in-End-1 in
+returns-in-End c = let enum-told4 = c.enum_told-in-End-1 in
     let a = c.args in
     let is = c.onward-in-End.ensures ∙ ap (λ (b : Bool). moved a.s b Place.Over) c.equal-in-End.ensures in (
       safe_moved a.s c.onward-in-End.result _ Place.Over is c.requires.1.few tt,
@@ -65,7 +65,7 @@ returns-in-End c =     let enum-told4 = c.enum_told-in-End-1 in
     )
 
 pub returns-in-Over : goal.returns-in-Over
-returns-in-Over c =     let a = c.args in (
+returns-in-Over c = let a = c.args in (
       safe_moved a.s c.onward-in-Over.result _ Place.Over c.onward-in-Over.ensures c.requires.1.few tt,
-      λ t d w q n kn some-outputs. over_line a.l.now t d w a.s c.onward-in-Over.result kn c.enum_told-in-Over-1.given.1 Place.Over c.onward-in-Over.ensures,
+      λ t d w q n kn some-outputs. over_line a.l.now t d w a.s c.onward-in-Over.result kn c.in-Over.is Place.Over c.onward-in-Over.ensures,
     )

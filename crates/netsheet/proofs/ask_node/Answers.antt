@@ -15,16 +15,16 @@ pub bounds-outs-o : goal.bounds-outs-o
 bounds-outs-o c = omega (arith, c.requires.2)
 
 pub slice_bounds-free-end : goal.slice_bounds-free-end
-slice_bounds-free-end c =     let good = c.well-formed in
+slice_bounds-free-end c = let good = c.well-formed in
     omega (arith, c.requires.0.few-free, free-sized c.args.k good.1.1.0)
 
 pub slice_bounds-read_node-end : goal.slice_bounds-read_node-end
-slice_bounds-read_node-end c =     let good = c.well-formed in
+slice_bounds-read_node-end c = let good = c.well-formed in
     let a = c.args in
     sym (length-take-le a.k.frees a.k.free (omega (arith, c.requires.0.few-free, free-sized a.k good.1.1.0)))
 
 pub read_node-r-requires : goal.read_node-r-requires
-read_node-r-requires c =     let good = c.well-formed in
+read_node-r-requires c = let good = c.well-formed in
     let a = c.args in
     let pre = c.requires in
     let few = pre.0.few-free in
@@ -32,15 +32,15 @@ read_node-r-requires c =     let good = c.well-formed in
     (omega arith, pre.1)
 
 pub overflow_add-at : goal.overflow_add-at
-overflow_add-at c =     let read-node = c.read_node-r in
-    let line = rw c.r-1.given.1 at read-node.ensures in
+overflow_add-at c = let read-node = c.read_node-r in
+    let line = rw c.in-At.is at read-node.ensures in
     record { fits = omega (arith, c.requires.3, line.stands.stands.inside) }
 
 pub with_node-requires : goal.with_node-requires
 with_node-requires c = c.requires.2
 
 pub returns-in-At : goal.returns-in-At
-returns-in-At c =     let r = c.r-1 in
+returns-in-At c = let r = c.r-1 in
     let read-node = c.read_node-r in
     let a = c.args in
     let pre = c.requires in
@@ -53,9 +53,9 @@ returns-in-At c =     let r = c.r-1 in
     )
 
 pub returns-in-Bad : goal.returns-in-Bad
-returns-in-Bad c =     let read-node = c.read_node-r in
+returns-in-Bad c = let read-node = c.read_node-r in
     let a = c.args in
-    let line = rw c.enum_told-1.given.1 at read-node.ensures in (
+    let line = rw c.in-Bad.is at read-node.ensures in (
       safe_moved a.s c.onward.result _ Place.Over c.onward.ensures c.requires.1 tt,
       λ t d w q n h here below. node_bad a.l.now t a.at d w a.k a.s c.onward.result q n h a.o here below line Place.Over c.onward.ensures,
     )

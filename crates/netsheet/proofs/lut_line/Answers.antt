@@ -10,20 +10,20 @@ use Rattle.netsheet.specs.AskLaws.{no_more_luts, one_more_lut}
 use Rattle.netsheet.proofs.lut_line.Goals as goal
 
 pub returns-then-u-ge-MAX_CELLS : goal.returns-then-u-ge-MAX_CELLS
-returns-then-u-ge-MAX_CELLS c =     let a = c.args in
+returns-then-u-ge-MAX_CELLS c = let a = c.args in
     no_more_luts (map name_of (take a.k.bounds a.k.bound)) a.u a.l.now c.if-u-ge-MAX_CELLS.true
 
 pub slice_bounds-bound-end : goal.slice_bounds-bound-end
-slice_bounds-bound-end c =     let good = c.well-formed in
+slice_bounds-bound-end c = let good = c.well-formed in
     omega (arith, c.requires.few-bound, bound-sized c.args.k good.1.0)
 
 pub slice_bounds-read_lut-end : goal.slice_bounds-read_lut-end
-slice_bounds-read_lut-end c =     let good = c.well-formed in
+slice_bounds-read_lut-end c = let good = c.well-formed in
     let a = c.args in
     sym (length-take-le a.k.bounds a.k.bound (omega (arith, c.requires.few-bound, bound-sized a.k good.1.0)))
 
 pub read_lut-requires : goal.read_lut-requires
-read_lut-requires c =     let good = c.well-formed in
+read_lut-requires c = let good = c.well-formed in
     let if1 = c.if-u-ge-MAX_CELLS in
     let a = c.args in
     let few = c.requires.few-bound in
@@ -31,7 +31,7 @@ read_lut-requires c =     let good = c.well-formed in
     (omega arith, omega (arith, if1.false))
 
 pub returns : goal.returns
-returns c =     let good = c.well-formed in
+returns c = let good = c.well-formed in
     let if1 = c.if-u-ge-MAX_CELLS in
     let a = c.args in
     let few = c.requires.few-bound in

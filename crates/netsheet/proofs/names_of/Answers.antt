@@ -7,9 +7,9 @@ pub bound_names-bs-requires : goal.bound_names-bs-requires
 bound_names-bs-requires c = c.requires.few-bound
 
 pub free_names-fs-requires : goal.free_names-fs-requires
-free_names-fs-requires c =     (c.requires.few-inputs, omega (arith, c.requires.few-bound, c.bound_names-bs.ensures.1))
+free_names-fs-requires c = (c.requires.few-inputs, omega (arith, c.requires.few-bound, c.bound_names-bs.ensures.1))
 
 pub returns : goal.returns
-returns c =     let fs = c.free_names-fs in
+returns c = let fs = c.free_names-fs in
     let bs = c.bound_names-bs in
     names_gathered c.args.k c.requires bs.result fs.result bs.ensures.0 bs.ensures.1 fs.ensures.0 fs.ensures.1

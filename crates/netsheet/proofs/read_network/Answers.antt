@@ -7,18 +7,18 @@ use Rattle.netsheet.specs.WalkLaws.{Walk, walk_start, walk_room, walk_open, walk
 use Rattle.netsheet.proofs.read_network.Goals as goal
 
 pub returns-then-t-lt1 : goal.returns-then-t-lt1
-returns-then-t-lt1 c =     let a = c.args in
+returns-then-t-lt1 c = let a = c.args in
     λ d h p o. refused_at d a.t.now 0 c.bad_line.result (no_bytes d a.t.now c.if-t-lt1.true) c.bad_line.ensures
 
 pub returns-then-t-gt-MAX_NETWORK : goal.returns-then-t-gt-MAX_NETWORK
-returns-then-t-gt-MAX_NETWORK c =     let a = c.args in
+returns-then-t-gt-MAX_NETWORK c = let a = c.args in
     λ d h p o. refused_at d a.t.now 0 c.bad_line-then-t-gt-MAX_NETWORK.result (many_bytes d a.t.now c.if-t-gt-MAX_NETWORK.true) c.bad_line-then-t-gt-MAX_NETWORK.ensures
 
 pub names_of-names-requires : goal.names_of-names-requires
 names_of-names-requires c = c.requires
 
 pub loop-at-init : goal.loop-at-init
-loop-at-init c =     let if1 = c.if-t-lt1 in
+loop-at-init c = let if1 = c.if-t-lt1 in
     let if2 = c.if-t-gt-MAX_NETWORK in
     walk_start c.args.t.now c.names_of-names.result c.blank-s.result c.blank-s.ensures if1.false if2.false
 
@@ -26,7 +26,7 @@ pub line_end-e-requires : goal.line_end-e-requires
 line_end-e-requires c = c.loop-at.invariant.inside
 
 pub returns-then-e-t : goal.returns-then-e-t
-returns-then-e-t c =     let loop = c.loop-at in
+returns-then-e-t c = let loop = c.loop-at in
     let loop-test = c.loop-at-test in
     let names_of = c.names_of-names in
     let end = c.line_end-e in
@@ -42,14 +42,14 @@ pub slice_bounds-ask_line-end : goal.slice_bounds-ask_line-end
 slice_bounds-ask_line-end c = omega (arith, c.line_end-e.ensures.inside)
 
 pub ask_line-s-requires : goal.ask_line-s-requires
-ask_line-s-requires c =     let names_of = c.names_of-names in
+ask_line-s-requires c = let names_of = c.names_of-names in
     let loop-test = c.loop-at-test in
     let turn = c.loop-at in
     let end = c.line_end-e in
     (names_of.ensures.counts, turn.invariant.safe, walk_room turn.invariant end.result loop-test.true end.ensures)
 
 pub returns-then-not-s : goal.returns-then-not-s
-returns-then-not-s c =     let loop = c.loop-at in
+returns-then-not-s c = let loop = c.loop-at in
     let loop-test = c.loop-at-test in
     let if3 = c.if-e-t in
     let ask-line = c.ask_line-s in
@@ -62,16 +62,16 @@ pub overflow_add-at : goal.overflow_add-at
 overflow_add-at c = omega (arith, c.line_end-e.ensures.inside)
 
 pub overflow_add-n : goal.overflow_add-n
-overflow_add-n c =     let turn = c.loop-at in
+overflow_add-n c = let turn = c.loop-at in
     omega (arith, turn.invariant.few, turn.invariant.inside)
 
 pub loop-at-smaller : goal.loop-at-smaller
-loop-at-smaller c =     let line-end = c.line_end-e in
+loop-at-smaller c = let line-end = c.line_end-e in
     let loop-test = c.loop-at-test in
     omega (arith, line-end.ensures.after-start, loop-test.true)
 
 pub loop-at-preserved : goal.loop-at-preserved
-loop-at-preserved c =     let loop = c.loop-at in
+loop-at-preserved c = let loop = c.loop-at in
     let loop-test = c.loop-at-test in
     let if3 = c.if-e-t in
     let ask-line = c.ask_line-s in
@@ -79,6 +79,6 @@ loop-at-preserved c =     let loop = c.loop-at in
     walk_more loop.invariant end.result loop-test.true end.ensures if3.false ask-line.result ask-line.ensures.1 (not-false _ c.if-not-s.false) ask-line.ensures.0
 
 pub returns : goal.returns
-returns c =     let loop = c.loop-at in
+returns c = let loop = c.loop-at in
     let names_of = c.names_of-names in
     λ d h p o. walk_end loop.invariant c.loop-at-test.false c.ended.result c.ended.ensures d (names_of.ensures.right d h p) o

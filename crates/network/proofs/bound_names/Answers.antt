@@ -15,7 +15,7 @@ pub pushed-r-requires : goal.pushed-r-requires
 pushed-r-requires c = omega (arith, c.requires)
 
 pub loop-i-preserved : goal.loop-i-preserved
-loop-i-preserved c =     let input-name = c.input_name in
+loop-i-preserved c = let input-name = c.input_name in
     let loop-test = c.loop-i-test in
     let loop = c.loop-i in
     (growing_more loop.invariant.0 loop-test.true (omega arith) c.pushed-r.ensures.0 (ap name_of input-name.ensures), omega arith)

@@ -4,14 +4,14 @@ use Rattle.network.specs.TablesLaws.{Skipping, skipping_none, skipping_missing, 
 use Rattle.network.proofs.digits_at.Goals as goal
 
 pub loop-left-init : goal.loop-left-init
-loop-left-init c =     let a = c.args in
+loop-left-init c = let a = c.args in
     skipping_none a.s.now a.n a.c c.requires
 
 pub returns-in_default : goal.returns-in_default
-returns-in_default c =     let digit_at = c.digit_at-m in
+returns-in_default c = let digit_at = c.digit_at-m in
     let loop = c.loop-left in
     let loop-test = c.loop-left-test in
-    let digit = rw c.enum_told-1.given.1 at digit_at.ensures in
+    let digit = rw c.in_default.is at digit_at.ensures in
     skipping_missing loop.invariant loop-test.true digit
 
 pub overflow_sub-left : goal.overflow_sub-left
@@ -21,10 +21,10 @@ pub loop-left-smaller : goal.loop-left-smaller
 loop-left-smaller c = omega arith
 
 pub loop-left-preserved : goal.loop-left-preserved
-loop-left-preserved c =     let digit_at = c.digit_at-m in
+loop-left-preserved c = let digit_at = c.digit_at-m in
     let loop = c.loop-left in
     let loop-test = c.loop-left-test in
-    let digit = rw c.m-1.given.1 at digit_at.ensures in
+    let digit = rw c.in-To.is at digit_at.ensures in
     skipping_more loop.invariant loop-test.true digit
 
 pub returns : goal.returns

@@ -10,5 +10,5 @@ pub overflow_add-w : goal.overflow_add-w
 overflow_add-w c = omega (arith, c.requires)
 
 pub returns : goal.returns
-returns c =     let a = c.args in
+returns c = let a = c.args in
     c.equal.ensures ∙ ap (same a.l.now) (count-bytes a.u c.requires)

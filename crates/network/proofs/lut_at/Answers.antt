@@ -14,14 +14,14 @@ pub overflow_add-w : goal.overflow_add-w
 overflow_add-w c = omega (arith, c.requires.1)
 
 pub returns-then-first : goal.returns-then-first
-returns-then-first c =     let if1 = c.if1 in
-    let args = c.before.args in
-    let pre = c.before.requires in
+returns-then-first c = let if1 = c.if-first in
+    let args = c.args in
+    let pre = c.requires in
     let a = args in
     subst (λ (w : List ℕ). MovedIs a.s.now c.text.result (eat w (drop a.c.at a.s.now))) (lut_first a.i pre.1 a.first if1.true) c.text.ensures
 
 pub returns-else-first : goal.returns-else-first
-returns-else-first c =     let if1 = c.if-first in
+returns-else-first c = let if1 = c.if-first in
     let args = c.args in
     let pre = c.requires in
     let a = args in

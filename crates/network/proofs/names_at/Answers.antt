@@ -7,17 +7,17 @@ use Rattle.network.specs.ListedLaws.{Listed, listed_none, listed_missing, listed
 use Rattle.network.proofs.names_at.Goals as goal
 
 pub loop-i-init : goal.loop-i-init
-loop-i-init c =     let a = c.args in
+loop-i-init c = let a = c.args in
     listed_none a.s.now a.ns.now a.first a.c.at c.requires
 
 pub led_name-m-requires : goal.led_name-m-requires
 led_name-m-requires c = c.loop-i.invariant.inside
 
 pub returns-in_default : goal.returns-in_default
-returns-in_default c =     let led-name = c.led_name-m in
+returns-in_default c = let led-name = c.led_name-m in
     let loop = c.loop-i in
     let loop-test = c.loop-i-test in
-    let item = rw c.enum_told-1.given.1 at led-name.ensures in
+    let item = rw c.in_default.is at led-name.ensures in
     listed_missing loop.invariant loop-test.true item
 
 pub overflow_add-i : goal.overflow_add-i
@@ -27,10 +27,10 @@ pub loop-i-smaller : goal.loop-i-smaller
 loop-i-smaller c = omega arith
 
 pub loop-i-preserved : goal.loop-i-preserved
-loop-i-preserved c =     let led-name = c.led_name-m in
+loop-i-preserved c = let led-name = c.led_name-m in
     let loop = c.loop-i in
     let loop-test = c.loop-i-test in
-    let item = rw c.m-1.given.1 at led-name.ensures in
+    let item = rw c.in-To.is at led-name.ensures in
     listed_more loop.invariant loop-test.true item
 
 pub returns : goal.returns

@@ -12,39 +12,39 @@ pub text-m-requires : goal.text-m-requires
 text-m-requires c = omega (arith, c.start.ensures)
 
 pub returns-in_default : goal.returns-in_default
-returns-in_default c =     let text = c.text-m in
+returns-in_default c = let text = c.text-m in
     let a = c.args in
     let start = c.start in
-    let word = rw (c.enum_told-1.given.1, start.ensures) at text.ensures in
+    let word = rw (c.in_default.is, start.ensures) at text.ensures in
     node_no_word a.l.now (name_of a.name) word
 
 pub name_at-m-requires : goal.name_at-m-requires
-name_at-m-requires c =     let text = c.text-m in
+name_at-m-requires c = let text = c.text-m in
     let start = c.start in
-    let word = rw (c.m-1.given.1, start.ensures) at text.ensures in
+    let word = rw (c.in-To.is, start.ensures) at text.ensures in
     word.inside
 
 pub returns-in_default-m : goal.returns-in_default-m
-returns-in_default-m c =     let m = c.m-1 in
+returns-in_default-m c = let m = c.m-1 in
     let text = c.text-m in
     let name-at = c.name_at-m in
     let a = c.args in
     let start = c.start in
     let word = rw (m.given.1, start.ensures) at text.ensures in
-    let name = rw c.enum_told-in_default-m-1.given.1 at name-at.ensures in
+    let name = rw c.in_default-m.is at name-at.ensures in
     node_no_name a.l.now (name_of a.name) word name
 
 -- LEFT slice-aggregate-text-2 : tie.Need-slice-aggregate-text-2
 -- LEFT slice-aggregate-text-2 c = search rules
 
 pub text-requires : goal.text-requires
-text-requires c =     let m2 = c.m-in-To-m-2-1 in
+text-requires c = let m2 = c.m-in-To-m-2-1 in
     let name-at = c.name_at-m in
     let name = rw m2.given.1 at name-at.ensures in
     name.inside
 
 pub returns : goal.returns
-returns c =     let m2 = c.m-in-To-m-2-1 in
+returns c = let m2 = c.m-in-To-m-2-1 in
     let name-at = c.name_at-m in
     let m = c.m-1 in
     let text = c.text-m in

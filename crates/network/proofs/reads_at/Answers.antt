@@ -7,7 +7,7 @@ use Rattle.network.specs.GatherLaws.{Gathered, gathered_none, gathered_with, gat
 use Rattle.network.proofs.reads_at.Goals as goal
 
 pub loop-i-init : goal.loop-i-init
-loop-i-init c =     let a = c.args in
+loop-i-init c = let a = c.args in
     gathered_none a.s.now a.u a.c.at c.requires.0
 
 pub lut_at-m-requires : goal.lut_at-m-requires
@@ -17,13 +17,13 @@ pub overflow_shl-mask : goal.overflow_shl-mask
 overflow_shl-mask c = omega (arith, c.requires.1)
 
 pub overflow_add-mask : goal.overflow_add-mask
-overflow_add-mask c =     let pre = c.requires in
+overflow_add-mask c = let pre = c.requires in
     let turn = c.loop-i in
     let h = c.loop-i-test.true in
     record { fits = omega (arith, shifted_byte turn.i (omega (arith, pre.1)), mask_fits turn.i turn.mask (omega (arith, pre.1)) turn.invariant.small) }
 
 pub overflow_add-count : goal.overflow_add-count
-overflow_add-count c =     let loop = c.loop-i in
+overflow_add-count c = let loop = c.loop-i in
     record { fits = omega (arith, loop.invariant.few, c.requires.1) }
 
 pub overflow_add-i : goal.overflow_add-i
@@ -33,7 +33,7 @@ pub loop-i-smaller : goal.loop-i-smaller
 loop-i-smaller c = omega arith
 
 pub loop-i-preserved : goal.loop-i-preserved
-loop-i-preserved c =     let loop = c.loop-i in
+loop-i-preserved c = let loop = c.loop-i in
     let below = c.requires.1 in
     let turn = c.loop-i-test.true in
     ⊎_elim

@@ -6,7 +6,7 @@ use Rattle.numbering.specs.NumberLaws.{written-whole, written_large, finished_st
 use Rattle.numbering.proofs.finish.Goals as goal
 
 pub loop-o-init : goal.loop-o-init
-loop-o-init c =     let a = c.args in
+loop-o-init c = let a = c.args in
     (omega arith, finished_start a.cl.now a.p.ms a.p.ps a.p.vertices a.codes (search rules))
 
 pub bounds-ms-o : goal.bounds-ms-o
@@ -25,7 +25,7 @@ pub write-w-requires : goal.write-w-requires
 write-w-requires c = c.requires.2
 
 pub returns-else-w : goal.returns-else-w
-returns-else-w c =     let loop-test = c.loop-o-test in
+returns-else-w c = let loop-test = c.loop-o-test in
     let a = c.args in
     let p = a.p in
     let numbers = c.numbers-nums in
@@ -35,7 +35,7 @@ returns-else-w c =     let loop-test = c.loop-o-test in
     loop-test.true b.1 c.requires.4 b.2 numbers.ensures
 
 pub loop-o-preserved : goal.loop-o-preserved
-loop-o-preserved c =     let write = c.write-w in
+loop-o-preserved c = let write = c.write-w in
     let a = c.args in
     let p = a.p in
     let numbers = c.numbers-nums in
@@ -47,7 +47,7 @@ loop-o-preserved c =     let write = c.write-w in
     )
 
 pub returns : goal.returns
-returns c =     let a = c.args in
+returns c = let a = c.args in
     let p = a.p in
     let q = c.requires in
     let loop = c.loop-o in

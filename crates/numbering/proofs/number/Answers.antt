@@ -12,22 +12,22 @@ pub label-class-requires : goal.label-class-requires
 label-class-requires c = let z = c.requires.0.long in (omega arith, c.requires.1, c.requires.2)
 
 pub part-own-requires : goal.part-own-requires
-part-own-requires c =     (c.requires.0, c.requires.1, c.requires.2)
+part-own-requires c = (c.requires.0, c.requires.1, c.requires.2)
 
 pub loop-y-init : goal.loop-y-init
-loop-y-init c =     let a = c.args in (omega arith, refl, c.label-class.ensures, passed_start a.cl.now a.t4 a.o a.mask a.x a.t5, c.part-own.ensures.0)
+loop-y-init c = let a = c.args in (omega arith, refl, c.label-class.ensures, passed_start a.cl.now a.t4 a.o a.mask a.x a.t5, c.part-own.ensures.0)
 
 pub bounds-codes-y : goal.bounds-codes-y
-bounds-codes-y c =     let z = c.requires.2 in search rules
+bounds-codes-y c = let z = c.requires.2 in search rules
 
 pub together-requires : goal.together-requires
-together-requires c =     let pre = c.requires in
+together-requires c = let pre = c.requires in
     let z = pre.2 in
     let w = c.loop-y-test.true in
     (pre.0, pre.1, omega arith)
 
 pub label-l-requires : goal.label-l-requires
-label-l-requires c =     let loop-test = c.loop-y-test in
+label-l-requires c = let loop-test = c.loop-y-test in
     let pre = c.requires in
     let z = pre.2 in
     let w = loop-test.true in
@@ -35,7 +35,7 @@ label-l-requires c =     let loop-test = c.loop-y-test in
     (omega arith, pre.1, omega arith)
 
 pub returns-then-l-class : goal.returns-then-l-class
-returns-then-l-class c =     let if1 = c.if-together in
+returns-then-l-class c = let if1 = c.if-together in
     let together = c.together in
     let loop-test = c.loop-y-test in
     let loop = c.loop-y in
@@ -46,7 +46,7 @@ returns-then-l-class c =     let if1 = c.if-together in
     (sym c.label-l.ensures ∙ c.if-l-class.true ∙ loop.invariant.2) pre.3
 
 pub overflow_add-next : goal.overflow_add-next
-overflow_add-next c =     let loop-test = c.loop-y-test in
+overflow_add-next c = let loop-test = c.loop-y-test in
     let loop = c.loop-y in
     let pre = c.requires in
     let w = loop-test.true in
@@ -55,7 +55,7 @@ overflow_add-next c =     let loop-test = c.loop-y-test in
     omega arith
 
 pub loop-y-preserved : goal.loop-y-preserved
-loop-y-preserved c =     let loop-test = c.loop-y-test in
+loop-y-preserved c = let loop-test = c.loop-y-test in
     let loop = c.loop-y in
     let label = c.label-class in
     let args = c.args in
@@ -74,6 +74,6 @@ loop-y-preserved c =     let loop-test = c.loop-y-test in
     )
 
 pub returns : goal.returns
-returns c =     let args = c.args in
+returns c = let args = c.args in
     let l = c.loop-y in
     number_new args.cl.now args.t4 args.o args.mask args.x args.t5 l.y l.next c.loop-y-test.false l.invariant.0 l.invariant.3

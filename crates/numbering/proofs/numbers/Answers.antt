@@ -10,7 +10,7 @@ pub loop-x-init : goal.loop-x-init
 loop-x-init c = (omega arith, numbered-start c.args.cl.now c.args.codes c.args.o c.args.mask _ refl)
 
 pub number-requires : goal.number-requires
-number-requires c =     let pre = c.requires in
+number-requires c = let pre = c.requires in
     let h = c.loop-x-test.true in
     let few = pre.2 in
     (pre.0, pre.1, omega arith, c.loop-x.invariant.1)
@@ -19,14 +19,14 @@ pub bounds-nums-x : goal.bounds-nums-x
 bounds-nums-x c = let h = c.loop-x-test.true in let z = c.requires.2 in search rules
 
 pub loop-x-preserved : goal.loop-x-preserved
-loop-x-preserved c =     let a = c.args in
+loop-x-preserved c = let a = c.args in
     let l = c.loop-x in
     let h = c.loop-x-test.true in
     let few = c.requires.2 in
     (omega arith, numbered_more a.cl.now a.codes a.o a.mask l.x l.nums c.number.result (omega arith) c.number.ensures l.invariant.1)
 
 pub returns : goal.returns
-returns c =     let a = c.args in
+returns c = let a = c.args in
     let l = c.loop-x in
     let left = c.loop-x-test.false in
     let upto = l.invariant.0 in

@@ -17,7 +17,7 @@ pub overflow_add-k : goal.overflow_add-k
 overflow_add-k c = let z = c.loop-i.invariant.1.low in let w = c.loop-i-test.true in omega arith
 
 pub loop-i-preserved : goal.loop-i-preserved
-loop-i-preserved c =     let in-set = c.in_set in
+loop-i-preserved c = let in-set = c.in_set in
     let loop-test = c.loop-i-test in
     let loop = c.loop-i in
     let args = c.args in
@@ -34,11 +34,11 @@ loop-i-preserved c =     let in-set = c.in_set in
     )
 
 pub overflow_cast-result : goal.overflow_cast-result
-overflow_cast-result c =     let a = c.args in
+overflow_cast-result c = let a = c.args in
     let l = c.loop-i in
     record { fits = spread_low a.n a.p l.r (spreading_end a.n a.p l.i l.r l.k c.loop-i-test.false l.invariant.0 l.invariant.1) }
 
 pub returns : goal.returns
-returns c =     let a = c.args in
+returns c = let a = c.args in
     let l = c.loop-i in
     spreading_end a.n a.p l.i l.r l.k c.loop-i-test.false l.invariant.0 l.invariant.1

@@ -19,7 +19,7 @@ pub bounds-r-x-in-loop-x : goal.bounds-r-x-in-loop-x
 bounds-r-x-in-loop-x c = let h = c.loop-x-test.true in let z = c.requires in search rules
 
 pub loop-x-preserved : goal.loop-x-preserved
-loop-x-preserved c =     let a = c.args in
+loop-x-preserved c = let a = c.args in
     let l = c.loop-x in
     let h = c.loop-x-test.true in
     let few = c.requires in
@@ -29,7 +29,7 @@ loop-x-preserved c =     let a = c.args in
     )
 
 pub returns : goal.returns
-returns c =     let a = c.args in
+returns c = let a = c.args in
     let l = c.loop-x in
     let left = c.loop-x-test.false in
     let upto = l.invariant.0 in

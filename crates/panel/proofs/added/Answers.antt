@@ -34,7 +34,7 @@ pub loop-o-smaller : goal.loop-o-smaller
 loop-o-smaller c = omega arith
 
 pub loop-o-preserved : goal.loop-o-preserved
-loop-o-preserved c =     let pre = c.requires in
+loop-o-preserved c = let pre = c.requires in
     let loop = c.loop-o in
     let a = c.args in
     let o = c.loop-o.o in

@@ -8,7 +8,7 @@ use borrow.Author.Rules.{rules}
 use Rattle.panel.proofs.ask_names.Goals as goal
 
 pub returns-then-not-a : goal.returns-then-not-a
-returns-then-not-a c =     let blank = c.blank in
+returns-then-not-a c = let blank = c.blank in
     let if1 = c.if-not-a in
     let a = c.asked_in-a in
     λ x r p.
@@ -19,7 +19,7 @@ pub tables-requires : goal.tables-requires
 tables-requires c = c.requires
 
 pub ask_outputs-requires : goal.ask_outputs-requires
-ask_outputs-requires c =     let args = c.args in
+ask_outputs-requires c = let args = c.args in
     let blank = c.blank in
     let if1 = c.if-not-a in
     let pre = c.requires in
@@ -34,7 +34,7 @@ ask_outputs-requires c =     let args = c.args in
     }
 
 pub returns : goal.returns
-returns c =     let args = c.args in
+returns c = let args = c.args in
     let blank = c.blank in
     let if1 = c.if-not-a in
     let tables = c.tables in

@@ -31,31 +31,31 @@ other c =
     (read_stand c.args.pla.now w.text c.read_text-t.result r) (sym r.cubes-counted)
 
 pub returns-then-not-t : goal.returns-then-not-t
-returns-then-not-t c =     let t = c.read_text-t in
+returns-then-not-t c = let t = c.read_text-t in
     let p = c.args.pla.now in
     let b = c.args.board.now in
     examined p b _ (text-refused p t.result t.ensures (not-true _ c.if-not-t.true) b _ c.refused.ensures)
 
 pub returns-then-inputs-gt-MAX_INPUTS : goal.returns-then-inputs-gt-MAX_INPUTS
-returns-then-inputs-gt-MAX_INPUTS c =     let passed = (goal.at.returns-then-inputs-gt-MAX_INPUTS c).Else-not-t in
+returns-then-inputs-gt-MAX_INPUTS c = let passed = (goal.at.returns-then-inputs-gt-MAX_INPUTS c).Else-not-t in
     let p = c.args.pla.now in
     let b = c.args.board.now in
     examined p b _ (many_inputs p c.read_text-t.result (said passed) b _ c.if-inputs-gt-MAX_INPUTS.true c.refused-then-inputs-gt-MAX_INPUTS.ensures)
 
 pub returns-then-outputs-gt-MAX_OUTPUTS : goal.returns-then-outputs-gt-MAX_OUTPUTS
-returns-then-outputs-gt-MAX_OUTPUTS c =     let passed = (goal.at.returns-then-outputs-gt-MAX_OUTPUTS c).Else-not-t in
+returns-then-outputs-gt-MAX_OUTPUTS c = let passed = (goal.at.returns-then-outputs-gt-MAX_OUTPUTS c).Else-not-t in
     let p = c.args.pla.now in
     let b = c.args.board.now in
     examined p b _
     (many_outputs p c.read_text-t.result (said passed) b _ c.if-inputs-gt-MAX_INPUTS.false c.if-outputs-gt-MAX_OUTPUTS.true c.refused-then-outputs-gt-MAX_OUTPUTS.ensures)
 
 pub other_mark-line-requires : goal.other_mark-line-requires
-other_mark-line-requires c =     let passed = (goal.at.other_mark-line-requires c).Else-not-t in
+other_mark-line-requires c = let passed = (goal.at.other_mark-line-requires c).Else-not-t in
     let w = said passed in
     read_cubes c.args.pla.now w.text c.read_text-t.result w.read_as
 
 pub returns-then-line-gt0 : goal.returns-then-line-gt0
-returns-then-line-gt0 c =     let marked = (goal.at.returns-then-line-gt0 c).After-other_mark-line in
+returns-then-line-gt0 c = let marked = (goal.at.returns-then-line-gt0 c).After-other_mark-line in
     let passed = (goal.at.returns-then-line-gt0 c).Else-not-t in
     let p = c.args.pla.now in
     let b = c.args.board.now in
@@ -64,7 +64,7 @@ returns-then-line-gt0 c =     let marked = (goal.at.returns-then-line-gt0 c).Aft
     c.other_mark-line.result (other marked) c.if-line-gt0.true c.refused-then-line-gt0.ensures)
 
 pub returns-then-not-b : goal.returns-then-not-b
-returns-then-not-b c =     let marked = (goal.at.returns-then-not-b c).After-other_mark-line in
+returns-then-not-b c = let marked = (goal.at.returns-then-not-b c).After-other_mark-line in
     let passed = (goal.at.returns-then-not-b c).Else-not-t in
     let p = c.args.pla.now in
     let b = c.args.board.now in
@@ -75,14 +75,14 @@ returns-then-not-b c =     let marked = (goal.at.returns-then-not-b c).After-oth
     (not-true _ c.if-not-b.true) c.refused-then-not-b.ensures)
 
 pub ask_panel-requires : goal.ask_panel-requires
-ask_panel-requires c =     let passed = (goal.at.ask_panel-requires c).Else-not-t in
+ask_panel-requires c = let passed = (goal.at.ask_panel-requires c).Else-not-t in
     let b = c.args.board.now in
     let l = c.read_board-b in
     let inside = board_inside b (sized b) (read_board (lines b)) l.result l.ensures (not-false _ c.if-not-b.false) in
     (text_readable c.args.pla.now c.read_text-t.result (said passed) c.if-outputs-gt-MAX_OUTPUTS.false, inside.0, inside.1)
 
 pub returns : goal.returns
-returns c =     let marked = (goal.at.returns c).After-other_mark-line in
+returns c = let marked = (goal.at.returns c).After-other_mark-line in
     let passed = (goal.at.returns c).Else-not-t in
     let p = c.args.pla.now in
     let b = c.args.board.now in

@@ -14,11 +14,11 @@ sizes : (c : goal.Else-not-sized) → true ≡ sized c.before.before.before.args
 sizes c = sym (not-false _ c.if-not-sized.false-raw) ∙ c.sized.ensures
 
 pub returns-then-not-sized : goal.returns-then-not-sized
-returns-then-not-sized c =     board_not_sized _ _ (sym (not-true _ c.if-not-sized.true-raw) ∙ c.sized.ensures) c.bad_board.ensures
+returns-then-not-sized c = board_not_sized _ _ (sym (not-true _ c.if-not-sized.true-raw) ∙ c.sized.ensures) c.bad_board.ensures
 
 pub slice_bounds-names_line-end : goal.slice_bounds-names_line-end
-slice_bounds-names_line-end c =     let args = c.before.args in
-    let line-end = c.line-end in
+slice_bounds-names_line-end c = let args = c.args in
+    let line-end = c.line_end-e in
     sym (length-take-le line-end.result args.b.now line-end.ensures.inside)
 
 -- LEFT slice-aggregate-names-line-2 : tie.Need-slice-aggregate-names-line-2
@@ -26,14 +26,14 @@ slice_bounds-names_line-end c =     let args = c.before.args in
 
 pub returns-then-not-w : goal.returns-then-not-w
 unfolding read_bound
-returns-then-not-w c =     let first = c.line_end-e in
+returns-then-not-w c = let first = c.line_end-e in
     let w = c.names_line-w in
     let b = c.args.b.now in
     no_bound b (sizes (goal.at.returns-then-not-w c).Else-not-sized) first.result first.ensures w.result w.ensures (not-true _ c.if-not-w.true) _ c.bad_board-then-not-w.ensures
 
 pub returns-then-b-e : goal.returns-then-b-e
 unfolding read_bound
-returns-then-b-e c =     let first = c.line_end-e in
+returns-then-b-e c = let first = c.line_end-e in
     let w = c.names_line-w in
     let b = c.args.b.now in
     no_second b (sizes (goal.at.returns-then-b-e c).Else-not-sized) first.result first.ensures w.result w.ensures (not-false _ c.if-not-w.false)
@@ -41,17 +41,17 @@ returns-then-b-e c =     let first = c.line_end-e in
 
 pub returns-in_default : goal.returns-in_default
 unfolding read_bound
-returns-in_default c =     let first = c.line_end-e in
+returns-in_default c = let first = c.line_end-e in
     let w = c.names_line-w in
     let b = c.args.b.now in
     let second = c.line_end-f in
     let l = c.limit_line-l in
     no-limit b (sizes (goal.at.returns-in_default c).Else-not-sized) first.result first.ensures w.result w.ensures (not-false _ c.if-not-w.false) c.if-b-e.false
-    second.result second.ensures l.result l.ensures c.enum_told-in_default-1.given.1 _ c.bad_board-in_default.ensures
+    second.result second.ensures l.result l.ensures c.in_default.is _ c.bad_board-in_default.ensures
 
 pub returns-then-f-b : goal.returns-then-f-b
 unfolding read_bound
-returns-then-f-b c =     let first = c.line_end-e in
+returns-then-f-b c = let first = c.line_end-e in
     let w = c.names_line-w in
     let b = c.args.b.now in
     let second = c.line_end-f in
@@ -62,7 +62,7 @@ returns-then-f-b c =     let first = c.line_end-e in
 
 pub returns : goal.returns
 unfolding read_bound
-returns c =     let first = c.line_end-e in
+returns c = let first = c.line_end-e in
     let w = c.names_line-w in
     let b = c.args.b.now in
     let second = c.line_end-f in

@@ -50,7 +50,7 @@ pub slice_bounds-added-end : goal.slice_bounds-added-end
 slice_bounds-added-end c = omega (arith, room (goal.at.slice_bounds-added-end c).In-loop-k)
 
 pub added-next-requires : goal.added-next-requires
-added-next-requires c =     let pre = c.requires in
+added-next-requires c = let pre = c.requires in
     let loop = c.loop-k in
     let a = c.args in
     let m = loop.at + a.t.inputs.count + 1 in
@@ -66,7 +66,7 @@ pub loop-k-smaller : goal.loop-k-smaller
 loop-k-smaller c = omega arith
 
 pub loop-k-preserved : goal.loop-k-preserved
-loop-k-preserved c =     let loop = c.loop-k in
+loop-k-preserved c = let loop = c.loop-k in
     let loop-test = c.loop-k-test in
     let covered = c.covered-rows in
     tables_more _ _ _ _ _ _ _ _ loop.invariant loop-test.true _ _ _ _ refl refl covered.ensures c.added-next.ensures

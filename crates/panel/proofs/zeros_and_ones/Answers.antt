@@ -17,7 +17,7 @@ pub bounds-m-i-then-m-i-ne48 : goal.bounds-m-i-then-m-i-ne48
 bounds-m-i-then-m-i-ne48 c = omega arith
 
 pub returns-then-m-i-ne49 : goal.returns-then-m-i-ne49
-returns-then-m-i-ne49 c =     let loop = c.loop-i in
+returns-then-m-i-ne49 c = let loop = c.loop-i in
     let loop-test = c.loop-i-test in
     let if1 = c.if-m-i-ne48 in
     byte_other _ _ loop.invariant loop-test.true if1.true (eqb-false _ _ (not-true _ c.if-m-i-ne49.true-raw))
@@ -29,7 +29,7 @@ pub loop-i-smaller : goal.loop-i-smaller
 loop-i-smaller c = omega arith
 
 pub loop-i-preserved : goal.loop-i-preserved
-loop-i-preserved c =     let passed = c.loop-i.invariant in
+loop-i-preserved c = let passed = c.loop-i.invariant in
     let inside = c.loop-i-test.true in
     ⊎_elim (λ w. byte_one _ _ passed inside (eqb-true _ _ (not-false _ w.2.left))) (λ w. byte_zero _ _ passed inside w.left) c.else-m-i-ne48.branch
 

@@ -12,12 +12,12 @@ pub single-end-requires : goal.single-end-requires
 single-end-requires c = let p = c.requires.4 in omega arith
 
 pub overflow_cast-end : goal.overflow_cast-end
-overflow_cast-end c =     let few : 2 ^ c.args.u ≤ 2 ^ 6 = pow_mono c.requires.4 in
+overflow_cast-end c = let few : 2 ^ c.args.u ≤ 2 ^ 6 = pow_mono c.requires.4 in
     let e = c.single-end.ensures in
     record { fits = omega arith }
 
 pub loop-f-init : goal.loop-f-init
-loop-f-init c =     let a = c.args in
+loop-f-init c = let a = c.args in
     (omega arith, best_start a.cl.now a.codes.now a.v a.o a.u a.budget)
 
 pub sooner-requires : goal.sooner-requires
@@ -27,7 +27,7 @@ pub suits-requires : goal.suits-requires
 suits-requires c = let p = c.requires in (p.0, p.1, p.2, p.3)
 
 pub overflow_add-f : goal.overflow_add-f
-overflow_add-f c =     let a = c.args in
+overflow_add-f c = let a = c.args in
     let few : 2 ^ a.u ≤ 2 ^ 6 = pow_mono c.requires.4 in
     let e = c.single-end.ensures in
     let h = c.loop-f-test.true in
@@ -37,7 +37,7 @@ pub loop-f-smaller : goal.loop-f-smaller
 loop-f-smaller c = let h = c.loop-f-test.true in search rules
 
 pub loop-f-preserved : goal.loop-f-preserved
-loop-f-preserved c =     let single = c.single-end in
+loop-f-preserved c = let single = c.single-end in
     let a = c.args in
     let l = c.loop-f in
     let h = c.loop-f-test.true in
@@ -57,7 +57,7 @@ loop-f-preserved c =     let single = c.single-end in
     )
 
 pub returns : goal.returns
-returns c =     let a = c.args in
+returns c = let a = c.args in
     let l = c.loop-f in
     let h = c.loop-f-test.false in
     let z = l.invariant.0 in

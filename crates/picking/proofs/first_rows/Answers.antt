@@ -11,26 +11,26 @@ use borrow.Author.Rules.{rules}
 use Rattle.picking.proofs.first_rows.Goals as goal
 
 pub loop-o-init : goal.loop-o-init
-loop-o-init c =     let long : length c.widened-tables.result ≡ 32 = search rules in
+loop-o-init c = let long : length c.widened-tables.result ≡ 32 = search rules in
     (long, record { long = refl; done = λ o h. absurd (omega arith) })
 
 pub slice_bounds-first_row-end : goal.slice_bounds-first_row-end
 slice_bounds-first_row-end c = sym c.loop-o.invariant.0
 
 pub bounds-budgets-o : goal.bounds-budgets-o
-bounds-budgets-o c =     let outs = c.requires.2 in
+bounds-budgets-o c = let outs = c.requires.2 in
     let h = c.loop-o-test.true in
     search rules
 
 pub first_row-requires : goal.first_row-requires
-first_row-requires c =     let loop = c.loop-o in
+first_row-requires c = let loop = c.loop-o in
     let p = c.requires in
     let outs = p.2 in
     let h = c.loop-o-test.true in
     (p.0, loop.invariant.0, p.1, omega arith, p.3)
 
 pub bounds-r-o : goal.bounds-r-o
-bounds-r-o c =     let outs = c.requires.2 in
+bounds-r-o c = let outs = c.requires.2 in
     let h = c.loop-o-test.true in
     let long = c.loop-o.invariant.1.long in
     search rules
@@ -42,7 +42,7 @@ pub loop-o-smaller : goal.loop-o-smaller
 loop-o-smaller c = let h = c.loop-o-test.true in search rules
 
 pub loop-o-preserved : goal.loop-o-preserved
-loop-o-preserved c =     let a = c.args in
+loop-o-preserved c = let a = c.args in
     let outs = c.requires.2 in
     let tables = c.widened-tables.result in
     let loop = c.loop-o in
@@ -52,7 +52,7 @@ loop-o-preserved c =     let a = c.args in
     )
 
 pub returns : goal.returns
-returns c =     let a = c.args in
+returns c = let a = c.args in
     let w = c.widened-tables in
     let loop = c.loop-o in
     let h = c.loop-o-test.false in

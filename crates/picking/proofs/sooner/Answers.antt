@@ -21,7 +21,7 @@ pub in_set-requires : goal.in_set-requires
 in_set-requires c = let p = c.requires in let h = c.loop-i-test.true in omega arith
 
 pub returns-then-a-in_set : goal.returns-then-a-in_set
-returns-then-a-in_set c =     let a = c.args in
+returns-then-a-in_set c = let a = c.args in
     let l = c.loop-i in
     let h = c.loop-i-test.true in
     let i = c.in_set-a in
@@ -31,7 +31,7 @@ returns-then-a-in_set c =     let a = c.args in
     i.ensures ∙ sooner_differ a.u a.f a.g l.i h l.invariant.1 d
 
 pub loop-i-preserved : goal.loop-i-preserved
-loop-i-preserved c =     let a = c.args in
+loop-i-preserved c = let a = c.args in
     let l = c.loop-i in
     let h = c.loop-i-test.true in
     let i = c.in_set-a in
@@ -41,7 +41,7 @@ loop-i-preserved c =     let a = c.args in
     (omega arith, λ j k. ⊎_elim (l.invariant.1 j) (λ e. subst same (sym e) here) (less_or_equal j l.i (omega arith)))
 
 pub returns : goal.returns
-returns c =     let a = c.args in
+returns c = let a = c.args in
     let l = c.loop-i in
     let h = c.loop-i-test.false in
     sooner_same a.u a.f a.g (λ j k. l.invariant.1 j (omega arith))

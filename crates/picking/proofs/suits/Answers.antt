@@ -5,7 +5,7 @@ use borrow.Author.Rules.{rules}
 use Rattle.picking.proofs.suits.Goals as goal
 
 pub returns-then-f-budget : goal.returns-then-f-budget
-returns-then-f-budget c =     let left = c.none_left.ensures in (
+returns-then-f-budget c = let left = c.none_left.ensures in (
       λ e. record { few = c.if-f-budget.true; none_left = left.0 e },
       λ e s. left.1 e s.none_left,
     )

@@ -8,7 +8,7 @@ pub map_of-requires : goal.map_of-requires
 map_of-requires c = c.examine.ensures.1
 
 pub returns : goal.returns
-returns c =     let a = c.args in
+returns c = let a = c.args in
     let p = a.pla.now in
     let b = a.board.now in
     c.map_of.ensures (spec.examine p b) c.examine.ensures.0 (panel_well_formed p b)

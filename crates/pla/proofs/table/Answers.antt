@@ -7,5 +7,5 @@ pub table_of-requires : goal.table_of-requires
 table_of-requires c = c.examine.ensures.1
 
 pub returns : goal.returns
-returns c =     let a = c.args in
+returns c = let a = c.args in
     c.table_of.ensures (spec.examine a.pla.now a.board.now) c.examine.ensures.0

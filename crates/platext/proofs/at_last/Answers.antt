@@ -4,7 +4,7 @@ use native.Mathlib.Omega.{arith}
 use Rattle.platext.proofs.at_last.Goals as goal
 
 pub returns-then-cubes-p : goal.returns-then-cubes-p
-returns-then-cubes-p c =     let if1 = c.if-cubes-p in
+returns-then-cubes-p c = let if1 = c.if-cubes-p in
     record { other-count = λ g. refl; more-text = λ e h. absurd (if1.true e); right = λ e h. absurd (if1.true e) }
 
 pub overflow_add-e : goal.overflow_add-e
@@ -14,9 +14,9 @@ pub overflow_add-result : goal.overflow_add-result
 overflow_add-result c = omega (arith, c.requires.1)
 
 pub returns-then-e-s : goal.returns-then-e-s
-returns-then-e-s c =     let if1 = c.if-cubes-p in
+returns-then-e-s c = let if1 = c.if-cubes-p in
     record { other-count = λ g. absurd (g if1.false); more-text = λ e h. refl; right = λ e h. absurd (omega arith) }
 
 pub returns : goal.returns
-returns c =     let if1 = c.if-cubes-p in
+returns c = let if1 = c.if-cubes-p in
     record { other-count = λ g. absurd (g if1.false); more-text = λ e h. absurd (omega arith); right = λ e h. refl }

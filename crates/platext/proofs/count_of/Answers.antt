@@ -23,29 +23,29 @@ pub text-m-requires : goal.text-m-requires
 text-m-requires c = omega (arith, c.start.ensures)
 
 pub returns-in_default : goal.returns-in_default
-returns-in_default c =     let text = (goal.at.returns-in_default c).After-text-m in
+returns-in_default c = let text = (goal.at.returns-in_default c).After-text-m in
     let a = c.args in
-    no_count_word a.head.now a.l.now (word text) c.enum_told-1.given.1 _ refl
+    no_count_word a.head.now a.l.now (word text) c.in_default.is _ refl
 
 pub number-r-requires : goal.number-r-requires
-number-r-requires c = ((moved_to _ _ _ (word (goal.at.number-r-requires c).After-text-m) _ c.m-1.given.1).inside, omega arith)
+number-r-requires c = ((moved_to _ _ _ (word (goal.at.number-r-requires c).After-text-m) _ c.in-To.is).inside, omega arith)
 
 pub returns-in_default-r : goal.returns-in_default-r
-returns-in_default-r c =     let number = c.number-r in
+returns-in_default-r c = let number = c.number-r in
     let text = (goal.at.returns-in_default-r c).After-text-m in
     let a = c.args in
-    no_number a.head.now a.l.now (word text) c.m-1.given.1 number.result number.ensures c.enum_told-in_default-r-1.given.1 _ refl
+    no_number a.head.now a.l.now (word text) c.in-To.is number.result number.ensures c.in_default-r.is _ refl
 
 pub returns-then-at_end : goal.returns-then-at_end
-returns-then-at_end c =     let number = c.number-r in
+returns-then-at_end c = let number = c.number-r in
     let text = (goal.at.returns-then-at_end c).After-text-m in
     let a = c.args in
     let e = leb-true (length a.l.now) _ (sym c.at_end.ensures ∙ c.if-at_end.true) in
-    whole-count a.head.now a.l.now (word text) c.m-1.given.1 number.result number.ensures c.r-1.given.1 e _ refl
+    whole-count a.head.now a.l.now (word text) c.in-To.is number.result number.ensures c.in-Number.is e _ refl
 
 pub returns-else-at_end : goal.returns-else-at_end
-returns-else-at_end c =     let number = c.number-r in
+returns-else-at_end c = let number = c.number-r in
     let text = (goal.at.returns-else-at_end c).After-text-m in
     let a = c.args in
     let e = leb-false (length a.l.now) _ (sym c.at_end.ensures ∙ c.if-at_end.false) in
-    longer-count a.head.now a.l.now (word text) c.m-1.given.1 number.result number.ensures c.r-1.given.1 e _ refl
+    longer-count a.head.now a.l.now (word text) c.in-To.is number.result number.ensures c.in-Number.is e _ refl

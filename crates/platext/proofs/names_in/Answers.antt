@@ -13,7 +13,7 @@ pub text-m-requires : goal.text-m-requires
 text-m-requires c = omega (arith, c.start.ensures)
 
 pub names_of-r-requires : goal.names_of-r-requires
-names_of-r-requires c =     let a = c.args in
+names_of-r-requires c = let a = c.args in
     let text-known = c.text-m in
     let start-known = c.start in
     let m-known = c.m-1 in
@@ -22,7 +22,7 @@ names_of-r-requires c =     let a = c.args in
 
 pub returns-then-at_end : goal.returns-then-at_end
 unfolding read_named
-returns-then-at_end c =     let a = c.args in
+returns-then-at_end c = let a = c.args in
     let text-known = c.text-m in
     let start-known = c.start in
     let names_of = c.names_of-r in
@@ -36,7 +36,7 @@ returns-then-at_end c =     let a = c.args in
 
 pub returns-else-at_end : goal.returns-else-at_end
 unfolding read_named
-returns-else-at_end c =     let a = c.args in
+returns-else-at_end c = let a = c.args in
     let text-known = c.text-m in
     let start-known = c.start in
     let names_of = c.names_of-r in
@@ -51,7 +51,7 @@ returns-else-at_end c =     let a = c.args in
 
 pub returns-in-Bad : goal.returns-in-Bad
 unfolding read_named
-returns-in-Bad c =     let a = c.args in
+returns-in-Bad c = let a = c.args in
     let text-known = c.text-m in
     let start-known = c.start in
     let enum_told = c.enum_told-1 in

@@ -9,7 +9,7 @@ use Rattle.platext.proofs.read_head.Goals as goal
 -- LEFT slice-aggregate-count-line c = search rules
 
 pub returns-then-not-i : goal.returns-then-not-i
-returns-then-not-i c =     let count-line = c.count_line-i in
+returns-then-not-i c = let count-line = c.count_line-i in
     let if1 = c.if-not-i in
     let no-head = c.no_head in
     head_bad _ _ _ (no_inputs _ (count-line.ensures.missing (not-true _ if1.true))) no-head.ensures
@@ -18,7 +18,7 @@ returns-then-not-i c =     let count-line = c.count_line-i in
 -- LEFT slice-aggregate-count-line-2 c = search rules
 
 pub returns-then-not-o : goal.returns-then-not-o
-returns-then-not-o c =     let count-line = c.count_line-i in
+returns-then-not-o c = let count-line = c.count_line-i in
     let if1 = c.if-not-i in
     let count-line2 = c.count_line-o in
     let if2 = c.if-not-o in
@@ -30,7 +30,7 @@ returns-then-not-o c =     let count-line = c.count_line-i in
 -- LEFT slice-aggregate-named-line c = search rules
 
 pub returns-then-not-inputs : goal.returns-then-not-inputs
-returns-then-not-inputs c =     let count-line = c.count_line-i in
+returns-then-not-inputs c = let count-line = c.count_line-i in
     let if1 = c.if-not-i in
     let count-line2 = c.count_line-o in
     let if2 = c.if-not-o in
@@ -45,7 +45,7 @@ returns-then-not-inputs c =     let count-line = c.count_line-i in
 -- LEFT slice-aggregate-named-line-2 c = search rules
 
 pub returns-then-not-outputs : goal.returns-then-not-outputs
-returns-then-not-outputs c =     let count-line = c.count_line-i in
+returns-then-not-outputs c = let count-line = c.count_line-i in
     let if1 = c.if-not-i in
     let count-line2 = c.count_line-o in
     let if2 = c.if-not-o in
@@ -63,7 +63,7 @@ returns-then-not-outputs c =     let count-line = c.count_line-i in
 -- LEFT slice-aggregate-count-line-3 c = search rules
 
 pub returns-then-not-p : goal.returns-then-not-p
-returns-then-not-p c =     let count-line = c.count_line-i in
+returns-then-not-p c = let count-line = c.count_line-i in
     let if1 = c.if-not-i in
     let count-line2 = c.count_line-o in
     let if2 = c.if-not-o in
@@ -82,7 +82,7 @@ returns-then-not-p c =     let count-line = c.count_line-i in
     head_bad _ _ _ stop no-head5.ensures
 
 pub returns : goal.returns
-returns c =     let count-line = c.count_line-i in
+returns c = let count-line = c.count_line-i in
     let if1 = c.if-not-i in
     let count-line2 = c.count_line-o in
     let if2 = c.if-not-o in

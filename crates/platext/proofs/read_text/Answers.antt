@@ -12,7 +12,7 @@ pub returns-then-s-gt-MAX_PLA : goal.returns-then-s-gt-MAX_PLA
 returns-then-s-gt-MAX_PLA c = many_bytes _ _ c.if-s-gt-MAX_PLA.true c.bad_line-then-s-gt-MAX_PLA.ensures
 
 pub returns-then-not-h : goal.returns-then-not-h
-returns-then-not-h c =     let if1 = c.if-s-lt1 in
+returns-then-not-h c = let if1 = c.if-s-lt1 in
     let if2 = c.if-s-gt-MAX_PLA in
     let read_head = c.read_head-h in
     let if3 = c.if-not-h in
@@ -20,13 +20,13 @@ returns-then-not-h c =     let if1 = c.if-s-lt1 in
     bad_head _ if1.false if2.false _ read_head.ensures _ (not-true _ if3.true) bad-line3.ensures
 
 pub read_cubes-c-requires : goal.read_cubes-c-requires
-read_cubes-c-requires c =     let read_head = c.read_head-h in
+read_cubes-c-requires c = let read_head = c.read_head-h in
     let if3 = c.if-not-h in
     let if2 = c.if-s-gt-MAX_PLA in
     ((read_head.ensures.there (not-false _ if3.false)).inside, if2.false)
 
 pub returns-in-Bad : goal.returns-in-Bad
-returns-in-Bad c =     let if3 = c.if-not-h in
+returns-in-Bad c = let if3 = c.if-not-h in
     let read_head = c.read_head-h in
     let if1 = c.if-s-lt1 in
     let if2 = c.if-s-gt-MAX_PLA in
@@ -38,7 +38,7 @@ returns-in-Bad c =     let if3 = c.if-not-h in
     bad-cubes _ if1.false if2.false _ read_head.ensures g _ _ _ (read-cubes.ensures h.head (head_fits h)) c-known.given.1 bad-line4.ensures
 
 pub returns-in-Right : goal.returns-in-Right
-returns-in-Right c =     let if3 = c.if-not-h in
+returns-in-Right c = let if3 = c.if-not-h in
     let read_head = c.read_head-h in
     let if1 = c.if-s-lt1 in
     let if2 = c.if-s-gt-MAX_PLA in

@@ -22,11 +22,11 @@ pub returns-then-in_set : goal.returns-then-in_set
 returns-then-in_set c = inl refl
 
 pub loop-o-preserved : goal.loop-o-preserved
-loop-o-preserved c =     let a = c.args in
+loop-o-preserved c = let a = c.args in
     let i = c.loop-o in
     let h = c.loop-o-test.true in
     (omega arith, unread_more a.t1 i.o (sym c.in_set.ensures ∙ c.if-in_set.false) i.invariant.1)
 
 pub returns : goal.returns
-returns c =     let end = c.loop-o-test.false in
+returns c = let end = c.loop-o-test.false in
     inr (refl, λ o h. c.loop-o.invariant.1 o (omega arith))

@@ -9,7 +9,7 @@ pub asked-k-requires : goal.asked-k-requires
 asked-k-requires c = c.requires.2
 
 pub returns-then-contrary : goal.returns-then-contrary
-returns-then-contrary c =     let a = c.args in
+returns-then-contrary c = let a = c.args in
     let k = c.asked-k in
     let q = c.contrary.ensures.0 c.if-contrary.true in
     record {
@@ -19,11 +19,11 @@ returns-then-contrary c =     let a = c.args in
     }
 
 pub search-s-requires : goal.search-s-requires
-search-s-requires c =     let p = c.requires in
+search-s-requires c = let p = c.requires in
     (p.0, p.1, p.2, p.3, c.contrary.ensures.1 c.if-contrary.false)
 
 pub returns-then-k-kn : goal.returns-then-k-kn
-returns-then-k-kn c =     let a = c.args in
+returns-then-k-kn c = let a = c.args in
     let s = c.search-s in
     record {
       sure = λ e. subst (λ (k : ℕ). Decided a.cl.now a.v a.j a.rows k a.val s.result.ok s.result.codes) c.if-k-kn.true (s.ensures.sure e);
@@ -34,7 +34,7 @@ pub written-codes-requires : goal.written-codes-requires
 written-codes-requires c = c.requires.1
 
 pub returns : goal.returns
-returns c =     let if2 = c.if-k-kn in
+returns c = let if2 = c.if-k-kn in
     let a = c.args in
     let k = c.asked-k in
     let s = c.search-s in

@@ -17,13 +17,13 @@ pub fitting-requires : goal.fitting-requires
 fitting-requires c = c.loop-x-test.true
 
 pub loop-x-preserved : goal.loop-x-preserved
-loop-x-preserved c =     let a = c.args in
+loop-x-preserved c = let a = c.args in
     let h = c.loop-x-test.true in
     let l = c.loop-x in
     (omega arith, fitted_more a.kn a.val l.x l.r c.fitting.result h c.fitting.ensures l.invariant.1)
 
 pub returns : goal.returns
-returns c =     let a = c.args in
+returns c = let a = c.args in
     let l = c.loop-x in
     let end = c.loop-x-test.false in
     let i = l.invariant.0 in

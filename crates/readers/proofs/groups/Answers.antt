@@ -11,13 +11,13 @@ pub loop-i-init : goal.loop-i-init
 loop-i-init c = (omega arith, grouping_start c.args.rows c.args.sh c.args.j)
 
 pub twins-requires : goal.twins-requires
-twins-requires c =     let h = c.loop-i-test.true in (c.requires.0, h)
+twins-requires c = let h = c.loop-i-test.true in (c.requires.0, h)
 
 pub useful-requires : goal.useful-requires
 useful-requires c = c.requires.0
 
 pub loop-i-preserved : goal.loop-i-preserved
-loop-i-preserved c =     let a = c.args in
+loop-i-preserved c = let a = c.args in
     let l = c.loop-i in
     let few = l.invariant.0 in
     ⊎_elim

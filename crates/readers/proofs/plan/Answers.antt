@@ -31,7 +31,7 @@ pub bounds-spots-o : goal.bounds-spots-o
 bounds-spots-o c = let h = c.loop-o-test.true in let z = c.requires in search rules
 
 pub loop-o-preserved : goal.loop-o-preserved
-loop-o-preserved c =     let size = c.size in
+loop-o-preserved c = let size = c.size in
     let a = c.args in
     let z = c.requires in
     let h = c.loop-o-test.true in
@@ -45,7 +45,7 @@ loop-o-preserved c =     let size = c.size in
     )
 
 pub returns : goal.returns
-returns c =     let a = c.args in
+returns c = let a = c.args in
     let l = c.loop-o in
     let h = c.loop-o-test.false in
     let z = l.invariant.0 in

@@ -14,16 +14,16 @@ pub plan-p-requires : goal.plan-p-requires
 plan-p-requires c = c.requires.2
 
 pub bases-base-requires : goal.bases-base-requires
-bases-base-requires c =     (c.requires.0, c.requires.1, c.requires.2)
+bases-base-requires c = (c.requires.0, c.requires.1, c.requires.2)
 
--- LEFT loop-holds : tie.Need-loop-init invariant-loop decreases-loop
--- LEFT loop-holds c = omega arith
+pub loop-o-init : goal.loop-o-init
+loop-o-init c = omega arith
 
 -- LEFT slice-aggregate-total-2 : tie.Need-slice-aggregate-total-2 invariant-loop decreases-loop
 -- LEFT slice-aggregate-total-2 c = search rules
 
 pub total-t-requires : goal.total-t-requires
-total-t-requires c =     let bases = c.bases-base in
+total-t-requires c = let bases = c.bases-base in
     let h = c.loop-o-test.true in
     let z = c.requires.2 in
     (c.requires.0, bases.ensures.long, omega arith, search rules)
@@ -32,12 +32,12 @@ pub bounds-spots-o : goal.bounds-spots-o
 bounds-spots-o c = let h = c.loop-o-test.true in let z = c.requires.2 in search rules
 
 pub overflow_cast-spots : goal.overflow_cast-spots
-overflow_cast-spots c =     let loop = c.loop-o in
+overflow_cast-spots c = let loop = c.loop-o in
     let plan = c.plan-p in
     elem_fits_field w8 w64 plan.result.spots _ loop.o plan.type-inv.1.1.1.1.1.0.1.1 tt
 
 pub returns-then-spots-o : goal.returns-then-spots-o
-returns-then-spots-o c =     let loop = c.loop-o in
+returns-then-spots-o c = let loop = c.loop-o in
     let loop-test = c.loop-o-test in
     λ e kn val.
     let a = c.args in
@@ -50,11 +50,8 @@ returns-then-spots-o c =     let loop = c.loop-o in
     loop.o c.total-t.ensures.0 kn val a.rows loop-test.true
     (let e = c.total-t.ensures.1 in let h = c.if-spots-o.true in omega arith)
 
--- LEFT loop-less : tie.Need-loop-smaller invariant-loop decreases-loop
--- LEFT loop-less c = search rules
-
--- LEFT loop-again : tie.Need-loop-preserved invariant-loop decreases-loop
--- LEFT loop-again c = let h = c.before.before.before.before.loop-test.true in omega arith
+pub loop-o-preserved : goal.loop-o-preserved
+loop-o-preserved c = let h = c.loop-o-test.true in omega arith
 
 pub returns : goal.returns
 returns c = λ e. absurd (true_false e)

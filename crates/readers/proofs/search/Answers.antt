@@ -46,21 +46,21 @@ planned-known rows sh ms ps caps spots v j kn val v₂ j₂ kn₂ val₂ few lea
     (record { vertices = few; outputs = least; short = short; zero = zero; common = c.0; public = c.1; planned = e.0 })
 
 pub searched-sh-requires : goal.searched-sh-requires
-searched-sh-requires c =     let pre = c.requires in
+searched-sh-requires c = let pre = c.requires in
     (pre.2, pre.3)
 
 pub plan-p-requires : goal.plan-p-requires
-plan-p-requires c =     let pre = c.requires in
+plan-p-requires c = let pre = c.requires in
     pre.2
 
 pub blocks-bs-requires : goal.blocks-bs-requires
-blocks-bs-requires c =     let pre = c.requires in
+blocks-bs-requires c = let pre = c.requires in
     let j = pre.2 in
     let e = c.plan-p.ensures.2 in
     omega arith
 
 pub bases-base-requires : goal.bases-base-requires
-bases-base-requires c =     let pre = c.requires in
+bases-base-requires c = let pre = c.requires in
     let v = pre.1 in
     let j = pre.2 in
     let plan = c.plan-p.ensures in
@@ -69,7 +69,7 @@ bases-base-requires c =     let pre = c.requires in
     (pre.0, omega arith, omega arith)
 
 pub settle_all-requires : goal.settle_all-requires
-settle_all-requires c =     let pre = c.requires in
+settle_all-requires c = let pre = c.requires in
     let v = pre.1 in
     let j = pre.2 in
     let plan = c.plan-p in
@@ -81,7 +81,7 @@ settle_all-requires c =     let pre = c.requires in
     (pre.0, bases.ensures.long, blocks_of _ _ plan.result.outputs blocks.ensures, omega arith, omega arith, omega arith, omega arith, search rules, search rules)
 
 pub returns-then-not-settle_all : goal.returns-then-not-settle_all
-returns-then-not-settle_all c =     let a = c.args in
+returns-then-not-settle_all c = let a = c.args in
     let pre = c.requires in
     let sh = c.searched-sh in
     let plan = c.plan-p in
@@ -106,7 +106,7 @@ returns-then-not-settle_all c =     let a = c.args in
     }
 
 pub finish-f-requires : goal.finish-f-requires
-finish-f-requires c =     let a = c.args in
+finish-f-requires c = let a = c.args in
     let pre = c.requires in
     let sh = c.searched-sh in
     let plan = c.plan-p in
@@ -118,7 +118,7 @@ finish-f-requires c =     let a = c.args in
     (pre.0, k.outputs, k.vertices, plan, λ x h. let z = zeros_are 32 x in omega arith)
 
 pub returns-then-f : goal.returns-then-f
-returns-then-f c =     let a = c.args in
+returns-then-f c = let a = c.args in
     let pre = c.requires in
     let sh = c.searched-sh in
     let plan = c.plan-p in
@@ -148,35 +148,35 @@ returns-then-f c =     let a = c.args in
     }
 
 pub groupable-rest-requires : goal.groupable-rest-requires
-groupable-rest-requires c =     let sh = c.searched-sh in
+groupable-rest-requires c = let sh = c.searched-sh in
     sh.ensures.0.low
 
 pub groups-requires : goal.groups-requires
-groups-requires c =     let j = c.requires.2 in
+groups-requires c = let j = c.requires.2 in
     let e = c.plan-p.ensures.2 in
     let rest = c.groupable-rest in
     (omega arith, rest.ensures.low)
 
 pub mark-used-requires : goal.mark-used-requires
-mark-used-requires c =     let gb = c.blocks-gb in
+mark-used-requires c = let gb = c.blocks-gb in
     (gb.ensures.long, omega arith)
 
 pub meet-met-requires : goal.meet-met-requires
-meet-met-requires c =     let pre = c.requires in
+meet-met-requires c = let pre = c.requires in
     let j = pre.2 in
     let e = c.plan-p.ensures.2 in
     (pre.0, omega arith, omega arith)
 
 pub slice_bounds-find-end : goal.slice_bounds-find-end
-slice_bounds-find-end c =     let bases = c.bases-base in
+slice_bounds-find-end c = let bases = c.bases-base in
     sym bases.ensures.long
 
 pub slice_bounds-find-end-2 : goal.slice_bounds-find-end-2
-slice_bounds-find-end-2 c =     let blocks = c.blocks-bs in
+slice_bounds-find-end-2 c = let blocks = c.blocks-bs in
     sym blocks.ensures.long
 
 pub find-requires : goal.find-requires
-find-requires c =     let a = c.args in
+find-requires c = let a = c.args in
     let pre = c.requires in
     let sh = c.searched-sh in
     let plan = c.plan-p in
@@ -214,7 +214,7 @@ find-requires c =     let a = c.args in
     )
 
 pub returns : goal.returns
-returns c =     let a = c.args in
+returns c = let a = c.args in
     let pre = c.requires in
     let sh = c.searched-sh in
     let plan = c.plan-p in

@@ -8,6 +8,6 @@ pub returns-then-kn-eq0 : goal.returns-then-kn-eq0
 returns-then-kn-eq0 c = let a = c.args in (c.shared-sh.ensures, public_none a.kn c.shared-sh.result c.if-kn-eq0.true)
 
 pub returns-else-kn-eq0 : goal.returns-else-kn-eq0
-returns-else-kn-eq0 c =     let a = c.args in
+returns-else-kn-eq0 c = let a = c.args in
     let s = c.shared-sh in
     (common_more a.rows a.j s.result s.ensures, public_more a.kn s.result)

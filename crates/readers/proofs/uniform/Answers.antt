@@ -19,7 +19,7 @@ pub returns-then-m-ne0 : goal.returns-then-m-ne0
 returns-then-m-ne0 c = λ e. absurd (true_false (sym e))
 
 pub loop-o-preserved : goal.loop-o-preserved
-loop-o-preserved c =     let loop-test = c.loop-o-test in
+loop-o-preserved c = let loop-test = c.loop-o-test in
     let loop = c.loop-o in
     let args = c.args in
     let h = loop-test.true in (omega arith, uniform_more args.t1 args.g loop.o (⊎_elim (λ w. inr w.1.left) (λ w. inl w.left) c.if-m-g.branch) loop.invariant.1)

@@ -28,7 +28,7 @@ pub bounds-r-x-in-loop-x : goal.bounds-r-x-in-loop-x
 bounds-r-x-in-loop-x c = let few = c.requires in let h = c.loop-x-test.true in search rules
 
 pub loop-x-preserved : goal.loop-x-preserved
-loop-x-preserved c =     let in-set = c.in_set-known in
+loop-x-preserved c = let in-set = c.in_set-known in
     let a = c.args in
     let few = c.requires in
     let h = c.loop-x-test.true in
@@ -39,7 +39,7 @@ loop-x-preserved c =     let in-set = c.in_set-known in
     )
 
 pub returns : goal.returns
-returns c =     let a = c.args in
+returns c = let a = c.args in
     let l = c.loop-x in
     let end = c.loop-x-test.false in
     let i = l.invariant.0 in

@@ -8,7 +8,7 @@ pub wanted-want-requires : goal.wanted-want-requires
 wanted-want-requires c = let q = c.requires in (q.4, q.5)
 
 pub rows_alone-requires : goal.rows_alone-requires
-rows_alone-requires c =     let q = c.requires in
+rows_alone-requires c = let q = c.requires in
     let h = c.loop-o-test.true in
     let k = q.3 in
     (q.0, q.1, q.2, omega arith, q.4, q.5)

@@ -7,7 +7,7 @@ use borrow.Author.Tests.{not-true}
 use Rattle.readingsets.proofs.ask_all.Goals as goal
 
 pub returns-then-is_bad : goal.returns-then-is_bad
-returns-then-is_bad c =     let a = c.args in
+returns-then-is_bad c = let a = c.args in
     let p = a.p in
     let h = c.requires.3 in
     let r = c.none.result in
@@ -17,7 +17,7 @@ returns-then-is_bad c =     let a = c.args in
     (e.2, sure_now p.last r.unsure _ e.1 said, h)
 
 pub returns : goal.returns
-returns c =     let if2 = c.if-p-ne0 in
+returns c = let if2 = c.if-p-ne0 in
     let a = c.args in
     let p = a.p in
     let h = c.requires.3 in
@@ -34,4 +34,4 @@ returns c =     let if2 = c.if-p-ne0 in
     (refl, k.ensures, kept)
 
 pub shape_of-mem : goal.shape_of-mem
-shape_of-mem c =     (returns-2 c).2.long ∙ sym c.requires.3.long
+shape_of-mem c = (returns-2 c).2.long ∙ sym c.requires.3.long

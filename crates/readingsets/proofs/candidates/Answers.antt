@@ -12,7 +12,7 @@ pub loop-r-init : goal.loop-r-init
 loop-r-init c = let e = c.power-end.ensures in (e.0, e.1, omega arith, omega arith)
 
 pub row_of-row-requires : goal.row_of-row-requires
-row_of-row-requires c =     let power = c.power-end in
+row_of-row-requires c = let power = c.power-end in
     let p = c.args.p in
     let q = c.requires in
     let l = c.loop-r in
@@ -28,7 +28,7 @@ pub loop-r-smaller : goal.loop-r-smaller
 loop-r-smaller c = let h = c.loop-r-test.true in search rules
 
 pub loop-r-preserved : goal.loop-r-preserved
-loop-r-preserved c =     let i = c.loop-r.invariant in
+loop-r-preserved c = let i = c.loop-r.invariant in
     let a = i.1 in
     let b = i.2 in
     let d = i.3 in

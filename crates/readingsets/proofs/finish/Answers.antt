@@ -8,7 +8,7 @@ use borrow.Author.Tests.{not-true}
 use Rattle.readingsets.proofs.finish.Goals as goal
 
 pub returns-then-not-s : goal.returns-then-not-s
-returns-then-not-s c =     let a = c.args in
+returns-then-not-s c = let a = c.args in
     let p = a.p in
     let s = c.settle_smaller-s.ensures in
     let r = c.none.result in
@@ -19,7 +19,7 @@ returns-then-not-s c =     let a = c.args in
     (e.2, sure_now p.last r.unsure _ e.1 (settled_none a.cl.now a.given.now p.kn p.val p.vertices _ (item a.rows) r.ok r.codes e.0 bad), s.0)
 
 pub returns : goal.returns
-returns c =     let a = c.args in
+returns c = let a = c.args in
     let p = a.p in
     let k = c.ask_all in
     let r = k.result in

@@ -6,7 +6,7 @@ use Rattle.readingsets.specs.ChoiceLaws.{next_start, next_here, next-found, next
 use Rattle.readingsets.proofs.next.Goals as goal
 
 pub loop-o-init : goal.loop-o-init
-loop-o-init c =     (omega arith, c.requires.3, next_start c.args.done)
+loop-o-init c = (omega arith, c.requires.3, next_start c.args.done)
 
 pub overflow_cast-o : goal.overflow_cast-o
 overflow_cast-o c = let i = c.loop-o.invariant in let h = c.loop-o-test.true in let r = i.1 in search rules
@@ -21,7 +21,7 @@ pub wanted-requires : goal.wanted-requires
 wanted-requires c = let q = c.requires in (q.4, q.5)
 
 pub candidates-n-requires : goal.candidates-n-requires
-candidates-n-requires c =     let q = c.requires in
+candidates-n-requires c = let q = c.requires in
     let i = c.loop-o.invariant in
     let h = c.loop-o-test.true in
     let r = i.1 in
@@ -34,7 +34,7 @@ pub loop-o-smaller : goal.loop-o-smaller
 loop-o-smaller c = let i = c.loop-o.invariant in let h = c.loop-o-test.true in let r = i.1 in search rules
 
 pub loop-o-preserved : goal.loop-o-preserved
-loop-o-preserved c =     let done = c.args.done in
+loop-o-preserved c = let done = c.args.done in
     let l = c.loop-o in
     let i = l.invariant in
     let r = i.1 in
@@ -55,7 +55,7 @@ loop-o-preserved c =     let done = c.args.done in
     )
 
 pub returns : goal.returns
-returns c =     let l = c.loop-o in
+returns c = let l = c.loop-o in
     let i = l.invariant in
     let a = i.0 in
     let h = c.loop-o-test.false in

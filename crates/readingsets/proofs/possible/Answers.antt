@@ -24,7 +24,7 @@ pub possible-requires : goal.possible-requires
 possible-requires c = let q = c.requires in (q.0, q.1, q.2)
 
 pub returns-then-not-possible : goal.returns-then-not-possible
-returns-then-not-possible c =     let a = c.args in
+returns-then-not-possible c = let a = c.args in
     let p = a.p in
     let w = c.with in
     let none = c.possible.ensures (not-true _ c.if-not-possible.true-raw) p.kn p.val in

@@ -9,14 +9,14 @@ pub power-all-requires : goal.power-all-requires
 power-all-requires c = let q = c.requires in let h = q.4 in let k = q.5 in omega arith
 
 pub loop-r-init : goal.loop-r-init
-loop-r-init c =     let k = c.power-all in
+loop-r-init c = let k = c.power-all in
     let end = c.if-all-lt-NOTED.end in
     let short : end ≤ 64 = ⊎_elim (λ w. let h = w.0.taken in let e = w.1 in omega arith) (λ w. let e = w.1 in omega arith) c.if-all-lt-NOTED.branch in
     let within : end ≤ k.result = ⊎_elim (λ w. let e = w.1 in omega arith) (λ w. let h = w.0.left in let e = w.1 in omega arith) c.if-all-lt-NOTED.branch in
     (omega arith, short, within, k.ensures.0)
 
 pub row_of-row-requires : goal.row_of-row-requires
-row_of-row-requires c =     let a = c.args in
+row_of-row-requires c = let a = c.args in
     let q = c.requires in
     let l = c.loop-r in
     let h = c.loop-r-test.true in
@@ -28,17 +28,17 @@ pub leaves-requires : goal.leaves-requires
 leaves-requires c = let q = c.requires in (q.0, q.1, q.2, q.3)
 
 pub overflow_cast-r : goal.overflow_cast-r
-overflow_cast-r c =     let h = c.loop-r-test.true in
+overflow_cast-r c = let h = c.loop-r-test.true in
     let k = c.loop-r.invariant.1 in
     omega arith
 
 pub with-left-requires : goal.with-left-requires
-with-left-requires c =     let h = c.loop-r-test.true in
+with-left-requires c = let h = c.loop-r-test.true in
     let k = c.loop-r.invariant.1 in
     omega arith
 
 pub overflow_add-r : goal.overflow_add-r
-overflow_add-r c =     let h = c.loop-r-test.true in
+overflow_add-r c = let h = c.loop-r-test.true in
     let k = c.loop-r.invariant.1 in
     omega arith
 
@@ -46,6 +46,6 @@ pub loop-r-smaller : goal.loop-r-smaller
 loop-r-smaller c = let h = c.loop-r-test.true in search rules
 
 pub loop-r-preserved : goal.loop-r-preserved
-loop-r-preserved c =     let h = c.loop-r-test.true in
+loop-r-preserved c = let h = c.loop-r-test.true in
     let i = c.loop-r.invariant in
     (omega arith, i.1, i.2, i.3)

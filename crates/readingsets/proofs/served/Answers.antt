@@ -10,7 +10,7 @@ pub power-end-requires : goal.power-end-requires
 power-end-requires c = let q = c.requires in let h = q.4 in let k = q.5 in omega arith
 
 pub returns-then-p-eq0 : goal.returns-then-p-eq0
-returns-then-p-eq0 c =     let a = c.args in
+returns-then-p-eq0 c = let a = c.args in
     let p = a.p in
     let e = c.power-end in
     served_none a.cl.now a.given.now p.vertices p.cells p.tables a.n a.want e.result e.ensures.0
@@ -19,7 +19,7 @@ pub loop-r-init : goal.loop-r-init
 loop-r-init c = omega arith
 
 pub row_of-row-requires : goal.row_of-row-requires
-row_of-row-requires c =     let p = c.args.p in
+row_of-row-requires c = let p = c.args.p in
     let q = c.requires in
     let l = c.loop-r in
     let k = c.power-end in
@@ -30,7 +30,7 @@ pub none_left-requires : goal.none_left-requires
 none_left-requires c = let q = c.requires in (q.0, q.1, q.3, q.2)
 
 pub returns-then-none_left : goal.returns-then-none_left
-returns-then-none_left c =     let if2 = c.if-suits in
+returns-then-none_left c = let if2 = c.if-suits in
     let a = c.args in
     let p = a.p in
     let l = c.loop-r in
@@ -51,7 +51,7 @@ pub loop-r-preserved : goal.loop-r-preserved
 loop-r-preserved c = let h = c.loop-r-test.true in omega arith
 
 pub returns : goal.returns
-returns c =     let a = c.args in
+returns c = let a = c.args in
     let p = a.p in
     let e = c.power-end in
     served_none a.cl.now a.given.now p.vertices p.cells p.tables a.n a.want e.result e.ensures.0

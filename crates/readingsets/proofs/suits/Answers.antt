@@ -6,7 +6,7 @@ use Rattle.bits.specs.CountLaws.{ones-count}
 use Rattle.readingsets.proofs.suits.Goals as goal
 
 pub returns-then-row-want : goal.returns-then-row-want
-returns-then-row-want c =     let a = c.args in
+returns-then-row-want c = let a = c.args in
     let f = c.open_of-f in
     subst (λ (f : ℕ). Suits a.row a.want a.same (eqb (disorder f a.same) 0)) (sym f.ensures.0)
     (suits_count a.row a.want a.same (ones a.row) c.if-row-want.true (ones-count 16 a.row c.ranges.row.fits))

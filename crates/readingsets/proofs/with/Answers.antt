@@ -6,7 +6,7 @@ pub power-requires : goal.power-requires
 power-requires c = let h = c.requires in omega arith
 
 pub overflow_cast-result : goal.overflow_cast-result
-overflow_cast-result c =     let h = c.requires in
+overflow_cast-result c = let h = c.requires in
     let n = c.args.n in
     let few : n ≤ 7 = omega arith in
     let low : 2 ^ n ≤ 2 ^ 7 = pow_mono few in

@@ -16,13 +16,13 @@ pub loop-k-init : goal.loop-k-init
 loop-k-init c = (omega arith, refl, record { filled = filled_none _ _ refl; rest = λ l h. zeros_are (2 * label_count) l })
 
 pub bounds-from-k : goal.bounds-from-k
-bounds-from-k c =     let h = c.loop-k-test.true in
+bounds-from-k c = let h = c.loop-k-test.true in
     let e = c.loop-k.invariant.1 in
     let few = c.requires.2 in
     search rules
 
 pub label-requires : goal.label-requires
-label-requires c =     let p = c.requires in
+label-requires c = let p = c.requires in
     let l = c.loop-k in
     let h = c.loop-k-test.true in
     let e = l.invariant.1 in
@@ -31,26 +31,26 @@ label-requires c =     let p = c.requires in
     (omega arith, p.1 (l.k / max_vertices) (omega arith), omega arith)
 
 pub bounds-r-k : goal.bounds-r-k
-bounds-r-k c =     let h = c.loop-k-test.true in
+bounds-r-k c = let h = c.loop-k-test.true in
     let e = c.loop-k.invariant.1 in
     let few = c.requires.2 in
     search rules
 
 pub overflow_add-k : goal.overflow_add-k
-overflow_add-k c =     let h = c.loop-k-test.true in
+overflow_add-k c = let h = c.loop-k-test.true in
     let e = c.loop-k.invariant.1 in
     let few = c.requires.2 in
     search rules
 
 pub loop-k-preserved : goal.loop-k-preserved
-loop-k-preserved c =     let l = c.loop-k in
+loop-k-preserved c = let l = c.loop-k in
     let h = c.loop-k-test.true in
     let e = l.invariant.1 in
     let few = c.requires.2 in
     (omega arith, e, copied_more c.args.cl.now c.args.from l.k _ l.r (omega arith) c.label.ensures l.invariant.2)
 
 pub returns : goal.returns
-returns c =     let l = c.loop-k in
+returns c = let l = c.loop-k in
     subst (λ (z : ℕ). Copied c.args.cl.now c.args.from z l.r)
     (let h = c.loop-k-test.false in let z = l.invariant.0 in let e = l.invariant.1 in omega arith)
     l.invariant.2

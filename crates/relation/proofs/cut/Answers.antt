@@ -12,7 +12,7 @@ pub copied-r-requires : goal.copied-r-requires
 copied-r-requires c = let p = c.requires in (p.0, p.2, p.3)
 
 pub loop-i-init : goal.loop-i-init
-loop-i-init c =     let a = c.args in
+loop-i-init c = let a = c.args in
     let p = c.requires in
     (omega arith, cutting_start a.cl.now a.given.now a.t3 a.t4 a.n a.v p.3 p.4 c.copied-r.result p.0 p.2 c.copied-r.ensures)
 
@@ -26,14 +26,14 @@ pub bounds-from-i : goal.bounds-from-i
 bounds-from-i c = let z = c.requires.3 in search rules
 
 pub refine-refined-requires : goal.refine-refined-requires
-refine-refined-requires c =     let p = c.requires in
+refine-refined-requires c = let p = c.requires in
     let l = c.loop-i in
     let h = c.loop-i-test.true in
     let few = p.3 in
     (p.0, p.1, p.2 l.i (omega arith), p.4, omega arith, l.invariant.1.whole)
 
 pub loop-i-preserved : goal.loop-i-preserved
-loop-i-preserved c =     let a = c.args in
+loop-i-preserved c = let a = c.args in
     let p = c.requires in
     let l = c.loop-i in
     let h = c.loop-i-test.true in
@@ -46,7 +46,7 @@ loop-i-preserved c =     let a = c.args in
     )
 
 pub returns : goal.returns
-returns c =     let a = c.args in
+returns c = let a = c.args in
     let p = c.requires in
     let l = c.loop-i in
     cutting_leaves a.cl.now a.given.now a.t3 a.t4 a.n a.v p.3 p.4 l.i l.r c.loop-i-test.false l.invariant.1

@@ -17,11 +17,11 @@ pub bounds-keys-y : goal.bounds-keys-y
 bounds-keys-y c = let z = c.requires in search rules
 
 pub returns-then-keys-y : goal.returns-then-keys-y
-returns-then-keys-y c =     let l = c.loop-y in
+returns-then-keys-y c = let l = c.loop-y in
     record { under = l.invariant.0; same = c.if-keys-y.true ∙ l.invariant.1; none = l.invariant.2 }
 
 pub loop-y-preserved : goal.loop-y-preserved
-loop-y-preserved c =     let a = c.args in
+loop-y-preserved c = let a = c.args in
     let l = c.loop-y in
     let h = c.loop-y-test.true in (
       omega arith,
@@ -30,5 +30,5 @@ loop-y-preserved c =     let a = c.args in
     )
 
 pub returns : goal.returns
-returns c =     let l = c.loop-y in
+returns c = let l = c.loop-y in
     record { under = omega arith; same = refl; none = λ z h. l.invariant.2 z (let w = c.loop-y-test.false in omega arith) }

@@ -12,7 +12,7 @@ pub loop-x-init : goal.loop-x-init
 loop-x-init c = let a = c.args in (omega arith, inside_start a.cl.now a.o a.q)
 
 pub inside_at-requires : goal.inside_at-requires
-inside_at-requires c =     let p = c.requires in
+inside_at-requires c = let p = c.requires in
     let o = p.1 in
     let q = p.2 in
     let v = p.3 in
@@ -23,13 +23,13 @@ pub returns-then-not-inside_at : goal.returns-then-not-inside_at
 returns-then-not-inside_at c = λ e. absurd (true_false (sym e))
 
 pub loop-x-preserved : goal.loop-x-preserved
-loop-x-preserved c =     let a = c.args in
+loop-x-preserved c = let a = c.args in
     let l = c.loop-x in
     let h = c.loop-x-test.true in
     (omega arith, inside_more a.cl.now a.o a.q l.x (c.inside_at.ensures (not-false _ c.if-not-inside_at.false-raw)) l.invariant.1)
 
 pub returns : goal.returns
-returns c =     let a = c.args in
+returns c = let a = c.args in
     let l = c.loop-x in
     let h = c.loop-x-test.false in
     let z = l.invariant.0 in

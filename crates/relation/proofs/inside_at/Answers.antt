@@ -20,14 +20,14 @@ pub loop-y-init : goal.loop-y-init
 loop-y-init c = (omega arith, c.label-a.ensures, c.label-b.ensures, λ z h. absurd (omega arith))
 
 pub label-requires : goal.label-requires
-label-requires c =     let p = c.requires in
+label-requires c = let p = c.requires in
     let h = c.loop-y-test.true in
     let x = p.3 in
     let w = p.0.long in
     (omega arith, p.2, omega arith)
 
 pub label-requires-then-label-b : goal.label-requires-then-label-b
-label-requires-then-label-b c =     let p = c.requires in
+label-requires-then-label-b c = let p = c.requires in
     let h = c.loop-y-test.true in
     let x = p.3 in
     let w = p.0.long in
@@ -37,7 +37,7 @@ pub returns-then-label-a : goal.returns-then-label-a
 returns-then-label-a c = λ e. absurd (true_false (sym e))
 
 pub loop-y-preserved : goal.loop-y-preserved
-loop-y-preserved c =     let a = c.args in
+loop-y-preserved c = let a = c.args in
     let cl = a.cl.now in
     let l = c.loop-y in
     let i = l.invariant in

@@ -17,7 +17,7 @@ pub bounds-r-y : goal.bounds-r-y
 bounds-r-y c = let z = c.requires in search rules
 
 pub overflow_add-next : goal.overflow_add-next
-overflow_add-next c =     let l = c.loop-x in
+overflow_add-next c = let l = c.loop-x in
     let z = l.invariant.1.few in
     let h = c.loop-x-test.true in
     let few = c.requires in
@@ -27,7 +27,7 @@ pub bounds-r-x : goal.bounds-r-x
 bounds-r-x c = let z = c.requires in search rules
 
 pub loop-x-preserved : goal.loop-x-preserved
-loop-x-preserved c =     let l = c.loop-x in
+loop-x-preserved c = let l = c.loop-x in
     let h = c.loop-x-test.true in
     let z = c.requires in
     let b : l.x < 32 = omega arith in
@@ -40,5 +40,5 @@ loop-x-preserved c =     let l = c.loop-x in
     )
 
 pub returns : goal.returns
-returns c =     let l = c.loop-x in
+returns c = let l = c.loop-x in
     subst (λ (z : ℕ). Numbers c.args.keys z l.r) (let h = c.loop-x-test.false in let z = l.invariant.0 in omega arith) l.invariant.1.numbers

@@ -15,19 +15,19 @@ pub bounds-parts-x : goal.bounds-parts-x
 bounds-parts-x c = let z = c.requires.2 in search rules
 
 pub label-l-requires : goal.label-l-requires
-label-l-requires c =     let p = c.requires in
+label-l-requires c = let p = c.requires in
     let h = c.loop-x-test.true in
     let long = p.0.long in
     let few = p.2 in
     (omega arith, p.1, omega arith)
 
 pub overflow_mul-r : goal.overflow_mul-r
-overflow_mul-r c =     let loop = c.loop-x in
+overflow_mul-r c = let loop = c.loop-x in
     let low = c.requires.3 loop.x c.loop-x-test.true in
     omega arith
 
 pub overflow_add-r : goal.overflow_add-r
-overflow_add-r c =     let l = c.loop-x in
+overflow_add-r c = let l = c.loop-x in
     let h = c.loop-x-test.true in
     let e = c.label-l.ensures in
     let few = c.requires.2 in
@@ -37,7 +37,7 @@ overflow_add-r c =     let l = c.loop-x in
     omega arith
 
 pub overflow_cast-r : goal.overflow_cast-r
-overflow_cast-r c =     let l = c.loop-x in
+overflow_cast-r c = let l = c.loop-x in
     let h = c.loop-x-test.true in
     let e = c.label-l.ensures in
     let few = c.requires.2 in
@@ -53,7 +53,7 @@ pub bounds-r-x : goal.bounds-r-x
 bounds-r-x c = let z = c.requires.2 in search rules
 
 pub loop-x-preserved : goal.loop-x-preserved
-loop-x-preserved c =     let loop = c.loop-x in
+loop-x-preserved c = let loop = c.loop-x in
     let test = c.loop-x-test.true in
     let few = c.requires.2 in
     filled_more _ (omega arith) (ap (λ (n : ℕ). item c.args.parts loop.x * max_vertices + n) c.label-l.ensures) loop.invariant

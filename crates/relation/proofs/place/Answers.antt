@@ -19,14 +19,14 @@ pub overflow_mul-r : goal.overflow_mul-r
 overflow_mul-r c = let z = c.requires.1 in search rules
 
 pub overflow_add-r : goal.overflow_add-r
-overflow_add-r c =     let h = c.loop-x-test.true in
+overflow_add-r c = let h = c.loop-x-test.true in
     let few = c.requires.2 in
     let own = c.requires.1 in
     let low = c.requires.3.label-low c.loop-x.x h in
     search rules
 
 pub bounds-r-i : goal.bounds-r-i
-bounds-r-i c =     let h = c.loop-x-test.true in
+bounds-r-i c = let h = c.loop-x-test.true in
     let few = c.requires.2 in
     let own = c.requires.1 in
     let low = c.requires.3.label-low c.loop-x.x h in
@@ -36,34 +36,34 @@ pub overflow_mul-r-in-loop-x : goal.overflow_mul-r-in-loop-x
 overflow_mul-r-in-loop-x c = let z = c.requires.1 in search rules
 
 pub overflow_add-r-in-loop-x : goal.overflow_add-r-in-loop-x
-overflow_add-r-in-loop-x c =     let h = c.loop-x-test.true in
+overflow_add-r-in-loop-x c = let h = c.loop-x-test.true in
     let few = c.requires.2 in
     let own = c.requires.1 in
     let low = c.requires.3.label-low c.loop-x.x h in
     search rules
 
 pub overflow_add-r-in-loop-x-2 : goal.overflow_add-r-in-loop-x-2
-overflow_add-r-in-loop-x-2 c =     let h = c.loop-x-test.true in
+overflow_add-r-in-loop-x-2 c = let h = c.loop-x-test.true in
     let few = c.requires.2 in
     let own = c.requires.1 in
     let low = c.requires.3.label-low c.loop-x.x h in
     search rules
 
 pub bounds-r-i-in-loop-x : goal.bounds-r-i-in-loop-x
-bounds-r-i-in-loop-x c =     let h = c.loop-x-test.true in
+bounds-r-i-in-loop-x c = let h = c.loop-x-test.true in
     let few = c.requires.2 in
     let own = c.requires.1 in
     let low = c.requires.3.label-low c.loop-x.x h in
     search rules
 
 pub loop-x-preserved : goal.loop-x-preserved
-loop-x-preserved c =     let a = c.args in
+loop-x-preserved c = let a = c.args in
     let p = c.requires in
     let l = c.loop-x in
     let h = c.loop-x-test.true in
     (omega arith, placed_more a.old a.t3 a.t4 a.i a.v l.x _ _ l.r p.1 p.2 h p.3 refl refl l.invariant.1)
 
 pub returns : goal.returns
-returns c =     let a = c.args in
+returns c = let a = c.args in
     let l = c.loop-x in
     subst (λ (z : ℕ). Placed a.old a.t3 a.t4 a.i z l.r) (let h = c.loop-x-test.false in let z = l.invariant.0 in omega arith) l.invariant.1

@@ -14,7 +14,7 @@ pub numbers-labels-requires : goal.numbers-labels-requires
 numbers-labels-requires c = c.requires.3
 
 pub place-requires : goal.place-requires
-place-requires c =     let values = c.values-values in
+place-requires c = let values = c.values-values in
     let numbers = c.numbers-parts in
     let a = c.args in
     let p = c.requires in (
@@ -26,7 +26,7 @@ place-requires c =     let values = c.values-values in
     )
 
 pub returns : goal.returns
-returns c =     let values = c.values-values in
+returns c = let values = c.values-values in
     let numbers = c.numbers-parts in
     let pairs = c.pairs-pairs in
     let a = c.args in

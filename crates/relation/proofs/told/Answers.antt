@@ -24,7 +24,7 @@ pub label-requires : goal.label-requires
 label-requires c = let z = c.requires.3 in search rules
 
 pub returns-then-label : goal.returns-then-label
-returns-then-label c =     let if1 = c.if-given-y in
+returns-then-label c = let if1 = c.if-given-y in
     let a = c.args in
     let l = c.loop-y in
     let i = l.invariant in
@@ -38,7 +38,7 @@ returns-then-label c =     let if1 = c.if-given-y in
     )
 
 pub loop-y-preserved : goal.loop-y-preserved
-loop-y-preserved c =     let a = c.args in
+loop-y-preserved c = let a = c.args in
     let l = c.loop-y in
     let i = l.invariant in
     let h = c.loop-y-test.true in

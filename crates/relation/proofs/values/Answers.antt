@@ -22,7 +22,7 @@ pub bounds-r-x : goal.bounds-r-x
 bounds-r-x c = let z = c.requires.1 in search rules
 
 pub loop-x-preserved : goal.loop-x-preserved
-loop-x-preserved c =     let few = c.requires.1 in
+loop-x-preserved c = let few = c.requires.1 in
     let test = c.loop-x-test.true in
     filled_more _ (omega arith) refl c.loop-x.invariant
 

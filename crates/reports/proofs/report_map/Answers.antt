@@ -4,11 +4,11 @@ use borrow.Author.Rules.{rules}
 use Rattle.reports.proofs.report_map.Goals as goal
 
 pub overflow_cast-result : goal.overflow_cast-result
-overflow_cast-result c =     let q = rw c.m-1.given.1 at c.requires in
+overflow_cast-result c = let q = rw c.in-Refused.is at c.requires in
     record { fits = omega (arith, q.high) }
 
 pub returns-in-Refused : goal.returns-in-Refused
-returns-in-Refused c = rw c.m-1.given.1 refl
+returns-in-Refused c = rw c.in-Refused.is refl
 
 pub returns-in-Written : goal.returns-in-Written
-returns-in-Written c = rw c.m-in-Written-1.given.1 refl
+returns-in-Written c = rw c.in-Written.is refl

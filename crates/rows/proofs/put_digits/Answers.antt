@@ -10,7 +10,7 @@ pub loop-i-init : goal.loop-i-init
 loop-i-init c = put_none _ _ _
 
 pub loop-i-preserved : goal.loop-i-preserved
-loop-i-preserved c =     put_next c.loop-i.invariant c.loop-i-test.true (c.digit_of.ensures ∙ ap digit c.row.ensures)
+loop-i-preserved c = put_next c.loop-i.invariant c.loop-i-test.true (c.digit_of.ensures ∙ ap digit c.row.ensures)
 
 pub returns : goal.returns
 returns c = put_all c.loop-i.invariant c.loop-i-test.false

@@ -7,7 +7,7 @@ use Rattle.rows.specs.Step.{stepped}
 use Rattle.rows.proofs.step.Goals as goal
 
 pub overflow_add-result : goal.overflow_add-result
-overflow_add-result c =     let args = c.args in
+overflow_add-result c = let args = c.args in
     record { fits = omega (arith, or_lt max_inputs args.r args.bound c.requires.0 c.requires.1) }
 
 pub returns : goal.returns

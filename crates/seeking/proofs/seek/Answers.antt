@@ -10,24 +10,24 @@ use borrow.Author.Rules.{rules}
 use Rattle.seeking.proofs.seek.Goals as goal
 
 pub loop-p-init : goal.loop-p-init
-loop-p-init c =     let places = c.places-same in
+loop-p-init c = let places = c.places-same in
     (omega arith, refl, refl, places.ensures, c.requires.7)
 
 pub some_nodes-requires : goal.some_nodes-requires
 some_nodes-requires c = c.loop-p.invariant.0
 
 pub choose-k-requires : goal.choose-k-requires
-choose-k-requires c =     let q = c.requires in
+choose-k-requires c = let q = c.requires in
     let p = c.args.p in
     let i = c.loop-p.invariant in
     (q.0, q.1, q.2, q.3, q.4, q.5, rows_start _ p.outputs p.cells p.tables _ i.1, alike-start p.kn p.cells _ _ i.3, i.4)
 
 pub shape_of-mem-then-not-k : goal.shape_of-mem-then-not-k
-shape_of-mem-then-not-k c =     let choose = c.choose-k in
+shape_of-mem-then-not-k c = let choose = c.choose-k in
     choose.ensures.1.long ∙ sym c.requires.7.long
 
 pub returns-then-not-k : goal.returns-then-not-k
-returns-then-not-k c =     let q = c.requires in
+returns-then-not-k c = let q = c.requires in
     let a = c.args in
     let p = a.p in
     let k = c.choose-k in
@@ -40,12 +40,12 @@ pub overflow_add-i : goal.overflow_add-i
 overflow_add-i c = let i = c.loop-p.invariant.0 in search rules
 
 pub loop-p-smaller : goal.loop-p-smaller
-loop-p-smaller c =     let if1 = c.if-not-k in
+loop-p-smaller c = let if1 = c.if-not-k in
     let early = unsure_early _ c.loop-p.i _ _ c.choose-k.ensures.0 c.all_nodes.ensures (not-false _ if1.false) in
     omega arith
 
 pub loop-p-preserved : goal.loop-p-preserved
-loop-p-preserved c =     let if1 = c.if-not-k in
+loop-p-preserved c = let if1 = c.if-not-k in
     let a = c.args in
     let p = a.p in
     let early = unsure_early _ c.loop-p.i _ _ c.choose-k.ensures.0 c.all_nodes.ensures (not-false _ if1.false) in

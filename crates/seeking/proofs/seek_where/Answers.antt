@@ -4,11 +4,11 @@ use borrow.Author.Rules.{rules}
 use Rattle.seeking.proofs.seek_where.Goals as goal
 
 pub returns-then-not-all_fit : goal.returns-then-not-all_fit
-returns-then-not-all_fit c =     let pre = c.requires in
+returns-then-not-all_fit c = let pre = c.requires in
     (λ all. absurd (c.all_fit.ensures.1 (not-true _ c.if-not-all_fit.true-raw) all), pre.7)
 
 pub returns : goal.returns
-returns c =     let if1 = c.if-not-all_fit in
+returns c = let if1 = c.if-not-all_fit in
     let seek = c.seek in
     let all = c.all_fit.ensures.0 (not-false _ if1.false) in
     let args = c.args in

@@ -44,7 +44,7 @@ by-five c r d rest =
 -- LEFT slice-aggregate-names-line c = search rules
 
 pub returns-then-q-ne0 : goal.returns-then-q-ne0
-returns-then-q-ne0 c =     λ d h.
+returns-then-q-ne0 c = λ d h.
     let w = c.names_line-w in
     let q = c.first_no-q in
     list_refused (bound_asks d) w.result c.refuse.result q.result q.ensures _ (bound-reads _ w.result w.ensures)
@@ -63,12 +63,12 @@ pub slice_bounds-placed-end-2 : goal.slice_bounds-placed-end-2
 slice_bounds-placed-end-2 c = sym (length-take-le _ _ (inside (goal.at.slice_bounds-placed-end-2 c).After-shared_slice_known-1))
 
 pub placed-p-requires : goal.placed-p-requires
-placed-p-requires c =     let e = (goal.at.placed-p-requires c).Else-q-ne0 in
+placed-p-requires c = let e = (goal.at.placed-p-requires c).Else-q-ne0 in
     let w = c.names_line-w.result in
     omega (arith, length-take-le w.count w.names (kept e), few e)
 
 pub returns-then-not-p : goal.returns-then-not-p
-returns-then-not-p c =     λ d h.
+returns-then-not-p c = λ d h.
     let e = (goal.at.returns-then-not-p c).Else-q-ne0 in
     let w = c.names_line-w.result in
     let p = c.placed-p in
@@ -77,7 +77,7 @@ returns-then-not-p c =     λ d h.
     (not-true _ c.if-not-p.true) c.refuse-then-not-p.ensures)
 
 pub returns : goal.returns
-returns c =     λ d h.
+returns c = λ d h.
     let e = (goal.at.returns c).Else-q-ne0 in
     let w = c.names_line-w.result in
     let p = c.placed-p in

@@ -7,6 +7,6 @@ use Rattle.sheet.proofs.ask_in.Goals as goal
 -- LEFT slice-aggregate-names-line c = search rules
 
 pub returns : goal.returns
-returns c =     λ d h f.
+returns c = λ d h f.
     let w = c.names_line in
     c.asked_in.ensures d _ (in_reads _ w.result w.ensures) h f

@@ -20,16 +20,16 @@ use Rattle.sheet.proofs.Arrays.{names_sized}
 use Rattle.sheet.proofs.ask_out.Goals as goal
 
 pub slice_bounds-inputs-end : goal.slice_bounds-inputs-end
-slice_bounds-inputs-end c =     let good = c.well-formed in
+slice_bounds-inputs-end c = let good = c.well-formed in
     omega (arith, names_sized c.args.k good.0)
 
 pub slice_bounds-out_line-end : goal.slice_bounds-out_line-end
-slice_bounds-out_line-end c =     let args = c.args in
+slice_bounds-out_line-end c = let args = c.args in
     let good = c.well-formed in
     sym (length-take-le args.k.inputs args.k.names (omega (arith, names_sized args.k good.0)))
 
 pub returns-then-not-w : goal.returns-then-not-w
-returns-then-not-w c =     let if1 = c.if-not-w in
+returns-then-not-w c = let if1 = c.if-not-w in
     let out_line = c.out_line-w in
     let args = c.args in
     let k = args.k in
@@ -54,7 +54,7 @@ spelled c d h r f =
     (not-false (read_at c).ok c.if-not-w.false) f
 
 pub returns-then-k-ge-MAX_OUTPUTS : goal.returns-then-k-ge-MAX_OUTPUTS
-returns-then-k-ge-MAX_OUTPUTS c =     let p = (goal.at.returns-then-k-ge-MAX_OUTPUTS c).Else-not-w in
+returns-then-k-ge-MAX_OUTPUTS c = let p = (goal.at.returns-then-k-ge-MAX_OUTPUTS c).Else-not-w in
     let q = c.refuse-then-k-ge-MAX_OUTPUTS in
     λ d h. spelled p d h q.result (λ x g.
     ⊎_elim
@@ -63,7 +63,7 @@ returns-then-k-ge-MAX_OUTPUTS c =     let p = (goal.at.returns-then-k-ge-MAX_OUT
     c.then-k-ge-MAX_OUTPUTS.branch)
 
 pub returns-then-not-is_new : goal.returns-then-not-is_new
-returns-then-not-is_new c =     let if3 = c.if-w-gt-MAX_DEPTH in
+returns-then-not-is_new c = let if3 = c.if-w-gt-MAX_DEPTH in
     let if2 = c.if-k-ge-MAX_OUTPUTS in
     let p = (goal.at.returns-then-not-is_new c).Else-not-w in
     let q = c.refuse-then-not-is_new in
@@ -74,7 +74,7 @@ returns-then-not-is_new c =     let if3 = c.if-w-gt-MAX_DEPTH in
     out-old-name d (sheet-at p) h (read_at p) q.result x g if2.false flat (old ∙ n.ensures d h) q.ensures)
 
 pub returns-then-not-w-2 : goal.returns-then-not-w-2
-returns-then-not-w-2 c =     let if3 = c.if-w-gt-MAX_DEPTH in
+returns-then-not-w-2 c = let if3 = c.if-w-gt-MAX_DEPTH in
     let if4 = c.if-not-is_new in
     let if2 = c.if-k-ge-MAX_OUTPUTS in
     let p = (goal.at.returns-then-not-w-2 c).Else-not-w in
@@ -87,7 +87,7 @@ returns-then-not-w-2 c =     let if3 = c.if-w-gt-MAX_DEPTH in
     out-unknown d (sheet-at p) h (read_at p) q.result x g if2.false flat (new ∙ n.ensures d h) unknown q.ensures)
 
 pub returns : goal.returns
-returns c =     let with-output = c.with_output in
+returns c = let with-output = c.with_output in
     let if5 = c.if-not-w-2 in
     let if4 = c.if-not-is_new in
     let is-new = c.is_new in

@@ -5,13 +5,13 @@ use Rattle.sheet.specs.ListLaws.{counted_few, list_refused, list_good}
 use Rattle.sheet.proofs.asked_in.Goals as goal
 
 pub returns-then-q-ne0 : goal.returns-then-q-ne0
-returns-then-q-ne0 c =     λ d x l h f.
+returns-then-q-ne0 c = λ d x l h f.
     let w = c.args.w in
     let q = c.first_no-q in
     list_refused (in_asks d) w c.refuse.result q.result q.ensures x l c.if-q-ne0.true c.refuse.ensures
 
 pub returns : goal.returns
-returns c =     λ d x l h f.
+returns c = λ d x l h f.
     let w = c.args.w in
     let q = c.first_no-q in
     let few = counted_few 10 w q.result q.ensures c.if-q-ne0.false in

@@ -9,7 +9,7 @@ use Rattle.sheet.specs.CloseLaws.{closes_there, closes_not}
 use Rattle.sheet.proofs.closes.Goals as goal
 
 pub returns-in-To : goal.returns-in-To
-returns-in-To c =     let l = c.args.l.now in
+returns-in-To c = let l = c.args.l.now in
     let at = c.args.c.at in
     let b = c.byte-m in
     let m = c.m-1.given in
@@ -17,7 +17,7 @@ returns-in-To c =     let l = c.args.l.now in
     ∙ closes_there l at m.0.0 (moved_to l b.result (eat (close_bracket ∷ []) (drop at l)) b.ensures m.0.0 m.1)
 
 pub returns-in-Bad : goal.returns-in-Bad
-returns-in-Bad c =     let l = c.args.l.now in
+returns-in-Bad c = let l = c.args.l.now in
     let t = drop c.args.c.at l in
     let b = c.byte-m in
-    closes_not t (moved_nowhere l b.result (eat (close_bracket ∷ []) t) b.ensures c.enum_told-1.given.1)
+    closes_not t (moved_nowhere l b.result (eat (close_bracket ∷ []) t) b.ensures c.in-Bad.is)

@@ -28,11 +28,11 @@ kept c =
     omega (arith, c.requires, list_sized a.w c.well-formed.0, within_high 1 a.high a.w.count (counted c))
 
 pub returns-then-not-w : goal.returns-then-not-w
-returns-then-not-w c =     let a = c.args in
+returns-then-not-w c = let a = c.args in
     no_to_two a.high a.w (not-true _ c.if-not-w.true)
 
 pub returns-then-not-in_range : goal.returns-then-not-in_range
-returns-then-not-in_range c =     let at = (goal.at.returns-then-not-in_range c).Else-not-w in
+returns-then-not-in_range c = let at = (goal.at.returns-then-not-in_range c).Else-not-w in
     let a = c.args in
     no_to_three a.high a.w (spelled (at)) (sym c.in_range.ensures ∙ not-true _ c.if-not-in_range.true-raw)
 
@@ -43,11 +43,11 @@ pub slice_bounds-distinct-end : goal.slice_bounds-distinct-end
 slice_bounds-distinct-end c = sym (length-take-le _ _ (kept (goal.at.slice_bounds-distinct-end c).Else-not-in_range))
 
 pub returns-then-not-distinct : goal.returns-then-not-distinct
-returns-then-not-distinct c =     let e = (goal.at.returns-then-not-distinct c).Else-not-in_range in
+returns-then-not-distinct c = let e = (goal.at.returns-then-not-distinct c).Else-not-in_range in
     let a = c.args in
     no_to_four a.high a.w (spelled (goal.at.returns-then-not-distinct c).Else-not-w) (counted e) (sym c.distinct.ensures ∙ not-true _ c.if-not-distinct.true-raw)
 
 pub returns : goal.returns
-returns c =     let e = (goal.at.returns c).Else-not-in_range in
+returns c = let e = (goal.at.returns c).Else-not-in_range in
     let a = c.args in
     no_to_none a.high a.w (spelled (goal.at.returns c).Else-not-w) (counted e) (sym c.distinct.ensures ∙ not-false _ c.if-not-distinct.false-raw)

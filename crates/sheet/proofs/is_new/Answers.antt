@@ -11,24 +11,24 @@ pub slice_bounds-inputs-end : goal.slice_bounds-inputs-end
 slice_bounds-inputs-end c = omega (arith, names_sized c.args.k c.well-formed.0)
 
 pub slice_bounds-find-end : goal.slice_bounds-find-end
-slice_bounds-find-end c =     let good = c.well-formed in
+slice_bounds-find-end c = let good = c.well-formed in
     sym (length-take-le c.args.k.inputs c.args.k.names (omega (arith, names_sized c.args.k good.0)))
 
 pub returns-in_default : goal.returns-in_default
-returns-in_default c =     let find = c.find-p in
+returns-in_default c = let find = c.find-p in
     let w = c.enum_told-in_default-1.given in
     λ d h. old_input d c.args.k h c.args.n w.0.0 (rw w.1 at find.ensures)
 
 pub slice_bounds-outs-end : goal.slice_bounds-outs-end
-slice_bounds-outs-end c =     let good = c.well-formed in
+slice_bounds-outs-end c = let good = c.well-formed in
     omega (arith, outs_sized c.args.k good.0)
 
 pub slice_bounds-find-end-2 : goal.slice_bounds-find-end-2
-slice_bounds-find-end-2 c =     let good = c.well-formed in
+slice_bounds-find-end-2 c = let good = c.well-formed in
     sym (length-take-le c.args.k.outputs c.args.k.outs (omega (arith, outs_sized c.args.k good.0)))
 
 pub returns-in-At : goal.returns-in-At
-returns-in-At c =     let enum_told = c.enum_told-1 in
+returns-in-At c = let enum_told = c.enum_told-1 in
     let find = c.find-p in
     let find2 = c.find-q in
     let nowhere = rw enum_told.given.1 at find.ensures in
@@ -36,8 +36,8 @@ returns-in-At c =     let enum_told = c.enum_told-1 in
     λ d h. old_output d c.args.k h c.args.n nowhere w.0.0 (rw w.1 at find2.ensures)
 
 pub returns-in-Nowhere-q : goal.returns-in-Nowhere-q
-returns-in-Nowhere-q c =     let enum_told = c.enum_told-1 in
+returns-in-Nowhere-q c = let enum_told = c.enum_told-1 in
     let find = c.find-p in
     let find2 = c.find-q in
     let nowhere = rw enum_told.given.1 at find.ensures in
-    λ d h. new_output d c.args.k h c.args.n nowhere (rw c.enum_told-in-Nowhere-q-1.given.1 at find2.ensures)
+    λ d h. new_output d c.args.k h c.args.n nowhere (rw c.in-Nowhere-q.is at find2.ensures)

@@ -14,14 +14,14 @@ pub text-m-requires : goal.text-m-requires
 text-m-requires c = omega (arith, c.start.ensures)
 
 pub returns-in_default : goal.returns-in_default
-returns-in_default c =     let l = c.args.l.now in
+returns-in_default c = let l = c.args.l.now in
     let t = c.text-m in
     let o = c.start in
     let h = moved-start l (bytes "(limit ") t.result o.result o.ensures t.ensures in
-    limit_no_head l (moved_nowhere l t.result (eat (bytes "(limit ") l) h c.enum_told-1.given.1)
+    limit_no_head l (moved_nowhere l t.result (eat (bytes "(limit ") l) h c.in_default.is)
 
 pub number-w-requires : goal.number-w-requires
-number-w-requires c =     let l = c.args.l.now in
+number-w-requires c = let l = c.args.l.now in
     let t = c.text-m in
     let o = c.start in
     let h = moved-start l (bytes "(limit ") t.result o.result o.ensures t.ensures in
@@ -29,16 +29,16 @@ number-w-requires c =     let l = c.args.l.now in
     ((moved_to l t.result (eat (bytes "(limit ") l) h m.0.0 m.1).inside, omega arith)
 
 pub returns-in_default-w : goal.returns-in_default-w
-returns-in_default-w c =     let number = c.number-w in
+returns-in_default-w c = let number = c.number-w in
     let l = c.args.l.now in
     let t = c.text-m in
     let o = c.start in
     let h = moved-start l (bytes "(limit ") t.result o.result o.ensures t.ensures in
     let m = c.m-1.given in
-    limit_no_number l (moved_to l t.result (eat (bytes "(limit ") l) h m.0.0 m.1) (rw c.enum_told-in_default-w-1.given.1 at number.ensures)
+    limit_no_number l (moved_to l t.result (eat (bytes "(limit ") l) h m.0.0 m.1) (rw c.in_default-w.is at number.ensures)
 
 pub returns-then-closes : goal.returns-then-closes
-returns-then-closes c =     let w = c.w-1 in
+returns-then-closes c = let w = c.w-1 in
     let number2 = c.number-w in
     let l = c.args.l.now in
     let t = c.text-m in
@@ -49,7 +49,7 @@ returns-then-closes c =     let w = c.w-1 in
     limit_closed l (moved_to l t.result (eat (bytes "(limit ") l) h m.0.0 m.1) number (sym c.closes.ensures ∙ c.if-closes.true)
 
 pub returns-else-closes : goal.returns-else-closes
-returns-else-closes c =     let w = c.w-1 in
+returns-else-closes c = let w = c.w-1 in
     let number2 = c.number-w in
     let l = c.args.l.now in
     let t = c.text-m in

@@ -13,14 +13,14 @@ pub text-m-requires : goal.text-m-requires
 text-m-requires c = omega (arith, c.start.ensures)
 
 pub names-r-requires : goal.names-r-requires
-names-r-requires c =     let a = c.args in
+names-r-requires c = let a = c.args in
     let t = c.text-m in
     let o = c.start in
     let h = moved-start a.l.now a.head.now t.result o.result o.ensures t.ensures in
-    (word-found a.head.now a.l.now h c.m-1.given.1).inside
+    (word-found a.head.now a.l.now h c.in-To.is).inside
 
 pub returns-then-at_end : goal.returns-then-at_end
-returns-then-at_end c =     let m = c.m-1 in
+returns-then-at_end c = let m = c.m-1 in
     let a = c.args in
     let t = c.text-m in
     let o = c.start in
@@ -30,7 +30,7 @@ returns-then-at_end c =     let m = c.m-1 in
     whole-line a.head.now a.l.now h read_names m.given.1 r.result r.ensures e
 
 pub returns-else-at_end : goal.returns-else-at_end
-returns-else-at_end c =     let at-end = c.at_end in
+returns-else-at_end c = let at-end = c.at_end in
     let m = c.m-1 in
     let a = c.args in
     let t = c.text-m in
@@ -41,8 +41,8 @@ returns-else-at_end c =     let at-end = c.at_end in
     longer-line a.head.now a.l.now h read_names m.given.1 r.result r.ensures e c.no_names.result c.no_names.ensures
 
 pub returns-in-Bad : goal.returns-in-Bad
-returns-in-Bad c =     let a = c.args in
+returns-in-Bad c = let a = c.args in
     let t = c.text-m in
     let o = c.start in
     let h = moved-start a.l.now a.head.now t.result o.result o.ensures t.ensures in
-    no_word a.head.now a.l.now h read_names c.enum_told-1.given.1 c.no_names-in-Bad.result c.no_names-in-Bad.ensures
+    no_word a.head.now a.l.now h read_names c.in-Bad.is c.no_names-in-Bad.result c.no_names-in-Bad.ensures

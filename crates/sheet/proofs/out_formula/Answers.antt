@@ -13,13 +13,13 @@ pub formula-p-requires : goal.formula-p-requires
 formula-p-requires c = omega arith
 
 pub returns-then-not-p : goal.returns-then-not-p
-returns-then-not-p c =     let a = c.args in
+returns-then-not-p c = let a = c.args in
     let p = c.formula-p in
     let missing = not-true p.result.ok c.if-not-p.true in
     out-no-formula a.l.now (map name_of a.inputs.now) p.result (drop a.c.at a.l.now) p.ensures a.n missing c.no_out.result c.no_out.ensures
 
 pub returns-then-not-closes : goal.returns-then-not-closes
-returns-then-not-closes c =     let if1 = c.if-not-p in
+returns-then-not-closes c = let if1 = c.if-not-p in
     let closes = c.closes in
     let a = c.args in
     let p = c.formula-p in
@@ -28,7 +28,7 @@ returns-then-not-closes c =     let if1 = c.if-not-p in
     out-unclosed a.l.now (map name_of a.inputs.now) p.result (drop a.c.at a.l.now) p.ensures a.n read more c.no_out-then-not-closes.result c.no_out-then-not-closes.ensures
 
 pub returns : goal.returns
-returns c =     let if1 = c.if-not-p in
+returns c = let if1 = c.if-not-p in
     let a = c.args in
     let p = c.formula-p in
     let read = not-false p.result.ok if1.false in

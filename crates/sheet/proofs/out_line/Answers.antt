@@ -16,15 +16,15 @@ pub text-m-requires : goal.text-m-requires
 text-m-requires c = omega (arith, c.start.ensures)
 
 pub returns-in_default : goal.returns-in_default
-returns-in_default c =     let a = c.args in
+returns-in_default c = let a = c.args in
     let t = c.text-m in
     let o = c.start in
     let h = moved-start a.l.now (bytes "(out ") t.result o.result o.ensures t.ensures in
     out_no_head a.l.now (map name_of a.inputs.now) c.no_out.result
-    (moved_nowhere a.l.now t.result (eat (bytes "(out ") a.l.now) h c.enum_told-1.given.1) c.no_out.ensures
+    (moved_nowhere a.l.now t.result (eat (bytes "(out ") a.l.now) h c.in_default.is) c.no_out.ensures
 
 pub name-w-requires : goal.name-w-requires
-name-w-requires c =     let a = c.args in
+name-w-requires c = let a = c.args in
     let t = c.text-m in
     let o = c.start in
     let h = moved-start a.l.now (bytes "(out ") t.result o.result o.ensures t.ensures in
@@ -33,7 +33,7 @@ name-w-requires c =     let a = c.args in
     head.inside
 
 pub returns-in_default-w : goal.returns-in_default-w
-returns-in_default-w c =     let name = c.name-w in
+returns-in_default-w c = let name = c.name-w in
     let a = c.args in
     let t = c.text-m in
     let o = c.start in
@@ -41,10 +41,10 @@ returns-in_default-w c =     let name = c.name-w in
     let m = c.m-1.given in
     let head = moved_to a.l.now t.result (eat (bytes "(out ") a.l.now) h m.0.0 m.1 in
     out_no_name a.l.now (map name_of a.inputs.now) c.no_out-in_default-w.result head
-    (rw c.enum_told-in_default-w-1.given.1 at name.ensures) c.no_out-in_default-w.ensures
+    (rw c.in_default-w.is at name.ensures) c.no_out-in_default-w.ensures
 
 pub returns-in_default-g : goal.returns-in_default-g
-returns-in_default-g c =     let name = c.name-w in
+returns-in_default-g c = let name = c.name-w in
     let a = c.args in
     let t = c.text-m in
     let o = c.start in
@@ -54,18 +54,18 @@ returns-in_default-g c =     let name = c.name-w in
     let w = c.w-1.given in
     let b = c.byte-g in
     out-no-space a.l.now (map name_of a.inputs.now) c.no_out-in_default-g.result head (rw w.1 at name.ensures)
-    (moved_nowhere a.l.now b.result (eat (space ∷ []) (from a.l.now w.0.1.0)) b.ensures c.enum_told-in_default-g-1.given.1)
+    (moved_nowhere a.l.now b.result (eat (space ∷ []) (from a.l.now w.0.1.0)) b.ensures c.in_default-g.is)
     c.no_out-in_default-g.ensures
 
 pub out_formula-requires : goal.out_formula-requires
-out_formula-requires c =     let w = c.w-1 in
+out_formula-requires c = let w = c.w-1 in
     let l = c.args.l.now in
     let b = c.byte-g in
     let g = c.g-1.given in
     (moved_to l b.result (eat (space ∷ []) (from l w.given.0.1.0)) b.ensures g.0.0 g.1).inside
 
 pub returns : goal.returns
-returns c =     let name = c.name-w in
+returns c = let name = c.name-w in
     let a = c.args in
     let t = c.text-m in
     let o = c.start in

@@ -3,19 +3,19 @@ use Rattle.subproblems.specs.GatheringLaws.{gathered_short, settled_of}
 use Rattle.subproblems.proofs.ask.Goals as goal
 
 pub cut-labels-requires : goal.cut-labels-requires
-cut-labels-requires c =     let p = c.requires in
+cut-labels-requires c = let p = c.requires in
     let s = c.gather-g.ensures in
     (p.0, p.1, s.from_low, s.few, p.2)
 
 pub codes_for-requires : goal.codes_for-requires
-codes_for-requires c =     let p = c.requires in
+codes_for-requires c = let p = c.requires in
     let a = c.args in
     let g = c.gather-g in
     let o = g.result in
     (c.cut-labels.ensures.labels, p.2, g.ensures.few, gathered_short a.asked a.rows o.count o.from o.cells o.tables g.ensures)
 
 pub returns : goal.returns
-returns c =     let a = c.args in
+returns c = let a = c.args in
     let g = c.gather-g in
     let o = g.result in
     let l = c.cut-labels in

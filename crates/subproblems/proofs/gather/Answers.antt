@@ -36,7 +36,7 @@ pub overflow_add-n : goal.overflow_add-n
 overflow_add-n c = let h = c.loop-o-test.true in let f = c.loop-o.invariant.1.few in omega arith
 
 pub loop-o-preserved : goal.loop-o-preserved
-loop-o-preserved c =     let h = c.loop-o-test.true in
+loop-o-preserved c = let h = c.loop-o-test.true in
     let a = c.args in
     let l = c.loop-o in (
       omega arith,
@@ -49,6 +49,6 @@ loop-o-preserved c =     let h = c.loop-o-test.true in
     )
 
 pub returns : goal.returns
-returns c =     let a = c.args in
+returns c = let a = c.args in
     let l = c.loop-o in
     subst (λ (z : ℕ). Gathered a.asked a.t2 z l.n l.from l.fs l.gs) (let h = c.loop-o-test.false in let z = l.invariant.0 in omega arith) l.invariant.1

@@ -17,7 +17,7 @@ pub power-r-requires : goal.power-r-requires
 power-r-requires c = let h = c.loop-i-test.true in omega arith
 
 pub loop-i-preserved : goal.loop-i-preserved
-loop-i-preserved c =     let h = c.loop-i-test.true in
+loop-i-preserved c = let h = c.loop-i-test.true in
     let a = c.args in
     let l = c.loop-i in
     let e = c.in_set.ensures in (
@@ -29,7 +29,7 @@ loop-i-preserved c =     let h = c.loop-i-test.true in
     )
 
 pub returns : goal.returns
-returns c =     let a = c.args in
+returns c = let a = c.args in
     let l = c.loop-i in
     let e = c.loop-i-test.false in
     let b = l.invariant.0 in

@@ -26,7 +26,7 @@ pub overflow_add-r : goal.overflow_add-r
 overflow_add-r c = let h = c.given_of.ensures.1 in let f = c.moved-f.ensures.0 in record { fits = omega arith }
 
 pub loop-o-preserved : goal.loop-o-preserved
-loop-o-preserved c =     let h = c.loop-o-test.true in
+loop-o-preserved c = let h = c.loop-o-test.true in
     let a = c.args in
     let l = c.loop-o in
     let p = c.order-perm in (
@@ -40,7 +40,7 @@ loop-o-preserved c =     let h = c.loop-o-test.true in
     )
 
 pub returns : goal.returns
-returns c =     let a = c.args in
+returns c = let a = c.args in
     let l = c.loop-o in
     let p = c.order-perm in
     same_of a.asked a.known a.t1 p.result l.r p.ensures.0 p.ensures.1

@@ -13,7 +13,7 @@ pub loop-o-init : goal.loop-o-init
 loop-o-init c = (omega arith, omega arith, lists_start c.args.set _ refl (λ j h. get_or-replicate 8 j 0 0 h))
 
 pub bounds-from-n : goal.bounds-from-n
-bounds-from-n c =     let p = c.requires in
+bounds-from-n c = let p = c.requires in
     let l = c.loop-o in
     let h = c.loop-o-test.true in
     let n = l.invariant.1 in
@@ -21,7 +21,7 @@ bounds-from-n c =     let p = c.requires in
     search rules
 
 pub loop-o-preserved : goal.loop-o-preserved
-loop-o-preserved c =     let a = c.args in
+loop-o-preserved c = let a = c.args in
     let p = c.requires in
     let l = c.loop-o in
     let h = c.loop-o-test.true in
@@ -37,7 +37,7 @@ loop-o-preserved c =     let a = c.args in
     (omega arith, R.0, R.1)
 
 pub returns : goal.returns
-returns c =     let a = c.args in
+returns c = let a = c.args in
     let l = c.loop-o in
     let h = c.loop-o-test.false in
     let z : l.o ≡ a.m = (let b = l.invariant.0 in omega arith) in

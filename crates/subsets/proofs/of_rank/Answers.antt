@@ -12,21 +12,21 @@ unfolding rank
 loop-i-init c = (omega arith, refl)
 
 pub overflow_mul-s : goal.overflow_mul-s
-overflow_mul-s c =     let a = c.args in
+overflow_mul-s c = let a = c.args in
     let p = c.requires in
     let l = c.loop-i in
     let z = rank_room l.i a.r (let h = c.loop-i-test.true in omega arith) in
     omega arith
 
 pub overflow_add-s : goal.overflow_add-s
-overflow_add-s c =     let a = c.args in
+overflow_add-s c = let a = c.args in
     let p = c.requires in
     let l = c.loop-i in
     let z = rank_room l.i a.r (let h = c.loop-i-test.true in omega arith) in
     omega arith
 
 pub loop-i-preserved : goal.loop-i-preserved
-loop-i-preserved c =     let a = c.args in
+loop-i-preserved c = let a = c.args in
     let l = c.loop-i in
     let h = c.loop-i-test.true in
     let t = c.has.ensures in
@@ -37,7 +37,7 @@ loop-i-preserved c =     let a = c.args in
     (omega arith, R)
 
 pub returns : goal.returns
-returns c =     let a = c.args in
+returns c = let a = c.args in
     let l = c.loop-i in
     let h = c.loop-i-test.false in
     let z : l.i ≡ a.m = (let b = l.invariant.0 in omega arith) in

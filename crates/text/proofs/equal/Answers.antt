@@ -18,4 +18,4 @@ pub loop-i-preserved : goal.loop-i-preserved
 loop-i-preserved c = (search rules, below_more _ _ c.loop-i.invariant.1 c.if-a-i.false)
 
 pub returns : goal.returns
-returns c =     sym (equal_same _ _ (ext_get_or 0 _ _ c.if-a-b.false (λ i h. c.loop-i.invariant.1 i (omega arith))))
+returns c = sym (equal_same _ _ (ext_get_or 0 _ _ c.if-a-b.false (λ i h. c.loop-i.invariant.1 i (omega arith))))

@@ -17,7 +17,7 @@ pub first_outputs-r-requires : goal.first_outputs-r-requires
 first_outputs-r-requires c = c.requires.2
 
 pub loop-r-init : goal.loop-r-init
-loop-r-init c =     let a = c.args in
+loop-r-init c = let a = c.args in
     let p = c.requires in
     let n = c.first_outputs-r in
     let e = n.ensures in
@@ -31,22 +31,22 @@ pub members-l-requires : goal.members-l-requires
 members-l-requires c = c.requires.2
 
 pub kept_of-kept-requires : goal.kept_of-kept-requires
-kept_of-kept-requires c =     let p = c.requires in
+kept_of-kept-requires c = let p = c.requires in
     (p.0, p.1, p.2)
 
 pub served-requires : goal.served-requires
-served-requires c =     let p = c.requires in
+served-requires c = let p = c.requires in
     let l = c.loop-r in
     let d = c.kept_of-kept in
     (d.ensures.classes, p.1, d.ensures.few, p.3, l.invariant.2)
 
 pub shape_of-mem-then-not-served : goal.shape_of-mem-then-not-served
-shape_of-mem-then-not-served c =     let p = c.requires in
+shape_of-mem-then-not-served c = let p = c.requires in
     let w = c.served in
     w.ensures.1 ∙ sym p.4
 
 pub returns-then-not-served : goal.returns-then-not-served
-returns-then-not-served c =     let a = c.args in
+returns-then-not-served c = let a = c.args in
     let l = c.loop-r in
     let s = c.of_rank-s in
     let d = c.kept_of-kept in
@@ -60,7 +60,7 @@ returns-then-not-served c =     let a = c.args in
     (sift_found a.cl.now a.budgets a.v a.m a.limit a.k l.r s.result l.invariant.0 s.ensures l.invariant.1 some (sym n ∙ count) lacking, w.ensures.1)
 
 pub loop-r-preserved : goal.loop-r-preserved
-loop-r-preserved c =     let a = c.args in
+loop-r-preserved c = let a = c.args in
     let p = c.requires in
     let l = c.loop-r in
     let h = c.loop-r-test.true in
@@ -91,12 +91,12 @@ loop-r-preserved c =     let a = c.args in
     (omega arith, subst (FitFrom a.cl.now a.budgets a.v a.m a.limit a.k) (omega arith) R.0, R.1)
 
 pub shape_of-mem : goal.shape_of-mem
-shape_of-mem c =     let p = c.requires in
+shape_of-mem c = let p = c.requires in
     let l = c.loop-r in
     l.invariant.2 ∙ sym p.4
 
 pub returns : goal.returns
-returns c =     let a = c.args in
+returns c = let a = c.args in
     let l = c.loop-r in
     let h = c.loop-r-test.false in
     (sift_end a.cl.now a.budgets a.v a.m a.limit a.k (l.r + 1) (omega arith) l.invariant.1, l.invariant.2)

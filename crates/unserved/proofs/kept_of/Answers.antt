@@ -8,18 +8,18 @@ pub members-l-requires : goal.members-l-requires
 members-l-requires c = c.requires.2
 
 pub labels-labels-requires : goal.labels-labels-requires
-labels-labels-requires c =     let a = c.args in
+labels-labels-requires c = let a = c.args in
     let p = c.requires in
     let l = c.members-l in
     (p.0.long, lists_indices a.m a.set l.result.count l.result.from l.ensures)
 
 pub picked-taken-requires : goal.picked-taken-requires
-picked-taken-requires c =     let a = c.args in
+picked-taken-requires c = let a = c.args in
     let l = c.members-l in
     lists_indices a.m a.set l.result.count l.result.from l.ensures
 
 pub kept-requires : goal.kept-requires
-kept-requires c =     let a = c.args in
+kept-requires c = let a = c.args in
     let p = c.requires in
     let l = c.members-l in
     let t = c.labels-labels in
@@ -27,7 +27,7 @@ kept-requires c =     let a = c.args in
     (taken_classes a.cl.now l.result.from t.result t.ensures p.0 f, p.1, lists_most a.m a.set l.result.count l.result.from p.2 l.ensures)
 
 pub returns : goal.returns
-returns c =     let a = c.args in
+returns c = let a = c.args in
     let p = c.requires in
     let l = c.members-l in
     let t = c.labels-labels in

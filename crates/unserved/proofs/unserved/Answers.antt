@@ -12,16 +12,16 @@ pub first_outputs-all-requires : goal.first_outputs-all-requires
 first_outputs-all-requires c = c.requires.2
 
 pub kept_of-requires : goal.kept_of-requires
-kept_of-requires c =     let p = c.requires in
+kept_of-requires c = let p = c.requires in
     (p.0, p.1, p.2)
 
 pub served-requires : goal.served-requires
-served-requires c =     let p = c.requires in
+served-requires c = let p = c.requires in
     let d = c.kept_of in
     (d.ensures.classes, p.1, d.ensures.few, p.3, refl)
 
 pub returns-then-served : goal.returns-then-served
-returns-then-served c =     let a = c.args in
+returns-then-served c = let a = c.args in
     let n = c.first_outputs-all in
     let d = c.kept_of in
     let w = c.served in
@@ -30,17 +30,17 @@ returns-then-served c =     let a = c.args in
     answer_served a.cl.now a.budgets a.v a.m a.limit n.result n.ensures fits
 
 pub loop-k-init : goal.loop-k-init
-loop-k-init c =     let a = c.args in
+loop-k-init c = let a = c.args in
     let w = c.served in
     (below_start a.cl.now a.budgets a.v a.m a.limit, w.ensures.1)
 
 pub first_of-s-requires : goal.first_of-s-requires
-first_of-s-requires c =     let p = c.requires in
+first_of-s-requires c = let p = c.requires in
     let l = c.loop-k in
     (p.0, p.1, p.2, p.3, l.invariant.1, l.invariant.0)
 
 pub returns-then-s-ne0 : goal.returns-then-s-ne0
-returns-then-s-ne0 c =     let a = c.args in
+returns-then-s-ne0 c = let a = c.args in
     let n = c.first_outputs-all in
     let d = c.kept_of in
     let w = c.served in
@@ -53,14 +53,14 @@ returns-then-s-ne0 c =     let a = c.args in
     answer_found a.cl.now a.budgets a.v a.m a.limit n.result n.ensures lacking l.k s.result found l.invariant.0 s.ensures.0
 
 pub loop-k-preserved : goal.loop-k-preserved
-loop-k-preserved c =     let a = c.args in
+loop-k-preserved c = let a = c.args in
     let l = c.loop-k in
     let s = c.first_of-s in
     let none = c.if-s-ne0.false in
     (below_more a.cl.now a.budgets a.v a.m a.limit l.k s.result none s.ensures.0 l.invariant.0, s.ensures.1)
 
 pub returns : goal.returns
-returns c =     let a = c.args in
+returns c = let a = c.args in
     let n = c.first_outputs-all in
     let d = c.kept_of in
     let w = c.served in

@@ -8,7 +8,7 @@ use Rattle.writer.proofs.Arrays.{vertices_held, frees-held}
 use Rattle.writer.proofs.put_network.Goals as goal
 
 pub returns : goal.returns
-returns c =     let put-sheet = c.put_sheet in
+returns c = let put-sheet = c.put_sheet in
     λ d h proper s.
     let sh = c.args.sh in
     let good = c.well-formed.1.1.0 in

@@ -5,14 +5,14 @@ use Rattle.cursor.specs.OpenedLaws.{opening_other}
 use Rattle.cursor.proofs.Cursor.opening.Goals as goal
 
 pub opens_name-requires : goal.opens_name-requires
-opens_name-requires c =     let kind = c.kind-f in
-    (c.requires, sym kind.ensures ∙ c.enum_told-1.given.1)
+opens_name-requires c = let kind = c.kind-f in
+    (c.requires, sym kind.ensures ∙ c.in-Letter.is)
 
 pub opens_digit-requires : goal.opens_digit-requires
-opens_digit-requires c = sym c.kind-f.ensures ∙ c.enum_told-in-Digit-1.given.1
+opens_digit-requires c = sym c.kind-f.ensures ∙ c.in-Digit.is
 
 pub opens_bracket-requires : goal.opens_bracket-requires
-opens_bracket-requires c = sym c.kind-f.ensures ∙ c.enum_told-in-Bracket-1.given.1
+opens_bracket-requires c = sym c.kind-f.ensures ∙ c.in-Bracket.is
 
 pub returns-in-Letter : goal.returns-in-Letter
 returns-in-Letter c = c.opens_name.ensures
@@ -24,4 +24,4 @@ pub returns-in-Bracket : goal.returns-in-Bracket
 returns-in-Bracket c = c.opens_bracket.ensures
 
 pub returns-in-Other : goal.returns-in-Other
-returns-in-Other c = opening_other _ (sym c.kind-f.ensures ∙ c.enum_told-in-Other-1.given.1)
+returns-in-Other c = opening_other _ (sym c.kind-f.ensures ∙ c.in-Other.is)

@@ -13,19 +13,19 @@ use Rattle.cursor.specs.OpenedLaws.{operator_opens, operator_opened, unspaced_ba
 use Rattle.cursor.proofs.Cursor.opens_bracket.Goals as goal
 
 pub returns-in_default : goal.returns-in_default
-returns-in_default c =     let s = c.args.s.now in
+returns-in_default c = let s = c.args.s.now in
     let t = drop c.args.self.at s in
     let m = c.byte-m in
-    bracket_bad t c.requires (moved_nowhere s m.result (eat (open_bracket ∷ []) t) m.ensures c.enum_told-1.given.1)
+    bracket_bad t c.requires (moved_nowhere s m.result (eat (open_bracket ∷ []) t) m.ensures c.in_default.is)
 
 pub operator-w-requires : goal.operator-w-requires
-operator-w-requires c =     let a = c.args in
+operator-w-requires c = let a = c.args in
     let m = c.byte-m in
     let g = c.m-1.given in
     (moved_to a.s.now m.result (eat (open_bracket ∷ []) (drop a.self.at a.s.now)) m.ensures g.0.0 g.1).inside
 
 pub returns-in_default-g : goal.returns-in_default-g
-returns-in_default-g c =     let s = c.args.s.now in
+returns-in_default-g c = let s = c.args.s.now in
     let t = drop c.args.self.at s in
     let m = c.byte-m in
     let g = c.m-1.given in
@@ -33,7 +33,7 @@ returns-in_default-g c =     let s = c.args.s.now in
     let b = c.byte-g in
     unspaced_bad s t c.requires g.0.0
     (moved_to s m.result (eat (open_bracket ∷ []) t) m.ensures g.0.0 g.1)
-    w.result w.ensures (moved_nowhere s b.result (eat (space ∷ []) (from s w.result.next)) b.ensures c.enum_told-in_default-g-1.given.1)
+    w.result w.ensures (moved_nowhere s b.result (eat (space ∷ []) (from s w.result.next)) b.ensures c.in_default-g.is)
 
 -- a space follows: what the operator opens
 abbrev start : goal.In-To-g → goal.Start
@@ -41,7 +41,7 @@ start c = (goal.at.HELPER c).Start
 
 opened : (c : goal.In-To-g) (o : Operator)
     → c.operator-w.result.operator ≡ o
-    → OpeningIs (start c).args.s.now (operator_opens o c.g-1.given.0.0) (read_opening (drop (start c).args.self.at (start c).args.s.now))
+    → OpeningIs (start c).args.s.now (operator_opens o c.in-To-g.next) (read_opening (drop (start c).args.self.at (start c).args.s.now))
 opened c o e =
     let s = (start c).args.s.now in
     let t = drop (start c).args.self.at s in
@@ -54,16 +54,16 @@ opened c o e =
     w.result w.ensures o n.0.0 e (moved_to s b.result (eat (space ∷ []) (from s w.result.next)) b.ensures n.0.0 n.1)
 
 pub returns-in-Not : goal.returns-in-Not
-returns-in-Not c = opened (goal.at.returns-in-Not c).In-To-g Not c.enum_told-in-Not-1.given.1
+returns-in-Not c = opened (goal.at.returns-in-Not c).In-To-g Not c.in-Not.is
 
 pub returns-in-And : goal.returns-in-And
-returns-in-And c = opened (goal.at.returns-in-And c).In-To-g And c.enum_told-in-And-1.given.1
+returns-in-And c = opened (goal.at.returns-in-And c).In-To-g And c.in-And.is
 
 pub returns-in-Or : goal.returns-in-Or
-returns-in-Or c = opened (goal.at.returns-in-Or c).In-To-g Or c.enum_told-in-Or-1.given.1
+returns-in-Or c = opened (goal.at.returns-in-Or c).In-To-g Or c.in-Or.is
 
 pub returns-in-Xor : goal.returns-in-Xor
-returns-in-Xor c = opened (goal.at.returns-in-Xor c).In-To-g Xor c.enum_told-in-Xor-1.given.1
+returns-in-Xor c = opened (goal.at.returns-in-Xor c).In-To-g Xor c.in-Xor.is
 
 pub returns-in-Nothing : goal.returns-in-Nothing
-returns-in-Nothing c = opened (goal.at.returns-in-Nothing c).In-To-g Nothing c.enum_told-in-Nothing-1.given.1
+returns-in-Nothing c = opened (goal.at.returns-in-Nothing c).In-To-g Nothing c.in-Nothing.is

@@ -24,7 +24,7 @@ pub bounds-w-i : goal.bounds-w-i
 bounds-w-i c = omega arith
 
 pub returns-then-s-at-2 : goal.returns-then-s-at-2
-returns-then-s-at-2 c =     let loop = c.loop-i in
+returns-then-s-at-2 c = let loop = c.loop-i in
     let loop-test = c.loop-i-test in
     eating_differs _ _ _ _ loop.invariant
     loop-test.true c.if-s-at-2.true
@@ -36,7 +36,7 @@ pub loop-i-smaller : goal.loop-i-smaller
 loop-i-smaller c = omega arith
 
 pub loop-i-preserved : goal.loop-i-preserved
-loop-i-preserved c =     let loop = c.loop-i in
+loop-i-preserved c = let loop = c.loop-i in
     let loop-test = c.loop-i-test in
     eating_more _ _ _ _ loop.invariant loop-test.true
     c.if-s-at-2.false
