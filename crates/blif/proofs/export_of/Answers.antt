@@ -5,42 +5,27 @@ use Rattle.blif.specs.AnswerLaws.{answer_refused, some_passed, answer-short, ans
 use Rattle.blif.proofs.export_of.Goals as goal
 
 pub returns-then-not-b : goal.returns-then-not-b
-returns-then-not-b c = let if1 = c.if-not-b in
-    let examine-pair = c.examine_pair-b in
-    let args = c.args in
+returns-then-not-b c = let args = c.args in
     λ x h r.
-    answer_refused args.network.now examine-pair.result x (examine-pair.ensures x h r) _ (not-true _ if1.true)
+    answer_refused args.network.now c.examine_pair-b.result x (c.examine_pair-b.ensures x h r) _ (not-true _ c.if-not-b.true)
 
 pub put_blif-length-requires : goal.put_blif-length-requires
-put_blif-length-requires c = let if1 = c.if-not-b in
-    let examine-pair = c.examine_pair-b in
-    let args = c.args in
+put_blif-length-requires c = let args = c.args in
     let pre = c.requires in
-    some_passed args.network.now examine-pair.result pre.found (examine-pair.ensures pre.found pre.is pre.right) (not-false _ if1.false)
+    some_passed args.network.now c.examine_pair-b.result pre.found (c.examine_pair-b.ensures pre.found pre.is pre.right) (not-false _ c.if-not-b.false)
 
 pub returns-then-buffer-length : goal.returns-then-buffer-length
-returns-then-buffer-length c = let if2 = c.if-buffer-length in
-    let put-blif = c.put_blif-length in
-    let if1 = c.if-not-b in
-    let examine-pair = c.examine_pair-b in
-    let args = c.args in
+returns-then-buffer-length c = let args = c.args in
     λ x h r.
-    answer-short args.network.now examine-pair.result x (examine-pair.ensures x h r) (not-false _ if1.false) _ _ _ _ put-blif.ensures if2.true
+    answer-short args.network.now c.examine_pair-b.result x (c.examine_pair-b.ensures x h r) (not-false _ c.if-not-b.false) _ _ _ _ c.put_blif-length.ensures c.if-buffer-length.true
 
 pub put_blif-written-requires : goal.put_blif-written-requires
-put_blif-written-requires c = let if1 = c.if-not-b in
-    let examine-pair = c.examine_pair-b in
-    let args = c.args in
+put_blif-written-requires c = let args = c.args in
     let pre = c.requires in
-    some_passed args.network.now examine-pair.result pre.found (examine-pair.ensures pre.found pre.is pre.right) (not-false _ if1.false)
+    some_passed args.network.now c.examine_pair-b.result pre.found (c.examine_pair-b.ensures pre.found pre.is pre.right) (not-false _ c.if-not-b.false)
 
 pub returns : goal.returns
-returns c = let put-blif2 = c.put_blif-written in
-    let if2 = c.if-buffer-length in
-    let put-blif = c.put_blif-length in
-    let if1 = c.if-not-b in
-    let examine-pair = c.examine_pair-b in
-    let args = c.args in
+returns c = let args = c.args in
     λ x h r.
-    answer-written args.network.now examine-pair.result x (examine-pair.ensures x h r) (not-false _ if1.false) _ _ _ _
-    put-blif.ensures _ _ if2.false put-blif2.ensures
+    answer-written args.network.now c.examine_pair-b.result x (c.examine_pair-b.ensures x h r) (not-false _ c.if-not-b.false) _ _ _ _
+    c.put_blif-length.ensures _ _ c.if-buffer-length.false c.put_blif-written.ensures

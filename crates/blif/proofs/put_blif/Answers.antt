@@ -8,27 +8,21 @@ use Rattle.blif.specs.PassedLaws.{bound-shown, free-shown, luts_ready, nodes_rea
 use Rattle.blif.proofs.put_blif.Goals as goal
 
 pub put_luts-q-requires : goal.put_luts-q-requires
-put_luts-q-requires c = let put-head = c.put_head-p in
-    let bound-names = c.bound_names-bs in
-    let pre = c.requires in
+put_luts-q-requires c = let pre = c.requires in
     let p = pre.passed in
-    let b = bound-names.ensures.1 in
+    let b = c.bound_names-bs.ensures.1 in
     let bound = p.drawing.holds.bound-few in
-    (omega (arith, put-head.ensures.place, put-head.ensures.short), omega (arith, b, bound), luts_ready _ _ _ _ _ p _ b)
+    (omega (arith, c.put_head-p.ensures.place, c.put_head-p.ensures.short), omega (arith, b, bound), luts_ready _ _ _ _ _ p _ b)
 
 pub put_nodes-r-requires : goal.put_nodes-r-requires
-put_nodes-r-requires c = let put-luts = c.put_luts-q in
-    let put-head = c.put_head-p in
-    let free_names = c.free_names-fs in
-    let bound-names = c.bound_names-bs in
-    let pre = c.requires in
+put_nodes-r-requires c = let pre = c.requires in
     let p = pre.passed in
     let h = p.drawing.holds in
-    let bound = bound-shown _ _ _ _ _ p bound-names.ensures.0 in
-    let free = free-shown _ _ _ _ _ p bound free_names.ensures.0 in (
-      omega (arith, put-head.ensures.place, put-head.ensures.short, put-luts.ensures.place, put-luts.ensures.short),
+    let bound = bound-shown _ _ _ _ _ p c.bound_names-bs.ensures.0 in
+    let free = free-shown _ _ _ _ _ p bound c.free_names-fs.ensures.0 in (
+      omega (arith, c.put_head-p.ensures.place, c.put_head-p.ensures.short, c.put_luts-q.ensures.place, c.put_luts-q.ensures.short),
       h.outputs-few,
-      omega (arith, free_names.ensures.1, h.inputs-few),
+      omega (arith, c.free_names-fs.ensures.1, h.inputs-few),
       nodes_ready _ _ _ _ _ p _ (ap length free),
     )
 
@@ -36,14 +30,8 @@ put_nodes-r-requires c = let put-luts = c.put_luts-q in
 -- LEFT slice-aggregate-put-text c = search rules
 
 pub returns : goal.returns
-returns c = let put-text = c.put_text in
-    let put-nodes = c.put_nodes-r in
-    let put-luts = c.put_luts-q in
-    let put-head = c.put_head-p in
-    let free_names = c.free_names-fs in
-    let bound-names = c.bound_names-bs in
-    λ d w p.
-    (let bound = bound-shown _ _ _ d w p bound-names.ensures.0 in
-    let free = free-shown _ _ _ d w p bound free_names.ensures.0 in
-    put_next put-head.ensures (put_then put-luts.ensures (put_then put-nodes.ensures put-text.ensures))
+returns c = λ d w p.
+    (let bound = bound-shown _ _ _ d w p c.bound_names-bs.ensures.0 in
+    let free = free-shown _ _ _ d w p bound c.free_names-fs.ensures.0 in
+    put_next c.put_head-p.ensures (put_then c.put_luts-q.ensures (put_then c.put_nodes-r.ensures c.put_text.ensures))
     (text_is _ _ _ d w p _ _ bound free) (omega arith))

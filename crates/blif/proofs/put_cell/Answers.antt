@@ -6,18 +6,10 @@ use Rattle.blif.specs.ItemLaws.{cell_absent, cell_present}
 use Rattle.blif.proofs.put_cell.Goals as goal
 
 pub returns-then-not-has : goal.returns-then-not-has
-returns-then-not-has c = let if1 = c.if-not-has in
-    let has = c.has in
-    let wide = c.wide in
-    let args = c.args in
-    cell_absent args.mask args.i _ _ (digit_read _ has.ensures wide.ensures (not-true _ if1.true))
+returns-then-not-has c = let args = c.args in
+    cell_absent args.mask args.i _ _ (digit_read _ c.has.ensures c.wide.ensures (not-true _ c.if-not-has.true-raw))
 
 pub returns : goal.returns
-returns c = let put_item = c.put_item in
-    let cell-name = c.cell_name in
-    let if1 = c.if-not-has in
-    let has = c.has in
-    let wide = c.wide in
-    let args = c.args in
-    let digit = digit_read _ has.ensures wide.ensures (not-false _ if1.false) in
-    cell_present args.mask args.i digit cell-name.ensures put_item.ensures
+returns c = let args = c.args in
+    let digit = digit_read _ c.has.ensures c.wide.ensures (not-false _ c.if-not-has.false-raw) in
+    cell_present args.mask args.i digit c.cell_name.ensures c.put_item.ensures

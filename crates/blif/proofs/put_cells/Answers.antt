@@ -12,24 +12,16 @@ pub loop-i-init : goal.loop-i-init
 loop-i-init c = texts_none _ _ _ _ _
 
 pub put_cell-p-requires : goal.put_cell-p-requires
-put_cell-p-requires c = let loop-test = c.loop-i-test in
-    let loop = c.loop-i in
-    let pre = c.requires in
-    omega (arith, pre, loop-test.true, loop.invariant.so_far.place, loop.invariant.so_far.short)
+put_cell-p-requires c = let pre = c.requires in
+    omega (arith, pre, c.loop-i-test.true, c.loop-i.invariant.so_far.place, c.loop-i.invariant.so_far.short)
 
 pub loop-i-preserved : goal.loop-i-preserved
-loop-i-preserved c = let put-cell = c.put_cell-p in
-    let loop-test = c.loop-i-test in
-    let loop = c.loop-i in
-    texts_put loop.invariant loop-test.true put-cell.ensures
+loop-i-preserved c = texts_put c.loop-i.invariant c.loop-i-test.true c.put_cell-p.ensures
 
 pub shape_of-buf : goal.shape_of-buf
-shape_of-buf c = let loop = c.loop-i in
-    put_length loop.invariant.so_far
+shape_of-buf c = put_length c.loop-i.invariant.so_far
 
 pub returns : goal.returns
-returns c = let loop-test = c.loop-i-test in
-    let loop = c.loop-i in
-    let pre = c.requires in
+returns c = let pre = c.requires in
     let args = c.args in
-    texts_all loop.invariant loop-test.false (omega (arith, pre)) (cells_text args.u args.mask)
+    texts_all c.loop-i.invariant c.loop-i-test.false (omega (arith, pre)) (cells_text args.u args.mask)

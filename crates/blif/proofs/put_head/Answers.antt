@@ -24,25 +24,22 @@ slice_bounds-put_items-end c = let args = c.args in
     sym (inputs_counted args.k good.1.1.0 pre.1)
 
 pub put_items-q-requires : goal.put_items-q-requires
-put_items-q-requires c = let put-text = c.put_text-p in
-    let args = c.args in
+put_items-q-requires c = let args = c.args in
     let pre = c.requires in
     let good = c.well-formed in
     let count = inputs_counted args.k good.1.1.0 pre.1 in
-    omega (arith, pre, count, put-text.ensures.place, put-text.ensures.short)
+    omega (arith, pre, count, c.put_text-p.ensures.place, c.put_text-p.ensures.short)
 
 -- LEFT slice-aggregate-put-text-2 : tie.Need-slice-aggregate-put-text-2
 -- LEFT slice-aggregate-put-text-2 c = search rules
 
 pub put_text-r-requires : goal.put_text-r-requires
-put_text-r-requires c = let put-items = c.put_items-q in
-    let put-text = c.put_text-p in
-    let args = c.args in
+put_text-r-requires c = let args = c.args in
     let pre = c.requires in
     let good = c.well-formed in
     let count = inputs_counted args.k good.1.1.0 pre.1 in
-    let first = put-text.ensures in
-    let second = put-items.ensures in
+    let first = c.put_text-p.ensures in
+    let second = c.put_items-q.ensures in
     omega (arith, pre, count, first.place, first.short, second.place, second.short)
 
 pub slice_bounds-outs-end : goal.slice_bounds-outs-end
@@ -58,46 +55,34 @@ slice_bounds-put_items-end-2 c = let args = c.args in
     sym (outputs_counted args.k good.1.1.0 pre.2)
 
 pub put_items-s-requires : goal.put_items-s-requires
-put_items-s-requires c = let put-text2 = c.put_text-r in
-    let put-items = c.put_items-q in
-    let put-text = c.put_text-p in
-    let args = c.args in
+put_items-s-requires c = let args = c.args in
     let pre = c.requires in
     let good = c.well-formed in
     let inputs = inputs_counted args.k good.1.1.0 pre.1 in
     let outputs = outputs_counted args.k good.1.1.0 pre.2 in
-    let first = put-text.ensures in
-    let second = put-items.ensures in
-    let third = put-text2.ensures in
+    let first = c.put_text-p.ensures in
+    let second = c.put_items-q.ensures in
+    let third = c.put_text-r.ensures in
     omega (arith, pre, inputs, outputs, first.place, first.short, second.place, second.short, third.place, third.short)
 
 pub put_byte-requires : goal.put_byte-requires
-put_byte-requires c = let put-items2 = c.put_items-s in
-    let put-text2 = c.put_text-r in
-    let put-items = c.put_items-q in
-    let put-text = c.put_text-p in
-    let args = c.args in
+put_byte-requires c = let args = c.args in
     let pre = c.requires in
     let good = c.well-formed in
     let inputs = inputs_counted args.k good.1.1.0 pre.1 in
     let outputs = outputs_counted args.k good.1.1.0 pre.2 in
-    let first = put-text.ensures in
-    let second = put-items.ensures in
-    let third = put-text2.ensures in
-    let fourth = put-items2.ensures in
+    let first = c.put_text-p.ensures in
+    let second = c.put_items-q.ensures in
+    let third = c.put_text-r.ensures in
+    let fourth = c.put_items-s.ensures in
     omega (arith, pre, inputs, outputs, first.place, first.short, second.place, second.short, third.place, third.short, fourth.place, fourth.short)
 
 pub returns : goal.returns
-returns c = let put_byte = c.put_byte in
-    let put-items2 = c.put_items-s in
-    let put-text2 = c.put_text-r in
-    let earlier = (goal.at.returns c).After-put_text-arg-6-1 in
-    let put-items = c.put_items-q in
-    let put-text = c.put_text-p in
+returns c = let earlier = (goal.at.returns c).After-put_text-arg-6-1 in
     let args = c.args in
     let pre = c.requires in
     let good = c.well-formed in
     let inputs = inputs_counted args.k good.1.1.0 pre.1 in
     let outputs = outputs_counted args.k good.1.1.0 pre.2 in
-    put_next put-text.ensures (put_then put-items.ensures (put_then put-text2.ensures (put_then put-items2.ensures put_byte.ensures)))
+    put_next c.put_text-p.ensures (put_then c.put_items-q.ensures (put_then c.put_text-r.ensures (put_then c.put_items-s.ensures c.put_byte.ensures)))
     (head_text_lem _ _) (omega (arith, pre, inputs, outputs))

@@ -8,23 +8,15 @@ pub loop-i-init : goal.loop-i-init
 loop-i-init c = inputs_none _ _ _ _
 
 pub put_digit-p-requires : goal.put_digit-p-requires
-put_digit-p-requires c = let loop = c.loop-i in
-    let pre = c.requires in
-    omega (arith, pre, loop.invariant.within, loop.invariant.so_far.place, loop.invariant.so_far.short)
+put_digit-p-requires c = let pre = c.requires in
+    omega (arith, pre, c.loop-i.invariant.within, c.loop-i.invariant.so_far.place, c.loop-i.invariant.so_far.short)
 
 pub loop-i-preserved : goal.loop-i-preserved
-loop-i-preserved c = let put-digit = c.put_digit-p in
-    let has = c.has in
-    let loop-test = c.loop-i-test in
-    let loop = c.loop-i in
-    inputs_more loop.invariant loop-test.true has.ensures put-digit.ensures
+loop-i-preserved c = inputs_more c.loop-i.invariant c.loop-i-test.true c.has.ensures c.put_digit-p.ensures
 
 pub shape_of-buf : goal.shape_of-buf
-shape_of-buf c = let loop = c.loop-i in
-    put_length loop.invariant.so_far
+shape_of-buf c = put_length c.loop-i.invariant.so_far
 
 pub returns : goal.returns
-returns c = let loop-test = c.loop-i-test in
-    let loop = c.loop-i in
-    let pre = c.requires in
-    inputs_all loop.invariant loop-test.false pre.1
+returns c = let pre = c.requires in
+    inputs_all c.loop-i.invariant c.loop-i-test.false pre.1

@@ -6,6 +6,4 @@ use Rattle.emit.specs.PutLaws.{put_next}
 use Rattle.blif.proofs.put_item.Goals as goal
 
 pub returns : goal.returns
-returns c = let put-name = c.put_name in
-    let put_byte = c.put_byte-p in
-    put_next put_byte.ensures put-name.ensures refl (omega arith)
+returns c = put_next c.put_byte-p.ensures c.put_name.ensures refl (omega arith)

@@ -13,23 +13,15 @@ pub loop-i-init : goal.loop-i-init
 loop-i-init c = texts_none _ _ _ _ _
 
 pub put_item-p-requires : goal.put_item-p-requires
-put_item-p-requires c = let loop-test = c.loop-i-test in
-    let loop = c.loop-i in
-    let pre = c.requires in
-    omega (arith, pre, loop-test.true, loop.invariant.so_far.place, loop.invariant.so_far.short)
+put_item-p-requires c = let pre = c.requires in
+    omega (arith, pre, c.loop-i-test.true, c.loop-i.invariant.so_far.place, c.loop-i.invariant.so_far.short)
 
 pub loop-i-preserved : goal.loop-i-preserved
-loop-i-preserved c = let put_item = c.put_item-p in
-    let loop-test = c.loop-i-test in
-    let loop = c.loop-i in
-    texts_put loop.invariant loop-test.true put_item.ensures
+loop-i-preserved c = texts_put c.loop-i.invariant c.loop-i-test.true c.put_item-p.ensures
 
 pub shape_of-buf : goal.shape_of-buf
-shape_of-buf c = let loop = c.loop-i in
-    put_length loop.invariant.so_far
+shape_of-buf c = put_length c.loop-i.invariant.so_far
 
 pub returns : goal.returns
-returns c = let loop-test = c.loop-i-test in
-    let loop = c.loop-i in
-    let args = c.args in
-    texts_all loop.invariant loop-test.false (omega arith) (names_text args.ns.now)
+returns c = let args = c.args in
+    texts_all c.loop-i.invariant c.loop-i-test.false (omega arith) (names_text args.ns.now)

@@ -26,8 +26,7 @@ put_items-requires c = let pre = c.requires in
     omega (arith, pre, items_counted args.ns good.1.1.0 (omega (arith, pre.1)))
 
 pub returns : goal.returns
-returns c = let put-items = c.put_items in
-    let pre = c.requires in
+returns c = let pre = c.requires in
     let args = c.args in
     let good = c.well-formed in
-    put_same put-items.ensures refl (omega (arith, pre, items_counted args.ns good.1.1.0 (omega (arith, pre.1))))
+    put_same c.put_items.ensures refl (omega (arith, pre, items_counted args.ns good.1.1.0 (omega (arith, pre.1))))

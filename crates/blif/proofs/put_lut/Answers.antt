@@ -15,18 +15,12 @@ use Rattle.blif.proofs.put_lut.Goals as goal
 -- LEFT slice-aggregate-put-text c = search rules
 
 pub returns : goal.returns
-returns c = let put-rows = c.put_rows in
-    let put_byte = c.put_byte-s in
-    let put_item = c.put_item-r in
-    let cell-name = c.cell_name in
-    let put-listed = c.put_listed-q in
-    let put-text = c.put_text-p in
-    let args = c.args in
+returns c = let args = c.args in
     let good = c.well-formed in
     let pre = c.requires in
     let bs = args.bs in
     let f = digits_at args.t.now args.place in
     let counted = sym (shown-counted bs good.1.1.1.0 (omega (arith, pre.1))) in
-    let text = block_text_lem (name_of cell-name.result) f bs.count (shown bs) counted in
-    put_next put-text.ensures (put_then put-listed.ensures (put_then put_item.ensures (put_then put_byte.ensures put-rows.ensures)))
-    (text ∙ ap (λ (n : Name). block_text (shown bs) n f) cell-name.ensures) (omega arith)
+    let text = block_text_lem (name_of c.cell_name.result) f bs.count (shown bs) counted in
+    put_next c.put_text-p.ensures (put_then c.put_listed-q.ensures (put_then c.put_item-r.ensures (put_then c.put_byte-s.ensures c.put_rows.ensures)))
+    (text ∙ ap (λ (n : Name). block_text (shown bs) n f) c.cell_name.ensures) (omega arith)

@@ -13,35 +13,25 @@ pub loop-i-init : goal.loop-i-init
 loop-i-init c = texts_none _ _ _ _ _
 
 pub offset_bounds-lutat-i : goal.offset_bounds-lutat-i
-offset_bounds-lutat-i c = let loop-test = c.loop-i-test in
-    let pre = c.requires in
-    omega (arith, pre.2.few, loop-test.true)
+offset_bounds-lutat-i c = let pre = c.requires in
+    omega (arith, pre.2.few, c.loop-i-test.true)
 
 pub bounds-lutat-i : goal.bounds-lutat-i
-bounds-lutat-i c = let loop-test = c.loop-i-test in
-    let pre = c.requires in
-    omega (arith, pre.2.few, loop-test.true)
+bounds-lutat-i c = let pre = c.requires in
+    omega (arith, pre.2.few, c.loop-i-test.true)
 
 pub put_lut-p-requires : goal.put_lut-p-requires
-put_lut-p-requires c = let loop-test = c.loop-i-test in
-    let loop = c.loop-i in
-    let pre = c.requires in
+put_lut-p-requires c = let pre = c.requires in
     let few = pre.2.few in
-    let ready = pre.2.stand _ loop-test.true in
-    (omega (arith, few, pre.0, loop-test.true, loop.invariant.so_far.place, loop.invariant.so_far.short), pre.1, omega (arith, few, loop-test.true), ready)
+    let ready = pre.2.stand _ c.loop-i-test.true in
+    (omega (arith, few, pre.0, c.loop-i-test.true, c.loop-i.invariant.so_far.place, c.loop-i.invariant.so_far.short), pre.1, omega (arith, few, c.loop-i-test.true), ready)
 
 pub loop-i-preserved : goal.loop-i-preserved
-loop-i-preserved c = let put-lut = c.put_lut-p in
-    let loop-test = c.loop-i-test in
-    let loop = c.loop-i in
-    texts_put loop.invariant loop-test.true put-lut.ensures
+loop-i-preserved c = texts_put c.loop-i.invariant c.loop-i-test.true c.put_lut-p.ensures
 
 pub shape_of-buf : goal.shape_of-buf
-shape_of-buf c = let loop = c.loop-i in
-    put_length loop.invariant.so_far
+shape_of-buf c = put_length c.loop-i.invariant.so_far
 
 pub returns : goal.returns
-returns c = let loop-test = c.loop-i-test in
-    let loop = c.loop-i in
-    let pre = c.requires in
-    texts_all loop.invariant loop-test.false (omega (arith, pre.2.few)) refl
+returns c = let pre = c.requires in
+    texts_all c.loop-i.invariant c.loop-i-test.false (omega (arith, pre.2.few)) refl

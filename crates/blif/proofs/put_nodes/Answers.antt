@@ -13,25 +13,17 @@ pub loop-o-init : goal.loop-o-init
 loop-o-init c = texts_none _ _ _ _ _
 
 pub put_node-p-requires : goal.put_node-p-requires
-put_node-p-requires c = let loop-test = c.loop-o-test in
-    let loop = c.loop-o in
-    let pre = c.requires in
+put_node-p-requires c = let pre = c.requires in
     let ready = pre.3 in
-    let here = loop-test.true in
-    (omega (arith, pre.0, pre.1, here, loop.invariant.so_far.place, loop.invariant.so_far.short), ready.few, pre.2, ready.each _ here)
+    let here = c.loop-o-test.true in
+    (omega (arith, pre.0, pre.1, here, c.loop-o.invariant.so_far.place, c.loop-o.invariant.so_far.short), ready.few, pre.2, ready.each _ here)
 
 pub loop-o-preserved : goal.loop-o-preserved
-loop-o-preserved c = let put-node = c.put_node-p in
-    let loop-test = c.loop-o-test in
-    let loop = c.loop-o in
-    texts_put loop.invariant loop-test.true put-node.ensures
+loop-o-preserved c = texts_put c.loop-o.invariant c.loop-o-test.true c.put_node-p.ensures
 
 pub shape_of-buf : goal.shape_of-buf
-shape_of-buf c = let loop = c.loop-o in
-    put_length loop.invariant.so_far
+shape_of-buf c = put_length c.loop-o.invariant.so_far
 
 pub returns : goal.returns
-returns c = let loop-test = c.loop-o-test in
-    let loop = c.loop-o in
-    let pre = c.requires in
-    texts_all loop.invariant loop-test.false (omega (arith, pre)) refl
+returns c = let pre = c.requires in
+    texts_all c.loop-o.invariant c.loop-o-test.false (omega (arith, pre)) refl

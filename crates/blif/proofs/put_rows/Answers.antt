@@ -12,42 +12,28 @@ pub loop-r-init : goal.loop-r-init
 loop-r-init c = texts_none _ _ _ _ _
 
 pub overflow_add-place : goal.overflow_add-place
-overflow_add-place c = let loop-test = c.loop-r-test in
-    let power = c.power-rows in
-    let pre = c.requires in
+overflow_add-place c = let pre = c.requires in
     let fits = c.ranges in
-    omega (arith, pre, loop-test.true, power.ensures, fits)
+    omega (arith, pre, c.loop-r-test.true, c.power-rows.ensures, fits)
 
 pub bounds-t-place : goal.bounds-t-place
-bounds-t-place c = let loop-test = c.loop-r-test in
-    let power = c.power-rows in
-    let pre = c.requires in
-    omega (arith, pre, loop-test.true, power.ensures)
+bounds-t-place c = let pre = c.requires in
+    omega (arith, pre, c.loop-r-test.true, c.power-rows.ensures)
 
 pub put_row-p-requires : goal.put_row-p-requires
-put_row-p-requires c = let loop-test = c.loop-r-test in
-    let loop = c.loop-r in
-    let power = c.power-rows in
-    let pre = c.requires in
-    let few = rows_few _ _ pre.1 power.ensures in
-    (omega (arith, pre.0, few, loop-test.true, loop.invariant.so_far.place, loop.invariant.so_far.short), pre.1)
+put_row-p-requires c = let pre = c.requires in
+    let few = rows_few _ _ pre.1 c.power-rows.ensures in
+    (omega (arith, pre.0, few, c.loop-r-test.true, c.loop-r.invariant.so_far.place, c.loop-r.invariant.so_far.short), pre.1)
 
 pub loop-r-preserved : goal.loop-r-preserved
-loop-r-preserved c = let put-row = c.put_row-p in
-    let loop-test = c.loop-r-test in
-    let loop = c.loop-r in
-    texts_put loop.invariant loop-test.true put-row.ensures
+loop-r-preserved c = texts_put c.loop-r.invariant c.loop-r-test.true c.put_row-p.ensures
 
 pub shape_of-buf : goal.shape_of-buf
-shape_of-buf c = let loop = c.loop-r in
-    put_length loop.invariant.so_far
+shape_of-buf c = put_length c.loop-r.invariant.so_far
 
 pub returns : goal.returns
-returns c = let loop-test = c.loop-r-test in
-    let loop = c.loop-r in
-    let power = c.power-rows in
-    let pre = c.requires in
+returns c = let pre = c.requires in
     let args = c.args in
-    let few = rows_few _ _ pre.1 power.ensures in
-    let text = rows_text_lem args.n _ (digits_at args.t.now args.place) power.ensures in
-    texts_all loop.invariant loop-test.false (omega (arith, few)) text
+    let few = rows_few _ _ pre.1 c.power-rows.ensures in
+    let text = rows_text_lem args.n _ (digits_at args.t.now args.place) c.power-rows.ensures in
+    texts_all c.loop-r.invariant c.loop-r-test.false (omega (arith, few)) text

@@ -8,4 +8,4 @@ pub returns-then-kn-eq0 : goal.returns-then-kn-eq0
 returns-then-kn-eq0 c = inl refl
 
 pub returns : goal.returns
-returns c = let l = c.loop-x in inr (on_or_one l.kn 1 0 (on_single 0), off_first l.val)
+returns c = inr (on_or_one c.loop-x.kn 1 0 (on_single 0), off_first c.loop-x.val)

@@ -15,8 +15,7 @@ bounds-line-i c = let h = c.loop-i-test.true in let p = c.requires in search rul
 
 pub loop-i-preserved : goal.loop-i-preserved
 loop-i-preserved c = let h = c.loop-i-test.true in
-    let l = c.loop-i in
-    (omega arith, low_more l.i _ l.cl h c.letter.ensures l.invariant.1)
+    (omega arith, low_more c.loop-i.i _ c.loop-i.cl h c.letter.ensures c.loop-i.invariant.1)
 
 pub returns : goal.returns
 returns c = let h = c.loop-i-test.false in let s = c.loop-i.invariant.1 in record { long = s.long; low = λ k l. s.below k (omega arith) }

@@ -8,5 +8,4 @@ positive (pos n) e = tt
 positive (negsuc n) e = subst T (sym e) tt
 
 pub overflow_cast-result : goal.overflow_cast-result
-overflow_cast-result c = let clock = c.clock-t in
-    (positive (to_z w64 (of_z w64 clock.result)) c.if-t-gt0.true, Fits-nat_abs {w = w64} {w' = w64} tt (sfits_to_z (Fits-of_z {w = w64} {z = clock.result} (record { sfits = clock.type-inv }))))
+overflow_cast-result c = (positive (to_z w64 (of_z w64 c.clock-t.result)) c.if-t-gt0.true, Fits-nat_abs {w = w64} {w' = w64} tt (sfits_to_z (Fits-of_z {w = w64} {z = c.clock-t.result} (record { sfits = c.clock-t.type-inv }))))

@@ -3,11 +3,10 @@ use Rattle.border.proofs.report.Goals as goal
 
 pub solve-a-requires : goal.solve-a-requires
 solve-a-requires c = let p = c.requires in
-    let whole = c.asked-whole in
     let k = c.kept-kept.ensures in
     let tables = c.given-tables.ensures in
     let honest = c.recall.ensures in
-    let q = whole.ensures in (
+    let q = c.asked-whole.ensures in (
       p.0,
       k.classes,
       tables,
@@ -17,7 +16,7 @@ solve-a-requires c = let p = c.requires in
       q.3,
       q.1,
       (λ o h. let b = k.below o h in let f = k.few in omega arith),
-      honest whole.result.kn whole.result.val,
+      honest c.asked-whole.result.kn c.asked-whole.result.val,
     )
 
 pub put_answer-requires : goal.put_answer-requires

@@ -9,9 +9,8 @@ pub returns-then-a-i : goal.returns-then-a-i
 returns-then-a-i c = λ e. absurd (true_false (sym e))
 
 pub loop-i-preserved : goal.loop-i-preserved
-loop-i-preserved c = let loop = c.loop-i in
-    let args = c.args in
-    below_more (λ (k : ℕ). get_or args.a.now k 0 ≡ get_or args.b.now k 0) loop.i loop.invariant c.if-a-i.false
+loop-i-preserved c = let args = c.args in
+    below_more (λ (k : ℕ). get_or args.a.now k 0 ≡ get_or args.b.now k 0) c.loop-i.i c.loop-i.invariant c.if-a-i.false
 
 pub returns : goal.returns
 returns c = let past = c.loop-i-test.false in

@@ -36,11 +36,10 @@ returns-then-c c = let k = c.seek_where-c.ensures in
     k.1
 
 pub loop-u-preserved : goal.loop-u-preserved
-loop-u-preserved c = let l = c.loop-u in
-    let h = c.loop-u-test.true in
+loop-u-preserved c = let h = c.loop-u-test.true in
     let k = c.seek_where-c.ensures in
-    let i = l.invariant in
-    (omega arith, i.1, begins_more _ _ l.u i.2, k.1)
+    let i = c.loop-u.invariant in
+    (omega arith, i.1, begins_more _ _ c.loop-u.u i.2, k.1)
 
 pub returns : goal.returns
 returns c = let i = c.loop-u.invariant in

@@ -17,15 +17,14 @@ returns-then-mem-i-2 c = λ e. absurd (true_false (sym e))
 pub loop-o-preserved : goal.loop-o-preserved
 loop-o-preserved c = let h = c.loop-o-test.true in
     let a = c.args in
-    let l = c.loop-o in (
+    (
       omega arith,
-      λ q b. ⊎_elim (l.invariant.1 q)
+      λ q b. ⊎_elim (c.loop-o.invariant.1 q)
           (λ p. subst (λ (q : ℕ). row_at a.mem.now a.i q ≡ item a.t4 q) (sym p)
-          (ap (item a.mem.now) (let z : a.i * 9 + suc l.o ≡ a.i * 9 + (l.o + 1) = omega arith in z) ∙ c.if-mem-i-2.false))
-          (less_or_equal q l.o (omega arith)),
+          (ap (item a.mem.now) (let z : a.i * 9 + suc c.loop-o.o ≡ a.i * 9 + (c.loop-o.o + 1) = omega arith in z) ∙ c.if-mem-i-2.false))
+          (less_or_equal q c.loop-o.o (omega arith)),
     )
 
 pub returns : goal.returns
-returns c = let if1 = c.if-mem-i in
-    let h = c.loop-o-test.false in
-    λ e. (if1.false, λ o b. c.loop-o.invariant.1 o (omega arith))
+returns c = let h = c.loop-o-test.false in
+    λ e. (c.if-mem-i.false, λ o b. c.loop-o.invariant.1 o (omega arith))

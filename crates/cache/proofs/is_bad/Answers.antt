@@ -8,6 +8,5 @@ holds-requires c = (c.requires, c.place.ensures)
 pub returns : goal.returns
 returns c = λ cl given kn val v s e.
     let a = c.args in
-    let i = c.place in
     let h = c.holds.ensures e in
-    honest_found cl given kn val v a.mem.now i.result a.asked a.rows i.ensures (h.0 ∙ c.head.ensures.1 refl) h.1 s
+    honest_found cl given kn val v a.mem.now c.place.result a.asked a.rows c.place.ensures (h.0 ∙ c.head.ensures.1 refl) h.1 s

@@ -14,14 +14,13 @@ bounds-mem-i c = let h = c.loop-i-test.true in let s = c.loop-i.invariant in let
 
 pub loop-i-preserved : goal.loop-i-preserved
 loop-i-preserved c = let h = c.loop-i-test.true in
-    let l = c.loop-i in
     let old = c.args.mem.now in
-    let P : List ℕ → Type 0 = Unread old (l.i + 1) in (
+    let P : List ℕ → Type 0 = Unread old (c.loop-i.i + 1) in (
       omega arith,
-      l.invariant.1,
+      c.loop-i.invariant.1,
       ⊎_elim
-          (λ w. subst P (sym w.1) (unread_less old l.i l.mem l.invariant.2 l.invariant.1 h))
-          (λ w. subst P (sym w.1) (unread_same old l.i l.mem l.invariant.2 (c.reads_cell_0.ensures w.0.left)))
+          (λ w. subst P (sym w.1) (unread_less old c.loop-i.i c.loop-i.mem c.loop-i.invariant.2 c.loop-i.invariant.1 h))
+          (λ w. subst P (sym w.1) (unread_same old c.loop-i.i c.loop-i.mem c.loop-i.invariant.2 (c.reads_cell_0.ensures w.0.left)))
           c.if-reads_cell_0.branch,
     )
 
@@ -30,8 +29,7 @@ shape_of-mem c = c.loop-i.invariant.2.long
 
 pub returns : goal.returns
 returns c = let e = c.loop-i-test.false in
-    let l = c.loop-i in
-    let h = l.invariant.0 in
+    let h = c.loop-i.invariant.0 in
     let old = c.args.mem.now in
-    let s : Unread old 2048 l.mem = subst (λ (i : ℕ). Unread old i l.mem) (omega arith) l.invariant.2 in
-    λ cl given kn val kn' val' v free honest. honest_unread cl given kn val v kn' val' old l.mem free s honest
+    let s : Unread old 2048 c.loop-i.mem = subst (λ (i : ℕ). Unread old i c.loop-i.mem) (omega arith) c.loop-i.invariant.2 in
+    λ cl given kn val kn' val' v free honest. honest_unread cl given kn val v kn' val' old c.loop-i.mem free s honest

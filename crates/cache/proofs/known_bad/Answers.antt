@@ -17,14 +17,11 @@ pub is_bad-requires : goal.is_bad-requires
 is_bad-requires c = c.requires
 
 pub returns-then-is_bad : goal.returns-then-is_bad
-returns-then-is_bad c = let between = c.between in
-    let if1 = c.if-between in
-    let question = c.question-asks in
-    λ cl given kn val v free s e.
+returns-then-is_bad c = λ cl given kn val v free s e.
     let a = c.args in
     let i = c.loop-a.a in
-    barred_among cl given kn val v i a.among (item a.rows) (between.ensures if1.true)
-    (question.ensures.barred cl given kn val v free (c.is_bad.ensures cl given kn val v s c.if-is_bad.true))
+    barred_among cl given kn val v i a.among (item a.rows) (c.between.ensures c.if-between.true)
+    (c.question-asks.ensures.barred cl given kn val v free (c.is_bad.ensures cl given kn val v s c.if-is_bad.true))
 
 pub overflow_add-a : goal.overflow_add-a
 overflow_add-a c = let h = c.loop-a-test.true in omega arith

@@ -10,14 +10,13 @@ loop-o-init c = (omega arith, joined-start c.args.mem.now c.args.i)
 pub loop-o-preserved : goal.loop-o-preserved
 loop-o-preserved c = let h = c.loop-o-test.true in
     let a = c.args in
-    let l = c.loop-o in (
+    (
       omega arith,
-      joined_more a.mem.now a.i l.o l.all _ (ap (item a.mem.now) (let z : a.i * 9 + (l.o + 1) ≡ a.i * 9 + suc l.o = omega arith in z)) l.invariant.1,
+      joined_more a.mem.now a.i c.loop-o.o c.loop-o.all _ (ap (item a.mem.now) (let z : a.i * 9 + (c.loop-o.o + 1) ≡ a.i * 9 + suc c.loop-o.o = omega arith in z)) c.loop-o.invariant.1,
     )
 
 pub returns : goal.returns
 returns c = let a = c.args in
-    let l = c.loop-o in
     let e = c.loop-o-test.false in
-    let o = l.invariant.0 in
-    joined_all a.mem.now a.i l.all (subst (λ (z : ℕ). Joined a.mem.now a.i z l.all) (omega arith) l.invariant.1)
+    let o = c.loop-o.invariant.0 in
+    joined_all a.mem.now a.i c.loop-o.all (subst (λ (z : ℕ). Joined a.mem.now a.i z c.loop-o.all) (omega arith) c.loop-o.invariant.1)

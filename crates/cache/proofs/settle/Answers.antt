@@ -16,22 +16,18 @@ pub overflow_cast-a-then-between : goal.overflow_cast-a-then-between
 overflow_cast-a-then-between c = let h = c.loop-a-test.true in record { fits = omega arith }
 
 pub tell-t-requires : goal.tell-t-requires
-tell-t-requires c = let loop = c.loop-a in
-    let p = c.requires in (p.0, p.1, p.2, loop.invariant.1)
+tell-t-requires c = let p = c.requires in (p.0, p.1, p.2, c.loop-a.invariant.1)
 
 pub shape_of-mem-then-not-t : goal.shape_of-mem-then-not-t
-shape_of-mem-then-not-t c = let t = c.tell-t in
-    let p = c.requires in
-    t.ensures.0.long ∙ sym p.3.long
+shape_of-mem-then-not-t c = let p = c.requires in
+    c.tell-t.ensures.0.long ∙ sym p.3.long
 
 pub returns-then-not-t : goal.returns-then-not-t
-returns-then-not-t c = let if2 = c.if-between in
-    let a = c.args in
-    let t = c.tell-t in
+returns-then-not-t c = let a = c.args in
     let i = c.loop-a.a in
-    let b = c.between.ensures if2.true in
+    let b = c.between.ensures c.if-between.true in
     let n = not-true _ c.if-not-t.true in
-    (t.ensures.0, λ e. barred_among a.cl.now a.given.now a.q.kn a.q.val a.q.vertices i a.among (item a.q.rows) b (t.ensures.1 n))
+    (c.tell-t.ensures.0, λ e. barred_among a.cl.now a.given.now a.q.kn a.q.val a.q.vertices i a.among (item a.q.rows) b (c.tell-t.ensures.1 n))
 
 pub overflow_add-a : goal.overflow_add-a
 overflow_add-a c = let h = c.loop-a-test.true in omega arith
@@ -39,12 +35,11 @@ overflow_add-a c = let h = c.loop-a-test.true in omega arith
 pub loop-a-preserved : goal.loop-a-preserved
 loop-a-preserved c = let h = c.loop-a-test.true in
     let a = c.args in
-    let l = c.loop-a in
     let P : List ℕ → Type 0 = Honest a.cl.now a.given.now a.q.kn a.q.val a.q.vertices in (
       omega arith,
       ⊎_elim
           (λ w. subst P (sym w.10) w.4.ensures.0)
-          (⊎_elim (λ w. subst P (sym w.3) l.invariant.1) (λ w. subst P (sym w.1) l.invariant.1))
+          (⊎_elim (λ w. subst P (sym w.3) c.loop-a.invariant.1) (λ w. subst P (sym w.1) c.loop-a.invariant.1))
           c.if-a-n.branch,
     )
 

@@ -8,17 +8,14 @@ pub loop-i-init : goal.loop-i-init
 loop-i-init c = c.requires.3
 
 pub settle-t-requires : goal.settle-t-requires
-settle-t-requires c = let loop = c.loop-i in
-    let p = c.requires in (p.0, p.1, p.2, loop.invariant)
+settle-t-requires c = let p = c.requires in (p.0, p.1, p.2, c.loop-i.invariant)
 
 pub shape_of-mem-then-not-t : goal.shape_of-mem-then-not-t
-shape_of-mem-then-not-t c = let t = c.settle-t in
-    let p = c.requires in
-    t.ensures.0.long ∙ sym p.3.long
+shape_of-mem-then-not-t c = let p = c.requires in
+    c.settle-t.ensures.0.long ∙ sym p.3.long
 
 pub returns-then-not-t : goal.returns-then-not-t
-returns-then-not-t c = let t = c.settle-t in
-    (t.ensures.0, λ e. t.ensures.1 (not-true _ c.if-not-t.true))
+returns-then-not-t c = (c.settle-t.ensures.0, λ e. c.settle-t.ensures.1 (not-true _ c.if-not-t.true))
 
 pub loop-i-preserved : goal.loop-i-preserved
 loop-i-preserved c = c.settle-t.ensures.0

@@ -24,11 +24,10 @@ bounds-mem-i c = let h = c.loop-o-test.true in let i = c.place-i.ensures in let 
 pub loop-o-preserved : goal.loop-o-preserved
 loop-o-preserved c = let h = c.loop-o-test.true in
     let a = c.args in
-    let i = c.place-i in
-    let l = c.loop-o in (
+    (
       omega arith,
-      written_more a.mem.now i.result a.t3 l.o l.mem c.requires i.ensures h l.invariant.1 _ _
-          (let z : i.result * 9 + (l.o + 1) ≡ i.result * 9 + suc l.o = omega arith in z) refl,
+      written_more a.mem.now c.place-i.result a.t3 c.loop-o.o c.loop-o.mem c.requires c.place-i.ensures h c.loop-o.invariant.1 _ _
+          (let z : c.place-i.result * 9 + (c.loop-o.o + 1) ≡ c.place-i.result * 9 + suc c.loop-o.o = omega arith in z) refl,
     )
 
 pub overflow_mul-mem-2 : goal.overflow_mul-mem-2
@@ -41,16 +40,12 @@ pub bounds-mem-i-2 : goal.bounds-mem-i-2
 bounds-mem-i-2 c = let i = c.place-i.ensures in let l = c.loop-o.invariant.1.long in let p = c.requires in search rules
 
 pub shape_of-mem : goal.shape_of-mem
-shape_of-mem c = let loop = c.loop-o in
-    length-set loop.mem _ _ ∙ loop.invariant.1.long
+shape_of-mem c = length-set c.loop-o.mem _ _ ∙ c.loop-o.invariant.1.long
 
 pub returns : goal.returns
 returns c = λ cl given kn val v b s.
     let a = c.args in
-    let i = c.place-i in
-    let l = c.loop-o in
-    let h = c.head in
     let e = c.loop-o-test.false in
-    let o = l.invariant.0 in
-    honest_written cl given kn val v a.mem.now l.mem i.result a.asked h.result a.ok a.t3 i.ensures h.ensures.0 h.ensures.1
-    (subst (λ (z : ℕ). Written a.mem.now i.result a.t3 z l.mem) (omega arith) l.invariant.1) b s
+    let o = c.loop-o.invariant.0 in
+    honest_written cl given kn val v a.mem.now c.loop-o.mem c.place-i.result a.asked c.head.result a.ok a.t3 c.place-i.ensures c.head.ensures.0 c.head.ensures.1
+    (subst (λ (z : ℕ). Written a.mem.now c.place-i.result a.t3 z c.loop-o.mem) (omega arith) c.loop-o.invariant.1) b s

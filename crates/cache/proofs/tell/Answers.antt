@@ -13,11 +13,9 @@ pub returns-then-is_bad : goal.returns-then-is_bad
 returns-then-is_bad c = let a = c.args in
     let p = a.q in
     let s = c.requires.3 in
-    let q = c.question-asks in
-    let b = c.is_bad in
     let t = c.if-is_bad.true in
-    let bad = b.ensures a.cl.now a.given.now p.kn p.val p.vertices s t in
-    (s, λ e. q.ensures.barred a.cl.now a.given.now p.kn p.val p.vertices (λ n. eqb-true p.kn 0 (not-false _ n)) bad)
+    let bad = c.is_bad.ensures a.cl.now a.given.now p.kn p.val p.vertices s t in
+    (s, λ e. c.question-asks.ensures.barred a.cl.now a.given.now p.kn p.val p.vertices (λ n. eqb-true p.kn 0 (not-false _ n)) bad)
 
 pub holds-requires : goal.holds-requires
 holds-requires c = (c.requires.3.long, c.place.ensures)
@@ -32,17 +30,13 @@ pub store-requires : goal.store-requires
 store-requires c = c.requires.3.long
 
 pub returns : goal.returns
-returns c = let if3 = c.if-a in
-    let store = c.store in
-    let a = c.args in
+returns c = let a = c.args in
     let p = a.q in
     let s = c.requires.3 in
-    let q = c.question-asks in
-    let k = c.ask-a in
-    let bad : if3.type-inv ≡ false → Barred a.cl.now a.given.now p.kn p.val p.vertices a.asked (item q.result) = λ e. ⊎_elim
+    let bad : c.if-a.type-inv ≡ false → Barred a.cl.now a.given.now p.kn p.val p.vertices a.asked (item c.question-asks.result) = λ e. ⊎_elim
     (λ w. absurd (true_false (sym w.1 ∙ e)))
-    (λ w. settled_barred a.cl.now a.given.now p.kn p.val p.vertices a.asked (item q.result) k.result.ok k.result.codes (k.ensures.sure w.0.left) (sym w.1 ∙ e))
-    if3.branch in (
-      store.ensures a.cl.now a.given.now p.kn p.val p.vertices bad s,
-      λ e. q.ensures.barred a.cl.now a.given.now p.kn p.val p.vertices (λ n. eqb-true p.kn 0 (not-false _ n)) (bad e),
+    (λ w. settled_barred a.cl.now a.given.now p.kn p.val p.vertices a.asked (item c.question-asks.result) c.ask-a.result.ok c.ask-a.result.codes (c.ask-a.ensures.sure w.0.left) (sym w.1 ∙ e))
+    c.if-a.branch in (
+      c.store.ensures a.cl.now a.given.now p.kn p.val p.vertices bad s,
+      λ e. c.question-asks.ensures.barred a.cl.now a.given.now p.kn p.val p.vertices (λ n. eqb-true p.kn 0 (not-false _ n)) (bad e),
     )

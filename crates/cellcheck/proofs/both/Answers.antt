@@ -6,6 +6,5 @@ use borrow.Author.Rules.{rules}
 use Rattle.cellcheck.proofs.both.Goals as goal
 
 pub slice_bounds-answer-end : goal.slice_bounds-answer-end
-slice_bounds-answer-end c = let two-sheets = c.two_sheets-p in
-    let args = c.args in
-    sym (length-take-le two-sheets.result.end args.s.now (omega (arith, two-sheets.ensures)))
+slice_bounds-answer-end c = let args = c.args in
+    sym (length-take-le c.two_sheets-p.result.end args.s.now (omega (arith, c.two_sheets-p.ensures)))

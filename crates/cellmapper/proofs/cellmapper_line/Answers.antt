@@ -6,6 +6,5 @@ use Rattle.cellmapper.proofs.cellmapper_line.Goals as goal
 
 pub returns : goal.returns
 returns c = let a = c.args in
-    let p = c.place_of-p in
-    line_reported (located a.sheet.now a.network.now a.number a.line) p.result.second p.result.start p.result.length
-    p.ensures
+    line_reported (located a.sheet.now a.network.now a.number a.line) c.place_of-p.result.second c.place_of-p.result.start c.place_of-p.result.length
+    c.place_of-p.ensures

@@ -6,9 +6,8 @@ use borrow.Author.Rules.{rules}
 use Rattle.cellmapper.proofs.cellmapper_map.Goals as goal
 
 pub report_map-r-requires : goal.report_map-r-requires
-report_map-r-requires c = let map = c.map-m in
-    let a = c.args in
-    map-number {most = panel_numbers} (omega arith) a.sheet.now a.buffer.now _ _ map.ensures
+report_map-r-requires c = let a = c.args in
+    map-number {most = panel_numbers} (omega arith) a.sheet.now a.buffer.now _ _ c.map-m.ensures
 
 pub returns : goal.returns
 returns c = record { answer = _; outcome = c.map-m.ensures; reported = c.report_map-r.ensures }

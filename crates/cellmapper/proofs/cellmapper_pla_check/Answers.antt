@@ -11,10 +11,9 @@ use Rattle.cellmapper.proofs.cellmapper_pla_check.Goals as goal
 
 pub report_check-told-requires : goal.report_check-told-requires
 report_check-told-requires c = let a = c.args in
-    let check = c.check-c in
     let p = a.pla.now in
     let b = a.board.now in
-    subst (CheckNumber panel_numbers) (sym check.ensures) (check_of_number (omega arith) (examine p b) a.network.now (panel_number p b))
+    subst (CheckNumber panel_numbers) (sym c.check-c.ensures) (check_of_number (omega arith) (examine p b) a.network.now (panel_number p b))
 
 pub returns : goal.returns
 returns c = c.report_check-told.ensures ∙ ap check_report c.check-c.ensures

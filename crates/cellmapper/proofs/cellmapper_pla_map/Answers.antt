@@ -9,12 +9,9 @@ use Rattle.cellmapper.proofs.cellmapper_pla_map.Goals as goal
 
 pub report_map-told-requires : goal.report_map-told-requires
 report_map-told-requires c = let a = c.args in
-    let map = c.map-m in
     let p = a.pla.now in
     let b = a.board.now in
-    map_of_number {most = panel_numbers} (omega arith) (examine p b) a.buffer.now _ _ (panel_number p b) map.ensures
+    map_of_number {most = panel_numbers} (omega arith) (examine p b) a.buffer.now _ _ (panel_number p b) c.map-m.ensures
 
 pub returns : goal.returns
-returns c = let map = c.map-m in
-    let report-map = c.report_map-told in
-    record { answer = _; outcome = map.ensures; reported = report-map.ensures }
+returns c = record { answer = _; outcome = c.map-m.ensures; reported = c.report_map-told.ensures }

@@ -12,14 +12,11 @@ use Rattle.cellmapper.proofs.cellmapper_pla_table.Goals as goal
 
 pub report_table-told-requires : goal.report_table-told-requires
 report_table-told-requires c = let a = c.args in
-    let table = c.table-t in
     let p = a.pla.now in
     let b = a.board.now in
-    subst (TableNumber panel_numbers) (sym (ap (λ (t : Tabulated). t.answer) table.ensures))
+    subst (TableNumber panel_numbers) (sym (ap (λ (t : Tabulated). t.answer) c.table-t.ensures))
     (table_of_number (omega arith) (examine p b) a.output a.buffer.now (panel_number p b))
 
 pub returns : goal.returns
-returns c = let table = c.table-t in
-    let report-table = c.report_table-told in
-    let t = table.ensures in
-    (report-table.ensures ∙ ap (λ (t : Tabulated). table_report t.answer) t, ap (λ (t : Tabulated). t.buffer) t)
+returns c = let t = c.table-t.ensures in
+    (c.report_table-told.ensures ∙ ap (λ (t : Tabulated). table_report t.answer) t, ap (λ (t : Tabulated). t.buffer) t)

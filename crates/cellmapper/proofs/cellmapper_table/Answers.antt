@@ -9,9 +9,8 @@ use borrow.Author.Rules.{rules}
 use Rattle.cellmapper.proofs.cellmapper_table.Goals as goal
 
 pub report_table-r-requires : goal.report_table-r-requires
-report_table-r-requires c = let table = c.table-t in
-    let a = c.args in
-    subst (TableNumber panel_numbers) (sym (ap (λ (t : Tabulated). t.answer) table.ensures)) (table-number (omega arith) a.sheet.now a.output a.buffer.now)
+report_table-r-requires c = let a = c.args in
+    subst (TableNumber panel_numbers) (sym (ap (λ (t : Tabulated). t.answer) c.table-t.ensures)) (table-number (omega arith) a.sheet.now a.output a.buffer.now)
 
 pub returns : goal.returns
 returns c = let t = c.table-t.ensures in

@@ -12,10 +12,9 @@ pub loop-i-init : goal.loop-i-init
 loop-i-init c = (omega arith, count_none c.args.mask)
 
 pub overflow_add-n : goal.overflow_add-n
-overflow_add-n c = let loop = c.loop-i in
-    let args = c.args in
+overflow_add-n c = let args = c.args in
     let pre = c.requires in
-    record { fits = omega (arith, loop.invariant.1, count_most loop.i args.mask, pre) }
+    record { fits = omega (arith, c.loop-i.invariant.1, count_most c.loop-i.i args.mask, pre) }
 
 pub loop-i-preserved : goal.loop-i-preserved
 loop-i-preserved c = let mask = c.args.mask in

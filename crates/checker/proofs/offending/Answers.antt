@@ -29,24 +29,20 @@ pub overflow_add-result-then-widths-o : goal.overflow_add-result-then-widths-o
 overflow_add-result-then-widths-o c = omega (arith, c.requires.few-luts)
 
 pub overflow_add-result-then-widths-o-2 : goal.overflow_add-result-then-widths-o-2
-overflow_add-result-then-widths-o-2 c = let loop-test = c.loop-o-test in
-    omega (arith, c.requires.few-luts, c.requires.few-outputs, loop-test.true)
+overflow_add-result-then-widths-o-2 c = omega (arith, c.requires.few-luts, c.requires.few-outputs, c.loop-o-test.true)
 
 pub returns-then-widths-o : goal.returns-then-widths-o
-returns-then-widths-o c = let loop-test = c.loop-o-test in
-    λ d w h.
-    node_judged h c.loop-o.o c.count.result c.if-limit-luts.false loop-test.true
+returns-then-widths-o c = λ d w h.
+    node_judged h c.loop-o.o c.count.result c.if-limit-luts.false c.loop-o-test.true
     c.loop-o.invariant.1 c.count.ensures c.if-widths-o.true
 
 pub overflow_add-o : goal.overflow_add-o
-overflow_add-o c = let loop-test = c.loop-o-test in
-    omega (arith, c.requires.few-outputs, loop-test.true)
+overflow_add-o c = omega (arith, c.requires.few-outputs, c.loop-o-test.true)
 
 pub loop-o-preserved : goal.loop-o-preserved
 loop-o-preserved c = let turn = c.loop-o-test.true in
     (omega arith, kept_more c.args.luts c.args.reads c.args.widths c.loop-o.o c.count.result c.loop-o.invariant.1 c.count.ensures c.if-widths-o.false)
 
 pub returns : goal.returns
-returns c = let if1 = c.if-limit-luts in
-    let end = c.loop-o-test.false in
-    λ d w h. none_judged h if1.false (λ p l. c.loop-o.invariant.1 p (omega arith))
+returns c = let end = c.loop-o-test.false in
+    λ d w h. none_judged h c.if-limit-luts.false (λ p l. c.loop-o.invariant.1 p (omega arith))

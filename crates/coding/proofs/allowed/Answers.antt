@@ -9,15 +9,12 @@ loop-k-init c = (omega arith, λ gs sh o b g m. canon_start gs c.args.used sh c.
 
 pub loop-k-preserved : goal.loop-k-preserved
 loop-k-preserved c = let used = c.args.used in
-    let l = c.loop-k in
-    let new = c.fresh-b in
     let h = c.loop-k-test.true in
-    (omega arith, λ gs sh o b g m. canon_more gs used sh l.k l.can new.result h g m (new.ensures gs b) (l.invariant.1 gs sh o b g m))
+    (omega arith, λ gs sh o b g m. canon_more gs used sh c.loop-k.k c.loop-k.can c.fresh-b.result h g m (c.fresh-b.ensures gs b) (c.loop-k.invariant.1 gs sh o b g m))
 
 pub returns : goal.returns
 returns c = let used = c.args.used in
-    let l = c.loop-k in
     let left = c.loop-k-test.false in
-    let upto = l.invariant.0 in
-    let e : l.k ≡ 3 = omega arith in
-    λ gs sh o b g m. subst (λ (n : ℕ). Canon gs used sh n l.can) e (l.invariant.1 gs sh o b g m)
+    let upto = c.loop-k.invariant.0 in
+    let e : c.loop-k.k ≡ 3 = omega arith in
+    λ gs sh o b g m. subst (λ (n : ℕ). Canon gs used sh n c.loop-k.can) e (c.loop-k.invariant.1 gs sh o b g m)

@@ -39,28 +39,26 @@ pub bounds-caps-o-in-loop-o : goal.bounds-caps-o-in-loop-o
 bounds-caps-o-in-loop-o c = let facts = bounds (goal.at.bounds-caps-o-in-loop-o c).In-loop-o in search rules
 
 pub shut-requires : goal.shut-requires
-shut-requires c = let loop = c.loop-o in
-    let h = c.loop-o-test.true in
+shut-requires c = let h = c.loop-o-test.true in
     let pre = c.requires in
     let a = pre.3 in
-    (pre.0, pre.2, omega arith, pre.6, loop.invariant.1)
+    (pre.0, pre.2, omega arith, pre.6, c.loop-o.invariant.1)
 
 pub loop-o-preserved : goal.loop-o-preserved
 loop-o-preserved c = let h = c.loop-o-test.true in
     let pre = c.requires in
     let a = c.args in
     let p = a.p in
-    let l = c.loop-o in
-    let k = c.crowd-k in (
+    (
       omega arith,
-      ⊎_elim (λ w. ap length w.5 ∙ w.2.ensures.long) (λ w. ap length w.1 ∙ l.invariant.1) c.if-caps-o.branch,
+      ⊎_elim (λ w. ap length w.5 ∙ w.2.ensures.long) (λ w. ap length w.1 ∙ c.loop-o.invariant.1) c.if-caps-o.branch,
       ⊎_elim
           (λ w base ms spots b. subst (Kept a.cl.now base ms p.caps spots p.vertices p.outputs a.codes.now a.dom.now) (sym w.5)
-          (kept_more a.cl.now base ms p.caps spots p.vertices p.outputs a.codes.now a.dom.now l.dom _ (l.invariant.2 base ms spots b)
-          (settled_full a.cl.now base ms p.caps spots p.vertices p.outputs l.o (part_of a.cl.now l.o a.x) a.codes.now l.dom h
-          (λ y i. let m = pre.2 in let n = pre.3 in pre.0.low (l.o * 32 + y) (omega arith))
-          a.c _ k.result.seen k.result.count (b.each l.o a.c h pre.4) k.ensures w.0.taken _ w.2.ensures)))
-          (λ w base ms spots b. subst (Kept a.cl.now base ms p.caps spots p.vertices p.outputs a.codes.now a.dom.now) (sym w.1) (l.invariant.2 base ms spots b))
+          (kept_more a.cl.now base ms p.caps spots p.vertices p.outputs a.codes.now a.dom.now c.loop-o.dom _ (c.loop-o.invariant.2 base ms spots b)
+          (settled_full a.cl.now base ms p.caps spots p.vertices p.outputs c.loop-o.o (part_of a.cl.now c.loop-o.o a.x) a.codes.now c.loop-o.dom h
+          (λ y i. let m = pre.2 in let n = pre.3 in pre.0.low (c.loop-o.o * 32 + y) (omega arith))
+          a.c _ c.crowd-k.result.seen c.crowd-k.result.count (b.each c.loop-o.o a.c h pre.4) c.crowd-k.ensures w.0.taken _ w.2.ensures)))
+          (λ w base ms spots b. subst (Kept a.cl.now base ms p.caps spots p.vertices p.outputs a.codes.now a.dom.now) (sym w.1) (c.loop-o.invariant.2 base ms spots b))
           c.if-caps-o.branch,
     )
 

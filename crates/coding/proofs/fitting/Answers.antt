@@ -8,15 +8,11 @@ returns-then-not-in_set c = let a = c.args in
     fitting_any a.kn a.val a.x (sym c.in_set.ensures ∙ not-true _ c.if-not-in_set.true-raw)
 
 pub returns-then-in_set : goal.returns-then-in_set
-returns-then-in_set c = let in-set = c.in_set in
-    let if1 = c.if-not-in_set in
-    let a = c.args in
-    let known = sym in-set.ensures ∙ not-false _ if1.false in
+returns-then-in_set c = let a = c.args in
+    let known = sym c.in_set.ensures ∙ not-false _ c.if-not-in_set.false-raw in
     fitting_one a.kn a.val a.x known (sym c.in_set-2.ensures ∙ c.if-in_set.true)
 
 pub returns-else-in_set : goal.returns-else-in_set
-returns-else-in_set c = let in-set = c.in_set in
-    let if1 = c.if-not-in_set in
-    let a = c.args in
-    let known = sym in-set.ensures ∙ not-false _ if1.false in
+returns-else-in_set c = let a = c.args in
+    let known = sym c.in_set.ensures ∙ not-false _ c.if-not-in_set.false-raw in
     fitting_zero a.kn a.val a.x known (sym c.in_set-2.ensures ∙ c.if-in_set.false)

@@ -8,6 +8,5 @@ returns-then-rest-eq0 c = λ gs b. fresh_none (item gs c.args.k) c.args.a _ _ c.
 
 pub returns : goal.returns
 returns c = let a = c.args in
-    let low = c.lowest-c in
-    λ gs b. fresh-some (item gs a.k) a.a _ low.result _ c.ranges.a.fits refl low.ensures.0 low.ensures.1
-    (b.each a.k low.result c.requires.1 low.ensures.0)
+    λ gs b. fresh-some (item gs a.k) a.a _ c.lowest-c.result _ c.ranges.a.fits refl c.lowest-c.ensures.0 c.lowest-c.ensures.1
+    (b.each a.k c.lowest-c.result c.requires.1 c.lowest-c.ensures.0)

@@ -9,14 +9,12 @@ loop-k-init c = (omega arith, λ gs b. marked_start gs c.args.used c.args.c (sea
 
 pub loop-k-preserved : goal.loop-k-preserved
 loop-k-preserved c = let a = c.args in
-    let l = c.loop-k in
     let h = c.loop-k-test.true in
-    (omega arith, λ gs b. marked_more gs a.used a.c l.k _ l.r h (b.each l.k a.c h c.requires.1) (l.invariant.1 gs b))
+    (omega arith, λ gs b. marked_more gs a.used a.c c.loop-k.k _ c.loop-k.r h (b.each c.loop-k.k a.c h c.requires.1) (c.loop-k.invariant.1 gs b))
 
 pub returns : goal.returns
 returns c = let a = c.args in
-    let l = c.loop-k in
     let left = c.loop-k-test.false in
-    let upto = l.invariant.0 in
-    let e : l.k ≡ 3 = omega arith in
-    λ gs b. subst (λ (n : ℕ). Marked gs a.used a.c n l.r) e (l.invariant.1 gs b)
+    let upto = c.loop-k.invariant.0 in
+    let e : c.loop-k.k ≡ 3 = omega arith in
+    λ gs b. subst (λ (n : ℕ). Marked gs a.used a.c n c.loop-k.r) e (c.loop-k.invariant.1 gs b)

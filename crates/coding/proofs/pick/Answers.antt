@@ -31,21 +31,18 @@ unmet-requires c = let h = c.loop-y-test.true in
     (p.0, p.1, omega arith, p.5)
 
 pub loop-y-preserved : goal.loop-y-preserved
-loop-y-preserved c = let loop-test = c.loop-y-test in
-    let loop = c.loop-y in
-    let args = c.args in
-    let h = loop-test.true in
+loop-y-preserved c = let args = c.args in
+    let h = c.loop-y-test.true in
     let z = c.requires.2 in (
       omega arith,
       ⊎_elim
-          (λ w. seeking_better args.codes.now loop.y loop.best _ (omega arith) w.0.taken w.6 loop.invariant.1)
+          (λ w. seeking_better args.codes.now c.loop-y.y c.loop-y.best _ (omega arith) w.0.taken w.6 c.loop-y.invariant.1)
           (⊎_elim
-          (λ w. seeking_worse args.codes.now loop.y loop.best _ (w.4.ensures w.5.left) w.6 loop.invariant.1)
-          (λ w. seeking_coded args.codes.now loop.y loop.best _ w.0.left w.1 loop.invariant.1))
+          (λ w. seeking_worse args.codes.now c.loop-y.y c.loop-y.best _ (w.4.ensures w.5.left) w.6 c.loop-y.invariant.1)
+          (λ w. seeking_coded args.codes.now c.loop-y.y c.loop-y.best _ w.0.left w.1 c.loop-y.invariant.1))
           c.if-codes-y-ge-NO_CODE.branch,
     )
 
 pub returns : goal.returns
-returns c = let loop = c.loop-y in
-    let args = c.args in
-    subst (λ (z : ℕ). Seeking args.codes.now z loop.best) (let h = c.loop-y-test.false in let z = loop.invariant.0 in omega arith) loop.invariant.1
+returns c = let args = c.args in
+    subst (λ (z : ℕ). Seeking args.codes.now z c.loop-y.best) (let h = c.loop-y-test.false in let z = c.loop-y.invariant.0 in omega arith) c.loop-y.invariant.1

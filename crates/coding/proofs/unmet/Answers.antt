@@ -9,12 +9,11 @@ bounds-met-o c = let p = c.requires in
     search rules
 
 pub in_set-requires : goal.in_set-requires
-in_set-requires c = let loop = c.loop-o in
-    let p = c.requires in
+in_set-requires c = let p = c.requires in
     let h = c.loop-o-test.true in
     let j = p.1 in
     let x = p.2 in
-    let z = p.0.low (loop.o * 32 + c.args.x) (omega arith) in
+    let z = p.0.low (c.loop-o.o * 32 + c.args.x) (omega arith) in
     let e = c.label-l.ensures in
     omega arith
 

@@ -19,14 +19,10 @@ overflow_mul-c c = let few = c.requires.0 in
     omega (arith, code_small c.args.t.now c.args.lutat c.args.mask c.args.x.0 c.loop-i.i (omega arith))
 
 pub overflow_add-p : goal.overflow_add-p
-overflow_add-p c = let loop = c.loop-i in
-    let loop-test = c.loop-i-test in
-    omega (arith, c.requires.1 loop.i loop-test.true)
+overflow_add-p c = omega (arith, c.requires.1 c.loop-i.i c.loop-i-test.true)
 
 pub bounds-t-p : goal.bounds-t-p
-bounds-t-p c = let loop = c.loop-i in
-    let loop-test = c.loop-i-test in
-    c.requires.1 loop.i loop-test.true
+bounds-t-p c = c.requires.1 c.loop-i.i c.loop-i-test.true
 
 pub overflow_add-c : goal.overflow_add-c
 overflow_add-c c = let few = c.requires.0 in
@@ -44,18 +40,17 @@ pub loop-i-preserved : goal.loop-i-preserved
 loop-i-preserved c = let told = c.has.ensures in
     let turn = c.loop-i-test.true in
     let a = c.args in
-    let before = c.loop-i in
     ⊎_elim
     (λ w. (
       omega arith,
       w.3
-          ∙ code_with a.t.now a.t2 a.mask a.x.0 before.i before.c w.2.result before.invariant.1
+          ∙ code_with a.t.now a.t2 a.mask a.x.0 c.loop-i.i c.loop-i.c w.2.result c.loop-i.invariant.1
           (sym told ∙ w.0.taken) w.2.ensures,
     ))
     (λ w. (
       omega arith,
       w.1
-          ∙ code_without a.t.now a.t2 a.mask a.x.0 before.i before.c before.invariant.1 (sym told ∙ w.0.left),
+          ∙ code_without a.t.now a.t2 a.mask a.x.0 c.loop-i.i c.loop-i.c c.loop-i.invariant.1 (sym told ∙ w.0.left),
     ))
     c.if-has.branch
 

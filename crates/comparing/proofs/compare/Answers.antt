@@ -27,34 +27,27 @@ pub bounds-k-o : goal.bounds-k-o
 bounds-k-o c = omega (arith, c.requires.drawing.holds.outputs-few, c.outputs-test.true)
 
 pub bounds-reads-o : goal.bounds-reads-o
-bounds-reads-o c = let outputs-test = c.outputs-test in
-    omega (arith, c.requires.drawing.holds.outputs-few, outputs-test.true)
+bounds-reads-o c = omega (arith, c.requires.drawing.holds.outputs-few, c.outputs-test.true)
 
 pub offset_bounds-nodeat-o : goal.offset_bounds-nodeat-o
-offset_bounds-nodeat-o c = let outputs-test = c.outputs-test in
-    omega (arith, c.requires.drawing.holds.outputs-few, outputs-test.true)
+offset_bounds-nodeat-o c = omega (arith, c.requires.drawing.holds.outputs-few, c.outputs-test.true)
 
 pub bounds-nodeat-o : goal.bounds-nodeat-o
-bounds-nodeat-o c = let outputs-test = c.outputs-test in
-    omega (arith, c.requires.drawing.holds.outputs-few, outputs-test.true)
+bounds-nodeat-o c = omega (arith, c.requires.drawing.holds.outputs-few, c.outputs-test.true)
 
 pub in_rows-digits-requires : goal.in_rows-digits-requires
-in_rows-digits-requires c = let outputs = c.outputs in
-    let outputs-test = c.outputs-test in
-    some_ready c.requires outputs.o outputs-test.true
+in_rows-digits-requires c = some_ready c.requires c.outputs.o c.outputs-test.true
 
 pub loop-r-init : goal.loop-r-init
 loop-r-init c = rows_none c.outputs.o
 
 pub differs-requires : goal.differs-requires
-differs-requires c = let loop-test = c.loop-r-test in
-    let counted = (goal.at.differs-requires c).After-power-rows in
-    omega (arith, few counted, loop-test.true)
+differs-requires c = let counted = (goal.at.differs-requires c).After-power-rows in
+    omega (arith, few counted, c.loop-r-test.true)
 
 pub overflow_add-r : goal.overflow_add-r
-overflow_add-r c = let loop-test = c.loop-r-test in
-    let counted = (goal.at.overflow_add-r c).After-power-rows in
-    omega (arith, few counted, loop-test.true)
+overflow_add-r c = let counted = (goal.at.overflow_add-r c).After-power-rows in
+    omega (arith, few counted, c.loop-r-test.true)
 
 pub loop-r-preserved : goal.loop-r-preserved
 loop-r-preserved c = let counted = (goal.at.loop-r-preserved c).After-power-rows in
@@ -64,9 +57,8 @@ loop-r-preserved c = let counted = (goal.at.loop-r-preserved c).After-power-rows
     refl c.in_rows-digits.ensures c.loop-r.invariant (sym c.differs.ensures ∙ c.if-differs.false)
 
 pub overflow_add-o : goal.overflow_add-o
-overflow_add-o c = let outputs-test = c.outputs-test in
-    let pre = c.requires in
-    omega (arith, pre.drawing.holds.outputs-few, outputs-test.true)
+overflow_add-o c = let pre = c.requires in
+    omega (arith, pre.drawing.holds.outputs-few, c.outputs-test.true)
 
 pub outputs-preserved : goal.outputs-preserved
 outputs-preserved c = agreed_more c.outputs.o c.loop-r.r c.power-rows.result c.outputs.invariant

@@ -12,30 +12,24 @@ pub code-c-requires : goal.code-c-requires
 code-c-requires c = (c.requires.few-luts, λ i l. code_ready c.requires c.loop-x.x c.loop-x-test.true i l)
 
 pub overflow_mul-c : goal.overflow_mul-c
-overflow_mul-c c = let code = c.code-c in
-    omega (arith, (vertex_room c.requires c.loop-x.x code.result c.loop-x-test.true code.ensures).readable)
+overflow_mul-c c = omega (arith, (vertex_room c.requires c.loop-x.x c.code-c.result c.loop-x-test.true c.code-c.ensures).readable)
 
 pub overflow_add-at : goal.overflow_add-at
-overflow_add-at c = let code = c.code-c in
-    omega (arith, (vertex_room c.requires c.loop-x.x code.result c.loop-x-test.true code.ensures).readable)
+overflow_add-at c = omega (arith, (vertex_room c.requires c.loop-x.x c.code-c.result c.loop-x-test.true c.code-c.ensures).readable)
 
 pub put_vertex-requires : goal.put_vertex-requires
-put_vertex-requires c = let code = c.code-c in
-    let loop = c.loop-x in
-    (
-      loop.invariant.1.size,
+put_vertex-requires c = (
+      c.loop-x.invariant.1.size,
       omega (arith, c.requires.few-vertices, c.loop-x-test.true),
-      vertex_room c.requires loop.x code.result c.loop-x-test.true code.ensures,
+      vertex_room c.requires c.loop-x.x c.code-c.result c.loop-x-test.true c.code-c.ensures,
     )
 
 pub overflow_add-x : goal.overflow_add-x
 overflow_add-x c = omega (arith, c.requires.few-vertices, c.loop-x-test.true)
 
 pub loop-x-preserved : goal.loop-x-preserved
-loop-x-preserved c = let code = c.code-c in
-    let loop = c.loop-x in
-    let l = c.loop-x-test.true in
-    (omega arith, filled_more loop.x code.result loop.invariant.1 code.ensures c.put_vertex.ensures)
+loop-x-preserved c = let l = c.loop-x-test.true in
+    (omega arith, filled_more c.loop-x.x c.code-c.result c.loop-x.invariant.1 c.code-c.ensures c.put_vertex.ensures)
 
 pub returns : goal.returns
 returns c = filled_all c.loop-x.invariant.1 c.loop-x.invariant.0 c.loop-x-test.false

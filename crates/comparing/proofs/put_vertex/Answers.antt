@@ -35,8 +35,7 @@ pub overflow_add-digits-in-loop-y : goal.overflow_add-digits-in-loop-y
 overflow_add-digits-in-loop-y c = omega (arith, (room (goal.at.overflow_add-digits-in-loop-y c).In-loop-y).rows c.loop-y.y c.loop-y-test.true)
 
 pub bounds-digits-row : goal.bounds-digits-row
-bounds-digits-row c = let loop = c.loop-y in
-    omega (arith, (room (goal.at.bounds-digits-row c).In-loop-y).rows loop.y c.loop-y-test.true, loop.invariant.1.size)
+bounds-digits-row c = omega (arith, (room (goal.at.bounds-digits-row c).In-loop-y).rows c.loop-y.y c.loop-y-test.true, c.loop-y.invariant.1.size)
 
 pub loop-y-preserved : goal.loop-y-preserved
 loop-y-preserved c = let turn = c.loop-y-test.true in

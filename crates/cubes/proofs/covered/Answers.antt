@@ -24,10 +24,7 @@ pub loop-i-smaller : goal.loop-i-smaller
 loop-i-smaller c = omega arith
 
 pub loop-i-preserved : goal.loop-i-preserved
-loop-i-preserved c = let loop = c.loop-i in
-    let loop-test = c.loop-i-test in
-    let narrowed = c.narrowed-next in
-    narrowed_more _ _ _ _ loop.invariant loop-test.true narrowed.ensures
+loop-i-preserved c = narrowed_more _ _ _ _ c.loop-i.invariant c.loop-i-test.true c.narrowed-next.ensures
 
 pub returns : goal.returns
 returns c = narrowed_all _ _ _ c.loop-i.invariant c.loop-i-test.false

@@ -25,10 +25,7 @@ pub bounds-l-k : goal.bounds-l-k
 bounds-l-k c = omega arith
 
 pub returns-then-not-literal : goal.returns-then-not-literal
-returns-then-not-literal c = let loop-test = c.loop-k-test in
-    let if3 = c.if-not-literal in
-    let literal = c.literal in
-    no_literal _ _ _ _ loop-test.true (sym (not-true _ if3.true) ∙ literal.ensures)
+returns-then-not-literal c = no_literal _ _ _ _ c.loop-k-test.true (sym (not-true _ c.if-not-literal.true-raw) ∙ c.literal.ensures)
 
 pub overflow_add-k : goal.overflow_add-k
 overflow_add-k c = omega arith
@@ -37,16 +34,10 @@ pub loop-k-smaller : goal.loop-k-smaller
 loop-k-smaller c = omega arith
 
 pub loop-k-preserved : goal.loop-k-preserved
-loop-k-preserved c = let loop = c.loop-k in
-    let loop-test = c.loop-k-test in
-    let literal = c.literal in
-    let if3 = c.if-not-literal in
-    literals_more _ _ _ _ loop.invariant loop-test.true (sym literal.ensures ∙ not-false _ if3.false)
+loop-k-preserved c = literals_more _ _ _ _ c.loop-k.invariant c.loop-k-test.true (sym c.literal.ensures ∙ not-false _ c.if-not-literal.false-raw)
 
 pub bounds-l-i : goal.bounds-l-i
 bounds-l-i c = omega arith
 
 pub returns : goal.returns
-returns c = let loop = c.loop-k in
-    let loop-test = c.loop-k-test in
-    by_space _ _ _ (omega arith) (literals_all _ _ _ _ loop.invariant loop-test.false)
+returns c = by_space _ _ _ (omega arith) (literals_all _ _ _ _ c.loop-k.invariant c.loop-k-test.false)

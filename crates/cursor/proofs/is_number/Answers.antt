@@ -19,6 +19,5 @@ pub bounds-s-a : goal.bounds-s-a
 bounds-s-a c = omega arith
 
 pub returns : goal.returns
-returns c = let if2 = c.if-digits-n in
-    some_digits _ _ _ _ c.requires.0 c.requires.1
-    (omega arith) if2.false
+returns c = some_digits _ _ _ _ c.requires.0 c.requires.1
+    (omega arith) c.if-digits-n.false

@@ -15,8 +15,7 @@ pub bounds-s-e : goal.bounds-s-e
 bounds-s-e c = omega arith
 
 pub returns-then-not-is_numeral : goal.returns-then-not-is_numeral
-returns-then-not-is_numeral c = let loop = c.loop-e in
-    record { numerals = loop.invariant; stops = λ h. sym c.is_numeral.ensures ∙ not-true _ c.if-not-is_numeral.true-raw }
+returns-then-not-is_numeral c = record { numerals = c.loop-e.invariant; stops = λ h. sym c.is_numeral.ensures ∙ not-true _ c.if-not-is_numeral.true-raw }
 
 pub overflow_add-e : goal.overflow_add-e
 overflow_add-e c = omega arith
@@ -25,9 +24,7 @@ pub loop-e-smaller : goal.loop-e-smaller
 loop-e-smaller c = omega arith
 
 pub loop-e-preserved : goal.loop-e-preserved
-loop-e-preserved c = let loop = c.loop-e in
-    let loop-test = c.loop-e-test in
-    numerals_more _ _ _ loop.invariant loop-test.true
+loop-e-preserved c = numerals_more _ _ _ c.loop-e.invariant c.loop-e-test.true
     (sym c.is_numeral.ensures ∙ not-false _ c.if-not-is_numeral.false-raw)
 
 pub returns : goal.returns

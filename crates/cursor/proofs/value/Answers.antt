@@ -14,9 +14,8 @@ pub bounds-s-i : goal.bounds-s-i
 bounds-s-i c = omega arith
 
 pub digit_value-requires : goal.digit_value-requires
-digit_value-requires c = let loop = c.loop-i in
-    c.requires.0.each _ c.loop-i-test.true
-    loop.invariant.after-start
+digit_value-requires c = c.requires.0.each _ c.loop-i-test.true
+    c.loop-i.invariant.after-start
 
 pub overflow_add-n : goal.overflow_add-n
 overflow_add-n c = omega (arith, valued_small max_pla_digits _ _ _ _ _ c.loop-i.invariant (omega arith))
@@ -28,9 +27,7 @@ pub loop-i-smaller : goal.loop-i-smaller
 loop-i-smaller c = omega arith
 
 pub loop-i-preserved : goal.loop-i-preserved
-loop-i-preserved c = let loop = c.loop-i in
-    let loop-test = c.loop-i-test in
-    valued_more _ _ _ _ _ _ loop.invariant loop-test.true
+loop-i-preserved c = valued_more _ _ _ _ _ _ c.loop-i.invariant c.loop-i-test.true
     (omega arith) c.digit_value.ensures.0 c.digit_value.ensures.1
 
 pub returns : goal.returns

@@ -14,10 +14,8 @@ returns-then-not-sized c = let s = c.args.s.now in
     (record { not-ok = refl; number = refl; line = refl }))
 
 pub loop-at-init : goal.loop-at-init
-loop-at-init c = let sized = c.sized in
-    let blank = c.blank-k in
-    let args = c.args in
-    along_start args.s.now blank.result (sym (not-false _ c.if-not-sized.false-raw) ∙ sized.ensures) blank.ensures
+loop-at-init c = let args = c.args in
+    along_start args.s.now c.blank-k.result (sym (not-false _ c.if-not-sized.false-raw) ∙ c.sized.ensures) c.blank-k.ensures
 
 pub line_end-e-requires : goal.line_end-e-requires
 line_end-e-requires c = c.loop-at.invariant.inside
@@ -32,47 +30,32 @@ pub slice_bounds-ask_line-end : goal.slice_bounds-ask_line-end
 slice_bounds-ask_line-end c = omega (arith, c.line_end-e.ensures.inside)
 
 pub ask_line-a-requires : goal.ask_line-a-requires
-ask_line-a-requires c = let loop = c.loop-at in
-    (loop.invariant.holds.inputs-few, loop.invariant.holds.outputs-few)
+ask_line-a-requires c = (c.loop-at.invariant.holds.inputs-few, c.loop-at.invariant.holds.outputs-few)
 
 pub returns-then-not-a : goal.returns-then-not-a
-returns-then-not-a c = let ask-line = c.ask_line-a in
-    let line-end = c.line_end-e in
-    let loop-test = c.loop-at-test in
-    let loop = c.loop-at in
-    let args = c.args in
+returns-then-not-a c = let args = c.args in
     examined args.s.now _
-    (line_refused args.s.now loop.p loop.k loop.at loop.n line-end.result ask-line.result loop.invariant
-    loop-test.true line-end.ensures (ask-line.ensures loop.invariant.known loop.invariant.holds loop.invariant.fitting)
+    (line_refused args.s.now c.loop-at.p c.loop-at.k c.loop-at.at c.loop-at.n c.line_end-e.result c.ask_line-a.result c.loop-at.invariant
+    c.loop-at-test.true c.line_end-e.ensures (c.ask_line-a.ensures c.loop-at.invariant.known c.loop-at.invariant.holds c.loop-at.invariant.fitting)
     (not-true _ c.if-not-a.true) _ (record { not-ok = refl; number = refl; line = refl }))
 
 pub overflow_add-at : goal.overflow_add-at
 overflow_add-at c = omega (arith, c.line_end-e.ensures.inside)
 
 pub overflow_add-n : goal.overflow_add-n
-overflow_add-n c = let loop = c.loop-at in
-    omega (arith, loop.invariant.few, loop.invariant.inside)
+overflow_add-n c = omega (arith, c.loop-at.invariant.few, c.loop-at.invariant.inside)
 
 pub loop-at-smaller : goal.loop-at-smaller
-loop-at-smaller c = let line-end = c.line_end-e in
-    let loop-test = c.loop-at-test in
-    omega (arith, line-end.ensures.after-start, loop-test.true)
+loop-at-smaller c = omega (arith, c.line_end-e.ensures.after-start, c.loop-at-test.true)
 
 pub loop-at-preserved : goal.loop-at-preserved
-loop-at-preserved c = let if2 = c.if-not-a in
-    let ask-line = c.ask_line-a in
-    let line-end = c.line_end-e in
-    let loop-test = c.loop-at-test in
-    let loop = c.loop-at in
-    let args = c.args in
-    line_passed args.s.now loop.p loop.k loop.at loop.n line-end.result ask-line.result loop.invariant
-    loop-test.true line-end.ensures (ask-line.ensures loop.invariant.known loop.invariant.holds loop.invariant.fitting)
-    (not-false _ if2.false)
+loop-at-preserved c = let args = c.args in
+    line_passed args.s.now c.loop-at.p c.loop-at.k c.loop-at.at c.loop-at.n c.line_end-e.result c.ask_line-a.result c.loop-at.invariant
+    c.loop-at-test.true c.line_end-e.ensures (c.ask_line-a.ensures c.loop-at.invariant.known c.loop-at.invariant.holds c.loop-at.invariant.fitting)
+    (not-false _ c.if-not-a.false)
 
 pub returns : goal.returns
-returns c = let loop-test = c.loop-at-test in
-    let loop = c.loop-at in
-    let args = c.args in
+returns c = let args = c.args in
     examined args.s.now c.ended.result
-    (along_end args.s.now loop.p loop.k loop.at loop.n c.ended.result loop.invariant loop-test.false
-    (c.ended.ensures loop.invariant.known loop.invariant.holds))
+    (along_end args.s.now c.loop-at.p c.loop-at.k c.loop-at.at c.loop-at.n c.ended.result c.loop-at.invariant c.loop-at-test.false
+    (c.ended.ensures c.loop-at.invariant.known c.loop-at.invariant.holds))

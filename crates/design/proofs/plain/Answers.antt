@@ -11,5 +11,4 @@ pub returns-in_default : goal.returns-in_default
 returns-in_default c = plain_below c.args.b c.if-b-lt32.true c.in_default-1.rest.1
 
 pub returns-in_default-2 : goal.returns-in_default-2
-returns-in_default-2 c = let match = c.in_default-1 in
-    plain_above c.args.b c.if-b-lt127.false match.rest.1
+returns-in_default-2 c = plain_above c.args.b c.if-b-lt127.false c.in_default-1.rest.1

@@ -18,24 +18,13 @@ pub loop-i-init : goal.loop-i-init
 loop-i-init c = (omega arith, refl)
 
 pub returns-then-not-plain : goal.returns-then-not-plain
-returns-then-not-plain c = let plain = c.plain in
-    let loop-test = c.loop-i-test in
-    let loop = c.loop-i in
-    let if2 = c.if-n-gt-MAX_SHEET in
-    let if1 = c.if-n-lt1 in
-    let args = c.args in
-    walk_stopped args.s.now loop.i loop-test.true (sym (not-true _ c.if-not-plain.true-raw) ∙ plain.ensures) ∙ sym loop.invariant.1 ∙ sym (sized-rest args.s.now if1.false if2.false)
+returns-then-not-plain c = let args = c.args in
+    walk_stopped args.s.now c.loop-i.i c.loop-i-test.true (sym (not-true _ c.if-not-plain.true-raw) ∙ c.plain.ensures) ∙ sym c.loop-i.invariant.1 ∙ sym (sized-rest args.s.now c.if-n-lt1.false c.if-n-gt-MAX_SHEET.false)
 
 pub loop-i-preserved : goal.loop-i-preserved
-loop-i-preserved c = let plain = c.plain in
-    let loop-test = c.loop-i-test in
-    let loop = c.loop-i in
-    let args = c.args in
-    (omega arith, loop.invariant.1 ∙ walk_on args.s.now loop.i loop-test.true (sym (not-false _ c.if-not-plain.false-raw) ∙ plain.ensures))
+loop-i-preserved c = let args = c.args in
+    (omega arith, c.loop-i.invariant.1 ∙ walk_on args.s.now c.loop-i.i c.loop-i-test.true (sym (not-false _ c.if-not-plain.false-raw) ∙ c.plain.ensures))
 
 pub returns : goal.returns
-returns c = let loop = c.loop-i in
-    let if2 = c.if-n-gt-MAX_SHEET in
-    let if1 = c.if-n-lt1 in
-    let args = c.args in
-    sym (sized-rest args.s.now if1.false if2.false ∙ loop.invariant.1 ∙ walk_last args.s.now loop.i if1.false (omega arith))
+returns c = let args = c.args in
+    sym (sized-rest args.s.now c.if-n-lt1.false c.if-n-gt-MAX_SHEET.false ∙ c.loop-i.invariant.1 ∙ walk_last args.s.now c.loop-i.i c.if-n-lt1.false (omega arith))

@@ -48,17 +48,14 @@ overflow_cast-by c = let b = c.requires.2 in
     record { fits = omega arith }
 
 pub bounds-by-o : goal.bounds-by-o
-bounds-by-o c = let loop = c.loop-i in
-    let b = c.requires.2 in
-    let z = c.falling-order.ensures.0.low loop.i c.loop-i-test.true in
+bounds-by-o c = let b = c.requires.2 in
+    let z = c.falling-order.ensures.0.low c.loop-i.i c.loop-i-test.true in
     let l = c.loop-i.invariant.1.long in
     search rules
 
 pub overflow_cast-from : goal.overflow_cast-from
-overflow_cast-from c = let loop = c.loop-i in
-    let loop-test = c.loop-i-test in
-    let b = c.requires.2 in
-    let z = c.falling-order.ensures.0.low loop.i loop-test.true in
+overflow_cast-from c = let b = c.requires.2 in
+    let z = c.falling-order.ensures.0.low c.loop-i.i c.loop-i-test.true in
     record { fits = omega arith }
 
 pub bounds-from-n : goal.bounds-from-n
@@ -83,29 +80,24 @@ overflow_add-i c = let b = c.requires.2 in
 pub loop-i-preserved : goal.loop-i-preserved
 loop-i-preserved c = let a = c.args in
     let b = c.requires.2 in
-    let f = c.falling-order in
-    let l = c.loop-i in
     let h = c.loop-i-test.true in
-    let d = c.dominator-k in
-    let s = l.invariant.1 in
+    let s = c.loop-i.invariant.1 in
     let few = s.few in
-    let under = d.ensures.under in
-    let o = item f.result l.i in
-    let low = f.ensures.0.low l.i h in
-    let P : List ℕ → ℕ → Type 0 = λ from n. Choosing a.cl.now a.budgets a.v a.m f.result (l.i + 1) n from (set l.by o d.result) in
+    let under = c.dominator-k.ensures.under in
+    let o = item c.falling-order.result c.loop-i.i in
+    let low = c.falling-order.ensures.0.low c.loop-i.i h in
+    let P : List ℕ → ℕ → Type 0 = λ from n. Choosing a.cl.now a.budgets a.v a.m c.falling-order.result (c.loop-i.i + 1) n from (set c.loop-i.by o c.dominator-k.result) in
     let R : P c.if-k-n.from c.if-k-n.n = ⊎_elim
-    (λ w. subst (λ (r : List ℕ). P r c.if-k-n.n) (sym w.1) (subst (P (set l.from l.n o)) (sym w.2)
-    (choosing-kept a.cl.now a.budgets a.v a.m f.result l.i l.n l.from l.by d.result (omega arith) s w.0.taken (omega arith) low)))
-    (λ w. let e = w.0.left in subst (λ (r : List ℕ). P r c.if-k-n.n) (sym w.1) (subst (P l.from) (sym w.2)
-    (choosing-dominated a.cl.now a.budgets a.v a.m f.result l.i l.n l.from l.by d.result (omega arith) s
-    (omega arith) (d.ensures.dominates (omega arith)))))
+    (λ w. subst (λ (r : List ℕ). P r c.if-k-n.n) (sym w.1) (subst (P (set c.loop-i.from c.loop-i.n o)) (sym w.2)
+    (choosing-kept a.cl.now a.budgets a.v a.m c.falling-order.result c.loop-i.i c.loop-i.n c.loop-i.from c.loop-i.by c.dominator-k.result (omega arith) s w.0.taken (omega arith) low)))
+    (λ w. let e = w.0.left in subst (λ (r : List ℕ). P r c.if-k-n.n) (sym w.1) (subst (P c.loop-i.from) (sym w.2)
+    (choosing-dominated a.cl.now a.budgets a.v a.m c.falling-order.result c.loop-i.i c.loop-i.n c.loop-i.from c.loop-i.by c.dominator-k.result (omega arith) s
+    (omega arith) (c.dominator-k.ensures.dominates (omega arith)))))
     c.if-k-n.branch in
     (omega arith, R)
 
 pub returns : goal.returns
 returns c = let a = c.args in
     let b = c.requires.2 in
-    let f = c.falling-order in
-    let l = c.loop-i in
-    let z = l.invariant.0 in
-    choosing_all a.cl.now a.budgets a.v a.m f.result l.i l.n l.from l.by c.loop-i-test.false (omega arith) f.ensures.0 l.invariant.1
+    let z = c.loop-i.invariant.0 in
+    choosing_all a.cl.now a.budgets a.v a.m c.falling-order.result c.loop-i.i c.loop-i.n c.loop-i.from c.loop-i.by c.loop-i-test.false (omega arith) c.falling-order.ensures.0 c.loop-i.invariant.1

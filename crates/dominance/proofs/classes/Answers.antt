@@ -8,44 +8,36 @@ pub label-l-requires : goal.label-l-requires
 label-l-requires c = let p = c.requires in let h = c.loop-x-test.true in let b = p.1 in let w = p.0.long in (omega arith, p.2, omega arith)
 
 pub in_set-requires : goal.in_set-requires
-in_set-requires c = let loop = c.loop-x in
-    let args = c.args in
+in_set-requires c = let args = c.args in
     let pre = c.requires in
     let h = c.loop-x-test.true in
     let b = pre.1 in
     let o = pre.2 in
-    let z = pre.0.low (args.o * 32 + loop.x) (omega arith) in
+    let z = pre.0.low (args.o * 32 + c.loop-x.x) (omega arith) in
     let e = c.label-l.ensures in
     omega arith
 
 pub with-seen-requires : goal.with-seen-requires
-with-seen-requires c = let label = c.label-l in
-    let loop-test = c.loop-x-test in
-    let loop = c.loop-x in
-    let args = c.args in
+with-seen-requires c = let args = c.args in
     let pre = c.requires in
-    let h = loop-test.true in
+    let h = c.loop-x-test.true in
     let b = pre.1 in
     let o = pre.2 in
-    let z = pre.0.low (args.o * 32 + loop.x) (omega arith) in
-    let e = label.ensures in
+    let z = pre.0.low (args.o * 32 + c.loop-x.x) (omega arith) in
+    let e = c.label-l.ensures in
     omega arith
 
 pub overflow_add-n : goal.overflow_add-n
-overflow_add-n c = let loop-test = c.loop-x-test in
-    let loop = c.loop-x in
-    let pre = c.requires in
+overflow_add-n c = let pre = c.requires in
     let b = pre.1 in
-    let h = loop-test.true in
-    let z = loop.invariant.1 in
+    let h = c.loop-x-test.true in
+    let z = c.loop-x.invariant.1 in
     omega arith
 
 pub overflow_add-x : goal.overflow_add-x
 overflow_add-x c = let b = c.requires.1 in let h = c.loop-x-test.true in omega arith
 
 pub loop-x-preserved : goal.loop-x-preserved
-loop-x-preserved c = let loop-test = c.loop-x-test in
-    let loop = c.loop-x in
-    let h = loop-test.true in
-    let z = loop.invariant.1 in
+loop-x-preserved c = let h = c.loop-x-test.true in
+    let z = c.loop-x.invariant.1 in
     (omega arith, ⊎_elim (λ w. let e = w.3 in omega arith) (λ w. let e = w.2 in omega arith) c.if-not-in_set.branch)

@@ -28,17 +28,15 @@ pub bounds-budgets-o : goal.bounds-budgets-o
 bounds-budgets-o c = let o = c.requires.4 in search rules
 
 pub inside-requires : goal.inside-requires
-inside-requires c = let loop = c.loop-k in
-    let p = c.requires in
+inside-requires c = let p = c.requires in
     let n = p.3 in
     let h = c.loop-k-test.true in
-    (p.0, p.4, p.2.small loop.k (omega arith), p.1)
+    (p.0, p.4, p.2.small c.loop-k.k (omega arith), p.1)
 
 pub returns-then-inside : goal.returns-then-inside
-returns-then-inside c = let if1 = c.if-budgets-q in
-    let h = c.loop-k-test.true in record {
+returns-then-inside c = let h = c.loop-k-test.true in record {
       under = omega arith;
-      dominates = λ _. record { inside = c.inside.ensures c.if-inside.true; budget = sym if1.true };
+      dominates = λ _. record { inside = c.inside.ensures c.if-inside.true; budget = sym c.if-budgets-q.true };
     }
 
 pub loop-k-preserved : goal.loop-k-preserved

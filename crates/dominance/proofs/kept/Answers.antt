@@ -5,8 +5,7 @@ pub chosen-c-requires : goal.chosen-c-requires
 chosen-c-requires c = let p = c.requires in (p.0, p.1, p.2)
 
 pub labels-taken-requires : goal.labels-taken-requires
-labels-taken-requires c = let chosen = c.chosen-c in
-    (c.requires.0.long, chosen.ensures.indices)
+labels-taken-requires c = (c.requires.0.long, c.chosen-c.ensures.indices)
 
 pub picked-bs-requires : goal.picked-bs-requires
 picked-bs-requires c = c.chosen-c.ensures.indices
@@ -14,7 +13,4 @@ picked-bs-requires c = c.chosen-c.ensures.indices
 pub returns : goal.returns
 returns c = let a = c.args in
     let p = c.requires in
-    let k = c.chosen-c in
-    let t = c.labels-taken in
-    let b = c.picked-bs in
-    chosen_stand_for a.cl.now a.budgets a.v a.m k.result.count k.result.from k.result.by t.result b.result p.0 p.1 k.ensures t.ensures b.ensures
+    chosen_stand_for a.cl.now a.budgets a.v a.m c.chosen-c.result.count c.chosen-c.result.from c.chosen-c.result.by c.labels-taken.result c.picked-bs.result p.0 p.1 c.chosen-c.ensures c.labels-taken.ensures c.picked-bs.ensures

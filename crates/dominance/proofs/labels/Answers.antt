@@ -24,13 +24,11 @@ label-requires c = let p = c.requires in
     (omega arith, p.1.small (c.loop-i.i / 32) (omega arith), omega arith)
 
 pub loop-i-preserved : goal.loop-i-preserved
-loop-i-preserved c = let l = c.loop-i in
-    let h = c.loop-i-test.true in
-    (omega arith, filled_more _ h c.label.ensures l.invariant.1)
+loop-i-preserved c = let h = c.loop-i-test.true in
+    (omega arith, filled_more _ h c.label.ensures c.loop-i.invariant.1)
 
 pub returns : goal.returns
 returns c = let a = c.args in
-    let l = c.loop-i in
     let h = c.loop-i-test.false in
-    let z = l.invariant.0 in
-    subst (λ (z : ℕ). Taken a.cl.now a.t2 z l.r) (omega arith) l.invariant.1
+    let z = c.loop-i.invariant.0 in
+    subst (λ (z : ℕ). Taken a.cl.now a.t2 z c.loop-i.r) (omega arith) c.loop-i.invariant.1

@@ -19,13 +19,11 @@ pub bounds-r-i : goal.bounds-r-i
 bounds-r-i c = let h = c.loop-i-test.true in let l = c.loop-i.invariant.1.long in search rules
 
 pub loop-i-preserved : goal.loop-i-preserved
-loop-i-preserved c = let l = c.loop-i in
-    let h = c.loop-i-test.true in
-    (omega arith, filled_more _ h refl l.invariant.1)
+loop-i-preserved c = let h = c.loop-i-test.true in
+    (omega arith, filled_more _ h refl c.loop-i.invariant.1)
 
 pub returns : goal.returns
 returns c = let a = c.args in
-    let l = c.loop-i in
     let h = c.loop-i-test.false in
-    let z = l.invariant.0 in
-    subst (λ (z : ℕ). Picked a.t1 a.t2 z l.r) (omega arith) l.invariant.1
+    let z = c.loop-i.invariant.0 in
+    subst (λ (z : ℕ). Picked a.t1 a.t2 z c.loop-i.r) (omega arith) c.loop-i.invariant.1

@@ -28,14 +28,12 @@ pub bounds-r-o : goal.bounds-r-o
 bounds-r-o c = let h = c.loop-o-test.true in let b = c.requires.0 in let l = c.loop-o.invariant.1.long in search rules
 
 pub loop-o-preserved : goal.loop-o-preserved
-loop-o-preserved c = let l = c.loop-o in
-    let h = c.loop-o-test.true in
+loop-o-preserved c = let h = c.loop-o-test.true in
     let b = c.requires.0 in
-    (omega arith, filled_more _ (omega arith) refl l.invariant.1)
+    (omega arith, filled_more _ (omega arith) refl c.loop-o.invariant.1)
 
 pub returns : goal.returns
 returns c = let a = c.args in
-    let l = c.loop-o in
     let h = c.loop-o-test.false in
-    let z = l.invariant.0 in
-    subst (λ (z : ℕ). Placed a.t1 a.t2 z l.r) (omega arith) l.invariant.1
+    let z = c.loop-o.invariant.0 in
+    subst (λ (z : ℕ). Placed a.t1 a.t2 z c.loop-o.r) (omega arith) c.loop-o.invariant.1

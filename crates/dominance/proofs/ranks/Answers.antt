@@ -27,6 +27,5 @@ pub overflow_add-o : goal.overflow_add-o
 overflow_add-o c = let b = c.requires.2 in let h = c.loop-o-test.true in omega arith
 
 pub loop-o-preserved : goal.loop-o-preserved
-loop-o-preserved c = let l = c.loop-o in
-    let h = c.loop-o-test.true in
-    (omega arith, length-set l.r _ _ ∙ l.invariant.1)
+loop-o-preserved c = let h = c.loop-o-test.true in
+    (omega arith, length-set c.loop-o.r _ _ ∙ c.loop-o.invariant.1)

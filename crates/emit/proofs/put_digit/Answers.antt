@@ -12,14 +12,10 @@ pub shape_of-buf-then-b : goal.shape_of-buf-then-b
 shape_of-buf-then-b c = put_length c.put_byte.ensures
 
 pub returns-then-b : goal.returns-then-b
-returns-then-b c = let put_byte = c.put_byte in
-    let if1 = c.if-b in
-    put_same put_byte.ensures (ap (λ (b : Bool). digit b ∷ []) (sym if1.true)) (omega arith)
+returns-then-b c = put_same c.put_byte.ensures (ap (λ (b : Bool). digit b ∷ []) (sym c.if-b.true)) (omega arith)
 
 pub shape_of-buf : goal.shape_of-buf
 shape_of-buf c = put_length c.put_byte-2.ensures
 
 pub returns : goal.returns
-returns c = let put-byte2 = c.put_byte-2 in
-    let if1 = c.if-b in
-    put_same put-byte2.ensures (ap (λ (b : Bool). digit b ∷ []) (sym if1.false)) (omega arith)
+returns c = put_same c.put_byte-2.ensures (ap (λ (b : Bool). digit b ∷ []) (sym c.if-b.false)) (omega arith)

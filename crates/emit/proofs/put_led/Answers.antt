@@ -12,17 +12,12 @@ pub shape_of-buf-then-first : goal.shape_of-buf-then-first
 shape_of-buf-then-first c = put_length c.put_name.ensures
 
 pub returns-then-first : goal.returns-then-first
-returns-then-first c = let put-name = c.put_name in
-    let if1 = c.if-first in
-    let args = c.args in
-    put_same put-name.ensures (ap (λ (b : Bool). led b (name_of args.v)) (sym if1.true)) (omega arith)
+returns-then-first c = let args = c.args in
+    put_same c.put_name.ensures (ap (λ (b : Bool). led b (name_of args.v)) (sym c.if-first.true)) (omega arith)
 
 pub shape_of-buf : goal.shape_of-buf
 shape_of-buf c = put_length (put_then c.put_byte-p.ensures c.put_name-2.ensures)
 
 pub returns : goal.returns
-returns c = let put-name2 = c.put_name-2 in
-    let put_byte = c.put_byte-p in
-    let if1 = c.if-first in
-    let args = c.args in
-    put_next put_byte.ensures put-name2.ensures (ap (λ (b : Bool). led b (name_of args.v)) (sym if1.false)) (omega arith)
+returns c = let args = c.args in
+    put_next c.put_byte-p.ensures c.put_name-2.ensures (ap (λ (b : Bool). led b (name_of args.v)) (sym c.if-first.false)) (omega arith)

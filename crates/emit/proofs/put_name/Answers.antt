@@ -14,15 +14,10 @@ pub returns-then-rest-eq0 : goal.returns-then-rest-eq0
 returns-then-rest-eq0 c = naming_over c.loop-left.invariant c.if-rest-eq0.true
 
 pub put_byte-p-requires : goal.put_byte-p-requires
-put_byte-p-requires c = let loop = c.loop-left in
-    omega (arith, loop.invariant.so_far.place, loop.invariant.so_far.short)
+put_byte-p-requires c = omega (arith, c.loop-left.invariant.so_far.place, c.loop-left.invariant.so_far.short)
 
 pub loop-left-preserved : goal.loop-left-preserved
-loop-left-preserved c = let put_byte = c.put_byte-p in
-    let if1 = c.if-rest-eq0 in
-    let loop-test = c.loop-left-test in
-    let loop = c.loop-left in
-    naming_more loop.invariant loop-test.true if1.false put_byte.ensures
+loop-left-preserved c = naming_more c.loop-left.invariant c.loop-left-test.true c.if-rest-eq0.false c.put_byte-p.ensures
 
 pub shape_of-buf : goal.shape_of-buf
 shape_of-buf c = put_length (naming_full c.loop-left.invariant c.loop-left-test.false)

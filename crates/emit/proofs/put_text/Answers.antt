@@ -10,10 +10,7 @@ pub loop-i-init : goal.loop-i-init
 loop-i-init c = (omega arith, put_none _ _)
 
 pub loop-i-preserved : goal.loop-i-preserved
-loop-i-preserved c = let put_byte = c.put_byte-p in
-    let loop-test = c.loop-i-test in
-    let loop = c.loop-i in
-    (search rules, put_next loop.invariant.1 put_byte.ensures (taken_more _ _ loop-test.true) (omega arith))
+loop-i-preserved c = (search rules, put_next c.loop-i.invariant.1 c.put_byte-p.ensures (taken_more _ _ c.loop-i-test.true) (omega arith))
 
 pub shape_of-buf : goal.shape_of-buf
 shape_of-buf c = put_length c.loop-i.invariant.1

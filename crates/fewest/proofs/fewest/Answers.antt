@@ -17,13 +17,12 @@ pub clear-requires : goal.clear-requires
 clear-requires c = c.requires.4
 
 pub loop-u-init : goal.loop-u-init
-loop-u-init c = let clear = c.clear in
-    let a = c.args in
+loop-u-init c = let a = c.args in
     let k = c.kept-kept.result in (
       omega arith,
       refl,
       no_fewer_start k.labels _ k.budgets a.v k.outputs,
-      clear.ensures k.labels _ 0 0 a.v,
+      c.clear.ensures k.labels _ 0 0 a.v,
     )
 
 pub slice_bounds-seek-end-in-loop-u : goal.slice_bounds-seek-end-in-loop-u
@@ -32,10 +31,9 @@ slice_bounds-seek-end-in-loop-u c = sym c.loop-u.invariant.1
 pub seek-k-requires : goal.seek-k-requires
 seek-k-requires c = let p = c.requires in
     let k = c.kept-kept.ensures in
-    let l = c.loop-u in
     let b = p.3 in
     let h = c.loop-u-test.true in
-    (k.classes, l.invariant.1, p.1, k.few, omega arith, omega arith, inl refl, l.invariant.3)
+    (k.classes, c.loop-u.invariant.1, p.1, k.few, omega arith, omega arith, inl refl, c.loop-u.invariant.3)
 
 pub placed-requires : goal.placed-requires
 placed-requires c = let p = c.requires in
@@ -50,20 +48,14 @@ pub returns-then-k : goal.returns-then-k
 returns-then-k c = let a = c.args in
     let p = c.requires in
     let cl = a.cl.now in
-    let k = c.kept-kept in
-    let l = c.loop-u in
-    let s = c.seek-k in
-    let r = c.placed in
-    let f = c.opened-reads in
-    let z = c.zero_first-zeroed in
     let h = c.loop-u-test.true in
     let t = c.if-k.true in
-    let found = kept_sought cl _ a.budgets k.result.labels k.result.budgets 0 0 a.v a.m k.result.outputs l.u 0 k.result.by k.ensures
-    s.result.rows r.result s.result.codes r.ensures s.result.ok s.ensures.0 in (
-      answer_found cl _ a.budgets a.v a.m l.u a.limit r.result s.result.codes f.result z.result s.result.ok
-          p.1 p.2 p.3 (omega arith) t found f.ensures z.ensures
-          (no_fewer_kept cl _ a.budgets a.v a.m k.result.labels k.result.budgets k.result.outputs k.result.by l.u k.ensures l.invariant.2),
-      s.ensures.1.long,
+    let found = kept_sought cl _ a.budgets c.kept-kept.result.labels c.kept-kept.result.budgets 0 0 a.v a.m c.kept-kept.result.outputs c.loop-u.u 0 c.kept-kept.result.by c.kept-kept.ensures
+    c.seek-k.result.rows c.placed.result c.seek-k.result.codes c.placed.ensures c.seek-k.result.ok c.seek-k.ensures.0 in (
+      answer_found cl _ a.budgets a.v a.m c.loop-u.u a.limit c.placed.result c.seek-k.result.codes c.opened-reads.result c.zero_first-zeroed.result c.seek-k.result.ok
+          p.1 p.2 p.3 (omega arith) t found c.opened-reads.ensures c.zero_first-zeroed.ensures
+          (no_fewer_kept cl _ a.budgets a.v a.m c.kept-kept.result.labels c.kept-kept.result.budgets c.kept-kept.result.outputs c.kept-kept.result.by c.loop-u.u c.kept-kept.ensures c.loop-u.invariant.2),
+      c.seek-k.ensures.1.long,
     )
 
 pub overflow_add-u : goal.overflow_add-u
@@ -74,13 +66,11 @@ overflow_add-u c = let h = c.loop-u-test.true in
 pub loop-u-preserved : goal.loop-u-preserved
 loop-u-preserved c = let a = c.args in
     let k = c.kept-kept.result in
-    let l = c.loop-u in
-    let s = c.seek-k in
     let h = c.loop-u-test.true in (
       omega arith,
       refl,
-      no_fewer_more k.labels _ k.budgets a.v k.outputs l.u s.result.rows s.result.codes s.result.ok c.if-k.false s.ensures.0 l.invariant.2,
-      s.ensures.1,
+      no_fewer_more k.labels _ k.budgets a.v k.outputs c.loop-u.u c.seek-k.result.rows c.seek-k.result.codes c.seek-k.result.ok c.if-k.false c.seek-k.ensures.0 c.loop-u.invariant.2,
+      c.seek-k.ensures.1,
     )
 
 pub shape_of-mem : goal.shape_of-mem
@@ -88,9 +78,8 @@ shape_of-mem c = c.loop-u.invariant.3.long ∙ sym c.requires.4
 
 pub returns : goal.returns
 returns c = let a = c.args in
-    let k = c.kept-kept in
-    let l = c.loop-u in (
-      answer_none a.cl.now _ a.budgets a.v a.m l.u a.limit _ _ c.loop-u-test.false
-          (no_fewer_kept a.cl.now _ a.budgets a.v a.m k.result.labels k.result.budgets k.result.outputs k.result.by l.u k.ensures l.invariant.2),
-      l.invariant.3.long,
+    (
+      answer_none a.cl.now _ a.budgets a.v a.m c.loop-u.u a.limit _ _ c.loop-u-test.false
+          (no_fewer_kept a.cl.now _ a.budgets a.v a.m c.kept-kept.result.labels c.kept-kept.result.budgets c.kept-kept.result.outputs c.kept-kept.result.by c.loop-u.u c.kept-kept.ensures c.loop-u.invariant.2),
+      c.loop-u.invariant.3.long,
     )

@@ -10,8 +10,7 @@ pub loop-x-init : goal.loop-x-init
 loop-x-init c = (refl, filled_none _ _ refl)
 
 pub loop-x-preserved : goal.loop-x-preserved
-loop-x-preserved c = let loop = c.loop-x in
-    (refl, filled_more _ c.loop-x-test.true refl loop.invariant.1)
+loop-x-preserved c = (refl, filled_more _ c.loop-x-test.true refl c.loop-x.invariant.1)
 
 pub returns : goal.returns
 returns c = filled_fewer c.loop-x-test.false c.loop-x.invariant.1

@@ -26,25 +26,22 @@ digits-requires c = let p = c.requires in
     (omega arith, omega arith)
 
 pub seek-k-requires : goal.seek-k-requires
-seek-k-requires c = let keep-unread = c.keep_unread in
-    let p = c.requires in
+seek-k-requires c = let p = c.requires in
     let a = c.args in
     let q = a.p in
     let r = p.8 in
-    let n = c.vertices_upto in
-    let d = c.digits in
     let u = p.3 in
     let l = p.4 in
-    let first = val_first a.cl.now q.budgets a.given.now a.codes q.vertices q.outputs q.cells a.i a.x n.result d.result
-    p.1 p.3 p.4 p.5 p.6 p.7 n.ensures d.ensures in (
+    let first = val_first a.cl.now q.budgets a.given.now a.codes q.vertices q.outputs q.cells a.i a.x c.vertices_upto.result c.digits.result
+    p.1 p.3 p.4 p.5 p.6 p.7 c.vertices_upto.ensures c.digits.ensures in (
       p.0,
       p.7.long,
       p.1,
       p.2,
       omega arith,
       omega arith,
-      inr (omega arith, n.ensures.has 0 (omega arith), first),
-      keep-unread.ensures a.cl.now a.given.now r.kn r.val n.result d.result q.vertices r.free r.honest,
+      inr (omega arith, c.vertices_upto.ensures.has 0 (omega arith), first),
+      c.keep_unread.ensures a.cl.now a.given.now r.kn r.val c.vertices_upto.result c.digits.result q.vertices r.free r.honest,
     )
 
 pub shape_of-mem-then-not-k : goal.shape_of-mem-then-not-k
@@ -54,12 +51,9 @@ pub returns-then-not-k : goal.returns-then-not-k
 returns-then-not-k c = let p = c.requires in
     let a = c.args in
     let q = a.p in
-    let n = c.vertices_upto in
-    let d = c.digits in
-    let s = c.seek-k in
-    none_replied a.cl.now q.budgets a.given.now a.codes q.vertices q.outputs q.cells a.i a.x n.result d.result
-    p.1 p.3 p.4 p.5 p.6 p.7 n.ensures d.ensures s.result.rows s.result.codes a.codes _ s.result.ok
-    s.ensures.0 (not-true _ c.if-not-k.true) s.ensures.1
+    none_replied a.cl.now q.budgets a.given.now a.codes q.vertices q.outputs q.cells a.i a.x c.vertices_upto.result c.digits.result
+    p.1 p.3 p.4 p.5 p.6 p.7 c.vertices_upto.ensures c.digits.ensures c.seek-k.result.rows c.seek-k.result.codes a.codes _ c.seek-k.result.ok
+    c.seek-k.ensures.0 (not-true _ c.if-not-k.true) c.seek-k.ensures.1
 
 pub joined-found-requires : goal.joined-found-requires
 joined-found-requires c = let p = c.requires in
@@ -71,14 +65,9 @@ pub shape_of-mem : goal.shape_of-mem
 shape_of-mem c = c.seek-k.ensures.1.long ∙ sym c.requires.8.honest.long
 
 pub returns : goal.returns
-returns c = let if1 = c.if-not-k in
-    let p = c.requires in
+returns c = let p = c.requires in
     let a = c.args in
     let q = a.p in
-    let n = c.vertices_upto in
-    let d = c.digits in
-    let s = c.seek-k in
-    let j = c.joined-found in
-    found_replied a.cl.now q.budgets a.given.now a.codes q.vertices q.outputs q.cells a.i a.x n.result d.result
-    p.1 p.3 p.4 p.5 p.6 p.7 n.ensures d.ensures s.result.rows s.result.codes j.result _ s.result.ok
-    s.ensures.0 (not-false _ if1.false) j.ensures s.ensures.1
+    found_replied a.cl.now q.budgets a.given.now a.codes q.vertices q.outputs q.cells a.i a.x c.vertices_upto.result c.digits.result
+    p.1 p.3 p.4 p.5 p.6 p.7 c.vertices_upto.ensures c.digits.ensures c.seek-k.result.rows c.seek-k.result.codes c.joined-found.result _ c.seek-k.result.ok
+    c.seek-k.ensures.0 (not-false _ c.if-not-k.false) c.joined-found.ensures c.seek-k.ensures.1

@@ -24,17 +24,14 @@ pub shape_of-mem-then-not-a : goal.shape_of-mem-then-not-a
 shape_of-mem-then-not-a c = c.ask-a.ensures.1.honest.long ∙ sym c.requires.8.honest.long
 
 pub returns-then-not-a : goal.returns-then-not-a
-returns-then-not-a c = let in-set = c.in_set in
-    let if1 = c.if-not-in_set in
-    let p = c.requires in
+returns-then-not-a c = let p = c.requires in
     let a = c.args in
     let q = a.p in
-    let k = c.ask-a in
-    let one = sym in-set.ensures ∙ not-false _ if1.false in (
-      lowest_one a.cl.now q.budgets q.vertices q.outputs q.cells a.i a.x a.t5 p.4 p.5 p.6 k.result.codes k.result.ok
-          (not-true _ c.if-not-a.true) one k.ensures.0,
+    let one = sym c.in_set.ensures ∙ not-false _ c.if-not-in_set.false-raw in (
+      lowest_one a.cl.now q.budgets q.vertices q.outputs q.cells a.i a.x a.t5 p.4 p.5 p.6 c.ask-a.result.codes c.ask-a.result.ok
+          (not-true _ c.if-not-a.true) one c.ask-a.ensures.0,
       p.7,
-      k.ensures.1,
+      c.ask-a.ensures.1,
     )
 
 pub overflow_add-x : goal.overflow_add-x
@@ -53,19 +50,16 @@ pub shape_of-mem : goal.shape_of-mem
 shape_of-mem c = c.ask-a.ensures.1.honest.long ∙ sym c.requires.8.honest.long
 
 pub returns : goal.returns
-returns c = let if2 = c.if-not-a in
-    let p = c.requires in
+returns c = let p = c.requires in
     let a = c.args in
     let q = a.p in
-    let k = c.ask-a in
-    let s = c.sorted-least in
-    let found = not-false _ if2.false in
-    let low = lowest_found a.cl.now q.budgets q.vertices q.outputs q.cells a.i a.x a.t5 p.4 p.5 p.6 k.result.codes k.result.ok
-    found k.ensures.0 in
-    let stands = stands_found a.cl.now q.budgets q.vertices q.outputs q.cells a.i a.x a.t5 a.given.now k.result.codes k.result.ok
-    p.4 found k.ensures.0 p.7 in (
-      lowest_same a.cl.now q.budgets q.vertices q.outputs q.cells a.i (a.x + 1) k.result.codes s.result p.4 (let h = p.5 in omega arith)
-          low s.ensures.0 (s.ensures.1 a.cl.now q.budgets q.outputs low.witness),
-      stands_kept a.i (a.x + 1) q.vertices k.result.codes a.given.now s.result s.ensures.0 stands,
-      k.ensures.1,
+    let found = not-false _ c.if-not-a.false in
+    let low = lowest_found a.cl.now q.budgets q.vertices q.outputs q.cells a.i a.x a.t5 p.4 p.5 p.6 c.ask-a.result.codes c.ask-a.result.ok
+    found c.ask-a.ensures.0 in
+    let stands = stands_found a.cl.now q.budgets q.vertices q.outputs q.cells a.i a.x a.t5 a.given.now c.ask-a.result.codes c.ask-a.result.ok
+    p.4 found c.ask-a.ensures.0 p.7 in (
+      lowest_same a.cl.now q.budgets q.vertices q.outputs q.cells a.i (a.x + 1) c.ask-a.result.codes c.sorted-least.result p.4 (let h = p.5 in omega arith)
+          low c.sorted-least.ensures.0 (c.sorted-least.ensures.1 a.cl.now q.budgets q.outputs low.witness),
+      stands_kept a.i (a.x + 1) q.vertices c.ask-a.result.codes a.given.now c.sorted-least.result c.sorted-least.ensures.0 stands,
+      c.ask-a.ensures.1,
     )

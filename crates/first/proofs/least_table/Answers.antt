@@ -15,27 +15,24 @@ pub clear-requires : goal.clear-requires
 clear-requires c = c.requires.6
 
 pub loop-x-init : goal.loop-x-init
-loop-x-init c = let clear = c.clear in
-    let p = c.requires in
+loop-x-init c = let p = c.requires in
     let a = c.args in
     let q = a.p in
-    let s = c.sorted-least in
-    let f = c.front-given in (
+    (
       omega arith,
-      lowest_same a.cl.now q.budgets q.vertices q.outputs q.cells a.i 0 a.codes s.result p.4 (omega arith) p.5 s.ensures.0
-          (s.ensures.1 a.cl.now q.budgets q.outputs p.5.witness),
-      stands_front a.i q.vertices s.result f.result p.1 f.ensures,
-      remembers_none a.cl.now f.result q.vertices _ (clear.ensures a.cl.now f.result 0 0 q.vertices),
+      lowest_same a.cl.now q.budgets q.vertices q.outputs q.cells a.i 0 a.codes c.sorted-least.result p.4 (omega arith) p.5 c.sorted-least.ensures.0
+          (c.sorted-least.ensures.1 a.cl.now q.budgets q.outputs p.5.witness),
+      stands_front a.i q.vertices c.sorted-least.result c.front-given.result p.1 c.front-given.ensures,
+      remembers_none a.cl.now c.front-given.result q.vertices _ (c.clear.ensures a.cl.now c.front-given.result 0 0 q.vertices),
     )
 
 pub slice_bounds-least_digit-end : goal.slice_bounds-least_digit-end
 slice_bounds-least_digit-end c = sym c.loop-x.invariant.2.long
 
 pub least_digit-t-requires : goal.least_digit-t-requires
-least_digit-t-requires c = let if1 = c.loop-x-test in
-    let p = c.requires in
+least_digit-t-requires c = let p = c.requires in
     let l = c.loop-x.invariant in
-    (p.0, p.1, p.2, p.3, p.4, if1.true, l.1, l.2, l.3)
+    (p.0, p.1, p.2, p.3, p.4, c.loop-x-test.true, l.1, l.2, l.3)
 
 pub overflow_add-x : goal.overflow_add-x
 overflow_add-x c = let v = c.requires.1 in
@@ -51,14 +48,12 @@ loop-x-preserved c = let h = c.loop-x-test.true in
     (omega arith, t.0, t.1, t.2)
 
 pub shape_of-mem : goal.shape_of-mem
-shape_of-mem c = let loop = c.loop-x in
-    loop.invariant.3.honest.long ∙ sym c.requires.6
+shape_of-mem c = c.loop-x.invariant.3.honest.long ∙ sym c.requires.6
 
 pub returns : goal.returns
 returns c = let p = c.requires in
     let a = c.args in
     let q = a.p in
-    let l = c.loop-x in
-    let b = l.invariant.0 in
+    let b = c.loop-x.invariant.0 in
     let h = c.loop-x-test.false in
-    (lowest_next a.cl.now q.budgets q.vertices q.outputs q.cells a.i l.x l.least p.4 (omega arith) l.invariant.1, l.invariant.3.honest.long)
+    (lowest_next a.cl.now q.budgets q.vertices q.outputs q.cells a.i c.loop-x.x c.loop-x.least p.4 (omega arith) c.loop-x.invariant.1, c.loop-x.invariant.3.honest.long)

@@ -31,13 +31,11 @@ loop-i-preserved c = let h = c.loop-i-test.true in
     (omega arith, t.0, t.1)
 
 pub shape_of-mem : goal.shape_of-mem
-shape_of-mem c = let loop = c.loop-i in
-    loop.invariant.2 ∙ sym c.requires.5
+shape_of-mem c = c.loop-i.invariant.2 ∙ sym c.requires.5
 
 pub returns : goal.returns
 returns c = let a = c.args in
     let q = a.p in
-    let l = c.loop-i in
-    let b = l.invariant.0 in
+    let b = c.loop-i.invariant.0 in
     let h = c.loop-i-test.false in
-    subst (λ (k : ℕ). Lowest a.cl.now q.budgets q.vertices q.outputs q.cells k 0 l.least) (omega arith) l.invariant.1
+    subst (λ (k : ℕ). Lowest a.cl.now q.budgets q.vertices q.outputs q.cells k 0 c.loop-i.least) (omega arith) c.loop-i.invariant.1

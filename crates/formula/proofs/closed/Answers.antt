@@ -9,15 +9,13 @@ use Rattle.formula.proofs.closed.Goals as goal
 
 pub returns-in_default : goal.returns-in_default
 returns-in_default c = let a = c.args in
-    let m = c.followed-m in
     let x = then a.s.now a.p close_bracket in
-    unclosed a.s.now a.p c.none.result x (moved_nowhere a.s.now m.result x m.ensures c.in_default.is)
+    unclosed a.s.now a.p c.none.result x (moved_nowhere a.s.now c.followed-m.result x c.followed-m.ensures c.in_default.is)
     c.none.ensures
 
 pub returns : goal.returns
 returns c = let a = c.args in
-    let m = c.followed-m in
     let to = c.m-1.given in
     let x = then a.s.now a.p close_bracket in
-    closed_at a.s.now a.p _ to.0.0 x (moved_to a.s.now m.result x m.ensures to.0.0 to.1) refl refl
+    closed_at a.s.now a.p _ to.0.0 x (moved_to a.s.now c.followed-m.result x c.followed-m.ensures to.0.0 to.1) refl refl
     c.deeper.ensures refl refl

@@ -9,16 +9,13 @@ use borrow.Author.Rules.{rules}
 use Rattle.formula.proofs.combined.Goals as goal
 
 pub returns-in-And : goal.returns-in-And
-returns-in-And c = let enum_told = c.enum_told-1 in
-    let args = c.args in
-    subst (λ (g : Gate). Rowwise (λ (r : ℕ). two (gate_of g) (row_on args.a r) (row_on args.b r)) c.both.result) (sym enum_told.given.1) c.both.ensures
+returns-in-And c = let args = c.args in
+    subst (λ (g : Gate). Rowwise (λ (r : ℕ). two (gate_of g) (row_on args.a r) (row_on args.b r)) c.both.result) (sym c.in-And.is) c.both.ensures
 
 pub returns-in-Or : goal.returns-in-Or
-returns-in-Or c = let enum-told2 = c.enum_told-in-Or-1 in
-    let args = c.args in
-    subst (λ (g : Gate). Rowwise (λ (r : ℕ). two (gate_of g) (row_on args.a r) (row_on args.b r)) c.either.result) (sym enum-told2.given.1) c.either.ensures
+returns-in-Or c = let args = c.args in
+    subst (λ (g : Gate). Rowwise (λ (r : ℕ). two (gate_of g) (row_on args.a r) (row_on args.b r)) c.either.result) (sym c.in-Or.is) c.either.ensures
 
 pub returns-in-Xor : goal.returns-in-Xor
-returns-in-Xor c = let enum-told3 = c.enum_told-in-Xor-1 in
-    let args = c.args in
-    subst (λ (g : Gate). Rowwise (λ (r : ℕ). two (gate_of g) (row_on args.a r) (row_on args.b r)) c.differ.result) (sym enum-told3.given.1) c.differ.ensures
+returns-in-Xor c = let args = c.args in
+    subst (λ (g : Gate). Rowwise (λ (r : ℕ). two (gate_of g) (row_on args.a r) (row_on args.b r)) c.differ.result) (sym c.in-Xor.is) c.differ.ensures

@@ -7,37 +7,29 @@ use borrow.Author.Rules.{rules}
 use Rattle.formula.proofs.input.Goals as goal
 
 pub overflow_sub-inputs : goal.overflow_sub-inputs
-overflow_sub-inputs c = let p = c.p-1 in
-    let find = c.find-p in
-    let args = c.args in
-    omega (arith, found_inside args.inputs.now args.n p.given.0.0 find.result find.ensures p.given.1)
+overflow_sub-inputs c = let args = c.args in
+    omega (arith, found_inside args.inputs.now args.n c.in-At.i c.find-p.result c.find-p.ensures c.in-At.is)
 
 pub overflow_sub-inputs-in-At : goal.overflow_sub-inputs-in-At
-overflow_sub-inputs-in-At c = let p = c.p-1 in
-    let find = c.find-p in
-    let args = c.args in
-    omega (arith, found_inside args.inputs.now args.n p.given.0.0 find.result find.ensures p.given.1)
+overflow_sub-inputs-in-At c = let args = c.args in
+    omega (arith, found_inside args.inputs.now args.n c.in-At.i c.find-p.result c.find-p.ensures c.in-At.is)
 
 pub returns-in-At : goal.returns-in-At
-returns-in-At c = let p = c.p-1 in
-    let find = c.find-p in
-    let args = c.args in
+returns-in-At c = let args = c.args in
     record {
       good = refl;
       moved = refl;
       flat = refl;
-      named = sym (found_among args.inputs.now args.n p.given.0.0 find.result find.ensures p.given.1);
-      each = rowwise_same c.input.ensures (λ r l. sym (found-row args.inputs.now args.n p.given.0.0 find.result find.ensures p.given.1 r));
+      named = sym (found_among args.inputs.now args.n c.in-At.i c.find-p.result c.find-p.ensures c.in-At.is);
+      each = rowwise_same c.input.ensures (λ r l. sym (found-row args.inputs.now args.n c.in-At.i c.find-p.result c.find-p.ensures c.in-At.is r));
     }
 
 pub returns-in-Nowhere : goal.returns-in-Nowhere
-returns-in-Nowhere c = let enum_told = c.enum_told-1 in
-    let find = c.find-p in
-    let args = c.args in
+returns-in-Nowhere c = let args = c.args in
     record {
       good = refl;
       moved = refl;
       flat = refl;
-      named = sym (nowhere_among args.inputs.now args.n find.result find.ensures enum_told.given.1);
-      each = rowwise_same c.constant.ensures (λ r l. sym (nowhere_row args.inputs.now args.n find.result find.ensures enum_told.given.1 r));
+      named = sym (nowhere_among args.inputs.now args.n c.find-p.result c.find-p.ensures c.in-Nowhere.is);
+      each = rowwise_same c.constant.ensures (λ r l. sym (nowhere_row args.inputs.now args.n c.find-p.result c.find-p.ensures c.in-Nowhere.is r));
     }

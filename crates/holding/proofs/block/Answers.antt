@@ -7,5 +7,4 @@ single-requires c = c.requires
 
 pub returns : goal.returns
 returns c = let args = c.args in
-    let single = c.single in
-    spans_block args.mask args.c single.result c.spread.result c.requires single.ensures c.spread.ensures
+    spans_block args.mask args.c c.single.result c.spread.result c.requires c.single.ensures c.spread.ensures

@@ -59,18 +59,16 @@ pub overflow_add-i : goal.overflow_add-i
 overflow_add-i c = let facts = bounds (goal.at.overflow_add-i c).In-loop-i in search rules
 
 pub loop-i-preserved : goal.loop-i-preserved
-loop-i-preserved c = let loop = c.loop-i in
-    let args = c.args in
+loop-i-preserved c = let args = c.args in
     let pre = c.requires in
     let h = c.loop-i-test.true in
-    let e = loop.invariant.1 in (
+    let e = c.loop-i.invariant.1 in (
       omega arith,
       e,
-      ⊎_elim (λ w. subst (λ (z : List ℕ). Table args.t1 (loop.i + 1) z) (sym w.2) (table_more args.t1 loop.i loop.r _ (omega arith) w.1.ensures loop.invariant.2))
-          (λ w. subst (λ (z : List ℕ). Table args.t1 (loop.i + 1) z) (sym w.1) (table_more args.t1 loop.i loop.r _ (omega arith)
-          (entry_again args.t1 loop.i loop.r _ _ refl refl w.0.left loop.invariant.2) loop.invariant.2)) c.if-first-c.branch,
+      ⊎_elim (λ w. subst (λ (z : List ℕ). Table args.t1 (c.loop-i.i + 1) z) (sym w.2) (table_more args.t1 c.loop-i.i c.loop-i.r _ (omega arith) w.1.ensures c.loop-i.invariant.2))
+          (λ w. subst (λ (z : List ℕ). Table args.t1 (c.loop-i.i + 1) z) (sym w.1) (table_more args.t1 c.loop-i.i c.loop-i.r _ (omega arith)
+          (entry_again args.t1 c.loop-i.i c.loop-i.r _ _ refl refl w.0.left c.loop-i.invariant.2) c.loop-i.invariant.2)) c.if-first-c.branch,
     )
 
 pub returns : goal.returns
-returns c = let loop = c.loop-i in
-    subst (λ (z : ℕ). Table c.args.ms z loop.r) (let h = c.loop-i-test.false in let z = loop.invariant.0 in let e = loop.invariant.1 in omega arith) loop.invariant.2
+returns c = subst (λ (z : ℕ). Table c.args.ms z c.loop-i.r) (let h = c.loop-i-test.false in let z = c.loop-i.invariant.0 in let e = c.loop-i.invariant.1 in omega arith) c.loop-i.invariant.2

@@ -19,10 +19,8 @@ tight_part-one-requires c = c.class_part-p.ensures.1
 pub returns-then-one_part : goal.returns-then-one_part
 returns-then-one_part c = let a = c.args in
     let p = c.class_part-p.result in
-    let s = c.lacks-a in
-    let r = s.result in
-    let t = c.tight_part-one in
-    (s.ensures, tight_one a.cl.now a.owns.now a.wants.now a.base.now a.o p r.total r.news a.spot t.result s.ensures t.ensures)
+    let r = c.lacks-a.result in
+    (c.lacks-a.ensures, tight_one a.cl.now a.owns.now a.wants.now a.base.now a.o p r.total r.news a.spot c.tight_part-one.result c.lacks-a.ensures c.tight_part-one.ensures)
 
 pub totals-ts-requires : goal.totals-ts-requires
 totals-ts-requires c = let p = c.requires in (p.0, p.1, p.2, p.5)
@@ -35,7 +33,5 @@ lacks-b-requires c = c.requires
 
 pub returns : goal.returns
 returns c = let a = c.args in
-    let t = c.totals-ts in
-    let f = c.tight_parts-tight in
     let s = c.lacks-b.ensures in
-    (s, tight_end a.cl.now a.wants.now a.base.now a.o a.spot t.result f.result t.ensures f.ensures)
+    (s, tight_end a.cl.now a.wants.now a.base.now a.o a.spot c.totals-ts.result c.tight_parts-tight.result c.totals-ts.ensures c.tight_parts-tight.ensures)

@@ -28,23 +28,21 @@ label-l-requires c = let h = c.loop-y-test.true in
     (omega arith, p.2, omega arith)
 
 pub in_set-requires : goal.in_set-requires
-in_set-requires c = let loop = c.loop-y in
-    let h = c.loop-y-test.true in
+in_set-requires c = let h = c.loop-y-test.true in
     let p = c.requires in
     let v = p.1 in
     let o = p.2 in
-    let l = p.0.low (c.args.o * 32 + loop.y) (omega arith) in
+    let l = p.0.low (c.args.o * 32 + c.loop-y.y) (omega arith) in
     let e = c.label-l.ensures in
     omega arith
 
 pub with-seen-requires : goal.with-seen-requires
-with-seen-requires c = let loop = c.loop-y in
-    let h = c.loop-y-test.true in
+with-seen-requires c = let h = c.loop-y-test.true in
     let p = c.requires in
     let v = p.1 in
     let o = p.2 in
     let a = c.args in
-    let l = p.0.low (a.o * 32 + loop.y) (omega arith) in
+    let l = p.0.low (a.o * 32 + c.loop-y.y) (omega arith) in
     let e = c.label-l.ensures in
     omega arith
 
@@ -60,19 +58,17 @@ loop-y-preserved c = let h = c.loop-y-test.true in
     let z = p.1 in
     let o = p.2 in
     let a = c.args in
-    let l = c.loop-y in
-    let low = p.0.low (a.o * 32 + l.y) (omega arith) in (
+    let low = p.0.low (a.o * 32 + c.loop-y.y) (omega arith) in (
       omega arith,
       ⊎_elim
-          (λ w. let q = c.inside.ensures w.0.taken in let e = w.1.ensures in crowd_more a.cl.now a.codes.now a.o a.p a.b l.y l.seen l.count
-          w.1.result w.4.result _ _ e (omega arith) q.0 q.1 (sym w.2.ensures ∙ not-true _ w.3.taken) w.4.ensures w.5 w.6 l.invariant.1)
+          (λ w. let q = c.inside.ensures w.0.taken in let e = w.1.ensures in crowd_more a.cl.now a.codes.now a.o a.p a.b c.loop-y.y c.loop-y.seen c.loop-y.count
+          w.1.result w.4.result _ _ e (omega arith) q.0 q.1 (sym w.2.ensures ∙ not-true _ w.3.taken) w.4.ensures w.5 w.6 c.loop-y.invariant.1)
           (⊎_elim
-          (λ w. crowd_same a.cl.now a.codes.now a.o a.p a.b l.y l.seen l.count _ _ w.4 w.5 l.invariant.1)
-          (λ w. crowd_same a.cl.now a.codes.now a.o a.p a.b l.y l.seen l.count _ _ w.1 w.2 l.invariant.1))
+          (λ w. crowd_same a.cl.now a.codes.now a.o a.p a.b c.loop-y.y c.loop-y.seen c.loop-y.count _ _ w.4 w.5 c.loop-y.invariant.1)
+          (λ w. crowd_same a.cl.now a.codes.now a.o a.p a.b c.loop-y.y c.loop-y.seen c.loop-y.count _ _ w.1 w.2 c.loop-y.invariant.1))
           c.if-inside.branch,
     )
 
 pub returns : goal.returns
 returns c = let a = c.args in
-    let l = c.loop-y in
-    subst (λ (n : ℕ). Crowd a.cl.now a.codes.now a.o a.p a.b n l.seen l.count) (let h = c.loop-y-test.false in let z = l.invariant.0 in omega arith) l.invariant.1
+    subst (λ (n : ℕ). Crowd a.cl.now a.codes.now a.o a.p a.b n c.loop-y.seen c.loop-y.count) (let h = c.loop-y-test.false in let z = c.loop-y.invariant.0 in omega arith) c.loop-y.invariant.1

@@ -16,19 +16,12 @@ with-seen-requires c = let a = c.args in
     omega arith
 
 pub returns-then-inside : goal.returns-then-inside
-returns-then-inside c = let if3 = c.if-inside in
-    let if2 = c.if-x-v in
-    let a = c.args in
-    let part = c.part-p in
-    let others = c.strangers-others in
-    let label = c.label-l in
-    let in_b = c.inside.ensures if3.true in
-    subst (λ (p : ℕ). Crowd a.cl.now a.codes.now a.o p a.b a.v c.with-seen.result 1) part.ensures.0
-    (crowd_one a.cl.now a.codes.now a.o part.result a.b a.v a.x others.result label.result c.with-seen.result
-    if2.true label.ensures (sym part.ensures.0) in_b.0 in_b.1 others.ensures c.with-seen.ensures)
+returns-then-inside c = let a = c.args in
+    let in_b = c.inside.ensures c.if-inside.true in
+    subst (λ (p : ℕ). Crowd a.cl.now a.codes.now a.o p a.b a.v c.with-seen.result 1) c.part-p.ensures.0
+    (crowd_one a.cl.now a.codes.now a.o c.part-p.result a.b a.v a.x c.strangers-others.result c.label-l.result c.with-seen.result
+    c.if-x-v.true c.label-l.ensures (sym c.part-p.ensures.0) in_b.0 in_b.1 c.strangers-others.ensures c.with-seen.ensures)
 
 pub returns : goal.returns
-returns c = let part = c.part-p in
-    let a = c.args in
-    let k = c.classes_in in
-    subst (λ (p : ℕ). Crowd a.cl.now a.codes.now a.o p a.b a.v k.result.seen k.result.count) part.ensures.0 k.ensures
+returns c = let a = c.args in
+    subst (λ (p : ℕ). Crowd a.cl.now a.codes.now a.o p a.b a.v c.classes_in.result.seen c.classes_in.result.count) c.part-p.ensures.0 c.classes_in.ensures

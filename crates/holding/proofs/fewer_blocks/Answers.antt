@@ -44,20 +44,14 @@ pub overflow_add-k : goal.overflow_add-k
 overflow_add-k c = let h = c.if-n-k.false in search rules
 
 pub loop-rest-smaller : goal.loop-rest-smaller
-loop-rest-smaller c = let lowest = c.lowest-c in
-    let a = c.minus-rest.ensures.less in let b = c.without.ensures.less lowest.ensures.1 in omega arith
+loop-rest-smaller c = let a = c.minus-rest.ensures.less in let b = c.without.ensures.less c.lowest-c.ensures.1 in omega arith
 
 pub loop-rest-preserved : goal.loop-rest-preserved
 loop-rest-preserved c = λ mask b.
-    let low = c.lowest-c in
-    let l = c.loop-rest in
     let d = c.args.d in
-    let w = c.without in
-    let m = c.minus-rest in
-    left_more mask d l.rest l.k low.result _ w.result m.result (b low.result low.ensures.0) w.ensures m.ensures (l.invariant mask b)
+    left_more mask d c.loop-rest.rest c.loop-rest.k c.lowest-c.result _ c.without.result c.minus-rest.result (b c.lowest-c.result c.lowest-c.ensures.0) c.without.ensures c.minus-rest.ensures (c.loop-rest.invariant mask b)
 
 pub returns : goal.returns
 returns c = λ e mask b.
-    let l = c.loop-rest in
     let a = c.args in
-    left_end mask a.d l.rest l.k a.n c.loop-rest-test.false (ltb-true _ _ e) (l.invariant mask b)
+    left_end mask a.d c.loop-rest.rest c.loop-rest.k a.n c.loop-rest-test.false (ltb-true _ _ e) (c.loop-rest.invariant mask b)

@@ -16,5 +16,4 @@ label-requires c = let p = c.requires in let z = p.1 in (omega arith, p.2, p.3)
 
 pub returns : goal.returns
 returns c = let a = c.args in
-    let n = c.larger-n in
-    λ e i. subst (λ (z : ℕ). z ≤ a.has) (n.ensures.0 ∙ ap (max a.wants) c.label.ensures) (ltb-false _ _ e)
+    λ e i. subst (λ (z : ℕ). z ≤ a.has) (c.larger-n.ensures.0 ∙ ap (max a.wants) c.label.ensures) (ltb-false _ _ e)

@@ -17,18 +17,15 @@ pub bounds-wants-l : goal.bounds-wants-l
 bounds-wants-l c = let n = c.requires.5 in search rules
 
 pub label-requires : goal.label-requires
-label-requires c = let loop-test = c.loop-l-test in
-    let z = c.requires.1 in
-    (omega arith, c.requires.2, loop-test.true)
+label-requires c = let z = c.requires.1 in
+    (omega arith, c.requires.2, c.loop-l-test.true)
 
 pub bounds-owns-l : goal.bounds-owns-l
 bounds-owns-l c = let n = c.requires.4 in search rules
 
 pub overflow_sub-n : goal.overflow_sub-n
-overflow_sub-n c = let loop = c.loop-l in
-    let loop-test = c.loop-l-test in
-    let e = c.larger-n.ensures.0 in
-    let h = c.requires.3 loop.l loop-test.true in
+overflow_sub-n c = let e = c.larger-n.ensures.0 in
+    let h = c.requires.3 c.loop-l.l c.loop-l-test.true in
     search rules
 
 pub overflow_cast-total : goal.overflow_cast-total
@@ -50,23 +47,17 @@ overflow_add-news c = let n = c.counted-s.ensures.1 in
     record { fits = omega arith }
 
 pub loop-l-preserved : goal.loop-l-preserved
-loop-l-preserved c = let label = c.label in
-    let a = c.args in
-    let l = c.loop-l in
+loop-l-preserved c = let a = c.args in
     let h = c.loop-l-test.true in
-    let q = c.class_part-q in
-    let n = c.larger-n in
-    let t = c.counted-t in
-    let s = c.counted-s in (
+    (
       omega arith,
-      lacks_more a.cl.now a.owns.now a.wants.now a.base.now a.o a.p l.l q.result n.result l.total l.news _ _ t.result s.result q.ensures.0
-          (n.ensures.0 ∙ ap (max (get_or a.wants.now l.l 0)) label.ensures) t.ensures.0 t.ensures.1 s.ensures.0
-          s.ensures.1 refl refl l.invariant.1,
+      lacks_more a.cl.now a.owns.now a.wants.now a.base.now a.o a.p c.loop-l.l c.class_part-q.result c.larger-n.result c.loop-l.total c.loop-l.news _ _ c.counted-t.result c.counted-s.result c.class_part-q.ensures.0
+          (c.larger-n.ensures.0 ∙ ap (max (get_or a.wants.now c.loop-l.l 0)) c.label.ensures) c.counted-t.ensures.0 c.counted-t.ensures.1 c.counted-s.ensures.0
+          c.counted-s.ensures.1 refl refl c.loop-l.invariant.1,
     )
 
 pub returns : goal.returns
 returns c = let a = c.args in
-    let l = c.loop-l in
     let h = c.loop-l-test.false in
-    let z = l.invariant.0 in
-    subst (λ (n : ℕ). Lacks a.cl.now a.owns.now a.wants.now a.base.now a.o a.p n l.total l.news) (omega arith) l.invariant.1
+    let z = c.loop-l.invariant.0 in
+    subst (λ (n : ℕ). Lacks a.cl.now a.owns.now a.wants.now a.base.now a.o a.p n c.loop-l.total c.loop-l.news) (omega arith) c.loop-l.invariant.1

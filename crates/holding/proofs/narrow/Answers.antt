@@ -34,14 +34,13 @@ labelled : (c : goal.After-label-l) → (c.label.result < 32) × (c.before.befor
     × (length c.args.meet.now ≡ 32)
     × (length c.loop-y.dom ≡ 32)
 labelled c =
-    let loop = c.loop-y in
     let pre = c.requires in
     let v = pre.2 in
     let o = pre.3 in
     let d = c.loop-y-test.true in
-    let low = pre.0.low (c.args.t.number * 32 + loop.y) (omega arith) in
+    let low = pre.0.low (c.args.t.number * 32 + c.loop-y.y) (omega arith) in
     let same = c.label-l.ensures in
-    (omega arith, omega arith, pre.4, pre.5, loop.invariant.1.long)
+    (omega arith, omega arith, pre.4, pre.5, c.loop-y.invariant.1.long)
 
 pub class_part-p-requires : goal.class_part-p-requires
 class_part-p-requires c = let facts = labelled c in
@@ -95,15 +94,15 @@ pub loop-y-preserved : goal.loop-y-preserved
 loop-y-preserved c = let h = c.loop-y-test.true in
     let z = c.requires.2 in
     let a = c.args in
-    let l = c.loop-y in (
+    (
       omega arith,
       ⊎_elim
-          (λ w. keep_more a.cl.now a.base.now a.t.number a.tight l.y w.2.result w.1.result w.5.result w.9.result a.own.now a.meet.now a.n.owns
-          a.n.wants a.dom.now l.dom
-          _ (omega arith) w.1.ensures w.2.ensures.0 (sym w.3.ensures ∙ w.4.taken) w.5.ensures w.9.ensures w.10 l.invariant.1)
+          (λ w. keep_more a.cl.now a.base.now a.t.number a.tight c.loop-y.y w.2.result w.1.result w.5.result w.9.result a.own.now a.meet.now a.n.owns
+          a.n.wants a.dom.now c.loop-y.dom
+          _ (omega arith) w.1.ensures w.2.ensures.0 (sym w.3.ensures ∙ w.4.taken) w.5.ensures w.9.ensures w.10 c.loop-y.invariant.1)
           (⊎_elim
-          (λ w. narrowed_same (Stays a.cl.now a.base.now a.t.number a.tight a.own.now a.meet.now a.n.owns a.n.wants) a.dom.now l.y l.dom _ w.5 l.invariant.1)
-          (λ w. narrowed_same (Stays a.cl.now a.base.now a.t.number a.tight a.own.now a.meet.now a.n.owns a.n.wants) a.dom.now l.y l.dom _ w.1 l.invariant.1))
+          (λ w. narrowed_same (Stays a.cl.now a.base.now a.t.number a.tight a.own.now a.meet.now a.n.owns a.n.wants) a.dom.now c.loop-y.y c.loop-y.dom _ w.5 c.loop-y.invariant.1)
+          (λ w. narrowed_same (Stays a.cl.now a.base.now a.t.number a.tight a.own.now a.meet.now a.n.owns a.n.wants) a.dom.now c.loop-y.y c.loop-y.dom _ w.1 c.loop-y.invariant.1))
           c.if-codes-y-ge-NO_CODE.branch,
     )
 
@@ -112,7 +111,6 @@ shape_of-dom c = c.loop-y.invariant.1.long ∙ sym c.requires.8
 
 pub returns : goal.returns
 returns c = let a = c.args in
-    let l = c.loop-y in
     let h = c.loop-y-test.false in
-    let z = l.invariant.0 in
-    subst (λ (n : ℕ). Narrowed (Stays a.cl.now a.base.now a.t.number a.tight a.own.now a.meet.now a.n.owns a.n.wants) a.dom.now n l.dom) (omega arith) l.invariant.1
+    let z = c.loop-y.invariant.0 in
+    subst (λ (n : ℕ). Narrowed (Stays a.cl.now a.base.now a.t.number a.tight a.own.now a.meet.now a.n.owns a.n.wants) a.dom.now n c.loop-y.dom) (omega arith) c.loop-y.invariant.1

@@ -36,24 +36,21 @@ busiest-b-requires c = let pre = c.requires in
     (pre.0, pre.1, omega arith, wanted_held _ _ _ _ _ _ _ args.n.wants args.meet.now w, s.owns-long, w.long)
 
 pub no_room-requires : goal.no_room-requires
-no_room-requires c = let busiest = c.busiest-b in
-    let pre = c.requires in
+no_room-requires c = let pre = c.requires in
     let args = c.args in
     let outs = pre.4 in
     let o = pre.5 in
     let s = pre.8 in
     let w = pre.9 in
     let wanted = wanted_held _ _ _ _ _ _ _ args.n.wants args.meet.now w in
-    (pre.0, pre.1, pre.2.long, pre.3, omega arith, pre.7, s.own-long, pre.6, wanted, busiest.ensures.0)
+    (pre.0, pre.1, pre.2.long, pre.3, omega arith, pre.7, s.own-long, pre.6, wanted, c.busiest-b.ensures.0)
 
 pub returns-then-no_room : goal.returns-then-no_room
-returns-then-no_room c = let if1 = c.if-no_room in
-    let no_room = c.no_room in
-    let args = c.args in
+returns-then-no_room c = let args = c.args in
     let pre = c.requires in
     let p = args.p in
     let none = settled_no_room args.cl.now args.base.now p.ms _ _ p.vertices p.outputs args.o _ _ _ _ pre.0 pre.3 pre.4 pre.5 pre.8
-    args.n.wants args.meet.now args.bs.now pre.9 (λ k l. pre.2.each args.o k pre.5 l) (no_room.ensures if1.true) in
+    args.n.wants args.meet.now args.bs.now pre.9 (λ k l. pre.2.each args.o k pre.5 l) (c.no_room.ensures c.if-no_room.true) in
     (kept-start args.cl.now args.base.now p.ms _ _ p.vertices p.outputs _ _, pre.7, λ e. none)
 
 pub returns-then-tight-eq0 : goal.returns-then-tight-eq0
@@ -72,17 +69,14 @@ narrow-requires c = let pre = c.requires in
     (pre.0, pre.1, few, omega arith, s.own-long, w.meet-long, λ l k. let z = s.less l k in omega arith, pre.6, pre.7)
 
 pub shape_of-dom : goal.shape_of-dom
-shape_of-dom c = let narrow = c.narrow in
-    let pre = c.requires in
-    narrow.ensures.long ∙ sym pre.7
+shape_of-dom c = let pre = c.requires in
+    c.narrow.ensures.long ∙ sym pre.7
 
 pub returns : goal.returns
-returns c = let narrow = c.narrow in
-    let busiest = c.busiest-b in
-    let args = c.args in
+returns c = let args = c.args in
     let pre = c.requires in
     let p = args.p in
-    let n = narrow.ensures in
+    let n = c.narrow.ensures in
     let kept = settled_tight args.cl.now args.base.now p.ms _ _ p.vertices p.outputs args.o _ _ _ _ pre.0 pre.3 pre.4 pre.5 pre.8
-    args.n.wants args.meet.now _ _ busiest.result.tight pre.9 busiest.ensures.1 refl n in
+    args.n.wants args.meet.now _ _ c.busiest-b.result.tight pre.9 c.busiest-b.ensures.1 refl n in
     (kept, n.long, λ e. absurd (true_false e))

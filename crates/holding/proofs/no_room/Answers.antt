@@ -3,21 +3,18 @@ use borrow.Author.Rules.{rules}
 use Rattle.holding.proofs.no_room.Goals as goal
 
 pub returns-then-t-total : goal.returns-then-t-total
-returns-then-t-total c = let if1 = c.if-t-total in
-    let args = c.args in
+returns-then-t-total c = let args = c.args in
     let pre = c.requires in
-    λ e. (args.b.part, args.b.total, args.b.news, pre.9, inl if1.true)
+    λ e. (args.b.part, args.b.total, args.b.news, pre.9, inl c.if-t-total.true)
 
 pub out_of_reach-requires : goal.out_of_reach-requires
 out_of_reach-requires c = let pre = c.requires in
     (pre.0, pre.1, pre.2, pre.3, pre.4, pre.5, pre.6, pre.7)
 
 pub returns-then-out_of_reach : goal.returns-then-out_of_reach
-returns-then-out_of_reach c = let if2 = c.if-out_of_reach in
-    let out-of-reach = c.out_of_reach in
-    let args = c.args in
+returns-then-out_of_reach c = let args = c.args in
     let pre = c.requires in
-    let r = out-of-reach.ensures if2.true in
+    let r = c.out_of_reach.ensures c.if-out_of_reach.true in
     λ e. (args.b.part, args.b.total, args.b.news, pre.9, inr (r.0, r.1))
 
 pub others_out_of_reach-requires : goal.others_out_of_reach-requires
@@ -25,5 +22,4 @@ others_out_of_reach-requires c = let pre = c.requires in
     (pre.0, pre.1, pre.2, pre.3, pre.4, pre.5, pre.6, pre.7, pre.8)
 
 pub returns : goal.returns
-returns c = let others-out-of-reach = c.others_out_of_reach in
-    λ e. let r = others-out-of-reach.ensures e in let lost = r.1 in (lost.0, lost.1, lost.2, lost.3, inr (r.0, lost.4))
+returns c = λ e. let r = c.others_out_of_reach.ensures e in let lost = r.1 in (lost.0, lost.1, lost.2, lost.3, inr (r.0, lost.4))

@@ -17,13 +17,12 @@ class_part-q-requires c = (c.requires.0, c.requires.1, c.loop-l-test.true)
 
 pub loop-l-preserved : goal.loop-l-preserved
 loop-l-preserved c = let a = c.args in
-    let l = c.loop-l in
     let h = c.loop-l-test.true in
     let q = c.class_part-q.ensures.0 in (
       omega arith,
       ⊎_elim
           (λ w e. absurd (never_both e w.1))
-          (λ w e k i. ⊎_elim (l.invariant.1 (sym w.1 ∙ e) k) (λ j. ap (part_at a.cl.now a.o) j ∙ sym q ∙ w.0.left) (less_or_equal k l.l (omega arith)))
+          (λ w e k i. ⊎_elim (c.loop-l.invariant.1 (sym w.1 ∙ e) k) (λ j. ap (part_at a.cl.now a.o) j ∙ sym q ∙ w.0.left) (less_or_equal k c.loop-l.l (omega arith)))
           c.if-q-p.branch,
     )
 

@@ -17,17 +17,13 @@ pub with-r-requires : goal.with-r-requires
 with-r-requires c = let h = c.loop-l-test.true in omega arith
 
 pub loop-l-preserved : goal.loop-l-preserved
-loop-l-preserved c = let class-part = c.class_part-q in
-    let loop-test = c.loop-l-test in
-    let loop = c.loop-l in
-    let args = c.args in
-    let h = loop-test.true in (
+loop-l-preserved c = let args = c.args in
+    let h = c.loop-l-test.true in (
       omega arith,
-      ⊎_elim (λ w. others_out args.cl.now args.o args.p loop.l loop.r _ w.1.result w.1.ensures w.2 loop.invariant.1)
-          (λ w. others_in args.cl.now args.o args.p loop.l loop.r _ class-part.result class-part.ensures.0 w.0.left w.1 loop.invariant.1) c.if-q-p.branch,
+      ⊎_elim (λ w. others_out args.cl.now args.o args.p c.loop-l.l c.loop-l.r _ w.1.result w.1.ensures w.2 c.loop-l.invariant.1)
+          (λ w. others_in args.cl.now args.o args.p c.loop-l.l c.loop-l.r _ c.class_part-q.result c.class_part-q.ensures.0 w.0.left w.1 c.loop-l.invariant.1) c.if-q-p.branch,
     )
 
 pub returns : goal.returns
 returns c = let args = c.args in
-    let l = c.loop-l in
-    subst (λ (n : ℕ). Others args.cl.now args.o args.p n l.r) (let h = c.loop-l-test.false in let z = l.invariant.0 in omega arith) l.invariant.1
+    subst (λ (n : ℕ). Others args.cl.now args.o args.p n c.loop-l.r) (let h = c.loop-l-test.false in let z = c.loop-l.invariant.0 in omega arith) c.loop-l.invariant.1

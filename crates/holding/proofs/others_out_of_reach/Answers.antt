@@ -24,15 +24,12 @@ out_of_reach-requires c = let p = c.requires in
     (p.0, p.1, p.2, p.3, p.4, p.5, p.6, p.7)
 
 pub returns-then-out_of_reach : goal.returns-then-out_of_reach
-returns-then-out_of_reach c = let a = c.lacks-a in
-    let p = c.lowest-p.result in
+returns-then-out_of_reach c = let p = c.lowest-p.result in
     let r = c.out_of_reach.ensures c.if-out_of_reach.true in
-    λ e. (r.0, (p, a.result.total, a.result.news, a.ensures, r.1))
+    λ e. (r.0, (p, c.lacks-a.result.total, c.lacks-a.result.news, c.lacks-a.ensures, r.1))
 
 pub loop-rest-smaller : goal.loop-rest-smaller
-loop-rest-smaller c = let without = c.without-rest in
-    let lowest = c.lowest-p in
-    without.ensures.less lowest.ensures.1
+loop-rest-smaller c = c.without-rest.ensures.less c.lowest-p.ensures.1
 
 pub loop-rest-preserved : goal.loop-rest-preserved
 loop-rest-preserved c = tt

@@ -15,7 +15,5 @@ pub fewer_blocks-requires : goal.fewer_blocks-requires
 fewer_blocks-requires c = let p = c.requires in (p.2, p.4)
 
 pub returns : goal.returns
-returns c = let d = c.reach-d in
-    let f = c.fewer_blocks in
-    let h = c.if-t-gt1.false in
-    λ e. (h, λ mask b. (d.result, d.ensures, f.ensures e mask b))
+returns c = let h = c.if-t-gt1.false in
+    λ e. (h, λ mask b. (c.reach-d.result, c.reach-d.ensures, c.fewer_blocks.ensures e mask b))

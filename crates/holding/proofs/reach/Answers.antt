@@ -32,12 +32,11 @@ labelled : (c : goal.After-label-l) → (c.label.result < 32) × (c.before.befor
     × (length c.args.dom.now ≡ 32)
     × (length c.args.own.now ≡ 32)
 labelled c =
-    let loop = c.loop-y in
     let pre = c.requires in
     let v = pre.2 in
     let o = pre.3 in
     let d = c.loop-y-test.true in
-    let low = pre.0.low (c.args.t.number * 32 + loop.y) (omega arith) in
+    let low = pre.0.low (c.args.t.number * 32 + c.loop-y.y) (omega arith) in
     let same = c.label-l.ensures in
     (omega arith, omega arith, pre.4, pre.5)
 
@@ -67,24 +66,23 @@ pub loop-y-preserved : goal.loop-y-preserved
 loop-y-preserved c = let h = c.loop-y-test.true in
     let z = c.requires.2 in
     let a = c.args in
-    let l = c.loop-y in (
+    (
       omega arith,
       ⊎_elim
-          (λ w. reached_more a.cl.now a.base.now a.n.owns a.n.wants a.codes.now a.dom.now a.own.now a.t.number a.p l.y w.1.result w.6.result l.r
-          _ w.1.ensures w.6.ensures w.7 l.invariant.1)
+          (λ w. reached_more a.cl.now a.base.now a.n.owns a.n.wants a.codes.now a.dom.now a.own.now a.t.number a.p c.loop-y.y w.1.result w.6.result c.loop-y.r
+          _ w.1.ensures w.6.ensures w.7 c.loop-y.invariant.1)
           (⊎_elim
-          (λ w. reached_same a.cl.now a.base.now a.n.owns a.n.wants a.codes.now a.dom.now a.own.now a.t.number a.p l.y l.r _
+          (λ w. reached_same a.cl.now a.base.now a.n.owns a.n.wants a.codes.now a.dom.now a.own.now a.t.number a.p c.loop-y.y c.loop-y.r _
           (λ u i. subst (λ (k : ℕ). part_at a.cl.now a.t.number k ≡ a.p → need a.n.wants a.base.now a.t.number k ≤ get_or a.n.owns k 0)
           w.1.ensures (w.2.ensures w.3.left) i)
-          w.4 l.invariant.1)
-          (λ w. reached_same a.cl.now a.base.now a.n.owns a.n.wants a.codes.now a.dom.now a.own.now a.t.number a.p l.y l.r _
-          (λ u i. let k = w.0.left in absurd (omega arith)) w.1 l.invariant.1))
+          w.4 c.loop-y.invariant.1)
+          (λ w. reached_same a.cl.now a.base.now a.n.owns a.n.wants a.codes.now a.dom.now a.own.now a.t.number a.p c.loop-y.y c.loop-y.r _
+          (λ u i. let k = w.0.left in absurd (omega arith)) w.1 c.loop-y.invariant.1))
           c.if-codes-y-ge-NO_CODE.branch,
     )
 
 pub returns : goal.returns
 returns c = let a = c.args in
-    let l = c.loop-y in
     let h = c.loop-y-test.false in
-    let z = l.invariant.0 in
-    subst (λ (n : ℕ). Reached a.cl.now a.base.now a.n.owns a.n.wants a.codes.now a.dom.now a.own.now a.t.number a.p n l.r) (omega arith) l.invariant.1
+    let z = c.loop-y.invariant.0 in
+    subst (λ (n : ℕ). Reached a.cl.now a.base.now a.n.owns a.n.wants a.codes.now a.dom.now a.own.now a.t.number a.p n c.loop-y.r) (omega arith) c.loop-y.invariant.1

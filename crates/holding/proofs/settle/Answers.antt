@@ -16,45 +16,35 @@ bounds-ms-o c = let pre = c.requires in
     search rules
 
 pub slice_bounds-wanted-end : goal.slice_bounds-wanted-end
-slice_bounds-wanted-end c = let held = c.held in
-    sym held.ensures.own-long
+slice_bounds-wanted-end c = sym c.held.ensures.own-long
 
 pub slice_bounds-wanted-end-2 : goal.slice_bounds-wanted-end-2
-slice_bounds-wanted-end-2 c = let held = c.held in
-    sym held.ensures.owns-long
+slice_bounds-wanted-end-2 c = sym c.held.ensures.owns-long
 
 pub slice_bounds-wanted-end-3 : goal.slice_bounds-wanted-end-3
-slice_bounds-wanted-end-3 c = let held = c.held in
-    sym held.ensures.owns-long
+slice_bounds-wanted-end-3 c = sym c.held.ensures.owns-long
 
 pub wanted-requires : goal.wanted-requires
-wanted-requires c = let held = c.held in
-    let pre = c.requires in
+wanted-requires c = let pre = c.requires in
     let few = pre.3 in
     let outs = pre.4 in
     let o = pre.5 in
-    let s = held.ensures in
+    let s = c.held.ensures in
     (pre.0, few, omega arith, pre.7, s.own-long, s.owns-long, λ l k. let z = s.less l k in omega arith, refl, refl, all_ones 32)
 
 pub slice_bounds-narrow_by-end : goal.slice_bounds-narrow_by-end
-slice_bounds-narrow_by-end c = let held = c.held in
-    sym held.ensures.own-long
+slice_bounds-narrow_by-end c = sym c.held.ensures.own-long
 
 pub slice_bounds-narrow_by-end-2 : goal.slice_bounds-narrow_by-end-2
-slice_bounds-narrow_by-end-2 c = let wanted = c.wanted in
-    sym wanted.ensures.meet-long
+slice_bounds-narrow_by-end-2 c = sym c.wanted.ensures.meet-long
 
 pub narrow_by-requires : goal.narrow_by-requires
-narrow_by-requires c = let wanted = c.wanted in
-    let held = c.held in
-    let pre = c.requires in
-    (pre.0, pre.1, pre.2, pre.3, pre.4, pre.5, pre.6, pre.7, held.ensures, wanted.ensures)
+narrow_by-requires c = let pre = c.requires in
+    (pre.0, pre.1, pre.2, pre.3, pre.4, pre.5, pre.6, pre.7, c.held.ensures, c.wanted.ensures)
 
 pub shape_of-dom : goal.shape_of-dom
-shape_of-dom c = let narrow-by = c.narrow_by in
-    let pre = c.requires in
-    narrow-by.ensures.1 ∙ sym pre.7
+shape_of-dom c = let pre = c.requires in
+    c.narrow_by.ensures.1 ∙ sym pre.7
 
 pub returns : goal.returns
-returns c = let narrow-by = c.narrow_by in
-    narrow-by.ensures
+returns c = c.narrow_by.ensures

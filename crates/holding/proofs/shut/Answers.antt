@@ -27,12 +27,11 @@ label-l-requires c = let h = c.loop-y-test.true in
     (let e = p.0.long in omega arith, p.2, omega arith)
 
 pub in_set-requires : goal.in_set-requires
-in_set-requires c = let loop = c.loop-y in
-    let h = c.loop-y-test.true in
+in_set-requires c = let h = c.loop-y-test.true in
     let p = c.requires in
     let v = p.1 in
     let o = p.2 in
-    let l = p.0.low (c.args.o * 32 + loop.y) (omega arith) in
+    let l = p.0.low (c.args.o * 32 + c.loop-y.y) (omega arith) in
     let e = c.label-l.ensures in
     omega arith
 
@@ -62,16 +61,15 @@ bounds-dom-y-then-not-in_set c = let n = c.loop-y.invariant.1.long in
 
 pub loop-y-preserved : goal.loop-y-preserved
 loop-y-preserved c = let a = c.args in
-    let l = c.loop-y in
     let h = c.loop-y-test.true in let z = c.requires.1 in
     let P = Free a.cl.now a.o a.seen a.b in (
       omega arith,
       ⊎_elim
-          (λ w. shut_more a.cl.now a.o a.seen a.b l.y w.1.result w.5.result a.dom.now l.dom _ w.2.result (omega arith) w.1.ensures w.2.ensures
-          (not-true _ w.3.taken) w.5.ensures w.6 l.invariant.1)
+          (λ w. shut_more a.cl.now a.o a.seen a.b c.loop-y.y w.1.result w.5.result a.dom.now c.loop-y.dom _ w.2.result (omega arith) w.1.ensures w.2.ensures
+          (not-true _ w.3.taken) w.5.ensures w.6 c.loop-y.invariant.1)
           (⊎_elim
-          (λ w. narrowed_same P a.dom.now l.y l.dom _ w.4 l.invariant.1)
-          (λ w. narrowed_same P a.dom.now l.y l.dom _ w.1 l.invariant.1))
+          (λ w. narrowed_same P a.dom.now c.loop-y.y c.loop-y.dom _ w.4 c.loop-y.invariant.1)
+          (λ w. narrowed_same P a.dom.now c.loop-y.y c.loop-y.dom _ w.1 c.loop-y.invariant.1))
           c.if-codes-y-ge-NO_CODE.branch,
     )
 
@@ -80,5 +78,4 @@ shape_of-dom c = c.loop-y.invariant.1.long ∙ sym c.requires.4
 
 pub returns : goal.returns
 returns c = let a = c.args in
-    let l = c.loop-y in
-    subst (λ (n : ℕ). Narrowed (Free a.cl.now a.o a.seen a.b) a.dom.now n l.dom) (let h = c.loop-y-test.false in let z = l.invariant.0 in omega arith) l.invariant.1
+    subst (λ (n : ℕ). Narrowed (Free a.cl.now a.o a.seen a.b) a.dom.now n c.loop-y.dom) (let h = c.loop-y-test.false in let z = c.loop-y.invariant.0 in omega arith) c.loop-y.invariant.1

@@ -18,21 +18,18 @@ pub joined-r-requires : goal.joined-r-requires
 joined-r-requires c = c.loop-i-test.true
 
 pub loop-i-preserved : goal.loop-i-preserved
-loop-i-preserved c = let in-set = c.in_set in
-    let h = c.loop-i-test.true in
-    let loop = c.loop-i in
+loop-i-preserved c = let h = c.loop-i-test.true in
     let args = c.args in (
       omega arith,
       ⊎_elim
-          (λ w. spreading_more args.mask args.d loop.i loop.r _ w.1.result h (sym in-set.ensures ∙ not-true _ w.0.taken) w.1.ensures w.2 loop.invariant.1)
-          (λ w. spreading_same args.mask args.d loop.i loop.r _ (sym in-set.ensures ∙ not-false _ w.0.left) w.1 loop.invariant.1)
+          (λ w. spreading_more args.mask args.d c.loop-i.i c.loop-i.r _ w.1.result h (sym c.in_set.ensures ∙ not-true _ w.0.taken) w.1.ensures w.2 c.loop-i.invariant.1)
+          (λ w. spreading_same args.mask args.d c.loop-i.i c.loop-i.r _ (sym c.in_set.ensures ∙ not-false _ w.0.left) w.1 c.loop-i.invariant.1)
           c.if-not-in_set.branch,
     )
 
 pub returns : goal.returns
-returns c = let loop = c.loop-i in
-    let args = c.args in
+returns c = let args = c.args in
     let h = c.loop-i-test.false in
-    let z = loop.invariant.0 in
-    let e : loop.i ≡ 6 = omega arith in
-    spreading_end args.mask args.d loop.r c.ranges.mask.fits (subst (λ (n : ℕ). Spreading args.mask args.d n loop.r) e loop.invariant.1)
+    let z = c.loop-i.invariant.0 in
+    let e : c.loop-i.i ≡ 6 = omega arith in
+    spreading_end args.mask args.d c.loop-i.r c.ranges.mask.fits (subst (λ (n : ℕ). Spreading args.mask args.d n c.loop-i.r) e c.loop-i.invariant.1)

@@ -18,16 +18,14 @@ with-r-requires c = let h = c.loop-p-test.true in omega arith
 
 pub loop-p-preserved : goal.loop-p-preserved
 loop-p-preserved c = let a = c.args in
-    let l = c.loop-p in
     let h = c.loop-p-test.true in (
       omega arith,
       ⊎_elim
-          (λ w. tight_more a.ts.now a.spot l.p l.r _ w.1.result w.0.taken w.1.ensures w.2 l.invariant.1)
-          (λ w. tight_same a.ts.now a.spot l.p l.r _ w.1 l.invariant.1)
+          (λ w. tight_more a.ts.now a.spot c.loop-p.p c.loop-p.r _ w.1.result w.0.taken w.1.ensures w.2 c.loop-p.invariant.1)
+          (λ w. tight_same a.ts.now a.spot c.loop-p.p c.loop-p.r _ w.1 c.loop-p.invariant.1)
           c.if-ts-p.branch,
     )
 
 pub returns : goal.returns
 returns c = let a = c.args in
-    let l = c.loop-p in
-    subst (λ (n : ℕ). TightBelow a.ts.now a.spot n l.r) (let h = c.loop-p-test.false in let z = l.invariant.0 in omega arith) l.invariant.1
+    subst (λ (n : ℕ). TightBelow a.ts.now a.spot n c.loop-p.r) (let h = c.loop-p-test.false in let z = c.loop-p.invariant.0 in omega arith) c.loop-p.invariant.1

@@ -9,4 +9,4 @@ pub bounds-ts-p : goal.bounds-ts-p
 bounds-ts-p c = let l = c.largest-p.ensures in search rules
 
 pub returns : goal.returns
-returns c = let l = c.largest-p in let t = c.totals-ts.ensures in (l.result, t.each l.result l.ensures)
+returns c = let t = c.totals-ts.ensures in (c.largest-p.result, t.each c.largest-p.result c.largest-p.ensures)

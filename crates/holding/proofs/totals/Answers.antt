@@ -19,8 +19,7 @@ pub bounds-owns-l : goal.bounds-owns-l
 bounds-owns-l c = let n = c.requires.3 in search rules
 
 pub label-requires : goal.label-requires
-label-requires c = let loop-test = c.loop-l-test in
-    let z = c.requires.1 in (omega arith, c.requires.2, loop-test.true)
+label-requires c = let z = c.requires.1 in (omega arith, c.requires.2, c.loop-l-test.true)
 
 pub overflow_cast-n : goal.overflow_cast-n
 overflow_cast-n c = let z = c.larger-n.ensures.1 in search rules
@@ -51,17 +50,14 @@ pub bounds-t-p-in-loop-l : goal.bounds-t-p-in-loop-l
 bounds-t-p-in-loop-l c = let facts = needs-more c in search rules
 
 pub loop-l-preserved : goal.loop-l-preserved
-loop-l-preserved c = let class-part = c.class_part-p in
-    let a = c.args in
-    let l = c.loop-l in
+loop-l-preserved c = let a = c.args in
     let h = c.loop-l-test.true in (
       omega arith,
-      totals_more a.cl.now a.owns.now a.base.now a.o l.l l.t class-part.result c.larger-n.result
-          class-part.ensures.0 class-part.ensures.1
-          (c.larger-n.ensures.0 ∙ ap (max (get_or a.owns.now l.l 0)) c.label.ensures) c.larger-n.ensures.1 l.invariant.1,
+      totals_more a.cl.now a.owns.now a.base.now a.o c.loop-l.l c.loop-l.t c.class_part-p.result c.larger-n.result
+          c.class_part-p.ensures.0 c.class_part-p.ensures.1
+          (c.larger-n.ensures.0 ∙ ap (max (get_or a.owns.now c.loop-l.l 0)) c.label.ensures) c.larger-n.ensures.1 c.loop-l.invariant.1,
     )
 
 pub returns : goal.returns
 returns c = let a = c.args in
-    let l = c.loop-l in
-    subst (λ (n : ℕ). Totals a.cl.now a.owns.now a.base.now a.o n l.t) (let h = c.loop-l-test.false in let z = l.invariant.0 in omega arith) l.invariant.1
+    subst (λ (n : ℕ). Totals a.cl.now a.owns.now a.base.now a.o n c.loop-l.t) (let h = c.loop-l-test.false in let z = c.loop-l.invariant.0 in omega arith) c.loop-l.invariant.1

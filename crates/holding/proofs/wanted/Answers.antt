@@ -15,9 +15,8 @@ loop-y-init c = let args = c.args in
     (omega arith, wanted_start args.cl.now args.o args.mask args.dom.now args.own.now args.owns.now _ _ pre.7 pre.5 pre.8 pre.9)
 
 pub label-l-requires : goal.label-l-requires
-label-l-requires c = let loop-test = c.loop-y-test in
-    let pre = c.requires in
-    let d = loop-test.true in
+label-l-requires c = let pre = c.requires in
+    let d = c.loop-y-test.true in
     let few = pre.1 in
     let long = pre.0.long in
     (omega arith, pre.2, omega arith)
@@ -31,15 +30,14 @@ labelled : (c : goal.After-label-l) → (c.label.result < 32) × (c.before.befor
     × Long (goal.at.HELPER c).Start c.loop-y.wants c.loop-y.meet
     × (get_or c.args.owns.now c.label-l.result 0 ≤ 32)
 labelled c =
-    let loop = c.loop-y in
     let pre = c.requires in
     let few = pre.1 in
     let o = pre.2 in
     let d = c.loop-y-test.true in
-    let low = pre.0.low (c.args.o * 32 + loop.y) (omega arith) in
+    let low = pre.0.low (c.args.o * 32 + c.loop-y.y) (omega arith) in
     let same = c.label-l.ensures in
     let class : c.label-l.result < 32 = omega arith in
-    (class, omega arith, (pre.3, pre.4, pre.5, loop.invariant.1.long, loop.invariant.1.meet-long), pre.6 c.label-l.result class)
+    (class, omega arith, (pre.3, pre.4, pre.5, c.loop-y.invariant.1.long, c.loop-y.invariant.1.meet-long), pre.6 c.label-l.result class)
 
 pub offset_bounds-dom-y : goal.offset_bounds-dom-y
 offset_bounds-dom-y c = let facts = labelled c in search rules
@@ -81,40 +79,32 @@ pub bounds-wants-l : goal.bounds-wants-l
 bounds-wants-l c = let facts = labelled (goal.at.bounds-wants-l c).After-label-l in search rules
 
 pub loop-y-preserved : goal.loop-y-preserved
-loop-y-preserved c = let if1 = c.if-dom-y-eq0 in
-    let label = c.label-l in
-    let loop-test = c.loop-y-test in
-    let loop = c.loop-y in
-    let pre = c.requires in
+loop-y-preserved c = let pre = c.requires in
     let args = c.args in
     let few = pre.1 in
     let o = pre.2 in
-    let d = loop-test.true in
-    let low = pre.0.low (args.o * 32 + loop.y) (omega arith) in
-    let same = label.ensures in (
+    let d = c.loop-y-test.true in
+    let low = pre.0.low (args.o * 32 + c.loop-y.y) (omega arith) in
+    let same = c.label-l.ensures in (
       omega arith,
-      ⊎_elim (λ w. wanted_more args.cl.now args.o args.mask args.dom.now args.own.now args.owns.now loop.y label.result w.2.result w.5.result
-          loop.wants loop.meet _ _ same (omega arith) w.0.taken (λ k i n. w.2.ensures.whole n.0 k n.1 i n.2 n.3) w.5.ensures w.7 w.6 loop.invariant.1)
-          (λ w. wanted_same args.cl.now args.o args.mask args.dom.now args.own.now args.owns.now loop.y loop.wants loop.meet _ _ w.1 w.2
-          loop.invariant.1)
-          if1.branch,
+      ⊎_elim (λ w. wanted_more args.cl.now args.o args.mask args.dom.now args.own.now args.owns.now c.loop-y.y c.label-l.result w.2.result w.5.result
+          c.loop-y.wants c.loop-y.meet _ _ same (omega arith) w.0.taken (λ k i n. w.2.ensures.whole n.0 k n.1 i n.2 n.3) w.5.ensures w.7 w.6 c.loop-y.invariant.1)
+          (λ w. wanted_same args.cl.now args.o args.mask args.dom.now args.own.now args.owns.now c.loop-y.y c.loop-y.wants c.loop-y.meet _ _ w.1 w.2
+          c.loop-y.invariant.1)
+          c.if-dom-y-eq0.branch,
     )
 
 pub shape_of-wants : goal.shape_of-wants
-shape_of-wants c = let loop = c.loop-y in
-    let pre = c.requires in
-    loop.invariant.1.long ∙ sym (ap length pre.7 ∙ pre.5)
+shape_of-wants c = let pre = c.requires in
+    c.loop-y.invariant.1.long ∙ sym (ap length pre.7 ∙ pre.5)
 
 pub shape_of-meet : goal.shape_of-meet
-shape_of-meet c = let loop = c.loop-y in
-    let pre = c.requires in
-    loop.invariant.1.meet-long ∙ sym pre.8
+shape_of-meet c = let pre = c.requires in
+    c.loop-y.invariant.1.meet-long ∙ sym pre.8
 
 pub returns : goal.returns
-returns c = let loop-test = c.loop-y-test in
-    let loop = c.loop-y in
-    let args = c.args in
-    let h = loop-test.false in
-    let z = loop.invariant.0 in
-    let e : loop.y ≡ args.v = omega arith in
-    subst (λ (n : ℕ). Wanted args.cl.now args.o args.mask n args.dom.now args.own.now args.owns.now loop.wants loop.meet) e loop.invariant.1
+returns c = let args = c.args in
+    let h = c.loop-y-test.false in
+    let z = c.loop-y.invariant.0 in
+    let e : c.loop-y.y ≡ args.v = omega arith in
+    subst (λ (n : ℕ). Wanted args.cl.now args.o args.mask n args.dom.now args.own.now args.owns.now c.loop-y.wants c.loop-y.meet) e c.loop-y.invariant.1

@@ -21,12 +21,8 @@ pub returns-then-a-b : goal.returns-then-a-b
 returns-then-a-b c = λ e. absurd (true_false (sym e))
 
 pub loop-o-preserved : goal.loop-o-preserved
-loop-o-preserved c = let label2 = c.label-b in
-    let label = c.label-a in
-    let loop-test = c.loop-o-test in
-    let loop = c.loop-o in
-    let args = c.args in
-    let h = loop-test.true in (omega arith, alike_more args.cl.now loop.o args.x.0 args.y.0 (sym label.ensures ∙ c.if-a-b.false ∙ label2.ensures) loop.invariant.1)
+loop-o-preserved c = let args = c.args in
+    let h = c.loop-o-test.true in (omega arith, alike_more args.cl.now c.loop-o.o args.x.0 args.y.0 (sym c.label-a.ensures ∙ c.if-a-b.false ∙ c.label-b.ensures) c.loop-o.invariant.1)
 
 pub known_at-requires : goal.known_at-requires
 known_at-requires c = c.requires.2
@@ -36,6 +32,5 @@ known_at-requires-2 c = c.requires.3
 
 pub returns : goal.returns
 returns c = λ e.
-    let loop = c.loop-o in
     let end = c.loop-o-test.false in
-    ((λ o h. loop.invariant.1 o (omega arith)), sym c.known_at_lem.ensures ∙ eqb-true _ _ e ∙ c.known_at-2.ensures)
+    ((λ o h. c.loop-o.invariant.1 o (omega arith)), sym c.known_at_lem.ensures ∙ eqb-true _ _ e ∙ c.known_at-2.ensures)

@@ -10,11 +10,10 @@ pub bounds-first-i : goal.bounds-first-i
 bounds-first-i c = let h = c.loop-i-test.true in let z = c.requires.3 in search rules
 
 pub alike-requires : goal.alike-requires
-alike-requires c = let loop = c.loop-i in
-    let h = c.loop-i-test.true in
+alike-requires c = let h = c.loop-i-test.true in
     let p = c.requires in
     let z = p.3 in
-    (p.0, p.1, p.2, p.4 loop.i (omega arith))
+    (p.0, p.1, p.2, p.4 c.loop-i.i (omega arith))
 
 pub returns-then-alike : goal.returns-then-alike
 returns-then-alike c = let h = c.loop-i-test.true in (omega arith, λ l. c.alike.ensures c.if-alike.true)

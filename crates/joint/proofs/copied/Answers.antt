@@ -13,7 +13,7 @@ pub bounds-cl-i : goal.bounds-cl-i
 bounds-cl-i c = let z = c.requires.long in let h = c.loop-i-test.true in search rules
 
 pub loop-i-preserved : goal.loop-i-preserved
-loop-i-preserved c = let h = c.loop-i-test.true in let l = c.loop-i in (omega arith, filled_more _ h refl l.invariant.1)
+loop-i-preserved c = let h = c.loop-i-test.true in (omega arith, filled_more _ h refl c.loop-i.invariant.1)
 
 pub returns : goal.returns
-returns c = let l = c.loop-i in subst (λ (n : ℕ). Copied c.args.cl.now n l.r) (let h = c.loop-i-test.false in let z = l.invariant.0 in omega arith) l.invariant.1
+returns c = subst (λ (n : ℕ). Copied c.args.cl.now n c.loop-i.r) (let h = c.loop-i-test.false in let z = c.loop-i.invariant.0 in omega arith) c.loop-i.invariant.1

@@ -20,19 +20,17 @@ pub bounds-first-i : goal.bounds-first-i
 bounds-first-i c = let h = c.loop-i-test.true in let p = c.requires in let few = p.0 in search rules
 
 pub overflow_cast-x : goal.overflow_cast-x
-overflow_cast-x c = let loop = c.loop-i in
-    let h = c.loop-i-test.true in
+overflow_cast-x c = let h = c.loop-i-test.true in
     let p = c.requires in
     let few = p.0 in
-    let z = p.1 loop.i (omega arith) in
+    let z = p.1 c.loop-i.i (omega arith) in
     omega arith
 
 pub in_set-requires : goal.in_set-requires
-in_set-requires c = let loop = c.loop-i in
-    let h = c.loop-i-test.true in
+in_set-requires c = let h = c.loop-i-test.true in
     let p = c.requires in
     let few = p.0 in
-    let z = p.1 loop.i (omega arith) in
+    let z = p.1 c.loop-i.i (omega arith) in
     omega arith
 
 pub overflow_cast-i : goal.overflow_cast-i
@@ -44,27 +42,24 @@ with-r-requires c = let h = c.loop-i-test.true in let p = c.requires in let few 
 pub loop-i-preserved : goal.loop-i-preserved
 loop-i-preserved c = let a = c.args in
     let h = c.loop-i-test.true in
-    let l = c.loop-i in
     let d = sym c.in_set.ensures in (
       omega arith,
       ⊎_elim
-          (λ w. drawn_in a.s a.t2 l.i l.r _ _ (d ∙ w.0.taken) w.1.ensures w.2 l.invariant.1)
-          (λ w. drawn_out a.s a.t2 l.i l.r _ (d ∙ w.0.left) w.1 l.invariant.1)
+          (λ w. drawn_in a.s a.t2 c.loop-i.i c.loop-i.r _ _ (d ∙ w.0.taken) w.1.ensures w.2 c.loop-i.invariant.1)
+          (λ w. drawn_out a.s a.t2 c.loop-i.i c.loop-i.r _ (d ∙ w.0.left) w.1 c.loop-i.invariant.1)
           c.if-in_set.branch,
     )
 
 pub overflow_cast-result : goal.overflow_cast-result
 overflow_cast-result c = let a = c.args in
     let few = c.requires.0 in
-    let l = c.loop-i in
-    let i = l.invariant.0 in
-    let low = drawn_low a.s a.t2 l.i l.r (omega arith) l.invariant.1 in
+    let i = c.loop-i.invariant.0 in
+    let low = drawn_low a.s a.t2 c.loop-i.i c.loop-i.r (omega arith) c.loop-i.invariant.1 in
     omega arith
 
 pub returns : goal.returns
 returns c = let a = c.args in
-    let l = c.loop-i in
     let end = c.loop-i-test.false in
-    let i = l.invariant.0 in
-    let e : l.i ≡ a.n = omega arith in
-    subst (λ (n : ℕ). Drawn a.s a.t2 n l.r) e l.invariant.1
+    let i = c.loop-i.invariant.0 in
+    let e : c.loop-i.i ≡ a.n = omega arith in
+    subst (λ (n : ℕ). Drawn a.s a.t2 n c.loop-i.r) e c.loop-i.invariant.1

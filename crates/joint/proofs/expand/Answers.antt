@@ -16,18 +16,15 @@ pub bounds-place-x : goal.bounds-place-x
 bounds-place-x c = let h = c.loop-x-test.true in let z = c.requires.0 in search rules
 
 pub bounds-codes-i : goal.bounds-codes-i
-bounds-codes-i c = let loop = c.loop-x in
-    let z = c.requires.1 loop.x c.loop-x-test.true in search rules
+bounds-codes-i c = let z = c.requires.1 c.loop-x.x c.loop-x-test.true in search rules
 
 pub bounds-r-x : goal.bounds-r-x
 bounds-r-x c = let h = c.loop-x-test.true in let z = c.requires.0 in search rules
 
 pub loop-x-preserved : goal.loop-x-preserved
-loop-x-preserved c = let l = c.loop-x in
-    let h = c.loop-x-test.true in
+loop-x-preserved c = let h = c.loop-x-test.true in
     let z = c.requires.0 in
-    (omega arith, filled_more _ (omega arith) refl l.invariant.1)
+    (omega arith, filled_more _ (omega arith) refl c.loop-x.invariant.1)
 
 pub returns : goal.returns
-returns c = let l = c.loop-x in
-    subst (λ (z : ℕ). Spread c.args.place c.args.codes z l.r) (let h = c.loop-x-test.false in let z = l.invariant.0 in omega arith) l.invariant.1
+returns c = subst (λ (z : ℕ). Spread c.args.place c.args.codes z c.loop-x.r) (let h = c.loop-x-test.false in let z = c.loop-x.invariant.0 in omega arith) c.loop-x.invariant.1

@@ -22,15 +22,11 @@ pub in_set-requires-2 : goal.in_set-requires-2
 in_set-requires-2 c = let h = c.requires in omega arith
 
 pub returns-then-in_set : goal.returns-then-in_set
-returns-then-in_set c = let in-set = c.in_set in
-    let if1 = c.if-not-in_set in
-    let a = c.args in
-    let known = sym in-set.ensures ∙ not-false _ if1.false in
+returns-then-in_set c = let a = c.args in
+    let known = sym c.in_set.ensures ∙ not-false _ c.if-not-in_set.false-raw in
     one_at a.kn a.val a.x.0 known (sym c.in_set-2.ensures ∙ c.if-in_set.true)
 
 pub returns-else-in_set : goal.returns-else-in_set
-returns-else-in_set c = let in-set = c.in_set in
-    let if1 = c.if-not-in_set in
-    let a = c.args in
-    let known = sym in-set.ensures ∙ not-false _ if1.false in
+returns-else-in_set c = let a = c.args in
+    let known = sym c.in_set.ensures ∙ not-false _ c.if-not-in_set.false-raw in
     zero_at a.kn a.val a.x.0 known (sym c.in_set-2.ensures ∙ c.if-in_set.false)

@@ -13,11 +13,10 @@ loop-x-init c = (omega arith, merged_start c.args.cl.now c.args.j c.args.kn c.ar
 
 pub class_of-q-requires : goal.class_of-q-requires
 class_of-q-requires c = let p = c.requires in
-    let l = c.loop-x in
     let h = c.loop-x-test.true in
     let few = p.1 in
-    let f = l.invariant.1.few in
-    (p.0, p.2, omega arith, omega arith, l.invariant.1.small)
+    let f = c.loop-x.invariant.1.few in
+    (p.0, p.2, omega arith, omega arith, c.loop-x.invariant.1.small)
 
 pub offset_bounds-place-x : goal.offset_bounds-place-x
 offset_bounds-place-x c = let h = c.loop-x-test.true in
@@ -50,21 +49,18 @@ overflow_add-n c = let h = c.loop-x-test.true in
     omega arith
 
 pub loop-x-preserved : goal.loop-x-preserved
-loop-x-preserved c = let l = c.loop-x in
-    let q = c.class_of-q in
-    let h = c.loop-x-test.true in
+loop-x-preserved c = let h = c.loop-x-test.true in
     let p = c.requires.1 in (
       omega arith,
       ⊎_elim
-          (λ w. at_new c.args.cl.now c.args.j c.args.kn c.args.val l.x l.n l.first _ l.place _
-          q.result (omega arith) l.invariant.1 w.0.taken w.1 w.2)
-          (λ w. at_old c.args.cl.now c.args.j c.args.kn c.args.val l.x l.n l.first _ l.place _
-          q.result (omega arith) l.invariant.1 q.ensures w.0.left w.1 w.2)
+          (λ w. at_new c.args.cl.now c.args.j c.args.kn c.args.val c.loop-x.x c.loop-x.n c.loop-x.first _ c.loop-x.place _
+          c.class_of-q.result (omega arith) c.loop-x.invariant.1 w.0.taken w.1 w.2)
+          (λ w. at_old c.args.cl.now c.args.j c.args.kn c.args.val c.loop-x.x c.loop-x.n c.loop-x.first _ c.loop-x.place _
+          c.class_of-q.result (omega arith) c.loop-x.invariant.1 c.class_of-q.ensures w.0.left w.1 w.2)
           c.if-q-n.branch,
     )
 
 pub returns : goal.returns
-returns c = let l = c.loop-x in
-    subst (λ (z : ℕ). Merged c.args.cl.now c.args.j c.args.kn c.args.val z l.n l.first l.place)
-    (let h = c.loop-x-test.false in let z = l.invariant.0 in omega arith)
-    l.invariant.1
+returns c = subst (λ (z : ℕ). Merged c.args.cl.now c.args.j c.args.kn c.args.val z c.loop-x.n c.loop-x.first c.loop-x.place)
+    (let h = c.loop-x-test.false in let z = c.loop-x.invariant.0 in omega arith)
+    c.loop-x.invariant.1

@@ -19,12 +19,11 @@ loop-i-init c = let args = c.args in
 
 pub label-requires : goal.label-requires
 label-requires c = let p = c.requires in
-    let l = c.loop-i in
     let h = c.loop-i-test.true in
-    let e = l.invariant.1 in
+    let e = c.loop-i.invariant.1 in
     let few = p.1 in
     let long = p.0.long in
-    (omega arith, omega arith, p.2 (l.i % max_vertices) (omega arith))
+    (omega arith, omega arith, p.2 (c.loop-i.i % max_vertices) (omega arith))
 
 pub bounds-r-i : goal.bounds-r-i
 bounds-r-i c = let h = c.loop-i-test.true in
@@ -39,14 +38,12 @@ overflow_add-i c = let h = c.loop-i-test.true in
     search rules
 
 pub loop-i-preserved : goal.loop-i-preserved
-loop-i-preserved c = let l = c.loop-i in
-    let h = c.loop-i-test.true in
-    let e = l.invariant.1 in
+loop-i-preserved c = let h = c.loop-i-test.true in
+    let e = c.loop-i.invariant.1 in
     let p = c.requires.1 in
-    (omega arith, e, picked_more c.args.cl.now c.args.first l.i _ l.r (omega arith) c.label.ensures l.invariant.2)
+    (omega arith, e, picked_more c.args.cl.now c.args.first c.loop-i.i _ c.loop-i.r (omega arith) c.label.ensures c.loop-i.invariant.2)
 
 pub returns : goal.returns
-returns c = let l = c.loop-i in
-    subst (λ (z : ℕ). Picked c.args.cl.now c.args.first z l.r)
-    (let h = c.loop-i-test.false in let z = l.invariant.0 in let e = l.invariant.1 in omega arith)
-    l.invariant.2
+returns c = subst (λ (z : ℕ). Picked c.args.cl.now c.args.first z c.loop-i.r)
+    (let h = c.loop-i-test.false in let z = c.loop-i.invariant.0 in let e = c.loop-i.invariant.1 in omega arith)
+    c.loop-i.invariant.2

@@ -8,40 +8,34 @@ use Rattle.locate.proofs.line_at.Goals as goal
 
 pub slice_bounds-result-count : goal.slice_bounds-result-count
 slice_bounds-result-count c = let a = c.args in
-    let r = c.range_of-p in
-    range_rises a.design.now a.network.now a.number a.line r.result.second r.result.start r.result.end r.ensures
+    range_rises a.design.now a.network.now a.number a.line c.range_of-p.result.second c.range_of-p.result.start c.range_of-p.result.end c.range_of-p.ensures
 
 pub slice_bounds-result-start : goal.slice_bounds-result-start
 slice_bounds-result-start c = sub-result c
 
 pub slice_bounds-result-end : goal.slice_bounds-result-end
 slice_bounds-result-end c = let a = c.args in
-    let r = c.range_of-p in
-    range_within a.design.now a.network.now a.number a.line r.result.second r.result.start r.result.end r.ensures
+    range_within a.design.now a.network.now a.number a.line c.range_of-p.result.second c.range_of-p.result.start c.range_of-p.result.end c.range_of-p.ensures
     a.network.now (ap (λ (b : Bool). sheet_of b a.design.now a.network.now) c.if-p.true)
 
 pub returns-then-p : goal.returns-then-p
 returns-then-p c = let a = c.args in
-    let r = c.range_of-p in
-    line_is a.design a.network a.network a.number a.line r.result.second r.result.start r.result.end c.result-1.given.0
-    r.ensures (ap (λ (b : Bool). sheet_of b a.design a.network) c.if-p.true)
+    line_is a.design a.network a.network a.number a.line c.range_of-p.result.second c.range_of-p.result.start c.range_of-p.result.end c.result-1.given.0
+    c.range_of-p.ensures (ap (λ (b : Bool). sheet_of b a.design a.network) c.if-p.true)
 
 pub slice_bounds-result-count-2 : goal.slice_bounds-result-count-2
 slice_bounds-result-count-2 c = let a = c.args in
-    let r = c.range_of-p in
-    range_rises a.design.now a.network.now a.number a.line r.result.second r.result.start r.result.end r.ensures
+    range_rises a.design.now a.network.now a.number a.line c.range_of-p.result.second c.range_of-p.result.start c.range_of-p.result.end c.range_of-p.ensures
 
 pub slice_bounds-result-start-2 : goal.slice_bounds-result-start-2
 slice_bounds-result-start-2 c = sub-result-2 c
 
 pub slice_bounds-result-end-2 : goal.slice_bounds-result-end-2
 slice_bounds-result-end-2 c = let a = c.args in
-    let r = c.range_of-p in
-    range_within a.design.now a.network.now a.number a.line r.result.second r.result.start r.result.end r.ensures
+    range_within a.design.now a.network.now a.number a.line c.range_of-p.result.second c.range_of-p.result.start c.range_of-p.result.end c.range_of-p.ensures
     a.design.now (ap (λ (b : Bool). sheet_of b a.design.now a.network.now) c.if-p.false)
 
 pub returns : goal.returns
 returns c = let a = c.args in
-    let r = c.range_of-p in
-    line_is a.design a.network a.design a.number a.line r.result.second r.result.start r.result.end c.result-2-1.given.0
-    r.ensures (ap (λ (b : Bool). sheet_of b a.design a.network) c.if-p.false)
+    line_is a.design a.network a.design a.number a.line c.range_of-p.result.second c.range_of-p.result.start c.range_of-p.result.end c.result-2-1.given.0
+    c.range_of-p.ensures (ap (λ (b : Bool). sheet_of b a.design a.network) c.if-p.false)

@@ -6,6 +6,5 @@ use Rattle.locate.proofs.place_of.Goals as goal
 
 pub returns : goal.returns
 returns c = let a = c.args in
-    let r = c.range_of-p in
     line_place (located a.design.now a.network.now a.number a.line) a.design a.network c.line_at-part.result
-    r.result.second r.result.start r.result.end c.line_at-part.ensures r.ensures
+    c.range_of-p.result.second c.range_of-p.result.start c.range_of-p.result.end c.line_at-part.ensures c.range_of-p.ensures

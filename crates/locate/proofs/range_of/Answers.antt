@@ -5,18 +5,14 @@ use Rattle.locate.specs.PlaceLaws.{range_design, range_network, range_neither}
 use Rattle.locate.proofs.range_of.Goals as goal
 
 pub returns-in-2-to-5 : goal.returns-in-2-to-5
-returns-in-2-to-5 c = let if1 = c.if-number-lt2 in
-    let a = c.args in
-    let r = c.Span-of in
-    range_design a.design.now a.network.now a.number a.line r.result.start r.result.end
-    if1.false c.if-number-lt6.true r.ensures
+returns-in-2-to-5 c = let a = c.args in
+    range_design a.design.now a.network.now a.number a.line c.Span-of.result.start c.Span-of.result.end
+    c.if-number-lt2.false c.if-number-lt6.true c.Span-of.ensures
 
 pub returns-in-10-to-11 : goal.returns-in-10-to-11
-returns-in-10-to-11 c = let if3 = c.if-number-lt10 in
-    let a = c.args in
-    let r = c.span_of-p-in-10-to-11 in
-    range_network a.design.now a.network.now a.number a.line r.result.start r.result.end
-    if3.false c.if-number-lt12.true r.ensures
+returns-in-10-to-11 c = let a = c.args in
+    range_network a.design.now a.network.now a.number a.line c.span_of-p-in-10-to-11.result.start c.span_of-p-in-10-to-11.result.end
+    c.if-number-lt10.false c.if-number-lt12.true c.span_of-p-in-10-to-11.ensures
 
 pub returns-in_default : goal.returns-in_default
 returns-in_default c = let a = c.args in

@@ -11,20 +11,17 @@ loop-at-init c = (reached_start c.args.s.now, λ h. h)
 
 pub overflow_add-next : goal.overflow_add-next
 overflow_add-next c = let i = c.line_end-e.ensures.inside in
-    let g = c.shared_slice_known-1.given in
+    let g = c.type_inv.s in
     search rules
 
 pub returns-then-number-line : goal.returns-then-number-line
-returns-then-number-line c = let loop-test = c.loop-at-test in
-    let a = c.args in
-    let l = c.loop-at in
-    let e = c.line_end-e in
-    reached_hit a.s.now l.at l.number e.result loop-test.true e.ensures l.invariant.0 a.line c.if-number-line.true
+returns-then-number-line c = let a = c.args in
+    reached_hit a.s.now c.loop-at.at c.loop-at.number c.line_end-e.result c.loop-at-test.true c.line_end-e.ensures c.loop-at.invariant.0 a.line c.if-number-line.true
 
 pub overflow_add-number : goal.overflow_add-number
 overflow_add-number c = let h = c.loop-at-test.true in
     let f = c.loop-at.invariant.0.few in
-    let g = c.shared_slice_known-1.given in
+    let g = c.type_inv.s in
     search rules
 
 pub loop-at-smaller : goal.loop-at-smaller
@@ -33,18 +30,14 @@ loop-at-smaller c = let h = c.loop-at-test.true in
     omega arith
 
 pub loop-at-preserved : goal.loop-at-preserved
-loop-at-preserved c = let loop-test = c.loop-at-test in
-    let a = c.args in
-    let l = c.loop-at in
-    let e = c.line_end-e in
+loop-at-preserved c = let a = c.args in
     let n = c.if-number-line.false in (
-      reached_more a.s.now l.at l.number e.result loop-test.true e.ensures l.invariant.0,
+      reached_more a.s.now c.loop-at.at c.loop-at.number c.line_end-e.result c.loop-at-test.true c.line_end-e.ensures c.loop-at.invariant.0,
       λ h.
-          let m = l.invariant.1 h in
+          let m = c.loop-at.invariant.1 h in
           omega arith,
     )
 
 pub returns : goal.returns
 returns c = let a = c.args in
-    let l = c.loop-at in
-    reached_end a.s.now l.at l.number a.line c.loop-at-test.false l.invariant.1 l.invariant.0
+    reached_end a.s.now c.loop-at.at c.loop-at.number a.line c.loop-at-test.false c.loop-at.invariant.1 c.loop-at.invariant.0

@@ -14,8 +14,7 @@ pub slice_bounds-raise_all-end : goal.slice_bounds-raise_all-end
 slice_bounds-raise_all-end c = let long = c.loop-o.invariant.1.long in search rules
 
 pub raise_all-requires : goal.raise_all-requires
-raise_all-requires c = let loop = c.loop-o in
-    let pre = c.requires in (pre.0, pre.1, pre.2, c.loop-o-test.true, loop.invariant.1)
+raise_all-requires c = let pre = c.requires in (pre.0, pre.1, pre.2, c.loop-o-test.true, c.loop-o.invariant.1)
 
 pub loop-o-preserved : goal.loop-o-preserved
 loop-o-preserved c = let h = c.loop-o-test.true in (omega arith, c.raise_all.ensures)

@@ -73,12 +73,10 @@ pub bounds-g-i : goal.bounds-g-i
 bounds-g-i c = let facts = labelled (goal.at.bounds-g-i c).After-label-k in let low_part = c.part-p.ensures.1 in search rules
 
 pub overflow_add-n : goal.overflow_add-n
-overflow_add-n c = let label = c.label-l in
-    let pre = c.requires in
-    let loop = c.loop-x in
+overflow_add-n c = let pre = c.requires in
     let h = c.loop-x-test.true in
-    let low = low-label pre.0 pre.2 pre.1 h label.ensures in
-    let small = (loop.invariant.1.found label.result c.part-p.result low c.part-p.ensures.1).few in
+    let low = low-label pre.0 pre.2 pre.1 h c.label-l.ensures in
+    let small = (c.loop-x.invariant.1.found c.label-l.result c.part-p.result low c.part-p.ensures.1).few in
     record { fits = omega arith }
 
 pub bounds-g-i-then-not-in_set : goal.bounds-g-i-then-not-in_set
@@ -93,32 +91,28 @@ bounds-r-l-then-r-l c = let facts = labelled (goal.at.bounds-r-l-then-r-l c).Aft
 pub loop-x-preserved : goal.loop-x-preserved
 loop-x-preserved c = let a = c.args in
     let pre = c.requires in
-    let loop = c.loop-x in
-    let l = c.label-l in
-    let k = c.label-k in
     let h = c.loop-x-test.true in
     let few = pre.1 in
-    let low = low-label pre.0 pre.2 pre.1 h l.ensures in
-    let new = counting_new a.cl.now a.o a.q loop.x l.result k.result loop.seen loop.g l.ensures low k.ensures loop.invariant.1 in
-    let later = kinds_skip a.cl.now a.o a.q loop.x loop.r loop.invariant.2 in
+    let low = low-label pre.0 pre.2 pre.1 h c.label-l.ensures in
+    let new = counting_new a.cl.now a.o a.q c.loop-x.x c.label-l.result c.label-k.result c.loop-x.seen c.loop-x.g c.label-l.ensures low c.label-k.ensures c.loop-x.invariant.1 in
+    let later = kinds_skip a.cl.now a.o a.q c.loop-x.x c.loop-x.r c.loop-x.invariant.2 in
     let next = ⊎_elim
     (λ w.
     let d = w.2.result in
     let hd = w.2.ensures.1 in
     let more = new d w.1.result (sym c.in_set.ensures ∙ not-true _ w.0.taken) w.1.ensures w.2.ensures.0 hd in
-    let most = kinds_raised a.cl.now a.o a.q loop.x l.result d _ _ loop.g loop.r (omega arith) low hd more loop.invariant.2 in
+    let most = kinds_raised a.cl.now a.o a.q c.loop-x.x c.label-l.result d _ _ c.loop-x.g c.loop-x.r (omega arith) low hd more c.loop-x.invariant.2 in
     moved w.4 w.5 w.6 more most)
     (⊎_elim
     (λ w.
     let more = new w.2.result w.1.result (sym c.in_set.ensures ∙ not-true _ w.0.taken) w.1.ensures w.2.ensures.0 w.2.ensures.1 in
     moved w.4 w.5 w.6 more later)
-    (λ w. moved w.1 w.2 w.3 (counting_skip a.cl.now a.o a.q loop.x loop.seen loop.g loop.invariant.1) later)) c.if-not-in_set.branch in
+    (λ w. moved w.1 w.2 w.3 (counting_skip a.cl.now a.o a.q c.loop-x.x c.loop-x.seen c.loop-x.g c.loop-x.invariant.1) later)) c.if-not-in_set.branch in
     (omega arith, next.0, next.1)
 
 pub returns : goal.returns
 returns c = let a = c.args in
-    let loop = c.loop-x in
     let h = c.loop-x-test.false in
-    let le = loop.invariant.0 in
-    let end : loop.x ≡ a.v = omega arith in
-    (subst (λ (x : ℕ). KindsSoFar a.cl.now a.o a.q x loop.r) end loop.invariant.2).each
+    let le = c.loop-x.invariant.0 in
+    let end : c.loop-x.x ≡ a.v = omega arith in
+    (subst (λ (x : ℕ). KindsSoFar a.cl.now a.o a.q x c.loop-x.r) end c.loop-x.invariant.2).each

@@ -43,18 +43,16 @@ bounds-base-i c = let pre = c.requires in
     search rules
 
 pub loop-l-preserved : goal.loop-l-preserved
-loop-l-preserved c = let loop = c.loop-l in
-    let power = c.power-p in
-    let a = c.args in
+loop-l-preserved c = let a = c.args in
     let pre = c.requires in
     let h = c.loop-l-test.true in
     let long = pre.0 in
     let small = pre.1 in
-    let blocks = ap (λ (z : ℕ). (item a.t3 loop.l + z - 1) / 2 ^ a.d) power.ensures.0 in
-    let Next : List ℕ → Type 0 = Raised a.o a.d (loop.l + 1) a.t3 a.base.now in (
+    let blocks = ap (λ (z : ℕ). (item a.t3 c.loop-l.l + z - 1) / 2 ^ a.d) c.power-p.ensures.0 in
+    let Next : List ℕ → Type 0 = Raised a.o a.d (c.loop-l.l + 1) a.t3 a.base.now in (
       omega arith,
-      ⊎_elim (λ w. subst Next (sym w.1) (raised_more a.o a.d a.t3 a.base.now loop.l _ loop.base (omega arith) blocks loop.invariant.1))
-          (λ w. subst Next (sym w.1) (raised_kept a.o a.d a.t3 a.base.now loop.l loop.base loop.invariant.1)) c.if-base-i.branch,
+      ⊎_elim (λ w. subst Next (sym w.1) (raised_more a.o a.d a.t3 a.base.now c.loop-l.l _ c.loop-l.base (omega arith) blocks c.loop-l.invariant.1))
+          (λ w. subst Next (sym w.1) (raised_kept a.o a.d a.t3 a.base.now c.loop-l.l c.loop-l.base c.loop-l.invariant.1)) c.if-base-i.branch,
     )
 
 pub shape_of-base : goal.shape_of-base
@@ -62,8 +60,7 @@ shape_of-base c = c.loop-l.invariant.1.long
 
 pub returns : goal.returns
 returns c = let a = c.args in
-    let loop = c.loop-l in
     let h = c.loop-l-test.false in
-    let le = loop.invariant.0 in
-    let end : loop.l ≡ 32 = omega arith in
-    subst (λ (n : ℕ). Raised a.o a.d n a.t3 a.base.now loop.base) end loop.invariant.1
+    let le = c.loop-l.invariant.0 in
+    let end : c.loop-l.l ≡ 32 = omega arith in
+    subst (λ (n : ℕ). Raised a.o a.d n a.t3 a.base.now c.loop-l.base) end c.loop-l.invariant.1

@@ -29,24 +29,21 @@ kinds-requires c = let pre = c.requires in
     (pre.0, pre.1, omega arith, omega arith)
 
 pub raise-requires : goal.raise-requires
-raise-requires c = let loop = c.loop-q in
-    let size = c.size-d in
-    let pre = c.requires in
+raise-requires c = let pre = c.requires in
     let few = pre.2 in
     let one = pre.3 in
-    (loop.invariant.1.long, omega arith, size.ensures.1, λ l h. (c.kinds.ensures l h).few)
+    (c.loop-q.invariant.1.long, omega arith, c.size-d.ensures.1, λ l h. (c.kinds.ensures l h).few)
 
 pub loop-q-preserved : goal.loop-q-preserved
 loop-q-preserved c = let a = c.args in
     let pre = c.requires in
-    let loop = c.loop-q in
     let h = c.loop-q-test.true in
     let Next : List ℕ → Type 0 = Based a.cl.now a.t5 a.v a.j (a.j * 32) in (
       omega arith,
       ⊎_elim
-          (λ w. subst Next (sym w.7) (raised_based a.cl.now a.t5 a.v a.j a.o loop.q w.1.result w.3.result loop.base _ pre.3 h
-          (ap (λ (d : ℕ). 2 ^ d) w.1.ensures.0) w.3.ensures w.4.ensures loop.invariant.1))
-          (λ w. subst Next (sym w.2) loop.invariant.1) c.if-q-o.branch,
+          (λ w. subst Next (sym w.7) (raised_based a.cl.now a.t5 a.v a.j a.o c.loop-q.q w.1.result w.3.result c.loop-q.base _ pre.3 h
+          (ap (λ (d : ℕ). 2 ^ d) w.1.ensures.0) w.3.ensures w.4.ensures c.loop-q.invariant.1))
+          (λ w. subst Next (sym w.2) c.loop-q.invariant.1) c.if-q-o.branch,
     )
 
 pub shape_of-base : goal.shape_of-base

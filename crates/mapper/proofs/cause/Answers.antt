@@ -4,12 +4,9 @@ use borrow.Author.Rules.{rules}
 use Rattle.mapper.proofs.cause.Goals as goal
 
 pub cause_of-requires : goal.cause_of-requires
-cause_of-requires c = let examine = c.examine in
-    examine.ensures.1
+cause_of-requires c = c.examine.ensures.1
 
 pub returns : goal.returns
-returns c = let cause-of = c.cause_of in
-    let examine = c.examine in
-    let args = c.args in
+returns c = let args = c.args in
     let s = args.sheet.now in
-    cause-of.ensures (spec.examine s) examine.ensures.0 (valid_well_formed s)
+    c.cause_of.ensures (spec.examine s) c.examine.ensures.0 (valid_well_formed s)

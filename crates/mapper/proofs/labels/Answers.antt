@@ -15,14 +15,12 @@ pub loop-i-init : goal.loop-i-init
 loop-i-init c = (omega arith, filled_none _ _ refl, λ k h. zeros_are label_count k)
 
 pub loop-i-preserved : goal.loop-i-preserved
-loop-i-preserved c = let loop = c.loop-i in
-    let below = c.loop-i-test.true in (
+loop-i-preserved c = let below = c.loop-i-test.true in (
       omega arith,
-      filled_more _ (omega arith) c.label_of.ensures loop.invariant.1,
-      λ k h. get_or-set_other loop.cl loop.i k _ 0 (λ e. let z : k ≡ loop.i = e in omega arith) ∙ loop.invariant.2 k (omega arith),
+      filled_more _ (omega arith) c.label_of.ensures c.loop-i.invariant.1,
+      λ k h. get_or-set_other c.loop-i.cl c.loop-i.i k _ 0 (λ e. let z : k ≡ c.loop-i.i = e in omega arith) ∙ c.loop-i.invariant.2 k (omega arith),
     )
 
 pub returns : goal.returns
-returns c = let loop = c.loop-i in
-    let most = loop.invariant.0 in
-    record { given = filled_fewer c.loop-i-test.false loop.invariant.1; others = λ i h. loop.invariant.2 i (omega arith) }
+returns c = let most = c.loop-i.invariant.0 in
+    record { given = filled_fewer c.loop-i-test.false c.loop-i.invariant.1; others = λ i h. c.loop-i.invariant.2 i (omega arith) }

@@ -13,21 +13,16 @@ pub pose-p-requires : goal.pose-p-requires
 pose-p-requires c = designed c.requires.found c.args.e c.requires.is c.requires.right (not-false _ c.if-not-e.false)
 
 pub returns-then-not-p : goal.returns-then-not-p
-returns-then-not-p c = let pose = c.pose-p in
-    let if1 = c.if-not-e in
-    let args = c.args in
-    λ x h r. map_classes (asked x args.e pose.result h r (not-false _ if1.false) pose.ensures) args.buffer.now (not-true _ c.if-not-p.true-raw)
+returns-then-not-p c = let args = c.args in
+    λ x h r. map_classes (asked x args.e c.pose-p.result h r (not-false _ c.if-not-e.false) c.pose-p.ensures) args.buffer.now (not-true _ c.if-not-p.true-raw)
 
 pub overflow_cast-k : goal.overflow_cast-k
-overflow_cast-k c = let if1 = c.if-not-e in
-    let v = valid_here c.requires.found c.args.e c.requires.is (not-false _ if1.false) in
+overflow_cast-k c = let v = valid_here c.requires.found c.args.e c.requires.is (not-false _ c.if-not-e.false) in
     let small = v.holds.limit-small in
     omega (arith, small)
 
 pub first-core-requires : goal.first-core-requires
-first-core-requires c = let pose = c.pose-p in
-    let if1 = c.if-not-e in
-    let s = asked c.requires.found c.args.e pose.result c.requires.is c.requires.right (not-false _ if1.false) pose.ensures in
+first-core-requires c = let s = asked c.requires.found c.args.e c.pose-p.result c.requires.is c.requires.right (not-false _ c.if-not-e.false) c.pose-p.ensures in
     let ready = s.poses.ready in
     (ready.classes, ready.few-vertices, ready.few-outputs, ready.few-cells)
 

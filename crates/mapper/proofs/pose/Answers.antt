@@ -10,17 +10,13 @@ classes_of-c-requires c = let pre = c.requires in
     proper_counts pre.design args.k pre.holds pre.proper
 
 pub budgets-bs-requires : goal.budgets-bs-requires
-budgets-bs-requires c = let classes-of = c.classes_of-c in
-    let pre = c.requires in
+budgets-bs-requires c = let pre = c.requires in
     let args = c.args in
-    let q = classes-of.ensures pre.design pre.holds pre.proper in
-    budgets_ready pre.design args.k pre.holds classes-of.result q
+    let q = c.classes_of-c.ensures pre.design pre.holds pre.proper in
+    budgets_ready pre.design args.k pre.holds c.classes_of-c.result q
 
 pub returns : goal.returns
-returns c = let budgets = c.budgets-bs in
-    let labels = c.labels-cl in
-    let classes-of = c.classes_of-c in
-    let args = c.args in
+returns c = let args = c.args in
     λ d h p.
-    (let q = classes-of.ensures d h p in
-    poses d args.k h classes-of.result q _ labels.result budgets.result refl labels.ensures budgets.ensures)
+    (let q = c.classes_of-c.ensures d h p in
+    poses d args.k h c.classes_of-c.result q _ c.labels-cl.result c.budgets-bs.result refl c.labels-cl.ensures c.budgets-bs.ensures)

@@ -9,15 +9,11 @@ pub loop-i-init : goal.loop-i-init
 loop-i-init c = missed_none c.args.among.now c.args.n
 
 pub returns-then-same_name : goal.returns-then-same_name
-returns-then-same_name c = let loop = c.loop-i in
-    let loop-test = c.loop-i-test in
-    found_at loop.invariant loop-test.true
+returns-then-same_name c = found_at c.loop-i.invariant c.loop-i-test.true
     (sym c.same_name.ensures ∙ c.if-same_name.true)
 
 pub loop-i-preserved : goal.loop-i-preserved
-loop-i-preserved c = let loop = c.loop-i in
-    let loop-test = c.loop-i-test in
-    missed_more loop.invariant loop-test.true
+loop-i-preserved c = missed_more c.loop-i.invariant c.loop-i-test.true
     (sym c.same_name.ensures ∙ c.if-same_name.false)
 
 pub returns : goal.returns

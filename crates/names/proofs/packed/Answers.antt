@@ -11,20 +11,18 @@ pub overflow_mul-v : goal.overflow_mul-v
 overflow_mul-v c = omega (arith, packed_room c.loop-i.invariant c.loop-i-test.true c.requires.1)
 
 pub overflow_cast-v : goal.overflow_cast-v
-overflow_cast-v c = omega (arith, c.shared_slice_known-1.given (c.loop-i.i - 1))
+overflow_cast-v c = omega (arith, c.type_inv.s (c.loop-i.i - 1))
 
 pub overflow_add-v : goal.overflow_add-v
-overflow_add-v c = let loop = c.loop-i in
-    omega (
+overflow_add-v c = omega (
       arith,
-      packed_room loop.invariant c.loop-i-test.true c.requires.1,
-      c.shared_slice_known-1.given (loop.i - 1),
+      packed_room c.loop-i.invariant c.loop-i-test.true c.requires.1,
+      c.type_inv.s (c.loop-i.i - 1),
     )
 
 pub loop-i-preserved : goal.loop-i-preserved
-loop-i-preserved c = let loop = c.loop-i in
-    packed_more loop.invariant c.loop-i-test.true c.requires.2
-    (omega (arith, c.shared_slice_known-1.given (loop.i - 1)))
+loop-i-preserved c = packed_more c.loop-i.invariant c.loop-i-test.true c.requires.2
+    (omega (arith, c.type_inv.s (c.loop-i.i - 1)))
 
 pub returns : goal.returns
 returns c = packed_all c.loop-i.invariant c.loop-i-test.false

@@ -10,16 +10,12 @@ pub returns-then-y-eq0 : goal.returns-then-y-eq0
 returns-then-y-eq0 c = second-ends c.loop-x.invariant c.loop-x-test.true c.if-y-eq0.true
 
 pub returns-then-lower : goal.returns-then-lower
-returns-then-lower c = let first = c.lower in
-    let second = c.lower-in-loop-x in
-    bytes-differ c.loop-x.invariant c.loop-x-test.true c.if-y-eq0.false
-    (λ e. c.if-lower.true (first.ensures ∙ e ∙ sym second.ensures))
+returns-then-lower c = bytes-differ c.loop-x.invariant c.loop-x-test.true c.if-y-eq0.false
+    (λ e. c.if-lower.true (c.lower.ensures ∙ e ∙ sym c.lower-in-loop-x.ensures))
 
 pub loop-x-preserved : goal.loop-x-preserved
-loop-x-preserved c = let first = c.lower in
-    let second = c.lower-in-loop-x in
-    matched-more c.loop-x.invariant c.loop-x-test.true c.if-y-eq0.false
-    (sym first.ensures ∙ c.if-lower.false ∙ second.ensures)
+loop-x-preserved c = matched-more c.loop-x.invariant c.loop-x-test.true c.if-y-eq0.false
+    (sym c.lower.ensures ∙ c.if-lower.false ∙ c.lower-in-loop-x.ensures)
 
 pub returns : goal.returns
 returns c = first_ended c.loop-x.invariant c.loop-x-test.false

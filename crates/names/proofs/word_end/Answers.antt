@@ -10,15 +10,11 @@ pub loop-e-init : goal.loop-e-init
 loop-e-init c = passed_none c.args.s.now c.args.at c.requires
 
 pub returns-then-not-name_byte : goal.returns-then-not-name_byte
-returns-then-not-name_byte c = let loop = c.loop-e in
-    let loop-test = c.loop-e-test in
-    passed_stop loop.invariant loop-test.true
+returns-then-not-name_byte c = passed_stop c.loop-e.invariant c.loop-e-test.true
     (sym c.name_byte.ensures ∙ not-true _ c.if-not-name_byte.true-raw)
 
 pub loop-e-preserved : goal.loop-e-preserved
-loop-e-preserved c = let loop = c.loop-e in
-    let loop-test = c.loop-e-test in
-    passed_more loop.invariant loop-test.true
+loop-e-preserved c = passed_more c.loop-e.invariant c.loop-e-test.true
     (sym c.name_byte.ensures ∙ not-false _ c.if-not-name_byte.false-raw)
 
 pub returns : goal.returns

@@ -24,8 +24,7 @@ step-row-requires c = let v = c.requires.1 in
 
 pub loop-z-preserved : goal.loop-z-preserved
 loop-z-preserved c = λ v.
-    let row = c.row in
-    running_step v (c.loop-z.invariant v) c.loop-z-test.true c.put_digit-p.ensures row.ensures c.step-row.ensures
+    running_step v (c.loop-z.invariant v) c.loop-z-test.true c.put_digit-p.ensures c.row.ensures c.step-row.ensures
 
 pub shape_of-buf : goal.shape_of-buf
 shape_of-buf c = put_length (c.loop-z.invariant c.requires.1).put.so_far

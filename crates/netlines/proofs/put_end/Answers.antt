@@ -12,8 +12,5 @@ use Rattle.netlines.proofs.put_end.Goals as goal
 -- LEFT slice-aggregate-put-text-2 c = search rules
 
 pub returns : goal.returns
-returns c = let put-text2 = c.put_text in
-    let put_byte = c.put_byte-q in
-    let put-text = c.put_text-p in
-    let pre = c.requires in
-    put_next put-text.ensures (put_then put_byte.ensures put-text2.ensures) (last_text _ pre.1) (omega arith)
+returns c = let pre = c.requires in
+    put_next c.put_text-p.ensures (put_then c.put_byte-q.ensures c.put_text.ensures) (last_text _ pre.1) (omega arith)

@@ -9,8 +9,5 @@ use Rattle.netlines.proofs.put_lut.Goals as goal
 -- LEFT slice-aggregate-put-text c = search rules
 
 pub returns : goal.returns
-returns c = let put-text = c.put_text in
-    let put-table = c.put_table-q in
-    let put-lut-head = c.put_lut_head-p in
-    let pre = c.requires in
-    put_next put-lut-head.ensures (put_then put-table.ensures put-text.ensures) (lut_text _ _ _) (omega (arith, pre))
+returns c = let pre = c.requires in
+    put_next c.put_lut_head-p.ensures (put_then c.put_table-q.ensures c.put_text.ensures) (lut_text _ _ _) (omega (arith, pre))

@@ -12,9 +12,4 @@ use Rattle.netlines.proofs.put_lut_head.Goals as goal
 -- LEFT slice-aggregate-put-text-2 c = search rules
 
 pub returns : goal.returns
-returns c = let put-list = c.put_list in
-    let put-text2 = c.put_text-r in
-    let put-name = c.put_name-q in
-    let lut-name = c.lut_name in
-    let put-text = c.put_text-p in
-    put_next put-text.ensures (put_then put-name.ensures (put_then put-text2.ensures put-list.ensures)) (lut_head_text _ _ _ lut-name.ensures) (omega arith)
+returns c = put_next c.put_text-p.ensures (put_then c.put_name-q.ensures (put_then c.put_text-r.ensures c.put_list.ensures)) (lut_head_text _ _ _ c.lut_name.ensures) (omega arith)

@@ -16,8 +16,7 @@ pub loop-i-init : goal.loop-i-init
 loop-i-init c = texts_none _ _ _ _ _
 
 pub put_lut-p-requires : goal.put_lut-p-requires
-put_lut-p-requires c = let loop = c.loop-i in
-    omega (arith, c.requires, loop.invariant.so_far.place, loop.invariant.so_far.short)
+put_lut-p-requires c = omega (arith, c.requires, c.loop-i.invariant.so_far.place, c.loop-i.invariant.so_far.short)
 
 pub loop-i-preserved : goal.loop-i-preserved
 loop-i-preserved c = texts_put c.loop-i.invariant c.loop-i-test.true c.put_lut-p.ensures

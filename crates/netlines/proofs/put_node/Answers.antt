@@ -28,9 +28,8 @@ put_list-q-requires c = let place = c.put_node_head-p.ensures.place in
     (omega (arith, c.requires.0, place, short), omega (arith, c.requires.1, c.requires.2, c.read_names-reads.ensures.2, c.joined.ensures.1))
 
 pub put_entries-r-requires : goal.put_entries-r-requires
-put_entries-r-requires c = let power = c.power-count in
-    let codes = codes_few _ power.result power.ensures (omega (arith, c.requires.2, c.read_names-reads.ensures.2)) in
-    let few = entries_few power.result (length c.args.free.now) codes c.requires.3.few-free in
+put_entries-r-requires c = let codes = codes_few _ c.power-count.result c.power-count.ensures (omega (arith, c.requires.2, c.read_names-reads.ensures.2)) in
+    let few = entries_few c.power-count.result (length c.args.free.now) codes c.requires.3.few-free in
     let a = c.put_node_head-p.ensures in
     let b = c.put_list-q.ensures in
     (omega (arith, c.requires.0, a.place, a.short, b.place, b.short), codes, c.requires.3.laid)
@@ -39,9 +38,8 @@ put_entries-r-requires c = let power = c.power-count in
 -- LEFT slice-aggregate-put-text c = refl
 
 pub put_text-requires : goal.put_text-requires
-put_text-requires c = let power = c.power-count in
-    let codes = codes_few _ power.result power.ensures (omega (arith, c.requires.2, c.read_names-reads.ensures.2)) in
-    let few = entries_few power.result (length c.args.free.now) codes c.requires.3.few-free in
+put_text-requires c = let codes = codes_few _ c.power-count.result c.power-count.ensures (omega (arith, c.requires.2, c.read_names-reads.ensures.2)) in
+    let few = entries_few c.power-count.result (length c.args.free.now) codes c.requires.3.few-free in
     let a = c.put_node_head-p.ensures in
     let b = c.put_list-q.ensures in
     let d = c.put_entries-r.ensures in
@@ -51,10 +49,9 @@ pub shape_of-buf : goal.shape_of-buf
 shape_of-buf c = put_length (put_then c.put_node_head-p.ensures (put_then c.put_list-q.ensures (put_then c.put_entries-r.ensures c.put_text.ensures)))
 
 pub returns : goal.returns
-returns c = let power = c.power-count in
-    let codes = codes_few _ power.result power.ensures (omega (arith, c.requires.2, c.read_names-reads.ensures.2)) in
-    let few = entries_few power.result (length c.args.free.now) codes c.requires.3.few-free in
+returns c = let codes = codes_few _ c.power-count.result c.power-count.ensures (omega (arith, c.requires.2, c.read_names-reads.ensures.2)) in
+    let few = entries_few c.power-count.result (length c.args.free.now) codes c.requires.3.few-free in
     put_next c.put_node_head-p.ensures (put_then c.put_list-q.ensures (put_then c.put_entries-r.ensures c.put_text.ensures))
     (node_line _ _ _ _ _ _ _ _ _ _ _ _ c.joined.ensures.0 c.read_names-reads.ensures.0 c.firsts-firsts.ensures
-    c.requires.3.few-vertices power.ensures c.read_names-reads.ensures.1 codes)
+    c.requires.3.few-vertices c.power-count.ensures c.read_names-reads.ensures.1 codes)
     (omega arith)

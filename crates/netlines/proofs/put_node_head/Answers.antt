@@ -12,7 +12,4 @@ use Rattle.netlines.proofs.put_node_head.Goals as goal
 -- LEFT slice-aggregate-put-text-2 c = search rules
 
 pub returns : goal.returns
-returns c = let put-text2 = c.put_text in
-    let put-name = c.put_name-q in
-    let put-text = c.put_text-p in
-    put_next put-text.ensures (put_then put-name.ensures put-text2.ensures) (node_head_text _) (omega arith)
+returns c = put_next c.put_text-p.ensures (put_then c.put_name-q.ensures c.put_text.ensures) (node_head_text _) (omega arith)

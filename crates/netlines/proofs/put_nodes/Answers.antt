@@ -17,16 +17,11 @@ pub loop-o-init : goal.loop-o-init
 loop-o-init c = texts_none _ _ _ _ _
 
 pub put_node-p-requires : goal.put_node-p-requires
-put_node-p-requires c = let loop-test = c.loop-o-test in
-    let loop = c.loop-o in
-    let pre = c.requires in
-    (omega (arith, pre.0, pre.1, loop-test.true, loop.invariant.so_far.place, loop.invariant.so_far.short), pre.2, pre.3, pre.4)
+put_node-p-requires c = let pre = c.requires in
+    (omega (arith, pre.0, pre.1, c.loop-o-test.true, c.loop-o.invariant.so_far.place, c.loop-o.invariant.so_far.short), pre.2, pre.3, pre.4)
 
 pub loop-o-preserved : goal.loop-o-preserved
-loop-o-preserved c = let put-node = c.put_node-p in
-    let loop-test = c.loop-o-test in
-    let loop = c.loop-o in
-    texts_put loop.invariant loop-test.true put-node.ensures
+loop-o-preserved c = texts_put c.loop-o.invariant c.loop-o-test.true c.put_node-p.ensures
 
 pub shape_of-buf : goal.shape_of-buf
 shape_of-buf c = put_length c.loop-o.invariant.so_far

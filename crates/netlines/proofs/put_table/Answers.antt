@@ -12,18 +12,12 @@ pub loop-x-init : goal.loop-x-init
 loop-x-init c = digits_none _ _ _ _
 
 pub put_digit-p-requires : goal.put_digit-p-requires
-put_digit-p-requires c = let loop = c.loop-x in
-    let pre = c.requires in
-    omega (arith, pre, loop.invariant.so_far.place, loop.invariant.so_far.short)
+put_digit-p-requires c = let pre = c.requires in
+    omega (arith, pre, c.loop-x.invariant.so_far.place, c.loop-x.invariant.so_far.short)
 
 pub loop-x-preserved : goal.loop-x-preserved
-loop-x-preserved c = let put-digit = c.put_digit-p in
-    let has = c.has in
-    let wide = c.wide in
-    let loop-test = c.loop-x-test in
-    let loop = c.loop-x in
-    let args = c.args in
-    digits_put loop.invariant loop-test.true put-digit.ensures (has.ensures ∙ ap (λ (k : ℕ). on k args.i) wide.ensures)
+loop-x-preserved c = let args = c.args in
+    digits_put c.loop-x.invariant c.loop-x-test.true c.put_digit-p.ensures (c.has.ensures ∙ ap (λ (k : ℕ). on k args.i) c.wide.ensures)
 
 pub shape_of-buf : goal.shape_of-buf
 shape_of-buf c = put_length c.loop-x.invariant.so_far

@@ -15,22 +15,17 @@ pub overflow_mul-code : goal.overflow_mul-code
 overflow_mul-code c = record { fits = omega (arith, coding_below c.loop-i.invariant c.requires) }
 
 pub overflow_add-code : goal.overflow_add-code
-overflow_add-code c = let loop = c.loop-i in
-    let pre = c.requires in
-    record { fits = omega (arith, coding_below loop.invariant pre, c.bit_of.ensures.1) }
+overflow_add-code c = let pre = c.requires in
+    record { fits = omega (arith, coding_below c.loop-i.invariant pre, c.bit_of.ensures.1) }
 
 pub loop-i-preserved : goal.loop-i-preserved
-loop-i-preserved c = let has = c.has in
-    let wide = c.wide in
-    let loop-test = c.loop-i-test in
-    let loop = c.loop-i in
-    let args = c.args in
+loop-i-preserved c = let args = c.args in
     ⊎_elim
-    (λ w. subst (λ (k : ℕ). Coding args.mask args.n args.u (loop.i + 1) k) (sym w.4)
-    (coding_with loop.invariant loop-test.true (digit_read loop.i has.ensures wide.ensures w.0.taken)
-    (w.3.ensures.0 ∙ ap bit (w.2.ensures ∙ ap (λ (k : ℕ). on k loop.i) w.1.ensures))))
-    (λ w. subst (λ (k : ℕ). Coding args.mask args.n args.u (loop.i + 1) k) (sym w.1)
-    (coding_without loop.invariant loop-test.true (digit_read loop.i has.ensures wide.ensures w.0.left)))
+    (λ w. subst (λ (k : ℕ). Coding args.mask args.n args.u (c.loop-i.i + 1) k) (sym w.4)
+    (coding_with c.loop-i.invariant c.loop-i-test.true (digit_read c.loop-i.i c.has.ensures c.wide.ensures w.0.taken)
+    (w.3.ensures.0 ∙ ap bit (w.2.ensures ∙ ap (λ (k : ℕ). on k c.loop-i.i) w.1.ensures))))
+    (λ w. subst (λ (k : ℕ). Coding args.mask args.n args.u (c.loop-i.i + 1) k) (sym w.1)
+    (coding_without c.loop-i.invariant c.loop-i-test.true (digit_read c.loop-i.i c.has.ensures c.wide.ensures w.0.left)))
     c.if-has.branch
 
 pub returns : goal.returns

@@ -15,12 +15,10 @@ pub pushed-r-requires : goal.pushed-r-requires
 pushed-r-requires c = omega arith
 
 pub loop-i-preserved : goal.loop-i-preserved
-loop-i-preserved c = let loop-test = c.loop-i-test in
-    let loop = c.loop-i in
-    let args = c.args in
+loop-i-preserved c = let args = c.args in
     let good = c.well-formed in
     let pre = c.requires in
-    (growing_more loop.invariant.0 loop-test.true (omega (arith, pre, list_sized args.b good.1.0)) c.pushed-r.ensures.0 refl, omega arith)
+    (growing_more c.loop-i.invariant.0 c.loop-i-test.true (omega (arith, pre, list_sized args.b good.1.0)) c.pushed-r.ensures.0 refl, omega arith)
 
 pub returns : goal.returns
 returns c = (growing_all c.loop-i.invariant.0 c.loop-i-test.false, omega (arith, c.loop-i.invariant.0.within))

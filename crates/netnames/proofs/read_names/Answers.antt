@@ -11,16 +11,12 @@ pub loop-i-init : goal.loop-i-init
 loop-i-init c = reading_none _ _ c.no_names-r.ensures.0 c.no_names-r.ensures.1
 
 pub loop-i-preserved : goal.loop-i-preserved
-loop-i-preserved c = let has = c.has in
-    let wide = c.wide in
-    let loop-test = c.loop-i-test in
-    let loop = c.loop-i in
-    let args = c.args in
+loop-i-preserved c = let args = c.args in
     ⊎_elim
-    (λ w. reading_with loop.invariant loop-test.true (digit_read loop.i has.ensures wide.ensures w.0.taken) (ap shown w.3 ∙ w.2.ensures.0) w.1.ensures
+    (λ w. reading_with c.loop-i.invariant c.loop-i-test.true (digit_read c.loop-i.i c.has.ensures c.wide.ensures w.0.taken) (ap shown w.3 ∙ w.2.ensures.0) w.1.ensures
     (ap (λ (q : Names). q.count) w.3 ∙ w.2.ensures.1))
-    (λ w. subst (λ (q : Names). Reading args.mask args.u (loop.i + 1) q.count (shown q)) (sym w.1)
-    (reading-without loop.invariant loop-test.true (digit_read loop.i has.ensures wide.ensures w.0.left)))
+    (λ w. subst (λ (q : Names). Reading args.mask args.u (c.loop-i.i + 1) q.count (shown q)) (sym w.1)
+    (reading-without c.loop-i.invariant c.loop-i-test.true (digit_read c.loop-i.i c.has.ensures c.wide.ensures w.0.left)))
     c.if-has.branch
 
 pub returns : goal.returns

@@ -27,11 +27,10 @@ is_count-requires c = omega (arith, c.requires.1.few)
 -- LEFT slice-aggregate-equal-2 c = search rules
 
 pub returns-in-Network : goal.returns-in-Network
-returns-in-Network c = let enum_told = c.enum_told-1 in
-    let a = c.args in
+returns-in-Network c = let a = c.args in
     let is = c.onward.ensures ∙ ap (λ (b : Bool). moved a.s b Place.Luts) c.equal.ensures in (
       safe_moved a.s c.onward.result _ Place.Luts is c.requires.1.few tt,
-      λ t d w q n kn some-outputs. network_line_lem a.l.now t d w a.s c.onward.result kn enum_told.given.1 is,
+      λ t d w q n kn some-outputs. network_line_lem a.l.now t d w a.s c.onward.result kn c.in-Network.is is,
     )
 
 pub returns-in-Luts : goal.returns-in-Luts
@@ -42,26 +41,23 @@ returns-in-Luts c = let a = c.args in (
     )
 
 pub returns-in-Node : goal.returns-in-Node
-returns-in-Node c = let p = c.p-1 in
-    let a = c.args in (
+returns-in-Node c = let a = c.args in (
       c.ask_node.ensures.0,
-      λ t d w q n kn some-outputs. node_line a.l.now t d w a.s c.ask_node.result kn p.given.0.0 p.given.1 (λ here below. c.ask_node.ensures.1 t d w q n kn.held here below),
+      λ t d w q n kn some-outputs. node_line a.l.now t d w a.s c.ask_node.result kn c.in-Node.o c.in-Node.is (λ here below. c.ask_node.ensures.1 t d w q n kn.held here below),
     )
 
 pub returns-in-Count : goal.returns-in-Count
-returns-in-Count c = let enum-told3 = c.enum_told-in-Count-1 in
-    let a = c.args in
+returns-in-Count c = let a = c.args in
     let is = c.onward-in-Count.ensures ∙ ap (λ (b : Bool). moved a.s b Place.End) c.is_count.ensures in (
       safe_moved a.s c.onward-in-Count.result _ Place.End is c.requires.1.few tt,
-      λ t d w q n kn some-outputs. count_line a.l.now t d w a.s c.onward-in-Count.result kn enum-told3.given.1 is,
+      λ t d w q n kn some-outputs. count_line a.l.now t d w a.s c.onward-in-Count.result kn c.in-Count.is is,
     )
 
 pub returns-in-End : goal.returns-in-End
-returns-in-End c = let enum-told4 = c.enum_told-in-End-1 in
-    let a = c.args in
+returns-in-End c = let a = c.args in
     let is = c.onward-in-End.ensures ∙ ap (λ (b : Bool). moved a.s b Place.Over) c.equal-in-End.ensures in (
       safe_moved a.s c.onward-in-End.result _ Place.Over is c.requires.1.few tt,
-      λ t d w q n kn some-outputs. end_line_lem a.l.now t d w a.s c.onward-in-End.result kn enum-told4.given.1 is,
+      λ t d w q n kn some-outputs. end_line_lem a.l.now t d w a.s c.onward-in-End.result kn c.in-End.is is,
     )
 
 pub returns-in-Over : goal.returns-in-Over

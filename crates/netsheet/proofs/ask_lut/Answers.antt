@@ -12,14 +12,12 @@ pub lut_line-r-requires : goal.lut_line-r-requires
 lut_line-r-requires c = c.requires.0
 
 pub overflow_add-at : goal.overflow_add-at
-overflow_add-at c = let lut-line = c.lut_line-r in
-    let line = rw c.in-At.is at lut-line.ensures in
+overflow_add-at c = let line = rw c.in-At.is at c.lut_line-r.ensures in
     record { fits = omega (arith, c.requires.2, line.stands.inside) }
 
 pub with_lut-requires : goal.with_lut-requires
-with_lut-requires c = let lut-line = c.lut_line-r in
-    let a = c.args in
-    let line = rw c.in-At.is at lut-line.ensures in
+with_lut-requires c = let a = c.args in
+    let line = rw c.in-At.is at c.lut_line-r.ensures in
     lut_few (map name_of (take a.k.bounds a.k.bound)) a.s.luts a.l.now line
 
 pub ask_node-requires : goal.ask_node-requires
@@ -27,11 +25,9 @@ ask_node-requires c = let pre = c.requires in
     (pre.0, pre.1, omega arith, pre.2)
 
 pub returns-in-At : goal.returns-in-At
-returns-in-At c = let r = c.r-1 in
-    let lut-line = c.lut_line-r in
-    let good = c.well-formed in
+returns-in-At c = let good = c.well-formed in
     let a = c.args in
-    let line = rw r.given.1 at lut-line.ensures in
+    let line = rw c.in-At.is at c.lut_line-r.ensures in
     let few = lut_few (map name_of (take a.k.bounds a.k.bound)) a.s.luts a.l.now line in (
       safe_lut a.s c.with_lut.result _ c.with_lut.ensures few,
       λ t d w q n h none_yet some-outputs. lut_good a.l.now t a.at d w a.k a.s c.with_lut.result q n h
@@ -39,9 +35,8 @@ returns-in-At c = let r = c.r-1 in
     )
 
 pub returns-in-Bad : goal.returns-in-Bad
-returns-in-Bad c = let lut-line = c.lut_line-r in
-    let a = c.args in
-    let line = rw c.in-Bad.is at lut-line.ensures in (
+returns-in-Bad c = let a = c.args in
+    let line = rw c.in-Bad.is at c.lut_line-r.ensures in (
       c.ask_node.ensures.0,
       λ t d w q n h none_yet some-outputs. lut_bad a.l.now t a.at d w a.k a.s c.ask_node.result q n h line (c.ask_node.ensures.1 t d w q n h none_yet some-outputs),
     )

@@ -32,20 +32,17 @@ read_node-r-requires c = let good = c.well-formed in
     (omega arith, pre.1)
 
 pub overflow_add-at : goal.overflow_add-at
-overflow_add-at c = let read-node = c.read_node-r in
-    let line = rw c.in-At.is at read-node.ensures in
+overflow_add-at c = let line = rw c.in-At.is at c.read_node-r.ensures in
     record { fits = omega (arith, c.requires.3, line.stands.stands.inside) }
 
 pub with_node-requires : goal.with_node-requires
 with_node-requires c = c.requires.2
 
 pub returns-in-At : goal.returns-in-At
-returns-in-At c = let r = c.r-1 in
-    let read-node = c.read_node-r in
-    let a = c.args in
+returns-in-At c = let a = c.args in
     let pre = c.requires in
     let owned = c.well-formed in
-    let line = rw r.given.1 at read-node.ensures in (
+    let line = rw c.in-At.is at c.read_node-r.ensures in (
       safe_node a.s c.with_node.result _ _ _ _ c.with_node.ensures pre.1 pre.0.few-outputs,
       λ t d w q n h here below. node_good a.l.now t a.at d w a.k a.s c.with_node.result q n h
           a.o here below line c.with_node.ensures
@@ -53,9 +50,8 @@ returns-in-At c = let r = c.r-1 in
     )
 
 pub returns-in-Bad : goal.returns-in-Bad
-returns-in-Bad c = let read-node = c.read_node-r in
-    let a = c.args in
-    let line = rw c.in-Bad.is at read-node.ensures in (
+returns-in-Bad c = let a = c.args in
+    let line = rw c.in-Bad.is at c.read_node-r.ensures in (
       safe_moved a.s c.onward.result _ Place.Over c.onward.ensures c.requires.1 tt,
       λ t d w q n h here below. node_bad a.l.now t a.at d w a.k a.s c.onward.result q n h a.o here below line Place.Over c.onward.ensures,
     )

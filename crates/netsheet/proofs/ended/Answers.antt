@@ -6,10 +6,7 @@ use Rattle.netsheet.specs.WalkLaws.{ended_early, ended_over}
 use Rattle.netsheet.proofs.ended.Goals as goal
 
 pub returns-then-not-is_over : goal.returns-then-not-is_over
-returns-then-not-is_over c = let is-over = c.is_over in
-    λ t d w kn. ended_early kn c.args.n c.bad_line.result (sym is-over.ensures ∙ not-true _ c.if-not-is_over.true-raw) c.bad_line.ensures
+returns-then-not-is_over c = λ t d w kn. ended_early kn c.args.n c.bad_line.result (sym c.is_over.ensures ∙ not-true _ c.if-not-is_over.true-raw) c.bad_line.ensures
 
 pub returns : goal.returns
-returns c = let is-over = c.is_over in
-    let if1 = c.if-not-is_over in
-    λ t d w kn. ended_over kn c.args.n _ (sym is-over.ensures ∙ not-false _ if1.false) refl
+returns c = λ t d w kn. ended_over kn c.args.n _ (sym c.is_over.ensures ∙ not-false _ c.if-not-is_over.false-raw) refl

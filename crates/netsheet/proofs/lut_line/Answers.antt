@@ -24,16 +24,14 @@ slice_bounds-read_lut-end c = let good = c.well-formed in
 
 pub read_lut-requires : goal.read_lut-requires
 read_lut-requires c = let good = c.well-formed in
-    let if1 = c.if-u-ge-MAX_CELLS in
     let a = c.args in
     let few = c.requires.few-bound in
     let count = length-take-le a.k.bounds a.k.bound (omega (arith, bound-sized a.k good.1.0)) in
-    (omega arith, omega (arith, if1.false))
+    (omega arith, omega (arith, c.if-u-ge-MAX_CELLS.false))
 
 pub returns : goal.returns
 returns c = let good = c.well-formed in
-    let if1 = c.if-u-ge-MAX_CELLS in
     let a = c.args in
     let few = c.requires.few-bound in
     let count = length-take-le a.k.bounds a.k.bound (omega (arith, bound-sized a.k good.1.0)) in
-    one_more_lut (map name_of (take a.k.bounds a.k.bound)) a.u a.l.now c.read_lut.result _ _ if1.false count c.read_lut.ensures
+    one_more_lut (map name_of (take a.k.bounds a.k.bound)) a.u a.l.now c.read_lut.result _ _ c.if-u-ge-MAX_CELLS.false count c.read_lut.ensures

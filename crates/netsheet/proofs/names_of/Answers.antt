@@ -10,6 +10,4 @@ pub free_names-fs-requires : goal.free_names-fs-requires
 free_names-fs-requires c = (c.requires.few-inputs, omega (arith, c.requires.few-bound, c.bound_names-bs.ensures.1))
 
 pub returns : goal.returns
-returns c = let fs = c.free_names-fs in
-    let bs = c.bound_names-bs in
-    names_gathered c.args.k c.requires bs.result fs.result bs.ensures.0 bs.ensures.1 fs.ensures.0 fs.ensures.1
+returns c = names_gathered c.args.k c.requires c.bound_names-bs.result c.free_names-fs.result c.bound_names-bs.ensures.0 c.bound_names-bs.ensures.1 c.free_names-fs.ensures.0 c.free_names-fs.ensures.1

@@ -18,19 +18,13 @@ pub names_of-names-requires : goal.names_of-names-requires
 names_of-names-requires c = c.requires
 
 pub loop-at-init : goal.loop-at-init
-loop-at-init c = let if1 = c.if-t-lt1 in
-    let if2 = c.if-t-gt-MAX_NETWORK in
-    walk_start c.args.t.now c.names_of-names.result c.blank-s.result c.blank-s.ensures if1.false if2.false
+loop-at-init c = walk_start c.args.t.now c.names_of-names.result c.blank-s.result c.blank-s.ensures c.if-t-lt1.false c.if-t-gt-MAX_NETWORK.false
 
 pub line_end-e-requires : goal.line_end-e-requires
 line_end-e-requires c = c.loop-at.invariant.inside
 
 pub returns-then-e-t : goal.returns-then-e-t
-returns-then-e-t c = let loop = c.loop-at in
-    let loop-test = c.loop-at-test in
-    let names_of = c.names_of-names in
-    let end = c.line_end-e in
-    λ d h p o. walk_open loop.invariant end.result loop-test.true end.ensures c.if-e-t.true c.bad_line-then-e-t.result c.bad_line-then-e-t.ensures d (names_of.ensures.right d h p) o
+returns-then-e-t c = λ d h p o. walk_open c.loop-at.invariant c.line_end-e.result c.loop-at-test.true c.line_end-e.ensures c.if-e-t.true c.bad_line-then-e-t.result c.bad_line-then-e-t.ensures d (c.names_of-names.ensures.right d h p) o
 
 pub slice_bounds-ask_line-count : goal.slice_bounds-ask_line-count
 slice_bounds-ask_line-count c = omega (arith, c.line_end-e.ensures.after-start)
@@ -42,43 +36,23 @@ pub slice_bounds-ask_line-end : goal.slice_bounds-ask_line-end
 slice_bounds-ask_line-end c = omega (arith, c.line_end-e.ensures.inside)
 
 pub ask_line-s-requires : goal.ask_line-s-requires
-ask_line-s-requires c = let names_of = c.names_of-names in
-    let loop-test = c.loop-at-test in
-    let turn = c.loop-at in
-    let end = c.line_end-e in
-    (names_of.ensures.counts, turn.invariant.safe, walk_room turn.invariant end.result loop-test.true end.ensures)
+ask_line-s-requires c = (c.names_of-names.ensures.counts, c.loop-at.invariant.safe, walk_room c.loop-at.invariant c.line_end-e.result c.loop-at-test.true c.line_end-e.ensures)
 
 pub returns-then-not-s : goal.returns-then-not-s
-returns-then-not-s c = let loop = c.loop-at in
-    let loop-test = c.loop-at-test in
-    let if3 = c.if-e-t in
-    let ask-line = c.ask_line-s in
-    let names_of = c.names_of-names in
-    let end = c.line_end-e in
-    λ d h p o. walk-bad loop.invariant end.result loop-test.true end.ensures if3.false ask-line.result ask-line.ensures.1
-    (not-true _ c.if-not-s.true) c.bad_line-then-not-s.result c.bad_line-then-not-s.ensures d (names_of.ensures.right d h p) o
+returns-then-not-s c = λ d h p o. walk-bad c.loop-at.invariant c.line_end-e.result c.loop-at-test.true c.line_end-e.ensures c.if-e-t.false c.ask_line-s.result c.ask_line-s.ensures.1
+    (not-true _ c.if-not-s.true) c.bad_line-then-not-s.result c.bad_line-then-not-s.ensures d (c.names_of-names.ensures.right d h p) o
 
 pub overflow_add-at : goal.overflow_add-at
 overflow_add-at c = omega (arith, c.line_end-e.ensures.inside)
 
 pub overflow_add-n : goal.overflow_add-n
-overflow_add-n c = let turn = c.loop-at in
-    omega (arith, turn.invariant.few, turn.invariant.inside)
+overflow_add-n c = omega (arith, c.loop-at.invariant.few, c.loop-at.invariant.inside)
 
 pub loop-at-smaller : goal.loop-at-smaller
-loop-at-smaller c = let line-end = c.line_end-e in
-    let loop-test = c.loop-at-test in
-    omega (arith, line-end.ensures.after-start, loop-test.true)
+loop-at-smaller c = omega (arith, c.line_end-e.ensures.after-start, c.loop-at-test.true)
 
 pub loop-at-preserved : goal.loop-at-preserved
-loop-at-preserved c = let loop = c.loop-at in
-    let loop-test = c.loop-at-test in
-    let if3 = c.if-e-t in
-    let ask-line = c.ask_line-s in
-    let end = c.line_end-e in
-    walk_more loop.invariant end.result loop-test.true end.ensures if3.false ask-line.result ask-line.ensures.1 (not-false _ c.if-not-s.false) ask-line.ensures.0
+loop-at-preserved c = walk_more c.loop-at.invariant c.line_end-e.result c.loop-at-test.true c.line_end-e.ensures c.if-e-t.false c.ask_line-s.result c.ask_line-s.ensures.1 (not-false _ c.if-not-s.false) c.ask_line-s.ensures.0
 
 pub returns : goal.returns
-returns c = let loop = c.loop-at in
-    let names_of = c.names_of-names in
-    λ d h p o. walk_end loop.invariant c.loop-at-test.false c.ended.result c.ended.ensures d (names_of.ensures.right d h p) o
+returns c = λ d h p o. walk_end c.loop-at.invariant c.loop-at-test.false c.ended.result c.ended.ensures d (c.names_of-names.ensures.right d h p) o

@@ -15,10 +15,7 @@ pub pushed-r-requires : goal.pushed-r-requires
 pushed-r-requires c = omega (arith, c.requires)
 
 pub loop-i-preserved : goal.loop-i-preserved
-loop-i-preserved c = let input-name = c.input_name in
-    let loop-test = c.loop-i-test in
-    let loop = c.loop-i in
-    (growing_more loop.invariant.0 loop-test.true (omega arith) c.pushed-r.ensures.0 (ap name_of input-name.ensures), omega arith)
+loop-i-preserved c = (growing_more c.loop-i.invariant.0 c.loop-i-test.true (omega arith) c.pushed-r.ensures.0 (ap name_of c.input_name.ensures), omega arith)
 
 pub returns : goal.returns
 returns c = (growing_all c.loop-i.invariant.0 c.loop-i-test.false, omega (arith, c.loop-i.invariant.0.within))

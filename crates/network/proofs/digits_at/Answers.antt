@@ -8,11 +8,8 @@ loop-left-init c = let a = c.args in
     skipping_none a.s.now a.n a.c c.requires
 
 pub returns-in_default : goal.returns-in_default
-returns-in_default c = let digit_at = c.digit_at-m in
-    let loop = c.loop-left in
-    let loop-test = c.loop-left-test in
-    let digit = rw c.in_default.is at digit_at.ensures in
-    skipping_missing loop.invariant loop-test.true digit
+returns-in_default c = let digit = rw c.in_default.is at c.digit_at-m.ensures in
+    skipping_missing c.loop-left.invariant c.loop-left-test.true digit
 
 pub overflow_sub-left : goal.overflow_sub-left
 overflow_sub-left c = omega arith
@@ -21,11 +18,8 @@ pub loop-left-smaller : goal.loop-left-smaller
 loop-left-smaller c = omega arith
 
 pub loop-left-preserved : goal.loop-left-preserved
-loop-left-preserved c = let digit_at = c.digit_at-m in
-    let loop = c.loop-left in
-    let loop-test = c.loop-left-test in
-    let digit = rw c.in-To.is at digit_at.ensures in
-    skipping_more loop.invariant loop-test.true digit
+loop-left-preserved c = let digit = rw c.in-To.is at c.digit_at-m.ensures in
+    skipping_more c.loop-left.invariant c.loop-left-test.true digit
 
 pub returns : goal.returns
 returns c = skipping_all c.loop-left.invariant c.loop-left-test.false

@@ -30,17 +30,14 @@ pub pushed-r-requires : goal.pushed-r-requires
 pushed-r-requires c = omega (arith, c.loop-i.invariant.few, c.requires.0)
 
 pub loop-i-preserved : goal.loop-i-preserved
-loop-i-preserved c = let find = c.find-p in
-    let loop-test = c.loop-i-test in
-    let loop = c.loop-i in
-    let args = c.args in
+loop-i-preserved c = let args = c.args in
     let pre = c.requires in
     let few : args.n ≤ length args.t1 = omega (arith, pre.0) in
     let vs = take args.bs.count args.bs.list in
     ⊎_elim
-    (λ w. subst (λ (q : Names). Freeing args.t1 (map name_of vs) args.n (loop.i + 1) q.count (shown q)) (sym w.2)
-    (freeing_bound vs loop.invariant loop-test.true few find.ensures w.1.given.1))
-    (λ w. freeing_free vs loop.invariant loop-test.true few find.ensures w.1.given.1 (ap shown w.3 ∙ w.2.ensures.0) (ap (λ (q : Names). q.count) w.3 ∙ w.2.ensures.1))
+    (λ w. subst (λ (q : Names). Freeing args.t1 (map name_of vs) args.n (c.loop-i.i + 1) q.count (shown q)) (sym w.2)
+    (freeing_bound vs c.loop-i.invariant c.loop-i-test.true few c.find-p.ensures w.1.given.1))
+    (λ w. freeing_free vs c.loop-i.invariant c.loop-i-test.true few c.find-p.ensures w.1.given.1 (ap shown w.3 ∙ w.2.ensures.0) (ap (λ (q : Names). q.count) w.3 ∙ w.2.ensures.1))
     c.match-p.branch
 
 pub returns : goal.returns

@@ -7,23 +7,18 @@ use Rattle.network.specs.HeadLaws.{inputs_no_names, inputs_end}
 use Rattle.network.proofs.inputs_at.Goals as goal
 
 pub returns-in_default : goal.returns-in_default
-returns-in_default c = let names_at = c.names_at-m in
-    let a = c.args in
-    let items = rw c.in_default.is at names_at.ensures in
+returns-in_default c = let a = c.args in
+    let items = rw c.in_default.is at c.names_at-m.ensures in
     inputs_no_names a.first (map name_of a.ns.now) (drop a.c.at a.s.now) items
 
 -- LEFT slice-aggregate-text : tie.Need-slice-aggregate-text
 -- LEFT slice-aggregate-text c = search rules
 
 pub text-requires : goal.text-requires
-text-requires c = let m = c.m-1 in
-    let names_at = c.names_at-m in
-    let items = rw m.given.1 at names_at.ensures in
+text-requires c = let items = rw c.in-To.is at c.names_at-m.ensures in
     items.inside
 
 pub returns : goal.returns
-returns c = let m = c.m-1 in
-    let names_at = c.names_at-m in
-    let a = c.args in
-    let items = rw m.given.1 at names_at.ensures in
+returns c = let a = c.args in
+    let items = rw c.in-To.is at c.names_at-m.ensures in
     inputs_end a.first (map name_of a.ns.now) (drop a.c.at a.s.now) items c.text.result c.text.ensures

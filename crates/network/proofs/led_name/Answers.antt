@@ -15,22 +15,16 @@ returns-then-first c = rw c.if-first.true c.name_at.ensures
 -- LEFT slice-aggregate-text c = search rules
 
 pub returns-in_default : goal.returns-in_default
-returns-in_default c = let text = c.text-m in
-    let if1 = c.if-first in
-    let a = c.args in
-    let gap = rw c.in_default.is at text.ensures in
-    rw if1.false (part_missing (eat (space ∷ []) (drop a.c.at a.s.now)) (read_given (name_of a.v)) gap)
+returns-in_default c = let a = c.args in
+    let gap = rw c.in_default.is at c.text-m.ensures in
+    rw c.if-first.false (part_missing (eat (space ∷ []) (drop a.c.at a.s.now)) (read_given (name_of a.v)) gap)
 
 pub name_at-requires-2 : goal.name_at-requires-2
-name_at-requires-2 c = let text = c.text-m in
-    let gap = rw c.in-To.is at text.ensures in
+name_at-requires-2 c = let gap = rw c.in-To.is at c.text-m.ensures in
     gap.inside
 
 pub returns : goal.returns
-returns c = let m = c.m-1 in
-    let text = c.text-m in
-    let if1 = c.if-first in
-    let args = c.args in
+returns c = let args = c.args in
     let a = args in
-    let gap = rw m.given.1 at text.ensures in
-    rw if1.false (part_then (eat (space ∷ []) (drop a.c.at a.s.now)) (read_given (name_of a.v)) gap c.name_at-2.result c.name_at-2.ensures)
+    let gap = rw c.in-To.is at c.text-m.ensures in
+    rw c.if-first.false (part_then (eat (space ∷ []) (drop a.c.at a.s.now)) (read_given (name_of a.v)) gap c.name_at-2.result c.name_at-2.ensures)

@@ -14,15 +14,13 @@ pub overflow_add-w : goal.overflow_add-w
 overflow_add-w c = omega (arith, c.requires.1)
 
 pub returns-then-first : goal.returns-then-first
-returns-then-first c = let if1 = c.if-first in
-    let args = c.args in
+returns-then-first c = let args = c.args in
     let pre = c.requires in
     let a = args in
-    subst (λ (w : List ℕ). MovedIs a.s.now c.text.result (eat w (drop a.c.at a.s.now))) (lut_first a.i pre.1 a.first if1.true) c.text.ensures
+    subst (λ (w : List ℕ). MovedIs a.s.now c.text.result (eat w (drop a.c.at a.s.now))) (lut_first a.i pre.1 a.first c.if-first.true) c.text.ensures
 
 pub returns-else-first : goal.returns-else-first
-returns-else-first c = let if1 = c.if-first in
-    let args = c.args in
+returns-else-first c = let args = c.args in
     let pre = c.requires in
     let a = args in
-    subst (λ (w : List ℕ). MovedIs a.s.now c.text-else-first.result (eat w (drop a.c.at a.s.now))) (lut_later a.i pre.1 a.first if1.false) c.text-else-first.ensures
+    subst (λ (w : List ℕ). MovedIs a.s.now c.text-else-first.result (eat w (drop a.c.at a.s.now))) (lut_later a.i pre.1 a.first c.if-first.false) c.text-else-first.ensures

@@ -13,69 +13,47 @@ pub text-m-requires : goal.text-m-requires
 text-m-requires c = omega (arith, c.start.ensures)
 
 pub returns-in_default : goal.returns-in_default
-returns-in_default c = let text = c.text-m in
-    let a = c.args in
-    let start = c.start in
-    let word = rw (c.in_default.is, start.ensures) at text.ensures in
+returns-in_default c = let a = c.args in
+    let word = rw (c.in_default.is, c.start.ensures) at c.text-m.ensures in
     lut_no_word a.l.now (map name_of a.bs.now) a.i word
 
 pub lut_at-m-requires : goal.lut_at-m-requires
-lut_at-m-requires c = let text = c.text-m in
-    let start = c.start in
-    let word = rw (c.in-To.is, start.ensures) at text.ensures in
+lut_at-m-requires c = let word = rw (c.in-To.is, c.start.ensures) at c.text-m.ensures in
     (word.inside, c.requires)
 
 pub returns-in_default-m : goal.returns-in_default-m
-returns-in_default-m c = let m = c.m-1 in
-    let text = c.text-m in
-    let lut-at = c.lut_at-m in
-    let a = c.args in
-    let start = c.start in
-    let word = rw (m.given.1, start.ensures) at text.ensures in
-    let number = rw c.in_default-m.is at lut-at.ensures in
+returns-in_default-m c = let a = c.args in
+    let word = rw (c.in-To.is, c.start.ensures) at c.text-m.ensures in
+    let number = rw c.in_default-m.is at c.lut_at-m.ensures in
     lut_no_number a.l.now (map name_of a.bs.now) a.i word number
 
 -- LEFT slice-aggregate-text-2 : tie.Need-slice-aggregate-text-2
 -- LEFT slice-aggregate-text-2 c = search rules
 
 pub text-m-requires-2 : goal.text-m-requires-2
-text-m-requires-2 c = let m2 = c.m-in-To-m-2-1 in
-    let lut-at = c.lut_at-m in
-    let number = rw m2.given.1 at lut-at.ensures in
+text-m-requires-2 c = let number = rw c.in-To-m.is at c.lut_at-m.ensures in
     number.inside
 
 pub returns-in_default-m-2 : goal.returns-in_default-m-2
-returns-in_default-m-2 c = let text2 = c.text-m-2 in
-    let m2 = c.m-in-To-m-2-1 in
-    let lut-at = c.lut_at-m in
-    let m = c.m-1 in
-    let text = c.text-m in
-    let start-here = c.start in
+returns-in_default-m-2 c = let start-here = c.start in
     let args = c.args in
     let a = args in
     let start = start-here in
-    let word = rw (m.given.1, start.ensures) at text.ensures in
-    let number = rw m2.given.1 at lut-at.ensures in
-    let list = rw c.in_default-m-2.is at text2.ensures in
+    let word = rw (c.in-To.is, start.ensures) at c.text-m.ensures in
+    let number = rw c.in-To-m.is at c.lut_at-m.ensures in
+    let list = rw c.in_default-m-2.is at c.text-m-2.ensures in
     lut-no-list a.l.now (map name_of a.bs.now) a.i word number list
 
 pub inputs_at-requires : goal.inputs_at-requires
-inputs_at-requires c = let text2 = c.text-m-2 in
-    let list = rw c.in-To-m-2.is at text2.ensures in
+inputs_at-requires c = let list = rw c.in-To-m-2.is at c.text-m-2.ensures in
     list.inside
 
 pub returns : goal.returns
-returns c = let m3 = c.m-in-To-m-3-1 in
-    let text2 = c.text-m-2 in
-    let m2 = c.m-in-To-m-2-1 in
-    let lut-at = c.lut_at-m in
-    let m = c.m-1 in
-    let text = c.text-m in
-    let start-here = c.start in
+returns c = let start-here = c.start in
     let args = c.args in
     let a = args in
     let start = start-here in
-    let word = rw (m.given.1, start.ensures) at text.ensures in
-    let number = rw m2.given.1 at lut-at.ensures in
-    let list = rw m3.given.1 at text2.ensures in
+    let word = rw (c.in-To.is, start.ensures) at c.text-m.ensures in
+    let number = rw c.in-To-m.is at c.lut_at-m.ensures in
+    let list = rw c.in-To-m-2.is at c.text-m-2.ensures in
     lut_list a.l.now (map name_of a.bs.now) a.i word number list c.inputs_at.result c.inputs_at.ensures

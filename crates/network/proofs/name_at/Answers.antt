@@ -7,21 +7,16 @@ use Rattle.network.specs.ListedLaws.{given_no_name, given_same, given_other}
 use Rattle.network.proofs.name_at.Goals as goal
 
 pub returns-in_default : goal.returns-in_default
-returns-in_default c = let name2 = c.name-r in
-    let a = c.args in
-    let name = rw c.in_default.is at name2.ensures in
+returns-in_default c = let a = c.args in
+    let name = rw c.in_default.is at c.name-r.ensures in
     given_no_name (name_of a.v) (drop a.c.at a.s.now) name
 
 pub returns-then-same_name : goal.returns-then-same_name
-returns-then-same_name c = let r = c.r-1 in
-    let name2 = c.name-r in
-    let a = c.args in
-    let name = rw r.given.1 at name2.ensures in
+returns-then-same_name c = let a = c.args in
+    let name = rw c.in-Name.is at c.name-r.ensures in
     given_same (name_of a.v) (drop a.c.at a.s.now) name (sym c.same_name.ensures ∙ c.if-same_name.true)
 
 pub returns-else-same_name : goal.returns-else-same_name
-returns-else-same_name c = let r = c.r-1 in
-    let name2 = c.name-r in
-    let a = c.args in
-    let name = rw r.given.1 at name2.ensures in
+returns-else-same_name c = let a = c.args in
+    let name = rw c.in-Name.is at c.name-r.ensures in
     given_other (name_of a.v) (drop a.c.at a.s.now) name (sym c.same_name.ensures ∙ c.if-same_name.false)

@@ -14,11 +14,8 @@ pub led_name-m-requires : goal.led_name-m-requires
 led_name-m-requires c = c.loop-i.invariant.inside
 
 pub returns-in_default : goal.returns-in_default
-returns-in_default c = let led-name = c.led_name-m in
-    let loop = c.loop-i in
-    let loop-test = c.loop-i-test in
-    let item = rw c.in_default.is at led-name.ensures in
-    listed_missing loop.invariant loop-test.true item
+returns-in_default c = let item = rw c.in_default.is at c.led_name-m.ensures in
+    listed_missing c.loop-i.invariant c.loop-i-test.true item
 
 pub overflow_add-i : goal.overflow_add-i
 overflow_add-i c = omega arith
@@ -27,11 +24,8 @@ pub loop-i-smaller : goal.loop-i-smaller
 loop-i-smaller c = omega arith
 
 pub loop-i-preserved : goal.loop-i-preserved
-loop-i-preserved c = let led-name = c.led_name-m in
-    let loop = c.loop-i in
-    let loop-test = c.loop-i-test in
-    let item = rw c.in-To.is at led-name.ensures in
-    listed_more loop.invariant loop-test.true item
+loop-i-preserved c = let item = rw c.in-To.is at c.led_name-m.ensures in
+    listed_more c.loop-i.invariant c.loop-i-test.true item
 
 pub returns : goal.returns
 returns c = listed_all c.loop-i.invariant _ refl c.loop-i-test.false

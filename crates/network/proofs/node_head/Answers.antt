@@ -12,46 +12,32 @@ pub text-m-requires : goal.text-m-requires
 text-m-requires c = omega (arith, c.start.ensures)
 
 pub returns-in_default : goal.returns-in_default
-returns-in_default c = let text = c.text-m in
-    let a = c.args in
-    let start = c.start in
-    let word = rw (c.in_default.is, start.ensures) at text.ensures in
+returns-in_default c = let a = c.args in
+    let word = rw (c.in_default.is, c.start.ensures) at c.text-m.ensures in
     node_no_word a.l.now (name_of a.name) word
 
 pub name_at-m-requires : goal.name_at-m-requires
-name_at-m-requires c = let text = c.text-m in
-    let start = c.start in
-    let word = rw (c.in-To.is, start.ensures) at text.ensures in
+name_at-m-requires c = let word = rw (c.in-To.is, c.start.ensures) at c.text-m.ensures in
     word.inside
 
 pub returns-in_default-m : goal.returns-in_default-m
-returns-in_default-m c = let m = c.m-1 in
-    let text = c.text-m in
-    let name-at = c.name_at-m in
-    let a = c.args in
-    let start = c.start in
-    let word = rw (m.given.1, start.ensures) at text.ensures in
-    let name = rw c.in_default-m.is at name-at.ensures in
+returns-in_default-m c = let a = c.args in
+    let word = rw (c.in-To.is, c.start.ensures) at c.text-m.ensures in
+    let name = rw c.in_default-m.is at c.name_at-m.ensures in
     node_no_name a.l.now (name_of a.name) word name
 
 -- LEFT slice-aggregate-text-2 : tie.Need-slice-aggregate-text-2
 -- LEFT slice-aggregate-text-2 c = search rules
 
 pub text-requires : goal.text-requires
-text-requires c = let m2 = c.m-in-To-m-2-1 in
-    let name-at = c.name_at-m in
-    let name = rw m2.given.1 at name-at.ensures in
+text-requires c = let name = rw c.in-To-m.is at c.name_at-m.ensures in
     name.inside
 
 pub returns : goal.returns
-returns c = let m2 = c.m-in-To-m-2-1 in
-    let name-at = c.name_at-m in
-    let m = c.m-1 in
-    let text = c.text-m in
-    let start-here = c.start in
+returns c = let start-here = c.start in
     let args = c.args in
     let a = args in
     let start = start-here in
-    let word = rw (m.given.1, start.ensures) at text.ensures in
-    let name = rw m2.given.1 at name-at.ensures in
+    let word = rw (c.in-To.is, start.ensures) at c.text-m.ensures in
+    let name = rw c.in-To-m.is at c.name_at-m.ensures in
     node_list a.l.now (name_of a.name) word name c.text.result c.text.ensures

@@ -9,78 +9,57 @@ use Rattle.network.specs.LineReadLaws.{node_no_head, node_no_inputs, node-no-dig
 use Rattle.network.proofs.read_node.Goals as goal
 
 pub returns-in_default : goal.returns-in_default
-returns-in_default c = let node-head = c.node_head-m in
-    let a = c.args in
-    let head = rw c.in_default.is at node-head.ensures in
+returns-in_default c = let a = c.args in
+    let head = rw c.in_default.is at c.node_head-m.ensures in
     node_no_head a.l.now (name_of a.name) (map name_of a.fs.now) a.u head
 
 pub reads_at-w-requires : goal.reads_at-w-requires
-reads_at-w-requires c = let node-head = c.node_head-m in
-    let head = rw c.in-To.is at node-head.ensures in
+reads_at-w-requires c = let head = rw c.in-To.is at c.node_head-m.ensures in
     (head.inside, c.requires.1)
 
 pub inputs_at-m-requires : goal.inputs_at-m-requires
 inputs_at-m-requires c = c.reads_at-w.ensures.inside
 
 pub returns-in_default-m : goal.returns-in_default-m
-returns-in_default-m c = let m = c.m-1 in
-    let node-head = c.node_head-m in
-    let inputs-at = c.inputs_at-m in
-    let a = c.args in
-    let tables = c.reads_at-w in
-    let head = rw m.given.1 at node-head.ensures in
-    let inputs = rw c.in_default-m.is at inputs-at.ensures in
-    node_no_inputs a.l.now (name_of a.name) (map name_of a.fs.now) a.u head tables.result tables.ensures inputs
+returns-in_default-m c = let a = c.args in
+    let head = rw c.in-To.is at c.node_head-m.ensures in
+    let inputs = rw c.in_default-m.is at c.inputs_at-m.ensures in
+    node_no_inputs a.l.now (name_of a.name) (map name_of a.fs.now) a.u head c.reads_at-w.result c.reads_at-w.ensures inputs
 
 pub overflow_add-w : goal.overflow_add-w
-overflow_add-w c = let reads_at = c.reads_at-w in
-    let pre = c.requires in
-    omega (arith, reads_at.ensures.few, pre.0, pre.1)
+overflow_add-w c = let pre = c.requires in
+    omega (arith, c.reads_at-w.ensures.few, pre.0, pre.1)
 
 pub power-requires : goal.power-requires
-power-requires c = let reads_at = c.reads_at-w in
-    let pre = c.requires in
-    omega (arith, reads_at.ensures.few, pre.0, pre.1)
+power-requires c = let pre = c.requires in
+    omega (arith, c.reads_at-w.ensures.few, pre.0, pre.1)
 
 pub table_at-p-requires : goal.table_at-p-requires
-table_at-p-requires c = let m2 = c.m-in-To-m-2-1 in
-    let inputs-at = c.inputs_at-m in
-    let inputs = rw m2.given.1 at inputs-at.ensures in
+table_at-p-requires c = let inputs = rw c.in-To-m.is at c.inputs_at-m.ensures in
     inputs.inside
 
 pub returns-in-At : goal.returns-in-At
-returns-in-At c = let p = c.p-1 in
-    let table_at = c.table_at-p in
-    let power = c.power in
-    let m2 = c.m-in-To-m-2-1 in
-    let inputs-at = c.inputs_at-m in
+returns-in-At c = let power = c.power in
     let reads_at = c.reads_at-w in
-    let m = c.m-1 in
-    let node-head = c.node_head-m in
     let args = c.args in
     let a = args in
     let tables = reads_at in
     let rows = power in
-    let head = rw m.given.1 at node-head.ensures in
-    let inputs = rw m2.given.1 at inputs-at.ensures in
-    let table = rw p.given.1 at table_at.ensures in
+    let head = rw c.in-To.is at c.node_head-m.ensures in
+    let inputs = rw c.in-To-m.is at c.inputs_at-m.ensures in
+    let table = rw c.in-At.is at c.table_at-p.ensures in
     node_digits a.l.now (name_of a.name) (map name_of a.fs.now) a.u head tables.result tables.ensures inputs (length a.fs.now) rows.result
     (sym (length-map a.fs.now name_of)) rows.ensures table
 
 pub returns-in-Bad : goal.returns-in-Bad
-returns-in-Bad c = let table_at = c.table_at-p in
-    let power = c.power in
-    let m2 = c.m-in-To-m-2-1 in
-    let inputs-at = c.inputs_at-m in
+returns-in-Bad c = let power = c.power in
     let reads_at = c.reads_at-w in
-    let m = c.m-1 in
-    let node-head = c.node_head-m in
     let args = c.args in
     let a = args in
     let tables = reads_at in
     let rows = power in
-    let head = rw m.given.1 at node-head.ensures in
-    let inputs = rw m2.given.1 at inputs-at.ensures in
-    let table = rw c.in-Bad.is at table_at.ensures in
+    let head = rw c.in-To.is at c.node_head-m.ensures in
+    let inputs = rw c.in-To-m.is at c.inputs_at-m.ensures in
+    let table = rw c.in-Bad.is at c.table_at-p.ensures in
     node-no-digits a.l.now (name_of a.name) (map name_of a.fs.now) a.u head tables.result tables.ensures inputs (length a.fs.now) rows.result
     (sym (length-map a.fs.now name_of)) rows.ensures table

@@ -18,13 +18,11 @@ overflow_shl-mask c = omega (arith, c.requires.1)
 
 pub overflow_add-mask : goal.overflow_add-mask
 overflow_add-mask c = let pre = c.requires in
-    let turn = c.loop-i in
     let h = c.loop-i-test.true in
-    record { fits = omega (arith, shifted_byte turn.i (omega (arith, pre.1)), mask_fits turn.i turn.mask (omega (arith, pre.1)) turn.invariant.small) }
+    record { fits = omega (arith, shifted_byte c.loop-i.i (omega (arith, pre.1)), mask_fits c.loop-i.i c.loop-i.mask (omega (arith, pre.1)) c.loop-i.invariant.small) }
 
 pub overflow_add-count : goal.overflow_add-count
-overflow_add-count c = let loop = c.loop-i in
-    record { fits = omega (arith, loop.invariant.few, c.requires.1) }
+overflow_add-count c = record { fits = omega (arith, c.loop-i.invariant.few, c.requires.1) }
 
 pub overflow_add-i : goal.overflow_add-i
 overflow_add-i c = omega (arith, c.requires.1)
@@ -33,16 +31,15 @@ pub loop-i-smaller : goal.loop-i-smaller
 loop-i-smaller c = omega arith
 
 pub loop-i-preserved : goal.loop-i-preserved
-loop-i-preserved c = let loop = c.loop-i in
-    let below = c.requires.1 in
+loop-i-preserved c = let below = c.requires.1 in
     let turn = c.loop-i-test.true in
     ⊎_elim
     (λ w.
     let there = rw w.1.given.1 at c.lut_at-m.ensures in
-    rw (w.3, w.4, w.5, shifted_byte loop.i (omega arith)) (gathered_with loop.invariant turn there))
+    rw (w.3, w.4, w.5, shifted_byte c.loop-i.i (omega arith)) (gathered_with c.loop-i.invariant turn there))
     (λ w.
     let missing = rw w.1.given.1 at c.lut_at-m.ensures in
-    rw (w.2, w.3, w.4) (gathered-without loop.invariant turn missing))
+    rw (w.2, w.3, w.4) (gathered-without c.loop-i.invariant turn missing))
     c.match-m.branch
 
 pub returns : goal.returns

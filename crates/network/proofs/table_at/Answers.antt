@@ -5,30 +5,24 @@ use Rattle.network.specs.TablesLaws.{no_digits, no_bracket, more_left, table-rea
 use Rattle.network.proofs.table_at.Goals as goal
 
 pub returns-in_default : goal.returns-in_default
-returns-in_default c = let digits-at = c.digits_at-m in
-    let a = c.args in
-    let digits = rw c.in_default.is at digits-at.ensures in
+returns-in_default c = let a = c.args in
+    let digits = rw c.in_default.is at c.digits_at-m.ensures in
     no_digits a.l.now a.c.at a.n digits
 
 pub returns-in_default-m : goal.returns-in_default-m
-returns-in_default-m c = let m = c.m-1 in
-    let digits-at = c.digits_at-m in
-    let byte = c.byte-m in
-    let a = c.args in
-    let digits = rw m.given.1 at digits-at.ensures in
-    let bracket = rw c.in_default-m.is at byte.ensures in
+returns-in_default-m c = let a = c.args in
+    let digits = rw c.in-To.is at c.digits_at-m.ensures in
+    let bracket = rw c.in_default-m.is at c.byte-m.ensures in
     no_bracket a.l.now a.c.at a.n digits bracket
 
 pub returns-then-at_end : goal.returns-then-at_end
-returns-then-at_end c = let m2 = c.m-in-To-m-2-1 in
-    let a = c.args in
+returns-then-at_end c = let a = c.args in
     let digits = rw c.in-To.is at c.digits_at-m.ensures in
-    let bracket = rw m2.given.1 at c.byte-m.ensures in
+    let bracket = rw c.in-To-m.is at c.byte-m.ensures in
     table-read a.l.now a.c.at a.n digits bracket c.requires (sym c.at_end.ensures ∙ c.if-at_end.true)
 
 pub returns-else-at_end : goal.returns-else-at_end
-returns-else-at_end c = let m2 = c.m-in-To-m-2-1 in
-    let a = c.args in
+returns-else-at_end c = let a = c.args in
     let digits = rw c.in-To.is at c.digits_at-m.ensures in
-    let bracket = rw m2.given.1 at c.byte-m.ensures in
+    let bracket = rw c.in-To-m.is at c.byte-m.ensures in
     more_left a.l.now a.c.at a.n digits bracket (sym c.at_end.ensures ∙ c.if-at_end.false)

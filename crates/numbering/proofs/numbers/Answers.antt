@@ -20,15 +20,13 @@ bounds-nums-x c = let h = c.loop-x-test.true in let z = c.requires.2 in search r
 
 pub loop-x-preserved : goal.loop-x-preserved
 loop-x-preserved c = let a = c.args in
-    let l = c.loop-x in
     let h = c.loop-x-test.true in
     let few = c.requires.2 in
-    (omega arith, numbered_more a.cl.now a.codes a.o a.mask l.x l.nums c.number.result (omega arith) c.number.ensures l.invariant.1)
+    (omega arith, numbered_more a.cl.now a.codes a.o a.mask c.loop-x.x c.loop-x.nums c.number.result (omega arith) c.number.ensures c.loop-x.invariant.1)
 
 pub returns : goal.returns
 returns c = let a = c.args in
-    let l = c.loop-x in
     let left = c.loop-x-test.false in
-    let upto = l.invariant.0 in
-    let e : l.x ≡ a.v = omega arith in
-    subst (λ (n : ℕ). Numbered a.cl.now a.codes a.o a.mask n l.nums) e l.invariant.1
+    let upto = c.loop-x.invariant.0 in
+    let e : c.loop-x.x ≡ a.v = omega arith in
+    subst (λ (n : ℕ). Numbered a.cl.now a.codes a.o a.mask n c.loop-x.nums) e c.loop-x.invariant.1

@@ -17,28 +17,23 @@ pub overflow_add-k : goal.overflow_add-k
 overflow_add-k c = let z = c.loop-i.invariant.1.low in let w = c.loop-i-test.true in omega arith
 
 pub loop-i-preserved : goal.loop-i-preserved
-loop-i-preserved c = let in-set = c.in_set in
-    let loop-test = c.loop-i-test in
-    let loop = c.loop-i in
-    let args = c.args in
-    let h = loop-test.true in (
+loop-i-preserved c = let args = c.args in
+    let h = c.loop-i-test.true in (
       omega arith,
       ⊎_elim
           (λ w. ⊎_elim
-          (λ z. spreading_one args.n args.p loop.i loop.r loop.k _ _ _ (sym w.0.taken ∙ in-set.ensures) (sym z.0.taken ∙ w.1.ensures) z.1.ensures (w.3 ∙ z.2)
-          w.4 loop.invariant.1)
-          (λ z. spreading_zero args.n args.p loop.i loop.r loop.k _ _ (sym w.0.taken ∙ in-set.ensures) (sym z.0.left ∙ w.1.ensures) (w.3 ∙ z.1) w.4 loop.invariant.1)
+          (λ z. spreading_one args.n args.p c.loop-i.i c.loop-i.r c.loop-i.k _ _ _ (sym w.0.taken ∙ c.in_set.ensures) (sym z.0.taken ∙ w.1.ensures) z.1.ensures (w.3 ∙ z.2)
+          w.4 c.loop-i.invariant.1)
+          (λ z. spreading_zero args.n args.p c.loop-i.i c.loop-i.r c.loop-i.k _ _ (sym w.0.taken ∙ c.in_set.ensures) (sym z.0.left ∙ w.1.ensures) (w.3 ∙ z.1) w.4 c.loop-i.invariant.1)
           w.2.came)
-          (λ w. spreading_skip args.n args.p loop.i loop.r loop.k _ _ (sym w.0.left ∙ in-set.ensures) w.1 w.2 loop.invariant.1)
+          (λ w. spreading_skip args.n args.p c.loop-i.i c.loop-i.r c.loop-i.k _ _ (sym w.0.left ∙ c.in_set.ensures) w.1 w.2 c.loop-i.invariant.1)
           c.if-in_set.branch,
     )
 
 pub overflow_cast-result : goal.overflow_cast-result
 overflow_cast-result c = let a = c.args in
-    let l = c.loop-i in
-    record { fits = spread_low a.n a.p l.r (spreading_end a.n a.p l.i l.r l.k c.loop-i-test.false l.invariant.0 l.invariant.1) }
+    record { fits = spread_low a.n a.p c.loop-i.r (spreading_end a.n a.p c.loop-i.i c.loop-i.r c.loop-i.k c.loop-i-test.false c.loop-i.invariant.0 c.loop-i.invariant.1) }
 
 pub returns : goal.returns
 returns c = let a = c.args in
-    let l = c.loop-i in
-    spreading_end a.n a.p l.i l.r l.k c.loop-i-test.false l.invariant.0 l.invariant.1
+    spreading_end a.n a.p c.loop-i.i c.loop-i.r c.loop-i.k c.loop-i-test.false c.loop-i.invariant.0 c.loop-i.invariant.1

@@ -20,18 +20,16 @@ bounds-r-x-in-loop-x c = let h = c.loop-x-test.true in let z = c.requires in sea
 
 pub loop-x-preserved : goal.loop-x-preserved
 loop-x-preserved c = let a = c.args in
-    let l = c.loop-x in
     let h = c.loop-x-test.true in
     let few = c.requires in
-    let digits = c.spread in (
+    (
       omega arith,
-      wrote_more a.t1 a.p a.cap l.x a.codes l.r digits.result (omega arith) c.ranges.p.fits c.if-cap-n.false digits.ensures l.invariant.1,
+      wrote_more a.t1 a.p a.cap c.loop-x.x a.codes c.loop-x.r c.spread.result (omega arith) c.ranges.p.fits c.if-cap-n.false c.spread.ensures c.loop-x.invariant.1,
     )
 
 pub returns : goal.returns
 returns c = let a = c.args in
-    let l = c.loop-x in
     let left = c.loop-x-test.false in
-    let upto = l.invariant.0 in
-    let e : l.x ≡ a.v = omega arith in
-    subst (λ (n : ℕ). Wrote a.t1 a.p a.cap n a.codes l.r) e l.invariant.1
+    let upto = c.loop-x.invariant.0 in
+    let e : c.loop-x.x ≡ a.v = omega arith in
+    subst (λ (n : ℕ). Wrote a.t1 a.p a.cap n a.codes c.loop-x.r) e c.loop-x.invariant.1

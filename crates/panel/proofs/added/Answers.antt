@@ -35,10 +35,9 @@ loop-o-smaller c = omega arith
 
 pub loop-o-preserved : goal.loop-o-preserved
 loop-o-preserved c = let pre = c.requires in
-    let loop = c.loop-o in
     let a = c.args in
     let o = c.loop-o.o in
-    let so_far = loop.invariant in
+    let so_far = c.loop-o.invariant in
     let inside = c.loop-o-test.true in
     let Next : List Rows → Type 0 = AddedUpTo a.tables a.rows a.marks.now (o + 1) in
     ⊎_elim

@@ -8,25 +8,19 @@ use borrow.Author.Rules.{rules}
 use Rattle.panel.proofs.ask_names.Goals as goal
 
 pub returns-then-not-a : goal.returns-then-not-a
-returns-then-not-a c = let blank = c.blank in
-    let if1 = c.if-not-a in
-    let a = c.asked_in-a in
-    λ x r p.
-    let step = a.ensures nothing (some x.inputs) r.inputs-listed blank.ensures (record { no_bound = refl; no-outputs = refl }) in
-    inputs_refused x a.result step (not-true _ if1.true) _ c.refused.ensures
+returns-then-not-a c = λ x r p.
+    let step = c.asked_in-a.ensures nothing (some x.inputs) r.inputs-listed c.blank.ensures (record { no_bound = refl; no-outputs = refl }) in
+    inputs_refused x c.asked_in-a.result step (not-true _ c.if-not-a.true) _ c.refused.ensures
 
 pub tables-requires : goal.tables-requires
 tables-requires c = c.requires
 
 pub ask_outputs-requires : goal.ask_outputs-requires
 ask_outputs-requires c = let args = c.args in
-    let blank = c.blank in
-    let if1 = c.if-not-a in
     let pre = c.requires in
     let x = pre.text in
-    let a = c.asked_in-a in
-    let step = a.ensures nothing (some x.inputs) pre.read_as.inputs-listed blank.ensures (record { no_bound = refl; no-outputs = refl }) in
-    let passed = inputs_passed x a.result step (not-false _ if1.false) in
+    let step = c.asked_in-a.ensures nothing (some x.inputs) pre.read_as.inputs-listed c.blank.ensures (record { no_bound = refl; no-outputs = refl }) in
+    let passed = inputs_passed x c.asked_in-a.result step (not-false _ c.if-not-a.false) in
     record {
       text = x;
       design = design_of x;
@@ -35,13 +29,9 @@ ask_outputs-requires c = let args = c.args in
 
 pub returns : goal.returns
 returns c = let args = c.args in
-    let blank = c.blank in
-    let if1 = c.if-not-a in
-    let tables = c.tables in
     let pre = c.requires in
-    let a = c.asked_in-a in
     λ x r p.
-    let step = a.ensures nothing (some x.inputs) r.inputs-listed blank.ensures (record { no_bound = refl; no-outputs = refl }) in
-    let passed = inputs_passed x a.result step (not-false _ if1.false) in
+    let step = c.asked_in-a.ensures nothing (some x.inputs) r.inputs-listed c.blank.ensures (record { no_bound = refl; no-outputs = refl }) in
+    let passed = inputs_passed x c.asked_in-a.result step (not-false _ c.if-not-a.false) in
     names_asked x _ _ passed
-    (c.ask_outputs.ensures x (design_of x) (names_ready _ x args.t _ _ r p pre passed (tables.ensures x r)))
+    (c.ask_outputs.ensures x (design_of x) (names_ready _ x args.t _ _ r p pre passed (c.tables.ensures x r)))

@@ -16,16 +16,11 @@ pub bounds-names-o : goal.bounds-names-o
 bounds-names-o c = omega (arith, ready_few _ _ _ _ c.requires)
 
 pub is_new-requires : goal.is_new-requires
-is_new-requires c = let loop = c.loop-o in
-    let pre = c.requires in
-    outputs_held _ _ _ _ _ _ loop.invariant pre.text pre.design pre.ready
+is_new-requires c = let pre = c.requires in
+    outputs_held _ _ _ _ _ _ c.loop-o.invariant pre.text pre.design pre.ready
 
 pub returns-then-not-is_new : goal.returns-then-not-is_new
-returns-then-not-is_new c = let loop = c.loop-o in
-    let loop-test = c.loop-o-test in
-    let is-new = c.is_new in
-    let if1 = c.if-not-is_new in
-    outputs_stopped _ _ _ _ _ _ loop.invariant loop-test.true (λ e h. sym (not-true _ if1.true) ∙ is-new.ensures e h) _ c.refused.ensures
+returns-then-not-is_new c = outputs_stopped _ _ _ _ _ _ c.loop-o.invariant c.loop-o-test.true (λ e h. sym (not-true _ c.if-not-is_new.true-raw) ∙ c.is_new.ensures e h) _ c.refused.ensures
 
 pub offset_bounds-tables-o : goal.offset_bounds-tables-o
 offset_bounds-tables-o c = omega (arith, ready_few _ _ _ _ c.requires)
@@ -34,10 +29,8 @@ pub bounds-tables-o : goal.bounds-tables-o
 bounds-tables-o c = omega (arith, ready_few _ _ _ _ c.requires)
 
 pub with_output-next-requires : goal.with_output-next-requires
-with_output-next-requires c = let loop = c.loop-o in
-    let loop-test = c.loop-o-test in
-    let pre = c.requires in
-    outputs_room _ _ _ _ _ _ loop.invariant loop-test.true pre.text pre.design pre.ready
+with_output-next-requires c = let pre = c.requires in
+    outputs_room _ _ _ _ _ _ c.loop-o.invariant c.loop-o-test.true pre.text pre.design pre.ready
 
 pub overflow_add-o : goal.overflow_add-o
 overflow_add-o c = omega arith
@@ -46,13 +39,7 @@ pub loop-o-smaller : goal.loop-o-smaller
 loop-o-smaller c = omega arith
 
 pub loop-o-preserved : goal.loop-o-preserved
-loop-o-preserved c = let loop = c.loop-o in
-    let loop-test = c.loop-o-test in
-    let is-new = c.is_new in
-    let if1 = c.if-not-is_new in
-    outputs_more _ _ _ _ _ _ loop.invariant loop-test.true _ (λ e h. sym (not-false _ if1.false) ∙ is-new.ensures e h) c.with_output-next.ensures
+loop-o-preserved c = outputs_more _ _ _ _ _ _ c.loop-o.invariant c.loop-o-test.true _ (λ e h. sym (not-false _ c.if-not-is_new.false-raw) ∙ c.is_new.ensures e h) c.with_output-next.ensures
 
 pub returns : goal.returns
-returns c = let loop = c.loop-o in
-    let loop-test = c.loop-o-test in
-    outputs_all _ _ _ _ _ _ loop.invariant loop-test.false _ c.passed.ensures
+returns c = outputs_all _ _ _ _ _ _ c.loop-o.invariant c.loop-o-test.false _ c.passed.ensures

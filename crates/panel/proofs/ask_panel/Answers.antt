@@ -10,8 +10,7 @@ pub ask_names-n-requires : goal.ask_names-n-requires
 ask_names-n-requires c = c.requires.0
 
 pub returns-then-not-n : goal.returns-then-not-n
-returns-then-not-n c = let ask-names = c.ask_names-n in
-    λ x bs n r p q. panel_refused_early x bs n _ (ask-names.ensures x r p) (not-true _ c.if-not-n.true)
+returns-then-not-n c = λ x bs n r p q. panel_refused_early x bs n _ (c.ask_names-n.ensures x r p) (not-true _ c.if-not-n.true)
 
 pub slice_bounds-ask_board-end : goal.slice_bounds-ask_board-end
 slice_bounds-ask_board-end c = let pre = c.requires in
@@ -35,15 +34,11 @@ slice_bounds-ask_board-end-2 c = let pre = c.requires in
     omega (arith, pre.1, pre.2)
 
 pub ask_board-requires : goal.ask_board-requires
-ask_board-requires c = let ask-names = c.ask_names-n in
-    let if1 = c.if-not-n in
-    let pre = c.requires.0 in
-    let w = (ask-names.ensures pre.text pre.read_as pre.fitting).there (not-false _ if1.false) in
+ask_board-requires c = let pre = c.requires.0 in
+    let w = (c.ask_names-n.ensures pre.text pre.read_as pre.fitting).there (not-false _ c.if-not-n.false) in
     record { design = w.design; holds = w.holds }
 
 pub returns : goal.returns
-returns c = let ask-names = c.ask_names-n in
-    let if1 = c.if-not-n in
-    λ x bs n r p q.
-    panel_asked x bs n _ _ (ask-names.ensures x r p) (not-false _ if1.false)
+returns c = λ x bs n r p q.
+    panel_asked x bs n _ _ (c.ask_names-n.ensures x r p) (not-false _ c.if-not-n.false)
     (λ d h. c.ask_board.ensures d bs n h q.bound-read q.limit-read)

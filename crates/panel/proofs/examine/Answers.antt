@@ -18,8 +18,7 @@ use Rattle.panel.proofs.examine.Goals as goal
 -- question 12: what the PLA text says
 said : (c : goal.Else-not-t) → TextRead c.before.before.before.before.before.before.args.pla.now c.before.before.read-text.result
 said c =
-    let t = c.read_text-t in
-    text_read c.args.pla.now t.result t.ensures (not-false _ c.if-not-t.false)
+    text_read c.args.pla.now c.read_text-t.result c.read_text-t.ensures (not-false _ c.if-not-t.false)
 
 -- question 14: the line of the first other mark
 other : (c : goal.After-other_mark-line) → OtherIs c.other-mark.result (other_mark first_cube (said c.before.before.before.before.before.before.before).text.cubes)
@@ -31,10 +30,9 @@ other c =
     (read_stand c.args.pla.now w.text c.read_text-t.result r) (sym r.cubes-counted)
 
 pub returns-then-not-t : goal.returns-then-not-t
-returns-then-not-t c = let t = c.read_text-t in
-    let p = c.args.pla.now in
+returns-then-not-t c = let p = c.args.pla.now in
     let b = c.args.board.now in
-    examined p b _ (text-refused p t.result t.ensures (not-true _ c.if-not-t.true) b _ c.refused.ensures)
+    examined p b _ (text-refused p c.read_text-t.result c.read_text-t.ensures (not-true _ c.if-not-t.true) b _ c.refused.ensures)
 
 pub returns-then-inputs-gt-MAX_INPUTS : goal.returns-then-inputs-gt-MAX_INPUTS
 returns-then-inputs-gt-MAX_INPUTS c = let passed = (goal.at.returns-then-inputs-gt-MAX_INPUTS c).Else-not-t in
@@ -68,17 +66,15 @@ returns-then-not-b c = let marked = (goal.at.returns-then-not-b c).After-other_m
     let passed = (goal.at.returns-then-not-b c).Else-not-t in
     let p = c.args.pla.now in
     let b = c.args.board.now in
-    let l = c.read_board-b in
     examined p b _
     (board-refused p c.read_text-t.result (said passed) b _ c.if-inputs-gt-MAX_INPUTS.false c.if-outputs-gt-MAX_OUTPUTS.false
-    c.other_mark-line.result (other marked) c.if-line-gt0.false l.result l.ensures
+    c.other_mark-line.result (other marked) c.if-line-gt0.false c.read_board-b.result c.read_board-b.ensures
     (not-true _ c.if-not-b.true) c.refused-then-not-b.ensures)
 
 pub ask_panel-requires : goal.ask_panel-requires
 ask_panel-requires c = let passed = (goal.at.ask_panel-requires c).Else-not-t in
     let b = c.args.board.now in
-    let l = c.read_board-b in
-    let inside = board_inside b (sized b) (read_board (lines b)) l.result l.ensures (not-false _ c.if-not-b.false) in
+    let inside = board_inside b (sized b) (read_board (lines b)) c.read_board-b.result c.read_board-b.ensures (not-false _ c.if-not-b.false) in
     (text_readable c.args.pla.now c.read_text-t.result (said passed) c.if-outputs-gt-MAX_OUTPUTS.false, inside.0, inside.1)
 
 pub returns : goal.returns
@@ -86,10 +82,9 @@ returns c = let marked = (goal.at.returns c).After-other_mark-line in
     let passed = (goal.at.returns c).Else-not-t in
     let p = c.args.pla.now in
     let b = c.args.board.now in
-    let l = c.read_board-b in
     let w = said passed in
     examined p b _
     (panel-answered p c.read_text-t.result w b _ c.if-inputs-gt-MAX_INPUTS.false c.if-outputs-gt-MAX_OUTPUTS.false
-    c.other_mark-line.result (other marked) c.if-line-gt0.false l.result l.ensures
+    c.other_mark-line.result (other marked) c.if-line-gt0.false c.read_board-b.result c.read_board-b.ensures
     (not-false _ c.if-not-b.false)
     (λ bs n v. c.ask_panel.ensures w.text bs n w.read_as (pla_print_of_read p w.text w.is_read).writable v))

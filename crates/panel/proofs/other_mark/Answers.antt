@@ -38,14 +38,10 @@ slice_bounds-zeros_and_ones-end c = omega (arith, room c)
 
 pub overflow_add-result : goal.overflow_add-result
 overflow_add-result c = let at = (goal.at.overflow_add-result c).In-loop-k in
-    let loop = c.loop-k in
-    omega (arith, room (at), loop.invariant.cubes-from.apart)
+    omega (arith, room (at), c.loop-k.invariant.cubes-from.apart)
 
 pub returns-then-not-zeros_and_ones : goal.returns-then-not-zeros_and_ones
-returns-then-not-zeros_and_ones c = let loop = c.loop-k in
-    let loop-test = c.loop-k-test in
-    let zeros-and-ones = c.zeros_and_ones in
-    mark_found _ _ _ _ _ _ _ loop.invariant loop-test.true _ _ refl refl (sym (not-true _ c.if-not-zeros_and_ones.true-raw) ∙ zeros-and-ones.ensures)
+returns-then-not-zeros_and_ones c = mark_found _ _ _ _ _ _ _ c.loop-k.invariant c.loop-k-test.true _ _ refl refl (sym (not-true _ c.if-not-zeros_and_ones.true-raw) ∙ c.zeros_and_ones.ensures)
 
 pub overflow_add-at : goal.overflow_add-at
 overflow_add-at c = omega (arith, room (goal.at.overflow_add-at c).In-loop-k)
@@ -57,10 +53,7 @@ pub loop-k-smaller : goal.loop-k-smaller
 loop-k-smaller c = omega arith
 
 pub loop-k-preserved : goal.loop-k-preserved
-loop-k-preserved c = let loop = c.loop-k in
-    let loop-test = c.loop-k-test in
-    let zeros-and-ones = c.zeros_and_ones in
-    marks_more _ _ _ _ _ _ _ loop.invariant loop-test.true _ _ refl refl (sym (not-false _ c.if-not-zeros_and_ones.false-raw) ∙ zeros-and-ones.ensures)
+loop-k-preserved c = marks_more _ _ _ _ _ _ _ c.loop-k.invariant c.loop-k-test.true _ _ refl refl (sym (not-false _ c.if-not-zeros_and_ones.false-raw) ∙ c.zeros_and_ones.ensures)
 
 pub returns : goal.returns
 returns c = marks_none _ _ _ _ _ _ _ c.loop-k.invariant c.loop-k-test.false

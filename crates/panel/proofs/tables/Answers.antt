@@ -51,9 +51,8 @@ slice_bounds-added-end c = omega (arith, room (goal.at.slice_bounds-added-end c)
 
 pub added-next-requires : goal.added-next-requires
 added-next-requires c = let pre = c.requires in
-    let loop = c.loop-k in
     let a = c.args in
-    let m = loop.at + a.t.inputs.count + 1 in
+    let m = c.loop-k.at + a.t.inputs.count + 1 in
     part_few m a.t.outputs.count (drop m a.s.now) (outputs_counted _ _ (pre))
 
 pub overflow_add-at : goal.overflow_add-at
@@ -66,10 +65,7 @@ pub loop-k-smaller : goal.loop-k-smaller
 loop-k-smaller c = omega arith
 
 pub loop-k-preserved : goal.loop-k-preserved
-loop-k-preserved c = let loop = c.loop-k in
-    let loop-test = c.loop-k-test in
-    let covered = c.covered-rows in
-    tables_more _ _ _ _ _ _ _ _ loop.invariant loop-test.true _ _ _ _ refl refl covered.ensures c.added-next.ensures
+loop-k-preserved c = tables_more _ _ _ _ _ _ _ _ c.loop-k.invariant c.loop-k-test.true _ _ _ _ refl refl c.covered-rows.ensures c.added-next.ensures
 
 pub returns : goal.returns
 returns c = tables_all _ _ _ _ _ c.loop-k.invariant c.loop-k-test.false

@@ -17,10 +17,7 @@ pub bounds-m-i-then-m-i-ne48 : goal.bounds-m-i-then-m-i-ne48
 bounds-m-i-then-m-i-ne48 c = omega arith
 
 pub returns-then-m-i-ne49 : goal.returns-then-m-i-ne49
-returns-then-m-i-ne49 c = let loop = c.loop-i in
-    let loop-test = c.loop-i-test in
-    let if1 = c.if-m-i-ne48 in
-    byte_other _ _ loop.invariant loop-test.true if1.true (eqb-false _ _ (not-true _ c.if-m-i-ne49.true-raw))
+returns-then-m-i-ne49 c = byte_other _ _ c.loop-i.invariant c.loop-i-test.true c.if-m-i-ne48.true (eqb-false _ _ (not-true _ c.if-m-i-ne49.true-raw))
 
 pub overflow_add-i : goal.overflow_add-i
 overflow_add-i c = omega arith

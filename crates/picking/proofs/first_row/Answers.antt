@@ -37,29 +37,26 @@ pub loop-f-smaller : goal.loop-f-smaller
 loop-f-smaller c = let h = c.loop-f-test.true in search rules
 
 pub loop-f-preserved : goal.loop-f-preserved
-loop-f-preserved c = let single = c.single-end in
-    let a = c.args in
-    let l = c.loop-f in
+loop-f-preserved c = let a = c.args in
     let h = c.loop-f-test.true in
     let first = c.sooner.ensures in
-    let low : l.f < 2 ^ a.u = subst (λ (n : ℕ). l.f < n) single.ensures h in
-    let B : ℕ → Type 0 = Best a.cl.now a.codes.now a.v a.o a.u a.budget (l.f + 1) in (
+    let low : c.loop-f.f < 2 ^ a.u = subst (λ (n : ℕ). c.loop-f.f < n) c.single-end.ensures h in
+    let B : ℕ → Type 0 = Best a.cl.now a.codes.now a.v a.o a.u a.budget (c.loop-f.f + 1) in (
       omega arith,
       ⊎_elim
           (λ w. subst B (sym w.3)
-          (best_sooner a.cl.now a.codes.now a.v a.o a.u a.budget l.f l.best low (sym first ∙ w.0.taken) (w.1.ensures.0 w.2.taken) l.invariant.1))
+          (best_sooner a.cl.now a.codes.now a.v a.o a.u a.budget c.loop-f.f c.loop-f.best low (sym first ∙ w.0.taken) (w.1.ensures.0 w.2.taken) c.loop-f.invariant.1))
           (⊎_elim
           (λ w. subst B (sym w.3)
-          (best_unsuited a.cl.now a.codes.now a.v a.o a.u a.budget l.f l.best (w.1.ensures.1 w.2.left) l.invariant.1))
+          (best_unsuited a.cl.now a.codes.now a.v a.o a.u a.budget c.loop-f.f c.loop-f.best (w.1.ensures.1 w.2.left) c.loop-f.invariant.1))
           (λ w. subst B (sym w.1)
-          (best_not_sooner a.cl.now a.codes.now a.v a.o a.u a.budget l.f l.best low (sym first ∙ w.0.left) l.invariant.1)))
+          (best_not_sooner a.cl.now a.codes.now a.v a.o a.u a.budget c.loop-f.f c.loop-f.best low (sym first ∙ w.0.left) c.loop-f.invariant.1)))
           c.if-sooner.branch,
     )
 
 pub returns : goal.returns
 returns c = let a = c.args in
-    let l = c.loop-f in
     let h = c.loop-f-test.false in
-    let z = l.invariant.0 in
-    let end : l.f ≡ 2 ^ a.u = (let e = c.single-end.ensures in omega arith) in
-    subst (λ (n : ℕ). Best a.cl.now a.codes.now a.v a.o a.u a.budget n l.best) end l.invariant.1
+    let z = c.loop-f.invariant.0 in
+    let end : c.loop-f.f ≡ 2 ^ a.u = (let e = c.single-end.ensures in omega arith) in
+    subst (λ (n : ℕ). Best a.cl.now a.codes.now a.v a.o a.u a.budget n c.loop-f.best) end c.loop-f.invariant.1

@@ -23,11 +23,10 @@ bounds-budgets-o c = let outs = c.requires.2 in
     search rules
 
 pub first_row-requires : goal.first_row-requires
-first_row-requires c = let loop = c.loop-o in
-    let p = c.requires in
+first_row-requires c = let p = c.requires in
     let outs = p.2 in
     let h = c.loop-o-test.true in
-    (p.0, loop.invariant.0, p.1, omega arith, p.3)
+    (p.0, c.loop-o.invariant.0, p.1, omega arith, p.3)
 
 pub bounds-r-o : goal.bounds-r-o
 bounds-r-o c = let outs = c.requires.2 in
@@ -45,18 +44,15 @@ pub loop-o-preserved : goal.loop-o-preserved
 loop-o-preserved c = let a = c.args in
     let outs = c.requires.2 in
     let tables = c.widened-tables.result in
-    let loop = c.loop-o in
     let h = c.loop-o-test.true in (
-      loop.invariant.0,
-      first_rows_more a.cl.now tables a.t3 a.v a.u loop.o loop.r _ (omega arith) c.first_row.ensures loop.invariant.1,
+      c.loop-o.invariant.0,
+      first_rows_more a.cl.now tables a.t3 a.v a.u c.loop-o.o c.loop-o.r _ (omega arith) c.first_row.ensures c.loop-o.invariant.1,
     )
 
 pub returns : goal.returns
 returns c = let a = c.args in
-    let w = c.widened-tables in
-    let loop = c.loop-o in
     let h = c.loop-o-test.false in
-    let rows = loop.invariant.1 in
-    let all : FirstRows a.cl.now w.result a.t3 a.v a.u a.m loop.r = record { long = rows.long; done = λ o k. rows.done o (omega arith) } in
-    subst (λ (codes : List ℕ). Picked a.cl.now a.t3 a.v a.m a.u codes loop.r) w.ensures
-    (picked_of a.cl.now w.result a.t3 a.v a.m a.u loop.r all)
+    let rows = c.loop-o.invariant.1 in
+    let all : FirstRows a.cl.now c.widened-tables.result a.t3 a.v a.u a.m c.loop-o.r = record { long = rows.long; done = λ o k. rows.done o (omega arith) } in
+    subst (λ (codes : List ℕ). Picked a.cl.now a.t3 a.v a.m a.u codes c.loop-o.r) c.widened-tables.ensures
+    (picked_of a.cl.now c.widened-tables.result a.t3 a.v a.m a.u c.loop-o.r all)

@@ -22,26 +22,19 @@ in_set-requires c = let p = c.requires in let h = c.loop-i-test.true in omega ar
 
 pub returns-then-a-in_set : goal.returns-then-a-in_set
 returns-then-a-in_set c = let a = c.args in
-    let l = c.loop-i in
     let h = c.loop-i-test.true in
-    let i = c.in_set-a in
-    let k = c.in_set in
-    let d : on a.f l.i ≡ on a.g l.i → ⊥ =
-    λ e. true_false (sym (beq_self i.result) ∙ ap (beq i.result) (i.ensures ∙ e ∙ sym k.ensures) ∙ not-true _ c.if-a-in_set.true) in
-    i.ensures ∙ sooner_differ a.u a.f a.g l.i h l.invariant.1 d
+    let d : on a.f c.loop-i.i ≡ on a.g c.loop-i.i → ⊥ =
+    λ e. true_false (sym (beq_self c.in_set-a.result) ∙ ap (beq c.in_set-a.result) (c.in_set-a.ensures ∙ e ∙ sym c.in_set.ensures) ∙ not-true _ c.if-a-in_set.true) in
+    c.in_set-a.ensures ∙ sooner_differ a.u a.f a.g c.loop-i.i h c.loop-i.invariant.1 d
 
 pub loop-i-preserved : goal.loop-i-preserved
 loop-i-preserved c = let a = c.args in
-    let l = c.loop-i in
     let h = c.loop-i-test.true in
-    let i = c.in_set-a in
-    let k = c.in_set in
-    let here : on a.f l.i ≡ on a.g l.i = sym i.ensures ∙ beq_equal i.result k.result (not-false _ c.if-a-in_set.false) ∙ k.ensures in
+    let here : on a.f c.loop-i.i ≡ on a.g c.loop-i.i = sym c.in_set-a.ensures ∙ beq_equal c.in_set-a.result c.in_set.result (not-false _ c.if-a-in_set.false) ∙ c.in_set.ensures in
     let same : ℕ → Type 0 = λ j. on a.f j ≡ on a.g j in
-    (omega arith, λ j k. ⊎_elim (l.invariant.1 j) (λ e. subst same (sym e) here) (less_or_equal j l.i (omega arith)))
+    (omega arith, λ j c.in_set. ⊎_elim (c.loop-i.invariant.1 j) (λ e. subst same (sym e) here) (less_or_equal j c.loop-i.i (omega arith)))
 
 pub returns : goal.returns
 returns c = let a = c.args in
-    let l = c.loop-i in
     let h = c.loop-i-test.false in
-    sooner_same a.u a.f a.g (λ j k. l.invariant.1 j (omega arith))
+    sooner_same a.u a.f a.g (λ j k. c.loop-i.invariant.1 j (omega arith))

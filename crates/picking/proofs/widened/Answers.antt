@@ -19,6 +19,5 @@ loop-x-preserved c = filled_more _ c.loop-x-test.true refl c.loop-x.invariant
 
 pub returns : goal.returns
 returns c = let codes = c.args.codes in
-    let loop = c.loop-x in
     let long : length codes ≡ 32 = search rules in
-    copied_all codes loop.r long (filled_fewer c.loop-x-test.false loop.invariant)
+    copied_all codes c.loop-x.r long (filled_fewer c.loop-x-test.false c.loop-x.invariant)

@@ -7,10 +7,7 @@ use borrow.Author.Rules.{rules}
 use Rattle.platext.proofs.named_line.Goals as goal
 
 pub returns-then-not-l : goal.returns-then-not-l
-returns-then-not-l c = let next-line = c.next_line-l in
-    let if1 = c.if-not-l in
-    let no_names = c.no_names in
-    names_no_line next-line.ensures (not-true _ if1.true) no_names.ensures
+returns-then-not-l c = names_no_line c.next_line-l.ensures (not-true _ c.if-not-l.true) c.no_names.ensures
 
 pub slice_bounds-names_in-count : goal.slice_bounds-names_in-count
 slice_bounds-names_in-count c = omega (arith, (c.next_line-l.ensures.there (not-false _ c.if-not-l.false)).after-start)
@@ -22,12 +19,7 @@ pub slice_bounds-names_in-end : goal.slice_bounds-names_in-end
 slice_bounds-names_in-end c = omega (arith, (c.next_line-l.ensures.there (not-false _ c.if-not-l.false)).inside)
 
 pub overflow_add-result : goal.overflow_add-result
-overflow_add-result c = let next-line = c.next_line-l in
-    let if1 = c.if-not-l in
-    omega (arith, (next-line.ensures.there (not-false _ if1.false)).inside)
+overflow_add-result c = omega (arith, (c.next_line-l.ensures.there (not-false _ c.if-not-l.false)).inside)
 
 pub returns : goal.returns
-returns c = let next-line = c.next_line-l in
-    let if1 = c.if-not-l in
-    let names_in = c.names_in in
-    names_line_lem next-line.ensures (not-false _ if1.false) refl names_in.ensures
+returns c = names_line_lem c.next_line-l.ensures (not-false _ c.if-not-l.false) refl c.names_in.ensures

@@ -14,47 +14,29 @@ text-m-requires c = omega (arith, c.start.ensures)
 
 pub names_of-r-requires : goal.names_of-r-requires
 names_of-r-requires c = let a = c.args in
-    let text-known = c.text-m in
-    let start-known = c.start in
-    let m-known = c.m-1 in
-    let h = moved-start a.l.now a.head.now text-known.result start-known.result start-known.ensures text-known.ensures in
-    (word-found a.head.now a.l.now h m-known.given.1).inside
+    let h = moved-start a.l.now a.head.now c.text-m.result c.start.result c.start.ensures c.text-m.ensures in
+    (word-found a.head.now a.l.now h c.in-To.is).inside
 
 pub returns-then-at_end : goal.returns-then-at_end
 unfolding read_named
 returns-then-at_end c = let a = c.args in
-    let text-known = c.text-m in
-    let start-known = c.start in
     let names_of = c.names_of-r in
-    let at-end = c.at_end in
-    let if1 = c.if-at_end in
-    let m-known = c.m-1 in
-    let h = moved-start a.l.now a.head.now text-known.result start-known.result start-known.ensures text-known.ensures in
+    let h = moved-start a.l.now a.head.now c.text-m.result c.start.result c.start.ensures c.text-m.ensures in
     let r = names_of in
-    let e = leb-true (length a.l.now) r.result.next.at (sym at-end.ensures ∙ if1.true) in
-    whole-line a.head.now a.l.now h (names_of a.n) m-known.given.1 r.result r.ensures e
+    let e = leb-true (length a.l.now) r.result.next.at (sym c.at_end.ensures ∙ c.if-at_end.true) in
+    whole-line a.head.now a.l.now h (names_of a.n) c.in-To.is r.result r.ensures e
 
 pub returns-else-at_end : goal.returns-else-at_end
 unfolding read_named
 returns-else-at_end c = let a = c.args in
-    let text-known = c.text-m in
-    let start-known = c.start in
     let names_of = c.names_of-r in
-    let at-end = c.at_end in
-    let if1 = c.if-at_end in
-    let m-known = c.m-1 in
-    let no_names = c.no_names in
-    let h = moved-start a.l.now a.head.now text-known.result start-known.result start-known.ensures text-known.ensures in
+    let h = moved-start a.l.now a.head.now c.text-m.result c.start.result c.start.ensures c.text-m.ensures in
     let r = names_of in
-    let e = leb-false (length a.l.now) r.result.next.at (sym at-end.ensures ∙ if1.false) in
-    longer-line a.head.now a.l.now h (names_of a.n) m-known.given.1 r.result r.ensures e no_names.result no_names.ensures
+    let e = leb-false (length a.l.now) r.result.next.at (sym c.at_end.ensures ∙ c.if-at_end.false) in
+    longer-line a.head.now a.l.now h (names_of a.n) c.in-To.is r.result r.ensures e c.no_names.result c.no_names.ensures
 
 pub returns-in-Bad : goal.returns-in-Bad
 unfolding read_named
 returns-in-Bad c = let a = c.args in
-    let text-known = c.text-m in
-    let start-known = c.start in
-    let enum_told = c.enum_told-1 in
-    let no-names2 = c.no_names-in-Bad in
-    let h = moved-start a.l.now a.head.now text-known.result start-known.result start-known.ensures text-known.ensures in
-    no_word a.head.now a.l.now h (names_of a.n) enum_told.given.1 no-names2.result no-names2.ensures
+    let h = moved-start a.l.now a.head.now c.text-m.result c.start.result c.start.ensures c.text-m.ensures in
+    no_word a.head.now a.l.now h (names_of a.n) c.in-Bad.is c.no_names-in-Bad.result c.no_names-in-Bad.ensures

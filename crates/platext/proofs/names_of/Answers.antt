@@ -19,25 +19,14 @@ pub loop-count-smaller : goal.loop-count-smaller
 loop-count-smaller c = omega arith
 
 pub loop-count-preserved : goal.loop-count-preserved
-loop-count-preserved c = let r-known = c.r-1 in
-    let loop = c.loop-count in
-    let loop-test = c.loop-count-test in
-    let spaced-name = c.spaced_name-r in
-    let keep = c.keep in
-    let v = r-known.given in
-    gathering_more _ _ _ _ _ _ loop.invariant v.0.0 v.0.1.0 _ loop-test.true (rw v.1 at spaced-name.ensures) keep.ensures
+loop-count-preserved c = let v = c.r-1.given in
+    gathering_more _ _ _ _ _ _ c.loop-count.invariant v.0.0 v.0.1.0 _ c.loop-count-test.true (rw v.1 at c.spaced_name-r.ensures) c.keep.ensures
 
 pub returns-in-Bad : goal.returns-in-Bad
-returns-in-Bad c = let enum_told = c.enum_told-1 in
-    let loop = c.loop-count in
-    let no_names = c.no_names in
-    let loop-test = c.loop-count-test in
-    let spaced-name = c.spaced_name-r in
-    let e = enum_told.given.1 in
-    gathering_bad _ _ _ _ _ _ loop.invariant no_names.result loop-test.true (rw e at spaced-name.ensures) no_names.ensures
+returns-in-Bad c = let e = c.in-Bad.is in
+    gathering_bad _ _ _ _ _ _ c.loop-count.invariant c.no_names.result c.loop-count-test.true (rw e at c.spaced_name-r.ensures) c.no_names.ensures
 
 pub returns : goal.returns
 returns c = let loop = c.loop-count in
-    let loop-test = c.loop-count-test in
     let h = loop in
-    gathering_all _ _ _ h.c.at (record { ok = true; next = h.c; count = h.count; names = h.names }) h.invariant loop-test.false refl refl
+    gathering_all _ _ _ h.c.at (record { ok = true; next = h.c; count = h.count; names = h.names }) h.invariant c.loop-count-test.false refl refl

@@ -13,8 +13,7 @@ returns-then-not-in_set c = let off = sym c.in_set.ensures ∙ not-true _ c.if-n
     (λ t. absurd (true_false (sym t)), λ t h k. absurd (never_both k off))
 
 pub returns : goal.returns
-returns c = let in-set = c.in_set in
-    let some = c.if-v-eq0.false in
-    let known = sym in-set.ensures ∙ not-false _ c.if-not-in_set.false-raw in
+returns c = let some = c.if-v-eq0.false in
+    let known = sym c.in_set.ensures ∙ not-false _ c.if-not-in_set.false-raw in
     let d = c.in_set-2.ensures in
     (λ t. (omega arith, known, sym d ∙ t), λ t h k. sym d ∙ t)

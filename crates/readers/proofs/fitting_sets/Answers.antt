@@ -19,13 +19,11 @@ fitting-requires c = c.loop-x-test.true
 pub loop-x-preserved : goal.loop-x-preserved
 loop-x-preserved c = let a = c.args in
     let h = c.loop-x-test.true in
-    let l = c.loop-x in
-    (omega arith, fitted_more a.kn a.val l.x l.r c.fitting.result h c.fitting.ensures l.invariant.1)
+    (omega arith, fitted_more a.kn a.val c.loop-x.x c.loop-x.r c.fitting.result h c.fitting.ensures c.loop-x.invariant.1)
 
 pub returns : goal.returns
 returns c = let a = c.args in
-    let l = c.loop-x in
     let end = c.loop-x-test.false in
-    let i = l.invariant.0 in
-    let e : l.x ≡ 32 = omega arith in
-    subst (λ (n : ℕ). Fitted a.kn a.val n l.r) e l.invariant.1
+    let i = c.loop-x.invariant.0 in
+    let e : c.loop-x.x ≡ 32 = omega arith in
+    subst (λ (n : ℕ). Fitted a.kn a.val n c.loop-x.r) e c.loop-x.invariant.1

@@ -18,18 +18,17 @@ useful-requires c = c.requires.0
 
 pub loop-i-preserved : goal.loop-i-preserved
 loop-i-preserved c = let a = c.args in
-    let l = c.loop-i in
-    let few = l.invariant.0 in
+    let few = c.loop-i.invariant.0 in
     ⊎_elim
     (λ w.
     let h = w.0.taken in
     let u = w.1.ensures w.2.taken in
     let e = w.5 in
-    let one = grouping_more a.rows l.gs a.sh a.j l.done l.n _ c.twins.result h c.requires.1 refl u.0 u.1 l.invariant.1 in
+    let one = grouping_more a.rows c.loop-i.gs a.sh a.j c.loop-i.done c.loop-i.n _ c.twins.result h c.requires.1 refl u.0 u.1 c.loop-i.invariant.1 in
     (omega arith, grouping_same a.rows _ c.if-n-lt-GROUPS.gs a.sh a.j _ c.if-n-lt-GROUPS.done w.3 w.4 one))
     (⊎_elim
-    (λ w. let e = w.5 in (omega arith, grouping_same a.rows l.gs c.if-n-lt-GROUPS.gs a.sh a.j l.done c.if-n-lt-GROUPS.done w.3 w.4 l.invariant.1))
-    (λ w. let e = w.3 in (omega arith, grouping_same a.rows l.gs c.if-n-lt-GROUPS.gs a.sh a.j l.done c.if-n-lt-GROUPS.done w.1 w.2 l.invariant.1)))
+    (λ w. let e = w.5 in (omega arith, grouping_same a.rows c.loop-i.gs c.if-n-lt-GROUPS.gs a.sh a.j c.loop-i.done c.if-n-lt-GROUPS.done w.3 w.4 c.loop-i.invariant.1))
+    (λ w. let e = w.3 in (omega arith, grouping_same a.rows c.loop-i.gs c.if-n-lt-GROUPS.gs a.sh a.j c.loop-i.done c.if-n-lt-GROUPS.done w.1 w.2 c.loop-i.invariant.1)))
     c.if-n-lt-GROUPS.branch
 
 pub returns : goal.returns

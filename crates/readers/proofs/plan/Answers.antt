@@ -31,22 +31,18 @@ pub bounds-spots-o : goal.bounds-spots-o
 bounds-spots-o c = let h = c.loop-o-test.true in let z = c.requires in search rules
 
 pub loop-o-preserved : goal.loop-o-preserved
-loop-o-preserved c = let size = c.size in
-    let a = c.args in
+loop-o-preserved c = let a = c.args in
     let z = c.requires in
     let h = c.loop-o-test.true in
-    let l = c.loop-o in
-    let cap = c.power-a in
-    let spot = c.power-b in (
+    (
       omega arith,
-      planned_more a.t3 a.sh l.o l.ms l.ps l.caps l.spots _ _ cap.result spot.result (omega arith) refl refl
-          (cap.ensures.0 ∙ ap (λ (z : ℕ). 2 ^ z) size.ensures.0)
-          (spot.ensures.0 ∙ ap (λ (z : ℕ). 2 ^ z) c.size-in-loop-o.ensures.0) l.invariant.1,
+      planned_more a.t3 a.sh c.loop-o.o c.loop-o.ms c.loop-o.ps c.loop-o.caps c.loop-o.spots _ _ c.power-a.result c.power-b.result (omega arith) refl refl
+          (c.power-a.ensures.0 ∙ ap (λ (z : ℕ). 2 ^ z) c.size.ensures.0)
+          (c.power-b.ensures.0 ∙ ap (λ (z : ℕ). 2 ^ z) c.size-in-loop-o.ensures.0) c.loop-o.invariant.1,
     )
 
 pub returns : goal.returns
 returns c = let a = c.args in
-    let l = c.loop-o in
     let h = c.loop-o-test.false in
-    let z = l.invariant.0 in
-    (subst (λ (z : ℕ). Planned a.t3 a.sh z l.ms l.ps l.caps l.spots) (omega arith) l.invariant.1, refl, refl, refl, refl)
+    let z = c.loop-o.invariant.0 in
+    (subst (λ (z : ℕ). Planned a.t3 a.sh z c.loop-o.ms c.loop-o.ps c.loop-o.caps c.loop-o.spots) (omega arith) c.loop-o.invariant.1, refl, refl, refl, refl)

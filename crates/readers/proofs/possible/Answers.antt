@@ -23,31 +23,23 @@ loop-o-init c = omega arith
 -- LEFT slice-aggregate-total-2 c = search rules
 
 pub total-t-requires : goal.total-t-requires
-total-t-requires c = let bases = c.bases-base in
-    let h = c.loop-o-test.true in
+total-t-requires c = let h = c.loop-o-test.true in
     let z = c.requires.2 in
-    (c.requires.0, bases.ensures.long, omega arith, search rules)
+    (c.requires.0, c.bases-base.ensures.long, omega arith, search rules)
 
 pub bounds-spots-o : goal.bounds-spots-o
 bounds-spots-o c = let h = c.loop-o-test.true in let z = c.requires.2 in search rules
 
 pub overflow_cast-spots : goal.overflow_cast-spots
-overflow_cast-spots c = let loop = c.loop-o in
-    let plan = c.plan-p in
-    elem_fits_field w8 w64 plan.result.spots _ loop.o plan.type-inv.1.1.1.1.1.0.1.1 tt
+overflow_cast-spots c = elem_fits_field w8 w64 c.plan-p.result.spots _ c.loop-o.o c.plan-p.type-inv.1.1.1.1.1.0.1.1 tt
 
 pub returns-then-spots-o : goal.returns-then-spots-o
-returns-then-spots-o c = let loop = c.loop-o in
-    let loop-test = c.loop-o-test in
-    λ e kn val.
+returns-then-spots-o c = λ e kn val.
     let a = c.args in
     let p = c.requires in
-    let sh = c.shared-sh in
-    let plan = c.plan-p in
-    let bases = c.bases-base in
-    let bounds = bounds_of a.cl.now a.rows sh.result a.v a.j _ _ _ _ bases.result p.3 sh.ensures plan.ensures.0 bases.ensures in
-    decided_crowded a.cl.now bases.result a.rows sh.result a.v a.j _ _ _ _ p.1 p.3 sh.ensures plan.ensures.0 bounds
-    loop.o c.total-t.ensures.0 kn val a.rows loop-test.true
+    let bounds = bounds_of a.cl.now a.rows c.shared-sh.result a.v a.j _ _ _ _ c.bases-base.result p.3 c.shared-sh.ensures c.plan-p.ensures.0 c.bases-base.ensures in
+    decided_crowded a.cl.now c.bases-base.result a.rows c.shared-sh.result a.v a.j _ _ _ _ p.1 p.3 c.shared-sh.ensures c.plan-p.ensures.0 bounds
+    c.loop-o.o c.total-t.ensures.0 kn val a.rows c.loop-o-test.true
     (let e = c.total-t.ensures.1 in let h = c.if-spots-o.true in omega arith)
 
 pub loop-o-preserved : goal.loop-o-preserved

@@ -72,94 +72,73 @@ pub settle_all-requires : goal.settle_all-requires
 settle_all-requires c = let pre = c.requires in
     let v = pre.1 in
     let j = pre.2 in
-    let plan = c.plan-p in
-    let w = plan.ensures.1 in
-    let k = plan.ensures.2 in
-    let blocks = c.blocks-bs in
-    let bases = c.bases-base in
+    let w = c.plan-p.ensures.1 in
+    let k = c.plan-p.ensures.2 in
     let long = c.begin-b.type-inv in
-    (pre.0, bases.ensures.long, blocks_of _ _ plan.result.outputs blocks.ensures, omega arith, omega arith, omega arith, omega arith, search rules, search rules)
+    (pre.0, c.bases-base.ensures.long, blocks_of _ _ c.plan-p.result.outputs c.blocks-bs.ensures, omega arith, omega arith, omega arith, omega arith, search rules, search rules)
 
 pub returns-then-not-settle_all : goal.returns-then-not-settle_all
 returns-then-not-settle_all c = let a = c.args in
     let pre = c.requires in
-    let sh = c.searched-sh in
-    let plan = c.plan-p in
-    let p = plan.result in
-    let e = plan.ensures in
-    let k = planned-known a.rows sh.result p.ms p.ps p.caps p.spots a.v a.j a.kn a.val p.vertices p.outputs p.kn p.val
-    pre.1 pre.2 pre.3 pre.4 sh.ensures e in
-    let bases = c.bases-base in
-    let begin = c.begin-b in
-    let settled = c.settle_all in
-    let if1 = c.if-not-settle_all in
-    let bounds = bounds_of a.cl.now a.rows sh.result p.vertices p.outputs _ _ _ _ bases.result k.short k.common k.planned bases.ensures in
+    let p = c.plan-p.result in
+    let e = c.plan-p.ensures in
+    let k = planned-known a.rows c.searched-sh.result p.ms p.ps p.caps p.spots a.v a.j a.kn a.val p.vertices p.outputs p.kn p.val
+    pre.1 pre.2 pre.3 pre.4 c.searched-sh.ensures e in
+    let bounds = bounds_of a.cl.now a.rows c.searched-sh.result p.vertices p.outputs _ _ _ _ c.bases-base.result k.short k.common k.planned c.bases-base.ensures in
     let there = decided-given a.cl.now a.rows a.v a.j a.kn a.val p.vertices p.outputs p.kn p.val (e.1, e.2, e.3, e.4) in
     record {
-      sure = λ u. there false begin.result.codes
-          (decided_lost a.cl.now bases.result a.rows sh.result p.vertices p.outputs _ _ _ _ k.vertices k.short k.common k.planned bounds
-          p.kn p.val k.public begin.result.codes begin.result.dom begin.result.dom begin.result.codes begin.ensures
-          (start-covers a.cl.now bases.result _ _ _ p.vertices p.outputs p.kn p.val begin.result.codes begin.result.dom begin.result.dom
-          k.vertices begin.ensures (kept-start a.cl.now bases.result _ _ _ p.vertices p.outputs begin.result.codes begin.result.dom))
-          (settled.ensures.2 (not-true _ if1.true) p.kn p.val));
+      sure = λ u. there false c.begin-b.result.codes
+          (decided_lost a.cl.now c.bases-base.result a.rows c.searched-sh.result p.vertices p.outputs _ _ _ _ k.vertices k.short k.common k.planned bounds
+          p.kn p.val k.public c.begin-b.result.codes c.begin-b.result.dom c.begin-b.result.dom c.begin-b.result.codes c.begin-b.ensures
+          (start-covers a.cl.now c.bases-base.result _ _ _ p.vertices p.outputs p.kn p.val c.begin-b.result.codes c.begin-b.result.dom c.begin-b.result.dom
+          k.vertices c.begin-b.ensures (kept-start a.cl.now c.bases-base.result _ _ _ p.vertices p.outputs c.begin-b.result.codes c.begin-b.result.dom))
+          (c.settle_all.ensures.2 (not-true _ c.if-not-settle_all.true-raw) p.kn p.val));
       never = λ u. refl;
     }
 
 pub finish-f-requires : goal.finish-f-requires
 finish-f-requires c = let a = c.args in
     let pre = c.requires in
-    let sh = c.searched-sh in
     let plan = c.plan-p in
     let p = plan.result in
     let e = plan.ensures in
-    let k = planned-known a.rows sh.result p.ms p.ps p.caps p.spots a.v a.j a.kn a.val p.vertices p.outputs p.kn p.val
-    pre.1 pre.2 pre.3 pre.4 sh.ensures e in
-    let plan = plan_of a.rows sh.result p.outputs _ _ _ _ k.short k.common k.planned in
+    let k = planned-known a.rows c.searched-sh.result p.ms p.ps p.caps p.spots a.v a.j a.kn a.val p.vertices p.outputs p.kn p.val
+    pre.1 pre.2 pre.3 pre.4 c.searched-sh.ensures e in
+    let plan = plan_of a.rows c.searched-sh.result p.outputs _ _ _ _ k.short k.common k.planned in
     (pre.0, k.outputs, k.vertices, plan, λ x h. let z = zeros_are 32 x in omega arith)
 
 pub returns-then-f : goal.returns-then-f
 returns-then-f c = let a = c.args in
     let pre = c.requires in
-    let sh = c.searched-sh in
-    let plan = c.plan-p in
-    let p = plan.result in
-    let e = plan.ensures in
-    let k = planned-known a.rows sh.result p.ms p.ps p.caps p.spots a.v a.j a.kn a.val p.vertices p.outputs p.kn p.val
-    pre.1 pre.2 pre.3 pre.4 sh.ensures e in
-    let bases = c.bases-base in
-    let begin = c.begin-b in
-    let settled = c.settle_all in
-    let finished = c.finish-f in
-    let r = finished.result in
-    let if2 = c.if-sh-eq0 in
-    let if3 = c.if-f in
-    let bounds = bounds_of a.cl.now a.rows sh.result p.vertices p.outputs _ _ _ _ bases.result k.short k.common k.planned bases.ensures in
+    let p = c.plan-p.result in
+    let e = c.plan-p.ensures in
+    let k = planned-known a.rows c.searched-sh.result p.ms p.ps p.caps p.spots a.v a.j a.kn a.val p.vertices p.outputs p.kn p.val
+    pre.1 pre.2 pre.3 pre.4 c.searched-sh.ensures e in
+    let r = c.finish-f.result in
+    let bounds = bounds_of a.cl.now a.rows c.searched-sh.result p.vertices p.outputs _ _ _ _ c.bases-base.result k.short k.common k.planned c.bases-base.ensures in
     let there = decided-given a.cl.now a.rows a.v a.j a.kn a.val p.vertices p.outputs p.kn p.val (e.1, e.2, e.3, e.4) in
     record {
       sure = λ u. there r.ok r.codes
-          (decided_of a.cl.now bases.result a.rows sh.result p.vertices p.outputs _ _ _ _ k.vertices k.short k.common k.planned bounds
-          p.kn p.val k.public begin.result.codes begin.result.dom _ r.ok r.codes begin.ensures
-          (start-covers a.cl.now bases.result _ _ _ p.vertices p.outputs p.kn p.val begin.result.codes begin.result.dom _
-          k.vertices begin.ensures settled.ensures.0)
-          (told-found a.cl.now bases.result _ _ _ _ p.vertices p.outputs p.kn p.val begin.result.codes _ (zeros 32) begin.result.dom r.codes
-          r.ok if3.true (finished.ensures bases.result _ begin.result.dom p.kn p.val
-          (zeros_knows p.kn p.val sh.result p.vertices p.outputs _ (zeros 32) if2.true k.public))));
+          (decided_of a.cl.now c.bases-base.result a.rows c.searched-sh.result p.vertices p.outputs _ _ _ _ k.vertices k.short k.common k.planned bounds
+          p.kn p.val k.public c.begin-b.result.codes c.begin-b.result.dom _ r.ok r.codes c.begin-b.ensures
+          (start-covers a.cl.now c.bases-base.result _ _ _ p.vertices p.outputs p.kn p.val c.begin-b.result.codes c.begin-b.result.dom _
+          k.vertices c.begin-b.ensures c.settle_all.ensures.0)
+          (told-found a.cl.now c.bases-base.result _ _ _ _ p.vertices p.outputs p.kn p.val c.begin-b.result.codes _ (zeros 32) c.begin-b.result.dom r.codes
+          r.ok c.if-f.true (c.finish-f.ensures c.bases-base.result _ c.begin-b.result.dom p.kn p.val
+          (zeros_knows p.kn p.val c.searched-sh.result p.vertices p.outputs _ (zeros 32) c.if-sh-eq0.true k.public))));
       never = λ u. refl;
     }
 
 pub groupable-rest-requires : goal.groupable-rest-requires
-groupable-rest-requires c = let sh = c.searched-sh in
-    sh.ensures.0.low
+groupable-rest-requires c = c.searched-sh.ensures.0.low
 
 pub groups-requires : goal.groups-requires
 groups-requires c = let j = c.requires.2 in
     let e = c.plan-p.ensures.2 in
-    let rest = c.groupable-rest in
-    (omega arith, rest.ensures.low)
+    (omega arith, c.groupable-rest.ensures.low)
 
 pub mark-used-requires : goal.mark-used-requires
-mark-used-requires c = let gb = c.blocks-gb in
-    (gb.ensures.long, omega arith)
+mark-used-requires c = (c.blocks-gb.ensures.long, omega arith)
 
 pub meet-met-requires : goal.meet-met-requires
 meet-met-requires c = let pre = c.requires in
@@ -168,73 +147,55 @@ meet-met-requires c = let pre = c.requires in
     (pre.0, omega arith, omega arith)
 
 pub slice_bounds-find-end : goal.slice_bounds-find-end
-slice_bounds-find-end c = let bases = c.bases-base in
-    sym bases.ensures.long
+slice_bounds-find-end c = sym c.bases-base.ensures.long
 
 pub slice_bounds-find-end-2 : goal.slice_bounds-find-end-2
-slice_bounds-find-end-2 c = let blocks = c.blocks-bs in
-    sym blocks.ensures.long
+slice_bounds-find-end-2 c = sym c.blocks-bs.ensures.long
 
 pub find-requires : goal.find-requires
 find-requires c = let a = c.args in
     let pre = c.requires in
-    let sh = c.searched-sh in
-    let plan = c.plan-p in
-    let p = plan.result in
-    let e = plan.ensures in
-    let k = planned-known a.rows sh.result p.ms p.ps p.caps p.spots a.v a.j a.kn a.val p.vertices p.outputs p.kn p.val
-    pre.1 pre.2 pre.3 pre.4 sh.ensures e in
-    let blocks = c.blocks-bs in
-    let bases = c.bases-base in
-    let begin = c.begin-b in
-    let settled = c.settle_all in
-    let rest = c.groupable-rest in
-    let found = c.groups in
-    let gb = c.blocks-gb in
-    let mark = c.mark-used in
-    let over = c.block-all in (
+    let p = c.plan-p.result in
+    let e = c.plan-p.ensures in
+    let k = planned-known a.rows c.searched-sh.result p.ms p.ps p.caps p.spots a.v a.j a.kn a.val p.vertices p.outputs p.kn p.val
+    pre.1 pre.2 pre.3 pre.4 c.searched-sh.ensures e in
+    (
       pre.0,
-      bases.ensures.long,
-      blocks_of _ _ p.outputs blocks.ensures,
+      c.bases-base.ensures.long,
+      blocks_of _ _ p.outputs c.blocks-bs.ensures,
       k.vertices,
       k.outputs,
-      plan_of a.rows sh.result p.outputs _ _ _ _ k.short k.common k.planned,
-      start_valued _ _ gb.result mark.result begin.result.codes begin.result.dom sh.result over.result p.outputs p.vertices p.kn p.val found.ensures.0
+      plan_of a.rows c.searched-sh.result p.outputs _ _ _ _ k.short k.common k.planned,
+      start_valued _ _ c.blocks-gb.result c.mark-used.result c.begin-b.result.codes c.begin-b.result.dom c.searched-sh.result c.block-all.result p.outputs p.vertices p.kn p.val c.groups.ensures.0
           k.vertices
-          (shared_low a.rows sh.result p.outputs _ _ _ _ k.short k.common k.planned)
-          (shared_among a.rows sh.result p.outputs _ _ _ _ k.short k.common k.planned)
-          (record { low = k.common.low; is = over.ensures }) (blocks_of _ _ 3 gb.ensures)
-          (grouping_over _ _ sh.result rest.result p.kn p.outputs found.ensures.0 rest.ensures found.ensures.1)
-          (grouping_alone _ _ sh.result rest.result p.kn p.outputs found.ensures.0 k.public rest.ensures found.ensures.1)
-          begin.ensures (mark.ensures _ (blocks_of _ _ 3 gb.ensures)),
-      start-covers a.cl.now bases.result _ _ _ p.vertices p.outputs p.kn p.val begin.result.codes begin.result.dom _
-          k.vertices begin.ensures settled.ensures.0,
-      start_knows a.rows sh.result p.outputs _ _ _ _ k.short k.common k.planned p.kn p.val p.vertices
-          begin.result.codes begin.result.dom k.vertices k.public k.zero begin.ensures,
+          (shared_low a.rows c.searched-sh.result p.outputs _ _ _ _ k.short k.common k.planned)
+          (shared_among a.rows c.searched-sh.result p.outputs _ _ _ _ k.short k.common k.planned)
+          (record { low = k.common.low; is = c.block-all.ensures }) (blocks_of _ _ 3 c.blocks-gb.ensures)
+          (grouping_over _ _ c.searched-sh.result c.groupable-rest.result p.kn p.outputs c.groups.ensures.0 c.groupable-rest.ensures c.groups.ensures.1)
+          (grouping_alone _ _ c.searched-sh.result c.groupable-rest.result p.kn p.outputs c.groups.ensures.0 k.public c.groupable-rest.ensures c.groups.ensures.1)
+          c.begin-b.ensures (c.mark-used.ensures _ (blocks_of _ _ 3 c.blocks-gb.ensures)),
+      start-covers a.cl.now c.bases-base.result _ _ _ p.vertices p.outputs p.kn p.val c.begin-b.result.codes c.begin-b.result.dom _
+          k.vertices c.begin-b.ensures c.settle_all.ensures.0,
+      start_knows a.rows c.searched-sh.result p.outputs _ _ _ _ k.short k.common k.planned p.kn p.val p.vertices
+          c.begin-b.result.codes c.begin-b.result.dom k.vertices k.public k.zero c.begin-b.ensures,
     )
 
 pub returns : goal.returns
 returns c = let a = c.args in
     let pre = c.requires in
-    let sh = c.searched-sh in
-    let plan = c.plan-p in
-    let p = plan.result in
-    let e = plan.ensures in
-    let k = planned-known a.rows sh.result p.ms p.ps p.caps p.spots a.v a.j a.kn a.val p.vertices p.outputs p.kn p.val
-    pre.1 pre.2 pre.3 pre.4 sh.ensures e in
-    let bases = c.bases-base in
-    let begin = c.begin-b in
-    let settled = c.settle_all in
-    let find = c.find in
-    let r = find.result in
-    let bounds = bounds_of a.cl.now a.rows sh.result p.vertices p.outputs _ _ _ _ bases.result k.short k.common k.planned bases.ensures in
+    let p = c.plan-p.result in
+    let e = c.plan-p.ensures in
+    let k = planned-known a.rows c.searched-sh.result p.ms p.ps p.caps p.spots a.v a.j a.kn a.val p.vertices p.outputs p.kn p.val
+    pre.1 pre.2 pre.3 pre.4 c.searched-sh.ensures e in
+    let r = c.find.result in
+    let bounds = bounds_of a.cl.now a.rows c.searched-sh.result p.vertices p.outputs _ _ _ _ c.bases-base.result k.short k.common k.planned c.bases-base.ensures in
     let there = decided-given a.cl.now a.rows a.v a.j a.kn a.val p.vertices p.outputs p.kn p.val (e.1, e.2, e.3, e.4) in
     record {
       sure = λ u. there r.ok r.codes
-          (decided_of a.cl.now bases.result a.rows sh.result p.vertices p.outputs _ _ _ _ k.vertices k.short k.common k.planned bounds
-          p.kn p.val k.public begin.result.codes begin.result.dom _ r.ok r.codes begin.ensures
-          (start-covers a.cl.now bases.result _ _ _ p.vertices p.outputs p.kn p.val begin.result.codes begin.result.dom _
-          k.vertices begin.ensures settled.ensures.0)
-          (find.ensures.sure u));
-      never = find.ensures.never;
+          (decided_of a.cl.now c.bases-base.result a.rows c.searched-sh.result p.vertices p.outputs _ _ _ _ k.vertices k.short k.common k.planned bounds
+          p.kn p.val k.public c.begin-b.result.codes c.begin-b.result.dom _ r.ok r.codes c.begin-b.ensures
+          (start-covers a.cl.now c.bases-base.result _ _ _ p.vertices p.outputs p.kn p.val c.begin-b.result.codes c.begin-b.result.dom _
+          k.vertices c.begin-b.ensures c.settle_all.ensures.0)
+          (c.find.ensures.sure u));
+      never = c.find.ensures.never;
     }

@@ -9,5 +9,4 @@ returns-then-kn-eq0 c = let a = c.args in (c.shared-sh.ensures, public_none a.kn
 
 pub returns-else-kn-eq0 : goal.returns-else-kn-eq0
 returns-else-kn-eq0 c = let a = c.args in
-    let s = c.shared-sh in
-    (common_more a.rows a.j s.result s.ensures, public_more a.kn s.result)
+    (common_more a.rows a.j c.shared-sh.result c.shared-sh.ensures, public_more a.kn c.shared-sh.result)

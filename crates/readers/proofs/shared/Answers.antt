@@ -12,11 +12,9 @@ pub bounds-rows-o : goal.bounds-rows-o
 bounds-rows-o c = let h = c.loop-o-test.true in let z = c.requires.0 in search rules
 
 pub loop-o-preserved : goal.loop-o-preserved
-loop-o-preserved c = let l = c.loop-o in
-    let h = c.loop-o-test.true in
-    (omega arith, seen_more c.args.rows l.o l.once l.many l.invariant.1)
+loop-o-preserved c = let h = c.loop-o-test.true in
+    (omega arith, seen_more c.args.rows c.loop-o.o c.loop-o.once c.loop-o.many c.loop-o.invariant.1)
 
 pub returns : goal.returns
 returns c = let a = c.args in
-    let l = c.loop-o in
-    seen_all a.t1 a.j l.o l.once l.many c.loop-o-test.false c.requires.1 l.invariant.1
+    seen_all a.t1 a.j c.loop-o.o c.loop-o.once c.loop-o.many c.loop-o-test.false c.requires.1 c.loop-o.invariant.1

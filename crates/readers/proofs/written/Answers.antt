@@ -28,20 +28,18 @@ pub bounds-r-x-in-loop-x : goal.bounds-r-x-in-loop-x
 bounds-r-x-in-loop-x c = let few = c.requires in let h = c.loop-x-test.true in search rules
 
 pub loop-x-preserved : goal.loop-x-preserved
-loop-x-preserved c = let in-set = c.in_set-known in
-    let a = c.args in
+loop-x-preserved c = let a = c.args in
     let few = c.requires in
     let h = c.loop-x-test.true in
-    let l = c.loop-x in (
+    (
       omega arith,
-      wrote_more a.kn a.val a.codes l.x l.r c.with_digit.result in-set.result c.in_set-d.result (omega arith)
-          in-set.ensures c.in_set-d.ensures c.with_digit.ensures l.invariant.1,
+      wrote_more a.kn a.val a.codes c.loop-x.x c.loop-x.r c.with_digit.result c.in_set-known.result c.in_set-d.result (omega arith)
+          c.in_set-known.ensures c.in_set-d.ensures c.with_digit.ensures c.loop-x.invariant.1,
     )
 
 pub returns : goal.returns
 returns c = let a = c.args in
-    let l = c.loop-x in
     let end = c.loop-x-test.false in
-    let i = l.invariant.0 in
-    let e : l.x ≡ a.v = omega arith in
-    subst (λ (n : ℕ). Wrote a.kn a.val a.codes n l.r) e l.invariant.1
+    let i = c.loop-x.invariant.0 in
+    let e : c.loop-x.x ≡ a.v = omega arith in
+    subst (λ (n : ℕ). Wrote a.kn a.val a.codes n c.loop-x.r) e c.loop-x.invariant.1

@@ -17,21 +17,19 @@ returns-then-is_bad c = let a = c.args in
     (e.2, sure_now p.last r.unsure _ e.1 said, h)
 
 pub returns : goal.returns
-returns c = let if2 = c.if-p-ne0 in
-    let a = c.args in
+returns c = let a = c.args in
     let p = a.p in
     let h = c.requires.3 in
-    let k = c.ask-c in
-    let r = k.result in
+    let r = c.ask-c.result in
     let H : List ℕ → Type 0 = λ m. Honest a.cl.now a.given.now p.kn p.val p.vertices m in
     let lost = settled_lost a.cl.now a.given.now p.kn p.val p.vertices a.all (item a.rows) r.ok r.codes in
     let kept = ⊎_elim
     (λ w.
-    let bad = lost (not-true _ w.2.taken) (k.ensures.sure (not-true _ w.4.taken)) in
+    let bad = lost (not-true _ w.2.taken) (c.ask-c.ensures.sure (not-true _ w.4.taken)) in
     subst H (sym w.9) (w.6.ensures a.cl.now a.given.now p.kn p.val p.vertices (λ e. bad) h))
     (⊎_elim (λ w. subst H (sym w.5) h) (⊎_elim (λ w. subst H (sym w.3) h) (λ w. subst H (sym w.1) h)))
-    if2.branch in
-    (refl, k.ensures, kept)
+    c.if-p-ne0.branch in
+    (refl, c.ask-c.ensures, kept)
 
 pub shape_of-mem : goal.shape_of-mem
 shape_of-mem c = (returns-2 c).2.long ∙ sym c.requires.3.long

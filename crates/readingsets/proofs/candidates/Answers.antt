@@ -12,11 +12,9 @@ pub loop-r-init : goal.loop-r-init
 loop-r-init c = let e = c.power-end.ensures in (e.0, e.1, omega arith, omega arith)
 
 pub row_of-row-requires : goal.row_of-row-requires
-row_of-row-requires c = let power = c.power-end in
-    let p = c.args.p in
+row_of-row-requires c = let p = c.args.p in
     let q = c.requires in
-    let l = c.loop-r in
-    (q.4, number_room p.cells p.tables l.r power.result q.5 l.invariant.0 c.loop-r-test.true)
+    (q.4, number_room p.cells p.tables c.loop-r.r c.power-end.result q.5 c.loop-r.invariant.0 c.loop-r-test.true)
 
 pub overflow_add-n : goal.overflow_add-n
 overflow_add-n c = let i = c.loop-r.invariant in let a = i.1 in let b = i.2 in let d = i.3 in let h = c.loop-r-test.true in omega arith

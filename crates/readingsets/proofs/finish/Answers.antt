@@ -21,8 +21,7 @@ returns-then-not-s c = let a = c.args in
 pub returns : goal.returns
 returns c = let a = c.args in
     let p = a.p in
-    let k = c.ask_all in
-    let r = k.result in
+    let r = c.ask_all.result in
     let all = c.first_outputs-all.ensures in
     let S : ℕ → Type 0 = λ d. Sure p.last r.unsure (Settled a.cl.now a.given.now p.kn p.val p.vertices d (item a.rows) r.ok r.codes) in
-    (k.ensures.0, subst S all k.ensures.1, k.ensures.2)
+    (c.ask_all.ensures.0, subst S all c.ask_all.ensures.1, c.ask_all.ensures.2)

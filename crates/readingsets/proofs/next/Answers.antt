@@ -35,13 +35,12 @@ loop-o-smaller c = let i = c.loop-o.invariant in let h = c.loop-o-test.true in l
 
 pub loop-o-preserved : goal.loop-o-preserved
 loop-o-preserved c = let done = c.args.done in
-    let l = c.loop-o in
-    let i = l.invariant in
+    let i = c.loop-o.invariant in
     let r = i.1 in
     let h = c.loop-o-test.true in
     let e = c.in_set.ensures in
-    let N : ℕ → Type 0 = λ b. Next (l.o + 1) done b in
-    let here : on done l.o ≡ false → N l.o = next_here done l.o (omega arith) in (
+    let N : ℕ → Type 0 = λ b. Next (c.loop-o.o + 1) done b in
+    let here : on done c.loop-o.o ≡ false → N c.loop-o.o = next_here done c.loop-o.o (omega arith) in (
       omega arith,
       i.1,
       ⊎_elim
@@ -49,14 +48,13 @@ loop-o-preserved c = let done = c.args.done in
           (⊎_elim
           (λ w. subst N (sym w.5) (here (sym e ∙ not-true _ w.0.taken)))
           (⊎_elim
-          (λ w. subst N (sym w.5) (next-found done l.o l.best w.3.left i.2))
-          (λ w. subst N (sym w.1) (next_done done l.o l.best (sym e ∙ not-false _ w.0.left) i.2))))
+          (λ w. subst N (sym w.5) (next-found done c.loop-o.o c.loop-o.best w.3.left i.2))
+          (λ w. subst N (sym w.1) (next_done done c.loop-o.o c.loop-o.best (sym e ∙ not-false _ w.0.left) i.2))))
           c.if-not-in_set.branch,
     )
 
 pub returns : goal.returns
-returns c = let l = c.loop-o in
-    let i = l.invariant in
+returns c = let i = c.loop-o.invariant in
     let a = i.0 in
     let h = c.loop-o-test.false in
-    subst (λ (m : ℕ). Next m c.args.done l.best) (let e : l.o ≡ c.args.p.outputs = omega arith in e) i.2
+    subst (λ (m : ℕ). Next m c.args.done c.loop-o.best) (let e : c.loop-o.o ≡ c.args.p.outputs = omega arith in e) i.2

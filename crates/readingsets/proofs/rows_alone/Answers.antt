@@ -9,20 +9,18 @@ pub power-all-requires : goal.power-all-requires
 power-all-requires c = let q = c.requires in let h = q.4 in let k = q.5 in omega arith
 
 pub loop-r-init : goal.loop-r-init
-loop-r-init c = let k = c.power-all in
-    let end = c.if-all-lt-NOTED.end in
+loop-r-init c = let end = c.if-all-lt-NOTED.end in
     let short : end ≤ 64 = ⊎_elim (λ w. let h = w.0.taken in let e = w.1 in omega arith) (λ w. let e = w.1 in omega arith) c.if-all-lt-NOTED.branch in
-    let within : end ≤ k.result = ⊎_elim (λ w. let e = w.1 in omega arith) (λ w. let h = w.0.left in let e = w.1 in omega arith) c.if-all-lt-NOTED.branch in
-    (omega arith, short, within, k.ensures.0)
+    let within : end ≤ c.power-all.result = ⊎_elim (λ w. let e = w.1 in omega arith) (λ w. let h = w.0.left in let e = w.1 in omega arith) c.if-all-lt-NOTED.branch in
+    (omega arith, short, within, c.power-all.ensures.0)
 
 pub row_of-row-requires : goal.row_of-row-requires
 row_of-row-requires c = let a = c.args in
     let q = c.requires in
-    let l = c.loop-r in
     let h = c.loop-r-test.true in
-    let k = l.invariant.2 in
+    let k = c.loop-r.invariant.2 in
     let all = c.power-all.result in
-    (q.4, number_room a.cells a.tables l.r all q.5 l.invariant.3 (omega arith))
+    (q.4, number_room a.cells a.tables c.loop-r.r all q.5 c.loop-r.invariant.3 (omega arith))
 
 pub leaves-requires : goal.leaves-requires
 leaves-requires c = let q = c.requires in (q.0, q.1, q.2, q.3)

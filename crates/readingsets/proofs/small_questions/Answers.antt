@@ -11,22 +11,18 @@ pub loop-size-init : goal.loop-size-init
 loop-size-init c = c.requires.4
 
 pub settle-a-requires : goal.settle-a-requires
-settle-a-requires c = let loop = c.loop-size in
-    let p = c.requires in (p.0, p.1, p.2, loop.invariant)
+settle-a-requires c = let p = c.requires in (p.0, p.1, p.2, c.loop-size.invariant)
 
 pub shape_of-mem-then-not-a : goal.shape_of-mem-then-not-a
-shape_of-mem-then-not-a c = let t = c.settle-a in
-    let p = c.requires in
-    t.ensures.0.long ∙ sym p.4.long
+shape_of-mem-then-not-a c = let p = c.requires in
+    c.settle-a.ensures.0.long ∙ sym p.4.long
 
 pub returns-then-not-a : goal.returns-then-not-a
-returns-then-not-a c = let t = c.settle-a in
-    (t.ensures.0, λ e. t.ensures.1 (not-true _ c.if-not-a.true))
+returns-then-not-a c = (c.settle-a.ensures.0, λ e. c.settle-a.ensures.1 (not-true _ c.if-not-a.true))
 
 pub overflow_add-size : goal.overflow_add-size
 overflow_add-size c = let h = c.loop-size-test.true in
-    let e = c.if-p-eq2 in
-    let low : e.end ≤ 3 = ⊎_elim (λ w. let z = w.1 in omega arith) (λ w. let z = w.1 in omega arith) e.branch in
+    let low : c.if-p-eq2.end ≤ 3 = ⊎_elim (λ w. let z = w.1 in omega arith) (λ w. let z = w.1 in omega arith) c.if-p-eq2.branch in
     search rules
 
 pub loop-size-preserved : goal.loop-size-preserved

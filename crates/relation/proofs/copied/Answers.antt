@@ -23,12 +23,11 @@ bounds-from-k c = let h = c.loop-k-test.true in
 
 pub label-requires : goal.label-requires
 label-requires c = let p = c.requires in
-    let l = c.loop-k in
     let h = c.loop-k-test.true in
-    let e = l.invariant.1 in
+    let e = c.loop-k.invariant.1 in
     let few = p.2 in
     let long = p.0.long in
-    (omega arith, p.1 (l.k / max_vertices) (omega arith), omega arith)
+    (omega arith, p.1 (c.loop-k.k / max_vertices) (omega arith), omega arith)
 
 pub bounds-r-k : goal.bounds-r-k
 bounds-r-k c = let h = c.loop-k-test.true in
@@ -43,14 +42,12 @@ overflow_add-k c = let h = c.loop-k-test.true in
     search rules
 
 pub loop-k-preserved : goal.loop-k-preserved
-loop-k-preserved c = let l = c.loop-k in
-    let h = c.loop-k-test.true in
-    let e = l.invariant.1 in
+loop-k-preserved c = let h = c.loop-k-test.true in
+    let e = c.loop-k.invariant.1 in
     let few = c.requires.2 in
-    (omega arith, e, copied_more c.args.cl.now c.args.from l.k _ l.r (omega arith) c.label.ensures l.invariant.2)
+    (omega arith, e, copied_more c.args.cl.now c.args.from c.loop-k.k _ c.loop-k.r (omega arith) c.label.ensures c.loop-k.invariant.2)
 
 pub returns : goal.returns
-returns c = let l = c.loop-k in
-    subst (λ (z : ℕ). Copied c.args.cl.now c.args.from z l.r)
-    (let h = c.loop-k-test.false in let z = l.invariant.0 in let e = l.invariant.1 in omega arith)
-    l.invariant.2
+returns c = subst (λ (z : ℕ). Copied c.args.cl.now c.args.from z c.loop-k.r)
+    (let h = c.loop-k-test.false in let z = c.loop-k.invariant.0 in let e = c.loop-k.invariant.1 in omega arith)
+    c.loop-k.invariant.2

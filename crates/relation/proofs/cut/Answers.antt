@@ -27,26 +27,23 @@ bounds-from-i c = let z = c.requires.3 in search rules
 
 pub refine-refined-requires : goal.refine-refined-requires
 refine-refined-requires c = let p = c.requires in
-    let l = c.loop-i in
     let h = c.loop-i-test.true in
     let few = p.3 in
-    (p.0, p.1, p.2 l.i (omega arith), p.4, omega arith, l.invariant.1.whole)
+    (p.0, p.1, p.2 c.loop-i.i (omega arith), p.4, omega arith, c.loop-i.invariant.1.whole)
 
 pub loop-i-preserved : goal.loop-i-preserved
 loop-i-preserved c = let a = c.args in
     let p = c.requires in
-    let l = c.loop-i in
     let h = c.loop-i-test.true in
-    let Next : List ℕ → Type 0 = Cutting a.cl.now a.given.now a.t3 a.t4 a.n a.v (l.i + 1) in (
+    let Next : List ℕ → Type 0 = Cutting a.cl.now a.given.now a.t3 a.t4 a.n a.v (c.loop-i.i + 1) in (
       omega arith,
       ⊎_elim
-          (λ w. subst Next (sym w.2) (cutting_more a.cl.now a.given.now a.t3 a.t4 a.n a.v p.3 p.4 l.i l.r _ h w.1.ensures l.invariant.1))
-          (λ w. subst Next (sym w.1) (cutting_none a.cl.now a.given.now a.t3 a.t4 a.n a.v p.3 p.4 l.i l.r h w.0.left l.invariant.1))
+          (λ w. subst Next (sym w.2) (cutting_more a.cl.now a.given.now a.t3 a.t4 a.n a.v p.3 p.4 c.loop-i.i c.loop-i.r _ h w.1.ensures c.loop-i.invariant.1))
+          (λ w. subst Next (sym w.1) (cutting_none a.cl.now a.given.now a.t3 a.t4 a.n a.v p.3 p.4 c.loop-i.i c.loop-i.r h w.0.left c.loop-i.invariant.1))
           c.if-g-ne0.branch,
     )
 
 pub returns : goal.returns
 returns c = let a = c.args in
     let p = c.requires in
-    let l = c.loop-i in
-    cutting_leaves a.cl.now a.given.now a.t3 a.t4 a.n a.v p.3 p.4 l.i l.r c.loop-i-test.false l.invariant.1
+    cutting_leaves a.cl.now a.given.now a.t3 a.t4 a.n a.v p.3 p.4 c.loop-i.i c.loop-i.r c.loop-i-test.false c.loop-i.invariant.1

@@ -17,18 +17,15 @@ pub bounds-keys-y : goal.bounds-keys-y
 bounds-keys-y c = let z = c.requires in search rules
 
 pub returns-then-keys-y : goal.returns-then-keys-y
-returns-then-keys-y c = let l = c.loop-y in
-    record { under = l.invariant.0; same = c.if-keys-y.true ∙ l.invariant.1; none = l.invariant.2 }
+returns-then-keys-y c = record { under = c.loop-y.invariant.0; same = c.if-keys-y.true ∙ c.loop-y.invariant.1; none = c.loop-y.invariant.2 }
 
 pub loop-y-preserved : goal.loop-y-preserved
 loop-y-preserved c = let a = c.args in
-    let l = c.loop-y in
     let h = c.loop-y-test.true in (
       omega arith,
-      l.invariant.1,
-      λ z k e. ⊎_elim (λ b. l.invariant.2 z b e) (λ q. c.if-keys-y.false (ap (item a.t1) (sym q) ∙ e ∙ sym l.invariant.1)) (less_or_equal z l.y (omega arith)),
+      c.loop-y.invariant.1,
+      λ z k e. ⊎_elim (λ b. c.loop-y.invariant.2 z b e) (λ q. c.if-keys-y.false (ap (item a.t1) (sym q) ∙ e ∙ sym c.loop-y.invariant.1)) (less_or_equal z c.loop-y.y (omega arith)),
     )
 
 pub returns : goal.returns
-returns c = let l = c.loop-y in
-    record { under = omega arith; same = refl; none = λ z h. l.invariant.2 z (let w = c.loop-y-test.false in omega arith) }
+returns c = record { under = omega arith; same = refl; none = λ z h. c.loop-y.invariant.2 z (let w = c.loop-y-test.false in omega arith) }

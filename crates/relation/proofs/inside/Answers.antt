@@ -24,13 +24,11 @@ returns-then-not-inside_at c = λ e. absurd (true_false (sym e))
 
 pub loop-x-preserved : goal.loop-x-preserved
 loop-x-preserved c = let a = c.args in
-    let l = c.loop-x in
     let h = c.loop-x-test.true in
-    (omega arith, inside_more a.cl.now a.o a.q l.x (c.inside_at.ensures (not-false _ c.if-not-inside_at.false-raw)) l.invariant.1)
+    (omega arith, inside_more a.cl.now a.o a.q c.loop-x.x (c.inside_at.ensures (not-false _ c.if-not-inside_at.false-raw)) c.loop-x.invariant.1)
 
 pub returns : goal.returns
 returns c = let a = c.args in
-    let l = c.loop-x in
     let h = c.loop-x-test.false in
-    let z = l.invariant.0 in
-    λ e. subst (Inside a.cl.now a.o a.q) (omega arith) l.invariant.1
+    let z = c.loop-x.invariant.0 in
+    λ e. subst (Inside a.cl.now a.o a.q) (omega arith) c.loop-x.invariant.1

@@ -39,20 +39,19 @@ returns-then-label-a c = λ e. absurd (true_false (sym e))
 pub loop-y-preserved : goal.loop-y-preserved
 loop-y-preserved c = let a = c.args in
     let cl = a.cl.now in
-    let l = c.loop-y in
-    let i = l.invariant in
+    let i = c.loop-y.invariant in
     let h = c.loop-y-test.true in
     let e = c.label.ensures in
     let T : ℕ → Type 0 = λ z. Conflict cl a.o a.x z → Conflict cl a.q a.x z in
-    let here : T l.y = ⊎_elim
-    (λ w k. absurd (equal_no_conflict cl a.o a.x l.y (sym i.1 ∙ sym w.2.left ∙ w.1.ensures) k))
-    (λ w k. different_conflict cl a.q a.x l.y (λ d. w.left (e ∙ sym d ∙ sym i.2)))
+    let here : T c.loop-y.y = ⊎_elim
+    (λ w k. absurd (equal_no_conflict cl a.o a.x c.loop-y.y (sym i.1 ∙ sym w.2.left ∙ w.1.ensures) k))
+    (λ w k. different_conflict cl a.q a.x c.loop-y.y (λ d. w.left (e ∙ sym d ∙ sym i.2)))
     c.if-label-b.branch in (
       omega arith,
       i.1,
       i.2,
-      λ z k. ⊎_elim (i.3 z) (λ d. subst T (sym d) here) (less_or_equal z l.y (omega arith)),
+      λ z k. ⊎_elim (i.3 z) (λ d. subst T (sym d) here) (less_or_equal z c.loop-y.y (omega arith)),
     )
 
 pub returns : goal.returns
-returns c = let l = c.loop-y in λ e y h. l.invariant.3 y (let w = c.loop-y-test.false in omega arith)
+returns c = λ e y h. c.loop-y.invariant.3 y (let w = c.loop-y-test.false in omega arith)

@@ -15,21 +15,18 @@ pub told-requires : goal.told-requires
 told-requires c = let q = c.requires in let z = q.3 in let h = c.loop-x-test.true in (q.0, q.1, q.2, omega arith)
 
 pub returns-then-not-told : goal.returns-then-not-told
-returns-then-not-told c = let l = c.loop-x in
-    let h = c.loop-x-test.true in (
+returns-then-not-told c = let h = c.loop-x-test.true in (
       λ e. absurd (true_false (sym e)),
-      λ e s. c.told.ensures.1 (not-true _ c.if-not-told.true-raw) (λ y k. s.none l.x y h (omega arith)),
+      λ e s. c.told.ensures.1 (not-true _ c.if-not-told.true-raw) (λ y k. s.none c.loop-x.x y h (omega arith)),
     )
 
 pub loop-x-preserved : goal.loop-x-preserved
 loop-x-preserved c = let a = c.args in
-    let l = c.loop-x in
     let h = c.loop-x-test.true in
-    (omega arith, none_left_more a.cl.now a.given.now a.g a.o l.x (c.told.ensures.0 (not-false _ c.if-not-told.false-raw)) l.invariant.1)
+    (omega arith, none_left_more a.cl.now a.given.now a.g a.o c.loop-x.x (c.told.ensures.0 (not-false _ c.if-not-told.false-raw)) c.loop-x.invariant.1)
 
 pub returns : goal.returns
 returns c = let a = c.args in
-    let l = c.loop-x in
     let h = c.loop-x-test.false in
-    let z = l.invariant.0 in
-    (λ e. subst (NoneLeft a.cl.now a.given.now a.g a.o) (omega arith) l.invariant.1, λ e. absurd (true_false e))
+    let z = c.loop-x.invariant.0 in
+    (λ e. subst (NoneLeft a.cl.now a.given.now a.g a.o) (omega arith) c.loop-x.invariant.1, λ e. absurd (true_false e))

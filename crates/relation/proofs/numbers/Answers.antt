@@ -17,8 +17,7 @@ pub bounds-r-y : goal.bounds-r-y
 bounds-r-y c = let z = c.requires in search rules
 
 pub overflow_add-next : goal.overflow_add-next
-overflow_add-next c = let l = c.loop-x in
-    let z = l.invariant.1.few in
+overflow_add-next c = let z = c.loop-x.invariant.1.few in
     let h = c.loop-x-test.true in
     let few = c.requires in
     omega arith
@@ -27,18 +26,16 @@ pub bounds-r-x : goal.bounds-r-x
 bounds-r-x c = let z = c.requires in search rules
 
 pub loop-x-preserved : goal.loop-x-preserved
-loop-x-preserved c = let l = c.loop-x in
-    let h = c.loop-x-test.true in
+loop-x-preserved c = let h = c.loop-x-test.true in
     let z = c.requires in
-    let b : l.x < 32 = omega arith in
+    let b : c.loop-x.x < 32 = omega arith in
     let f = c.first-y.ensures in (
       omega arith,
       ⊎_elim
-          (λ w. numbering_old c.args.keys l.x l.next l.r b l.invariant.1 c.first-y.result _ _ f w.0.taken w.2 w.1)
-          (λ w. numbering_new c.args.keys l.x l.next l.r b l.invariant.1 c.first-y.result _ _ f w.0.left w.2 w.1)
+          (λ w. numbering_old c.args.keys c.loop-x.x c.loop-x.next c.loop-x.r b c.loop-x.invariant.1 c.first-y.result _ _ f w.0.taken w.2 w.1)
+          (λ w. numbering_new c.args.keys c.loop-x.x c.loop-x.next c.loop-x.r b c.loop-x.invariant.1 c.first-y.result _ _ f w.0.left w.2 w.1)
           c.if-y-x.branch,
     )
 
 pub returns : goal.returns
-returns c = let l = c.loop-x in
-    subst (λ (z : ℕ). Numbers c.args.keys z l.r) (let h = c.loop-x-test.false in let z = l.invariant.0 in omega arith) l.invariant.1.numbers
+returns c = subst (λ (z : ℕ). Numbers c.args.keys z c.loop-x.r) (let h = c.loop-x-test.false in let z = c.loop-x.invariant.0 in omega arith) c.loop-x.invariant.1.numbers

@@ -22,28 +22,25 @@ label-l-requires c = let p = c.requires in
     (omega arith, p.1, omega arith)
 
 pub overflow_mul-r : goal.overflow_mul-r
-overflow_mul-r c = let loop = c.loop-x in
-    let low = c.requires.3 loop.x c.loop-x-test.true in
+overflow_mul-r c = let low = c.requires.3 c.loop-x.x c.loop-x-test.true in
     omega arith
 
 pub overflow_add-r : goal.overflow_add-r
-overflow_add-r c = let l = c.loop-x in
-    let h = c.loop-x-test.true in
+overflow_add-r c = let h = c.loop-x-test.true in
     let e = c.label-l.ensures in
     let few = c.requires.2 in
     let own = c.requires.1 in
-    let low = c.requires.3 l.x h in
-    let class = c.requires.0.low (c.args.o * 32 + l.x) (omega arith) in
+    let low = c.requires.3 c.loop-x.x h in
+    let class = c.requires.0.low (c.args.o * 32 + c.loop-x.x) (omega arith) in
     omega arith
 
 pub overflow_cast-r : goal.overflow_cast-r
-overflow_cast-r c = let l = c.loop-x in
-    let h = c.loop-x-test.true in
+overflow_cast-r c = let h = c.loop-x-test.true in
     let e = c.label-l.ensures in
     let few = c.requires.2 in
     let own = c.requires.1 in
-    let low = c.requires.3 l.x h in
-    let class = c.requires.0.low (c.args.o * 32 + l.x) (omega arith) in
+    let low = c.requires.3 c.loop-x.x h in
+    let class = c.requires.0.low (c.args.o * 32 + c.loop-x.x) (omega arith) in
     omega arith
 
 pub offset_bounds-r-x : goal.offset_bounds-r-x
@@ -53,10 +50,9 @@ pub bounds-r-x : goal.bounds-r-x
 bounds-r-x c = let z = c.requires.2 in search rules
 
 pub loop-x-preserved : goal.loop-x-preserved
-loop-x-preserved c = let loop = c.loop-x in
-    let test = c.loop-x-test.true in
+loop-x-preserved c = let test = c.loop-x-test.true in
     let few = c.requires.2 in
-    filled_more _ (omega arith) (ap (λ (n : ℕ). item c.args.parts loop.x * max_vertices + n) c.label-l.ensures) loop.invariant
+    filled_more _ (omega arith) (ap (λ (n : ℕ). item c.args.parts c.loop-x.x * max_vertices + n) c.label-l.ensures) c.loop-x.invariant
 
 pub returns : goal.returns
 returns c = filled_fewer c.loop-x-test.false c.loop-x.invariant

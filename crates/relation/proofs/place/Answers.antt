@@ -59,11 +59,9 @@ bounds-r-i-in-loop-x c = let h = c.loop-x-test.true in
 pub loop-x-preserved : goal.loop-x-preserved
 loop-x-preserved c = let a = c.args in
     let p = c.requires in
-    let l = c.loop-x in
     let h = c.loop-x-test.true in
-    (omega arith, placed_more a.old a.t3 a.t4 a.i a.v l.x _ _ l.r p.1 p.2 h p.3 refl refl l.invariant.1)
+    (omega arith, placed_more a.old a.t3 a.t4 a.i a.v c.loop-x.x _ _ c.loop-x.r p.1 p.2 h p.3 refl refl c.loop-x.invariant.1)
 
 pub returns : goal.returns
 returns c = let a = c.args in
-    let l = c.loop-x in
-    subst (λ (z : ℕ). Placed a.old a.t3 a.t4 a.i z l.r) (let h = c.loop-x-test.false in let z = l.invariant.0 in omega arith) l.invariant.1
+    subst (λ (z : ℕ). Placed a.old a.t3 a.t4 a.i z c.loop-x.r) (let h = c.loop-x-test.false in let z = c.loop-x.invariant.0 in omega arith) c.loop-x.invariant.1

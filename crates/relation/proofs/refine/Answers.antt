@@ -14,23 +14,18 @@ pub numbers-labels-requires : goal.numbers-labels-requires
 numbers-labels-requires c = c.requires.3
 
 pub place-requires : goal.place-requires
-place-requires c = let values = c.values-values in
-    let numbers = c.numbers-parts in
-    let a = c.args in
+place-requires c = let a = c.args in
     let p = c.requires in (
       p.5,
       p.4,
       p.3,
       fine a.cl.now a.given.now a.o a.g a.v _ _ _ _ p.2 p.3 p.0
-          values.ensures numbers.ensures c.pairs-pairs.ensures c.numbers-labels.ensures,
+          c.values-values.ensures c.numbers-parts.ensures c.pairs-pairs.ensures c.numbers-labels.ensures,
     )
 
 pub returns : goal.returns
-returns c = let values = c.values-values in
-    let numbers = c.numbers-parts in
-    let pairs = c.pairs-pairs in
-    let a = c.args in
+returns c = let a = c.args in
     let p = c.requires in
     placed_refined a.cl.now a.given.now a.o a.g a.v _ _ _ _ p.2 p.3 p.0
-    values.ensures numbers.ensures pairs.ensures c.numbers-labels.ensures
+    c.values-values.ensures c.numbers-parts.ensures c.pairs-pairs.ensures c.numbers-labels.ensures
     a.i a.old c.place.result c.place.ensures

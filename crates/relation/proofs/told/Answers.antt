@@ -24,34 +24,31 @@ pub label-requires : goal.label-requires
 label-requires c = let z = c.requires.3 in search rules
 
 pub returns-then-label : goal.returns-then-label
-returns-then-label c = let if1 = c.if-given-y in
-    let a = c.args in
-    let l = c.loop-y in
-    let i = l.invariant in
+returns-then-label c = let a = c.args in
+    let i = c.loop-y.invariant in
     let h = c.loop-y-test.true in
-    let there = c.label in (
+    (
       λ e. absurd (true_false (sym e)),
-      λ e none. none l.y h (record {
-        conflict = different_conflict a.cl.now a.o a.x l.y (λ q. c.if-label.true (there.ensures ∙ sym q ∙ sym i.2));
-        agree = sym i.1 ∙ sym if1.true;
+      λ e none. none c.loop-y.y h (record {
+        conflict = different_conflict a.cl.now a.o a.x c.loop-y.y (λ q. c.if-label.true (c.label.ensures ∙ sym q ∙ sym i.2));
+        agree = sym i.1 ∙ sym c.if-given-y.true;
       }),
     )
 
 pub loop-y-preserved : goal.loop-y-preserved
 loop-y-preserved c = let a = c.args in
-    let l = c.loop-y in
-    let i = l.invariant in
+    let i = c.loop-y.invariant in
     let h = c.loop-y-test.true in
     let L : ℕ → Type 0 = Left a.cl.now a.given.now a.g a.o a.x in
-    let here : L l.y → ⊥ = ⊎_elim
-    (λ w. equal_not_left a.cl.now a.given.now a.g a.o a.x l.y (sym i.2 ∙ sym w.2.left ∙ w.1.ensures))
+    let here : L c.loop-y.y → ⊥ = ⊎_elim
+    (λ w. equal_not_left a.cl.now a.given.now a.g a.o a.x c.loop-y.y (sym i.2 ∙ sym w.2.left ∙ w.1.ensures))
     (λ w k. w.left (sym k.agree ∙ sym i.1))
     c.if-given-y.branch in (
       omega arith,
       i.1,
       i.2,
-      λ z k w. ⊎_elim (λ b. i.3 z b w) (λ q. here (subst L q w)) (less_or_equal z l.y (omega arith)),
+      λ z k w. ⊎_elim (λ b. i.3 z b w) (λ q. here (subst L q w)) (less_or_equal z c.loop-y.y (omega arith)),
     )
 
 pub returns : goal.returns
-returns c = let l = c.loop-y in (λ e y h. l.invariant.3 y (let w = c.loop-y-test.false in omega arith), λ e. absurd (true_false e))
+returns c = (λ e y h. c.loop-y.invariant.3 y (let w = c.loop-y-test.false in omega arith), λ e. absurd (true_false e))

@@ -24,11 +24,9 @@ returns-then-not-in_set c = let o = c.loop-o.o in
     (λ t. absurd (true_false (sym t)), λ f all. never_both (all o h) (sym c.in_set.ensures ∙ not-true _ c.if-not-in_set.true-raw))
 
 pub loop-o-preserved : goal.loop-o-preserved
-loop-o-preserved c = let loop = c.loop-o in
-    let h = c.loop-o-test.true in
-    (omega arith, below_more _ _ loop.invariant.1 (sym c.in_set.ensures ∙ not-false _ c.if-not-in_set.false-raw))
+loop-o-preserved c = let h = c.loop-o-test.true in
+    (omega arith, below_more _ _ c.loop-o.invariant.1 (sym c.in_set.ensures ∙ not-false _ c.if-not-in_set.false-raw))
 
 pub returns : goal.returns
-returns c = let loop = c.loop-o in
-    let h = c.loop-o-test.false in
-    (λ t o l. loop.invariant.1 o (omega arith), λ f. absurd (true_false f))
+returns c = let h = c.loop-o-test.false in
+    (λ t o l. c.loop-o.invariant.1 o (omega arith), λ f. absurd (true_false f))

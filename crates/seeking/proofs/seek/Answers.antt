@@ -10,8 +10,7 @@ use borrow.Author.Rules.{rules}
 use Rattle.seeking.proofs.seek.Goals as goal
 
 pub loop-p-init : goal.loop-p-init
-loop-p-init c = let places = c.places-same in
-    (omega arith, refl, refl, places.ensures, c.requires.7)
+loop-p-init c = (omega arith, refl, refl, c.places-same.ensures, c.requires.7)
 
 pub some_nodes-requires : goal.some_nodes-requires
 some_nodes-requires c = c.loop-p.invariant.0
@@ -23,31 +22,27 @@ choose-k-requires c = let q = c.requires in
     (q.0, q.1, q.2, q.3, q.4, q.5, rows_start _ p.outputs p.cells p.tables _ i.1, alike-start p.kn p.cells _ _ i.3, i.4)
 
 pub shape_of-mem-then-not-k : goal.shape_of-mem-then-not-k
-shape_of-mem-then-not-k c = let choose = c.choose-k in
-    choose.ensures.1.long ∙ sym c.requires.7.long
+shape_of-mem-then-not-k c = c.choose-k.ensures.1.long ∙ sym c.requires.7.long
 
 pub returns-then-not-k : goal.returns-then-not-k
 returns-then-not-k c = let q = c.requires in
     let a = c.args in
     let p = a.p in
-    let k = c.choose-k in
-    let r = k.result in
-    let said = k.ensures.0.sure (not-true _ c.if-not-k.true) in
+    let r = c.choose-k.result in
+    let said = c.choose-k.ensures.0.sure (not-true _ c.if-not-k.true) in
     let found = chosen_sought a.cl.now a.given.now p.budgets p.kn p.val p.vertices p.outputs p.cells p.tables _ r.ok r.rows r.codes in
-    (found q.4 q.5 q.3 q.6 said, k.ensures.1)
+    (found q.4 q.5 q.3 q.6 said, c.choose-k.ensures.1)
 
 pub overflow_add-i : goal.overflow_add-i
 overflow_add-i c = let i = c.loop-p.invariant.0 in search rules
 
 pub loop-p-smaller : goal.loop-p-smaller
-loop-p-smaller c = let if1 = c.if-not-k in
-    let early = unsure_early _ c.loop-p.i _ _ c.choose-k.ensures.0 c.all_nodes.ensures (not-false _ if1.false) in
+loop-p-smaller c = let early = unsure_early _ c.loop-p.i _ _ c.choose-k.ensures.0 c.all_nodes.ensures (not-false _ c.if-not-k.false) in
     omega arith
 
 pub loop-p-preserved : goal.loop-p-preserved
-loop-p-preserved c = let if1 = c.if-not-k in
-    let a = c.args in
+loop-p-preserved c = let a = c.args in
     let p = a.p in
-    let early = unsure_early _ c.loop-p.i _ _ c.choose-k.ensures.0 c.all_nodes.ensures (not-false _ if1.false) in
+    let early = unsure_early _ c.loop-p.i _ _ c.choose-k.ensures.0 c.all_nodes.ensures (not-false _ c.if-not-k.false) in
     let kept = c.forget.ensures a.cl.now a.given.now p.kn p.val p.vertices c.choose-k.ensures.1 in
     (omega arith, refl, refl, c.loop-p.invariant.3, kept)

@@ -8,13 +8,11 @@ returns-then-not-all_fit c = let pre = c.requires in
     (λ all. absurd (c.all_fit.ensures.1 (not-true _ c.if-not-all_fit.true-raw) all), pre.7)
 
 pub returns : goal.returns
-returns c = let if1 = c.if-not-all_fit in
-    let seek = c.seek in
-    let all = c.all_fit.ensures.0 (not-false _ if1.false) in
+returns c = let all = c.all_fit.ensures.0 (not-false _ c.if-not-all_fit.false-raw) in
     let args = c.args in
     let p = args.p in
-    let r = seek.result in (
+    let r = c.seek.result in (
       sought_where args.fits args.cl.now args.given.now p.budgets p.kn p.val p.vertices p.outputs p.cells p.tables r.ok r.rows r.codes
-          all seek.ensures.0,
-      seek.ensures.1,
+          all c.seek.ensures.0,
+      c.seek.ensures.1,
     )

@@ -23,31 +23,25 @@ inside c = omega (arith, c.requires, names_sized c.args.k c.well-formed.0)
 
 few : (c : goal.Else-q-ne0) → c.before.before.names-line.result.count ≤ 5
 few c =
-    let q = c.first_no-q in
-    counted_few 5 c.names_line-w.result q.result q.ensures c.if-q-ne0.false
+    counted_few 5 c.names_line-w.result c.first_no-q.result c.first_no-q.ensures c.if-q-ne0.false
 
 kept : (c : goal.Else-q-ne0) → c.before.before.names-line.result.count ≤ length c.before.before.names-line.result.names
 kept c =
-    let w = c.names_line-w in
-    omega (arith, list_sized w.result w.type-inv, few c)
+    omega (arith, list_sized c.names_line-w.result c.names_line-w.type-inv, few c)
 
 -- the line comes to what question 5 comes to
 by-five : (c : goal.Else-q-ne0) (r : Asked) (d : Design)
     → ((ns : List Name) → c.names_line-w.result.count ≡ length ns → kept_names c.names_line-w.result ≡ ns → StepIs (after_four d ns) r)
     → StepIs (ask_bound d (read_bound c.args.l.now)) r
 by-five c r d rest =
-    let w = c.names_line-w in
-    let q = c.first_no-q in
-    list_good (bound_asks d) w.result r q.result q.ensures _ (bound-reads _ w.result w.ensures) c.if-q-ne0.false rest
+    list_good (bound_asks d) c.names_line-w.result r c.first_no-q.result c.first_no-q.ensures _ (bound-reads _ c.names_line-w.result c.names_line-w.ensures) c.if-q-ne0.false rest
 
 -- LEFT slice-aggregate-names-line : tie.Need-slice-aggregate-names-line
 -- LEFT slice-aggregate-names-line c = search rules
 
 pub returns-then-q-ne0 : goal.returns-then-q-ne0
 returns-then-q-ne0 c = λ d h.
-    let w = c.names_line-w in
-    let q = c.first_no-q in
-    list_refused (bound_asks d) w.result c.refuse.result q.result q.ensures _ (bound-reads _ w.result w.ensures)
+    list_refused (bound_asks d) c.names_line-w.result c.refuse.result c.first_no-q.result c.first_no-q.ensures _ (bound-reads _ c.names_line-w.result c.names_line-w.ensures)
     c.if-q-ne0.true c.refuse.ensures
 
 pub slice_bounds-ns-end : goal.slice_bounds-ns-end
@@ -71,16 +65,14 @@ pub returns-then-not-p : goal.returns-then-not-p
 returns-then-not-p c = λ d h.
     let e = (goal.at.returns-then-not-p c).Else-q-ne0 in
     let w = c.names_line-w.result in
-    let p = c.placed-p in
     by-five e c.refuse-then-not-p.result d (λ ns counted named.
-    bound_unknown h w.count w.names p.result p.ensures ns counted named c.refuse-then-not-p.result
+    bound_unknown h w.count w.names c.placed-p.result c.placed-p.ensures ns counted named c.refuse-then-not-p.result
     (not-true _ c.if-not-p.true) c.refuse-then-not-p.ensures)
 
 pub returns : goal.returns
 returns c = λ d h.
     let e = (goal.at.returns c).Else-q-ne0 in
     let w = c.names_line-w.result in
-    let p = c.placed-p in
     by-five e c.onward.result d (λ ns counted named.
-    bound-onward h w.count w.names p.result p.ensures ns counted named c.onward.result
+    bound-onward h w.count w.names c.placed-p.result c.placed-p.ensures ns counted named c.onward.result
     (few e) (not-false _ c.if-not-p.false) c.onward.ensures)

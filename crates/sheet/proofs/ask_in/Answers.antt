@@ -8,5 +8,4 @@ use Rattle.sheet.proofs.ask_in.Goals as goal
 
 pub returns : goal.returns
 returns c = λ d h f.
-    let w = c.names_line in
-    c.asked_in.ensures d _ (in_reads _ w.result w.ensures) h f
+    c.asked_in.ensures d _ (in_reads _ c.names_line.result c.names_line.ensures) h f

@@ -11,14 +11,10 @@ use Rattle.sheet.proofs.ask_line.Goals as goal
 -- LEFT slice-aggregate-equal-2 c = search rules
 
 pub returns-then-equal : goal.returns-then-equal
-returns-then-equal c = let enum_told = c.enum_told-1 in
-    let equal = c.equal in
-    λ d h f. line_design d c.args.l.now c.onward.result enum_told.given.1 (sym equal.ensures ∙ c.if-equal.true) c.onward.ensures h
+returns-then-equal c = λ d h f. line_design d c.args.l.now c.onward.result c.in-Design.is (sym c.equal.ensures ∙ c.if-equal.true) c.onward.ensures h
 
 pub returns-else-equal : goal.returns-else-equal
-returns-else-equal c = let enum_told = c.enum_told-1 in
-    let equal = c.equal in
-    λ d h f. line_no_design d c.args.l.now c.refuse.result enum_told.given.1 (sym equal.ensures ∙ c.if-equal.false) c.refuse.ensures
+returns-else-equal c = λ d h f. line_no_design d c.args.l.now c.refuse.result c.in-Design.is (sym c.equal.ensures ∙ c.if-equal.false) c.refuse.ensures
 
 pub returns-in-In : goal.returns-in-In
 returns-in-In c = λ d h f. line_in d c.args.l.now c.ask_in.result c.in-In.is (c.ask_in.ensures d h) f
@@ -30,14 +26,10 @@ pub returns-in-Limit : goal.returns-in-Limit
 returns-in-Limit c = λ d h f. line_limit d c.args.l.now c.ask_limit.result c.in-Limit.is (c.ask_limit.ensures d h)
 
 pub returns-then-equal-2 : goal.returns-then-equal-2
-returns-then-equal-2 c = let enum-told5 = c.enum_told-in-Out-1 in
-    let equal2 = c.equal-in-Out in
-    λ d h f. line_end d c.args.l.now c.ask_end.result enum-told5.given.1 (sym equal2.ensures ∙ c.if-equal-2.true) (c.ask_end.ensures d h)
+returns-then-equal-2 c = λ d h f. line_end d c.args.l.now c.ask_end.result c.in-Out.is (sym c.equal-in-Out.ensures ∙ c.if-equal-2.true) (c.ask_end.ensures d h)
 
 pub returns-else-equal-2 : goal.returns-else-equal-2
-returns-else-equal-2 c = let enum-told5 = c.enum_told-in-Out-1 in
-    let equal2 = c.equal-in-Out in
-    λ d h f. line_out d c.args.l.now c.ask_out.result enum-told5.given.1 (sym equal2.ensures ∙ c.if-equal-2.false) (c.ask_out.ensures d h)
+returns-else-equal-2 c = λ d h f. line_out d c.args.l.now c.ask_out.result c.in-Out.is (sym c.equal-in-Out.ensures ∙ c.if-equal-2.false) (c.ask_out.ensures d h)
 
 pub returns-in-Over : goal.returns-in-Over
 returns-in-Over c = λ d h f. line_over d c.args.l.now c.refuse-in-Over.result c.in-Over.is c.refuse-in-Over.ensures

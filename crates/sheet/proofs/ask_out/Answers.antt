@@ -29,12 +29,11 @@ slice_bounds-out_line-end c = let args = c.args in
     sym (length-take-le args.k.inputs args.k.names (omega (arith, names_sized args.k good.0)))
 
 pub returns-then-not-w : goal.returns-then-not-w
-returns-then-not-w c = let if1 = c.if-not-w in
-    let out_line = c.out_line-w in
+returns-then-not-w c = let out_line = c.out_line-w in
     let args = c.args in
     let k = args.k in
     let w = out_line in
-    let missing = not-true w.result.ok if1.true in
+    let missing = not-true w.result.ok c.if-not-w.true in
     λ d h. out_misspelled d k h w.result c.refuse.result (read_out args.l.now) w.ensures missing c.refuse.ensures
 
 -- past the test of the spelling: the sheet, the line's text, and what is read of it
@@ -55,51 +54,36 @@ spelled c d h r f =
 
 pub returns-then-k-ge-MAX_OUTPUTS : goal.returns-then-k-ge-MAX_OUTPUTS
 returns-then-k-ge-MAX_OUTPUTS c = let p = (goal.at.returns-then-k-ge-MAX_OUTPUTS c).Else-not-w in
-    let q = c.refuse-then-k-ge-MAX_OUTPUTS in
-    λ d h. spelled p d h q.result (λ x g.
+    λ d h. spelled p d h c.refuse-then-k-ge-MAX_OUTPUTS.result (λ x g.
     ⊎_elim
-    (λ v. out_fifth d (sheet-at p) h (read_at p) q.result x g v.taken q.ensures)
-    (λ v. out_deep d (sheet-at p) h (read_at p) q.result x g v.0.left (ltb-true max_depth (read_at p).depth v.2.taken) q.ensures)
+    (λ v. out_fifth d (sheet-at p) h (read_at p) c.refuse-then-k-ge-MAX_OUTPUTS.result x g v.taken c.refuse-then-k-ge-MAX_OUTPUTS.ensures)
+    (λ v. out_deep d (sheet-at p) h (read_at p) c.refuse-then-k-ge-MAX_OUTPUTS.result x g v.0.left (ltb-true max_depth (read_at p).depth v.2.taken) c.refuse-then-k-ge-MAX_OUTPUTS.ensures)
     c.then-k-ge-MAX_OUTPUTS.branch)
 
 pub returns-then-not-is_new : goal.returns-then-not-is_new
-returns-then-not-is_new c = let if3 = c.if-w-gt-MAX_DEPTH in
-    let if2 = c.if-k-ge-MAX_OUTPUTS in
-    let p = (goal.at.returns-then-not-is_new c).Else-not-w in
-    let q = c.refuse-then-not-is_new in
-    let n = c.is_new in
-    let flat = ltb-false max_depth (read_at p).depth if3.false in
-    let old = sym (not-true n.result c.if-not-is_new.true-raw) in
-    λ d h. spelled p d h q.result (λ x g.
-    out-old-name d (sheet-at p) h (read_at p) q.result x g if2.false flat (old ∙ n.ensures d h) q.ensures)
+returns-then-not-is_new c = let p = (goal.at.returns-then-not-is_new c).Else-not-w in
+    let flat = ltb-false max_depth (read_at p).depth c.if-w-gt-MAX_DEPTH.false-raw in
+    let old = sym (not-true c.is_new.result c.if-not-is_new.true-raw) in
+    λ d h. spelled p d h c.refuse-then-not-is_new.result (λ x g.
+    out-old-name d (sheet-at p) h (read_at p) c.refuse-then-not-is_new.result x g c.if-k-ge-MAX_OUTPUTS.false flat (old ∙ c.is_new.ensures d h) c.refuse-then-not-is_new.ensures)
 
 pub returns-then-not-w-2 : goal.returns-then-not-w-2
-returns-then-not-w-2 c = let if3 = c.if-w-gt-MAX_DEPTH in
-    let if4 = c.if-not-is_new in
-    let if2 = c.if-k-ge-MAX_OUTPUTS in
-    let p = (goal.at.returns-then-not-w-2 c).Else-not-w in
-    let q = c.refuse-then-not-w-2 in
-    let n = c.is_new in
-    let flat = ltb-false max_depth (read_at p).depth if3.false in
-    let new = sym (not-false n.result if4.false) in
+returns-then-not-w-2 c = let p = (goal.at.returns-then-not-w-2 c).Else-not-w in
+    let flat = ltb-false max_depth (read_at p).depth c.if-w-gt-MAX_DEPTH.false-raw in
+    let new = sym (not-false c.is_new.result c.if-not-is_new.false-raw) in
     let unknown = not-true (read_at p).known c.if-not-w-2.true in
-    λ d h. spelled p d h q.result (λ x g.
-    out-unknown d (sheet-at p) h (read_at p) q.result x g if2.false flat (new ∙ n.ensures d h) unknown q.ensures)
+    λ d h. spelled p d h c.refuse-then-not-w-2.result (λ x g.
+    out-unknown d (sheet-at p) h (read_at p) c.refuse-then-not-w-2.result x g c.if-k-ge-MAX_OUTPUTS.false flat (new ∙ c.is_new.ensures d h) unknown c.refuse-then-not-w-2.ensures)
 
 pub returns : goal.returns
 returns c = let with-output = c.with_output in
-    let if5 = c.if-not-w-2 in
-    let if4 = c.if-not-is_new in
     let is-new = c.is_new in
-    let if3 = c.if-w-gt-MAX_DEPTH in
-    let if2 = c.if-k-ge-MAX_OUTPUTS in
     let before = (goal.at.returns c).Else-not-w in
     let p = (goal.at.returns c).Else-not-w in
-    let q = c.onward in
     let n = is-new in
     let o = with-output in
-    let flat = ltb-false max_depth (read_at p).depth if3.false in
-    let new = sym (not-false n.result if4.false) in
-    let known = not-false (read_at p).known if5.false in
-    λ d h. spelled p d h q.result (λ x g.
-    out-passes d (sheet-at p) h (read_at p) q.result x g if2.false flat (new ∙ n.ensures d h) o.result known q.ensures (o.ensures d x h))
+    let flat = ltb-false max_depth (read_at p).depth c.if-w-gt-MAX_DEPTH.false-raw in
+    let new = sym (not-false n.result c.if-not-is_new.false-raw) in
+    let known = not-false (read_at p).known c.if-not-w-2.false in
+    λ d h. spelled p d h c.onward.result (λ x g.
+    out-passes d (sheet-at p) h (read_at p) c.onward.result x g c.if-k-ge-MAX_OUTPUTS.false flat (new ∙ n.ensures d h) o.result known c.onward.ensures (o.ensures d x h))

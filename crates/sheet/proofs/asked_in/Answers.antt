@@ -7,13 +7,11 @@ use Rattle.sheet.proofs.asked_in.Goals as goal
 pub returns-then-q-ne0 : goal.returns-then-q-ne0
 returns-then-q-ne0 c = λ d x l h f.
     let w = c.args.w in
-    let q = c.first_no-q in
-    list_refused (in_asks d) w c.refuse.result q.result q.ensures x l c.if-q-ne0.true c.refuse.ensures
+    list_refused (in_asks d) w c.refuse.result c.first_no-q.result c.first_no-q.ensures x l c.if-q-ne0.true c.refuse.ensures
 
 pub returns : goal.returns
 returns c = λ d x l h f.
     let w = c.args.w in
-    let q = c.first_no-q in
-    let few = counted_few 10 w q.result q.ensures c.if-q-ne0.false in
-    list_good (in_asks d) w c.onward.result q.result q.ensures x l c.if-q-ne0.false
+    let few = counted_few 10 w c.first_no-q.result c.first_no-q.ensures c.if-q-ne0.false in
+    list_good (in_asks d) w c.onward.result c.first_no-q.result c.first_no-q.ensures x l c.if-q-ne0.false
     (in_onward h f w.count w.names few c.onward.ensures)

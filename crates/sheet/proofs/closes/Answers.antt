@@ -11,13 +11,11 @@ use Rattle.sheet.proofs.closes.Goals as goal
 pub returns-in-To : goal.returns-in-To
 returns-in-To c = let l = c.args.l.now in
     let at = c.args.c.at in
-    let b = c.byte-m in
     let m = c.m-1.given in
     c.at_end.ensures
-    ∙ closes_there l at m.0.0 (moved_to l b.result (eat (close_bracket ∷ []) (drop at l)) b.ensures m.0.0 m.1)
+    ∙ closes_there l at m.0.0 (moved_to l c.byte-m.result (eat (close_bracket ∷ []) (drop at l)) c.byte-m.ensures m.0.0 m.1)
 
 pub returns-in-Bad : goal.returns-in-Bad
 returns-in-Bad c = let l = c.args.l.now in
     let t = drop c.args.c.at l in
-    let b = c.byte-m in
-    closes_not t (moved_nowhere l b.result (eat (close_bracket ∷ []) t) b.ensures c.in-Bad.is)
+    closes_not t (moved_nowhere l c.byte-m.result (eat (close_bracket ∷ []) t) c.byte-m.ensures c.in-Bad.is)

@@ -8,12 +8,10 @@ pub loop-i-init : goal.loop-i-init
 loop-i-init c = passed_none c.args.ns.now
 
 pub returns-in-At : goal.returns-in-At
-returns-in-At c = let find = c.find-p in
-    stands_twice c.loop-i.invariant c.loop-i-test.true find.ensures c.in-At.is
+returns-in-At c = stands_twice c.loop-i.invariant c.loop-i-test.true c.find-p.ensures c.in-At.is
 
 pub loop-i-preserved : goal.loop-i-preserved
-loop-i-preserved c = let find = c.find-p in
-    passed_more c.loop-i.invariant c.loop-i-test.true find.ensures c.in-Nowhere.is
+loop-i-preserved c = passed_more c.loop-i.invariant c.loop-i-test.true c.find-p.ensures c.in-Nowhere.is
 
 pub returns : goal.returns
 returns c = passed_all c.loop-i.invariant c.loop-i-test.false

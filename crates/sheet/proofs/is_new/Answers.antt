@@ -15,9 +15,8 @@ slice_bounds-find-end c = let good = c.well-formed in
     sym (length-take-le c.args.k.inputs c.args.k.names (omega (arith, names_sized c.args.k good.0)))
 
 pub returns-in_default : goal.returns-in_default
-returns-in_default c = let find = c.find-p in
-    let w = c.enum_told-in_default-1.given in
-    λ d h. old_input d c.args.k h c.args.n w.0.0 (rw w.1 at find.ensures)
+returns-in_default c = let w = c.enum_told-in_default-1.given in
+    λ d h. old_input d c.args.k h c.args.n w.0.0 (rw w.1 at c.find-p.ensures)
 
 pub slice_bounds-outs-end : goal.slice_bounds-outs-end
 slice_bounds-outs-end c = let good = c.well-formed in
@@ -28,16 +27,10 @@ slice_bounds-find-end-2 c = let good = c.well-formed in
     sym (length-take-le c.args.k.outputs c.args.k.outs (omega (arith, outs_sized c.args.k good.0)))
 
 pub returns-in-At : goal.returns-in-At
-returns-in-At c = let enum_told = c.enum_told-1 in
-    let find = c.find-p in
-    let find2 = c.find-q in
-    let nowhere = rw enum_told.given.1 at find.ensures in
+returns-in-At c = let nowhere = rw c.in-Nowhere.is at c.find-p.ensures in
     let w = c.enum_told-in-At-1.given in
-    λ d h. old_output d c.args.k h c.args.n nowhere w.0.0 (rw w.1 at find2.ensures)
+    λ d h. old_output d c.args.k h c.args.n nowhere w.0.0 (rw w.1 at c.find-q.ensures)
 
 pub returns-in-Nowhere-q : goal.returns-in-Nowhere-q
-returns-in-Nowhere-q c = let enum_told = c.enum_told-1 in
-    let find = c.find-p in
-    let find2 = c.find-q in
-    let nowhere = rw enum_told.given.1 at find.ensures in
-    λ d h. new_output d c.args.k h c.args.n nowhere (rw c.in-Nowhere-q.is at find2.ensures)
+returns-in-Nowhere-q c = let nowhere = rw c.in-Nowhere.is at c.find-p.ensures in
+    λ d h. new_output d c.args.k h c.args.n nowhere (rw c.in-Nowhere-q.is at c.find-q.ensures)

@@ -15,46 +15,31 @@ text-m-requires c = omega (arith, c.start.ensures)
 
 pub returns-in_default : goal.returns-in_default
 returns-in_default c = let l = c.args.l.now in
-    let t = c.text-m in
-    let o = c.start in
-    let h = moved-start l (bytes "(limit ") t.result o.result o.ensures t.ensures in
-    limit_no_head l (moved_nowhere l t.result (eat (bytes "(limit ") l) h c.in_default.is)
+    let h = moved-start l (bytes "(limit ") c.text-m.result c.start.result c.start.ensures c.text-m.ensures in
+    limit_no_head l (moved_nowhere l c.text-m.result (eat (bytes "(limit ") l) h c.in_default.is)
 
 pub number-w-requires : goal.number-w-requires
 number-w-requires c = let l = c.args.l.now in
-    let t = c.text-m in
-    let o = c.start in
-    let h = moved-start l (bytes "(limit ") t.result o.result o.ensures t.ensures in
+    let h = moved-start l (bytes "(limit ") c.text-m.result c.start.result c.start.ensures c.text-m.ensures in
     let m = c.m-1.given in
-    ((moved_to l t.result (eat (bytes "(limit ") l) h m.0.0 m.1).inside, omega arith)
+    ((moved_to l c.text-m.result (eat (bytes "(limit ") l) h m.0.0 m.1).inside, omega arith)
 
 pub returns-in_default-w : goal.returns-in_default-w
-returns-in_default-w c = let number = c.number-w in
-    let l = c.args.l.now in
-    let t = c.text-m in
-    let o = c.start in
-    let h = moved-start l (bytes "(limit ") t.result o.result o.ensures t.ensures in
+returns-in_default-w c = let l = c.args.l.now in
+    let h = moved-start l (bytes "(limit ") c.text-m.result c.start.result c.start.ensures c.text-m.ensures in
     let m = c.m-1.given in
-    limit_no_number l (moved_to l t.result (eat (bytes "(limit ") l) h m.0.0 m.1) (rw c.in_default-w.is at number.ensures)
+    limit_no_number l (moved_to l c.text-m.result (eat (bytes "(limit ") l) h m.0.0 m.1) (rw c.in_default-w.is at c.number-w.ensures)
 
 pub returns-then-closes : goal.returns-then-closes
-returns-then-closes c = let w = c.w-1 in
-    let number2 = c.number-w in
-    let l = c.args.l.now in
-    let t = c.text-m in
-    let o = c.start in
-    let h = moved-start l (bytes "(limit ") t.result o.result o.ensures t.ensures in
+returns-then-closes c = let l = c.args.l.now in
+    let h = moved-start l (bytes "(limit ") c.text-m.result c.start.result c.start.ensures c.text-m.ensures in
     let m = c.m-1.given in
-    let number = rw w.given.1 at number2.ensures in
-    limit_closed l (moved_to l t.result (eat (bytes "(limit ") l) h m.0.0 m.1) number (sym c.closes.ensures ∙ c.if-closes.true)
+    let number = rw c.in-Number.is at c.number-w.ensures in
+    limit_closed l (moved_to l c.text-m.result (eat (bytes "(limit ") l) h m.0.0 m.1) number (sym c.closes.ensures ∙ c.if-closes.true)
 
 pub returns-else-closes : goal.returns-else-closes
-returns-else-closes c = let w = c.w-1 in
-    let number2 = c.number-w in
-    let l = c.args.l.now in
-    let t = c.text-m in
-    let o = c.start in
-    let h = moved-start l (bytes "(limit ") t.result o.result o.ensures t.ensures in
+returns-else-closes c = let l = c.args.l.now in
+    let h = moved-start l (bytes "(limit ") c.text-m.result c.start.result c.start.ensures c.text-m.ensures in
     let m = c.m-1.given in
-    let number = rw w.given.1 at number2.ensures in
-    limit_unclosed l (moved_to l t.result (eat (bytes "(limit ") l) h m.0.0 m.1) number (sym c.closes.ensures ∙ c.if-closes.false)
+    let number = rw c.in-Number.is at c.number-w.ensures in
+    limit_unclosed l (moved_to l c.text-m.result (eat (bytes "(limit ") l) h m.0.0 m.1) number (sym c.closes.ensures ∙ c.if-closes.false)

@@ -14,35 +14,22 @@ text-m-requires c = omega (arith, c.start.ensures)
 
 pub names-r-requires : goal.names-r-requires
 names-r-requires c = let a = c.args in
-    let t = c.text-m in
-    let o = c.start in
-    let h = moved-start a.l.now a.head.now t.result o.result o.ensures t.ensures in
+    let h = moved-start a.l.now a.head.now c.text-m.result c.start.result c.start.ensures c.text-m.ensures in
     (word-found a.head.now a.l.now h c.in-To.is).inside
 
 pub returns-then-at_end : goal.returns-then-at_end
-returns-then-at_end c = let m = c.m-1 in
-    let a = c.args in
-    let t = c.text-m in
-    let o = c.start in
-    let h = moved-start a.l.now a.head.now t.result o.result o.ensures t.ensures in
-    let r = c.names-r in
-    let e = leb-true (length a.l.now) r.result.next.at (sym c.at_end.ensures ∙ c.if-at_end.true) in
-    whole-line a.head.now a.l.now h read_names m.given.1 r.result r.ensures e
+returns-then-at_end c = let a = c.args in
+    let h = moved-start a.l.now a.head.now c.text-m.result c.start.result c.start.ensures c.text-m.ensures in
+    let e = leb-true (length a.l.now) c.names-r.result.next.at (sym c.at_end.ensures ∙ c.if-at_end.true) in
+    whole-line a.head.now a.l.now h read_names c.in-To.is c.names-r.result c.names-r.ensures e
 
 pub returns-else-at_end : goal.returns-else-at_end
-returns-else-at_end c = let at-end = c.at_end in
-    let m = c.m-1 in
-    let a = c.args in
-    let t = c.text-m in
-    let o = c.start in
-    let h = moved-start a.l.now a.head.now t.result o.result o.ensures t.ensures in
-    let r = c.names-r in
-    let e = leb-false (length a.l.now) r.result.next.at (sym at-end.ensures ∙ c.if-at_end.false) in
-    longer-line a.head.now a.l.now h read_names m.given.1 r.result r.ensures e c.no_names.result c.no_names.ensures
+returns-else-at_end c = let a = c.args in
+    let h = moved-start a.l.now a.head.now c.text-m.result c.start.result c.start.ensures c.text-m.ensures in
+    let e = leb-false (length a.l.now) c.names-r.result.next.at (sym c.at_end.ensures ∙ c.if-at_end.false) in
+    longer-line a.head.now a.l.now h read_names c.in-To.is c.names-r.result c.names-r.ensures e c.no_names.result c.no_names.ensures
 
 pub returns-in-Bad : goal.returns-in-Bad
 returns-in-Bad c = let a = c.args in
-    let t = c.text-m in
-    let o = c.start in
-    let h = moved-start a.l.now a.head.now t.result o.result o.ensures t.ensures in
+    let h = moved-start a.l.now a.head.now c.text-m.result c.start.result c.start.ensures c.text-m.ensures in
     no_word a.head.now a.l.now h read_names c.in-Bad.is c.no_names-in-Bad.result c.no_names-in-Bad.ensures

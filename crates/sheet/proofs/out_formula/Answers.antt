@@ -14,23 +14,17 @@ formula-p-requires c = omega arith
 
 pub returns-then-not-p : goal.returns-then-not-p
 returns-then-not-p c = let a = c.args in
-    let p = c.formula-p in
-    let missing = not-true p.result.ok c.if-not-p.true in
-    out-no-formula a.l.now (map name_of a.inputs.now) p.result (drop a.c.at a.l.now) p.ensures a.n missing c.no_out.result c.no_out.ensures
+    let missing = not-true c.formula-p.result.ok c.if-not-p.true in
+    out-no-formula a.l.now (map name_of a.inputs.now) c.formula-p.result (drop a.c.at a.l.now) c.formula-p.ensures a.n missing c.no_out.result c.no_out.ensures
 
 pub returns-then-not-closes : goal.returns-then-not-closes
-returns-then-not-closes c = let if1 = c.if-not-p in
-    let closes = c.closes in
-    let a = c.args in
-    let p = c.formula-p in
-    let read = not-false p.result.ok if1.false in
-    let more = sym closes.ensures ∙ not-true closes.result c.if-not-closes.true-raw in
-    out-unclosed a.l.now (map name_of a.inputs.now) p.result (drop a.c.at a.l.now) p.ensures a.n read more c.no_out-then-not-closes.result c.no_out-then-not-closes.ensures
+returns-then-not-closes c = let a = c.args in
+    let read = not-false c.formula-p.result.ok c.if-not-p.false in
+    let more = sym c.closes.ensures ∙ not-true c.closes.result c.if-not-closes.true-raw in
+    out-unclosed a.l.now (map name_of a.inputs.now) c.formula-p.result (drop a.c.at a.l.now) c.formula-p.ensures a.n read more c.no_out-then-not-closes.result c.no_out-then-not-closes.ensures
 
 pub returns : goal.returns
-returns c = let if1 = c.if-not-p in
-    let a = c.args in
-    let p = c.formula-p in
-    let read = not-false p.result.ok if1.false in
+returns c = let a = c.args in
+    let read = not-false c.formula-p.result.ok c.if-not-p.false in
     let ends = sym c.closes.ensures ∙ not-false c.closes.result c.if-not-closes.false-raw in
-    out-closed a.l.now (map name_of a.inputs.now) p.result (drop a.c.at a.l.now) p.ensures a.n read ends
+    out-closed a.l.now (map name_of a.inputs.now) c.formula-p.result (drop a.c.at a.l.now) c.formula-p.ensures a.n read ends

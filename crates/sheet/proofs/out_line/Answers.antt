@@ -17,64 +17,47 @@ text-m-requires c = omega (arith, c.start.ensures)
 
 pub returns-in_default : goal.returns-in_default
 returns-in_default c = let a = c.args in
-    let t = c.text-m in
-    let o = c.start in
-    let h = moved-start a.l.now (bytes "(out ") t.result o.result o.ensures t.ensures in
+    let h = moved-start a.l.now (bytes "(out ") c.text-m.result c.start.result c.start.ensures c.text-m.ensures in
     out_no_head a.l.now (map name_of a.inputs.now) c.no_out.result
-    (moved_nowhere a.l.now t.result (eat (bytes "(out ") a.l.now) h c.in_default.is) c.no_out.ensures
+    (moved_nowhere a.l.now c.text-m.result (eat (bytes "(out ") a.l.now) h c.in_default.is) c.no_out.ensures
 
 pub name-w-requires : goal.name-w-requires
 name-w-requires c = let a = c.args in
-    let t = c.text-m in
-    let o = c.start in
-    let h = moved-start a.l.now (bytes "(out ") t.result o.result o.ensures t.ensures in
+    let h = moved-start a.l.now (bytes "(out ") c.text-m.result c.start.result c.start.ensures c.text-m.ensures in
     let m = c.m-1.given in
-    let head = moved_to a.l.now t.result (eat (bytes "(out ") a.l.now) h m.0.0 m.1 in
+    let head = moved_to a.l.now c.text-m.result (eat (bytes "(out ") a.l.now) h m.0.0 m.1 in
     head.inside
 
 pub returns-in_default-w : goal.returns-in_default-w
-returns-in_default-w c = let name = c.name-w in
-    let a = c.args in
-    let t = c.text-m in
-    let o = c.start in
-    let h = moved-start a.l.now (bytes "(out ") t.result o.result o.ensures t.ensures in
+returns-in_default-w c = let a = c.args in
+    let h = moved-start a.l.now (bytes "(out ") c.text-m.result c.start.result c.start.ensures c.text-m.ensures in
     let m = c.m-1.given in
-    let head = moved_to a.l.now t.result (eat (bytes "(out ") a.l.now) h m.0.0 m.1 in
+    let head = moved_to a.l.now c.text-m.result (eat (bytes "(out ") a.l.now) h m.0.0 m.1 in
     out_no_name a.l.now (map name_of a.inputs.now) c.no_out-in_default-w.result head
-    (rw c.in_default-w.is at name.ensures) c.no_out-in_default-w.ensures
+    (rw c.in_default-w.is at c.name-w.ensures) c.no_out-in_default-w.ensures
 
 pub returns-in_default-g : goal.returns-in_default-g
-returns-in_default-g c = let name = c.name-w in
-    let a = c.args in
-    let t = c.text-m in
-    let o = c.start in
-    let h = moved-start a.l.now (bytes "(out ") t.result o.result o.ensures t.ensures in
+returns-in_default-g c = let a = c.args in
+    let h = moved-start a.l.now (bytes "(out ") c.text-m.result c.start.result c.start.ensures c.text-m.ensures in
     let m = c.m-1.given in
-    let head = moved_to a.l.now t.result (eat (bytes "(out ") a.l.now) h m.0.0 m.1 in
+    let head = moved_to a.l.now c.text-m.result (eat (bytes "(out ") a.l.now) h m.0.0 m.1 in
     let w = c.w-1.given in
-    let b = c.byte-g in
-    out-no-space a.l.now (map name_of a.inputs.now) c.no_out-in_default-g.result head (rw w.1 at name.ensures)
-    (moved_nowhere a.l.now b.result (eat (space ∷ []) (from a.l.now w.0.1.0)) b.ensures c.in_default-g.is)
+    out-no-space a.l.now (map name_of a.inputs.now) c.no_out-in_default-g.result head (rw w.1 at c.name-w.ensures)
+    (moved_nowhere a.l.now c.byte-g.result (eat (space ∷ []) (from a.l.now w.0.1.0)) c.byte-g.ensures c.in_default-g.is)
     c.no_out-in_default-g.ensures
 
 pub out_formula-requires : goal.out_formula-requires
-out_formula-requires c = let w = c.w-1 in
-    let l = c.args.l.now in
-    let b = c.byte-g in
+out_formula-requires c = let l = c.args.l.now in
     let g = c.g-1.given in
-    (moved_to l b.result (eat (space ∷ []) (from l w.given.0.1.0)) b.ensures g.0.0 g.1).inside
+    (moved_to l c.byte-g.result (eat (space ∷ []) (from l c.in-Name.e)) c.byte-g.ensures g.0.0 g.1).inside
 
 pub returns : goal.returns
-returns c = let name = c.name-w in
-    let a = c.args in
-    let t = c.text-m in
-    let o = c.start in
-    let h = moved-start a.l.now (bytes "(out ") t.result o.result o.ensures t.ensures in
+returns c = let a = c.args in
+    let h = moved-start a.l.now (bytes "(out ") c.text-m.result c.start.result c.start.ensures c.text-m.ensures in
     let m = c.m-1.given in
-    let head = moved_to a.l.now t.result (eat (bytes "(out ") a.l.now) h m.0.0 m.1 in
+    let head = moved_to a.l.now c.text-m.result (eat (bytes "(out ") a.l.now) h m.0.0 m.1 in
     let w = c.w-1.given in
-    let b = c.byte-g in
     let g = c.g-1.given in
-    out-after a.l.now (map name_of a.inputs.now) c.out_formula.result head (rw w.1 at name.ensures)
-    (moved_to a.l.now b.result (eat (space ∷ []) (from a.l.now w.0.1.0)) b.ensures g.0.0 g.1)
+    out-after a.l.now (map name_of a.inputs.now) c.out_formula.result head (rw w.1 at c.name-w.ensures)
+    (moved_to a.l.now c.byte-g.result (eat (space ∷ []) (from a.l.now w.0.1.0)) c.byte-g.ensures g.0.0 g.1)
     c.out_formula.ensures

@@ -10,15 +10,11 @@ cut-labels-requires c = let p = c.requires in
 pub codes_for-requires : goal.codes_for-requires
 codes_for-requires c = let p = c.requires in
     let a = c.args in
-    let g = c.gather-g in
-    let o = g.result in
-    (c.cut-labels.ensures.labels, p.2, g.ensures.few, gathered_short a.asked a.rows o.count o.from o.cells o.tables g.ensures)
+    let o = c.gather-g.result in
+    (c.cut-labels.ensures.labels, p.2, c.gather-g.ensures.few, gathered_short a.asked a.rows o.count o.from o.cells o.tables c.gather-g.ensures)
 
 pub returns : goal.returns
 returns c = let a = c.args in
-    let g = c.gather-g in
-    let o = g.result in
-    let l = c.cut-labels in
-    let r = c.codes_for in
-    let settled = settled_of a.asked a.rows o.count o.from o.cells o.tables g.ensures a.cl.now a.given.now a.v l.result l.ensures a.kn a.val in
-    record { sure = λ e. settled r.result.ok r.result.codes (r.ensures.sure e); never = r.ensures.never }
+    let o = c.gather-g.result in
+    let settled = settled_of a.asked a.rows o.count o.from o.cells o.tables c.gather-g.ensures a.cl.now a.given.now a.v c.cut-labels.result c.cut-labels.ensures a.kn a.val in
+    record { sure = λ e. settled c.codes_for.result.ok c.codes_for.result.codes (c.codes_for.ensures.sure e); never = c.codes_for.ensures.never }

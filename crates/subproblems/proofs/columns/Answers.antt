@@ -12,5 +12,4 @@ pub readers-requires : goal.readers-requires
 readers-requires c = c.loop-i-test.true
 
 pub loop-i-preserved : goal.loop-i-preserved
-loop-i-preserved c = let loop = c.loop-i in
-    let h = c.loop-i-test.true in (omega arith, length-set loop.r _ _ ∙ loop.invariant.1)
+loop-i-preserved c = let h = c.loop-i-test.true in (omega arith, length-set c.loop-i.r _ _ ∙ c.loop-i.invariant.1)

@@ -38,17 +38,16 @@ overflow_add-n c = let h = c.loop-o-test.true in let f = c.loop-o.invariant.1.fe
 pub loop-o-preserved : goal.loop-o-preserved
 loop-o-preserved c = let h = c.loop-o-test.true in
     let a = c.args in
-    let l = c.loop-o in (
+    (
       omega arith,
       ⊎_elim
-          (λ w. gathered_same a.asked a.t2 (l.o + 1) _ _ _ _ _ _ _ _ w.6 w.3 w.4 w.5
-          (gathered_more a.asked a.t2 l.o l.n l.from l.fs l.gs h l.invariant.1 _ _ (sym w.0.taken ∙ c.in_set.ensures) w.1.ensures.0 w.2.ensures.0))
-          (λ w. gathered_same a.asked a.t2 (l.o + 1) _ _ _ _ _ _ _ _ w.4 w.1 w.2 w.3
-          (gathered_skip a.asked a.t2 l.o l.n l.from l.fs l.gs h l.invariant.1 (sym w.0.left ∙ c.in_set.ensures)))
+          (λ w. gathered_same a.asked a.t2 (c.loop-o.o + 1) _ _ _ _ _ _ _ _ w.6 w.3 w.4 w.5
+          (gathered_more a.asked a.t2 c.loop-o.o c.loop-o.n c.loop-o.from c.loop-o.fs c.loop-o.gs h c.loop-o.invariant.1 _ _ (sym w.0.taken ∙ c.in_set.ensures) w.1.ensures.0 w.2.ensures.0))
+          (λ w. gathered_same a.asked a.t2 (c.loop-o.o + 1) _ _ _ _ _ _ _ _ w.4 w.1 w.2 w.3
+          (gathered_skip a.asked a.t2 c.loop-o.o c.loop-o.n c.loop-o.from c.loop-o.fs c.loop-o.gs h c.loop-o.invariant.1 (sym w.0.left ∙ c.in_set.ensures)))
           c.if-in_set.branch,
     )
 
 pub returns : goal.returns
 returns c = let a = c.args in
-    let l = c.loop-o in
-    subst (λ (z : ℕ). Gathered a.asked a.t2 z l.n l.from l.fs l.gs) (let h = c.loop-o-test.false in let z = l.invariant.0 in omega arith) l.invariant.1
+    subst (λ (z : ℕ). Gathered a.asked a.t2 z c.loop-o.n c.loop-o.from c.loop-o.fs c.loop-o.gs) (let h = c.loop-o-test.false in let z = c.loop-o.invariant.0 in omega arith) c.loop-o.invariant.1

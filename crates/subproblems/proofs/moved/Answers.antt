@@ -19,19 +19,17 @@ power-r-requires c = let h = c.loop-i-test.true in omega arith
 pub loop-i-preserved : goal.loop-i-preserved
 loop-i-preserved c = let h = c.loop-i-test.true in
     let a = c.args in
-    let l = c.loop-i in
     let e = c.in_set.ensures in (
       omega arith,
       ⊎_elim
-          (λ w. moved_on a.f a.t2 l.i l.r w.1.result _ (sym w.0.taken ∙ e) w.1.ensures.0 w.2 l.invariant.1)
-          (λ w. moved_off a.f a.t2 l.i l.r _ (sym w.0.left ∙ e) w.1 l.invariant.1)
+          (λ w. moved_on a.f a.t2 c.loop-i.i c.loop-i.r w.1.result _ (sym w.0.taken ∙ e) w.1.ensures.0 w.2 c.loop-i.invariant.1)
+          (λ w. moved_off a.f a.t2 c.loop-i.i c.loop-i.r _ (sym w.0.left ∙ e) w.1 c.loop-i.invariant.1)
           c.if-in_set.branch,
     )
 
 pub returns : goal.returns
 returns c = let a = c.args in
-    let l = c.loop-i in
     let e = c.loop-i-test.false in
-    let b = l.invariant.0 in
-    let s : Moved a.f a.t2 6 l.r = subst (λ (z : ℕ). Moved a.f a.t2 z l.r) (omega arith) l.invariant.1 in
-    (moved-low a.f a.t2 l.r s, s)
+    let b = c.loop-i.invariant.0 in
+    let s : Moved a.f a.t2 6 c.loop-i.r = subst (λ (z : ℕ). Moved a.f a.t2 z c.loop-i.r) (omega arith) c.loop-i.invariant.1 in
+    (moved-low a.f a.t2 c.loop-i.r s, s)

@@ -11,15 +11,12 @@ cut-labels-requires c = let p = c.requires in
 pub possible-requires : goal.possible-requires
 possible-requires c = let p = c.requires in
     let a = c.args in
-    let g = c.gather-g in
-    let o = g.result in
-    (c.cut-labels.ensures.labels, p.2, g.ensures.few, gathered_short a.asked a.rows o.count o.from o.cells o.tables g.ensures)
+    let o = c.gather-g.result in
+    (c.cut-labels.ensures.labels, p.2, c.gather-g.ensures.few, gathered_short a.asked a.rows o.count o.from o.cells o.tables c.gather-g.ensures)
 
 pub returns : goal.returns
 returns c = λ e kn val.
     let a = c.args in
-    let g = c.gather-g in
-    let o = g.result in
-    let l = c.cut-labels in
-    settled_of a.asked a.rows o.count o.from o.cells o.tables g.ensures a.cl.now a.given.now a.v l.result l.ensures
+    let o = c.gather-g.result in
+    settled_of a.asked a.rows o.count o.from o.cells o.tables c.gather-g.ensures a.cl.now a.given.now a.v c.cut-labels.result c.cut-labels.ensures
     kn val false a.rows (c.possible.ensures e kn val)

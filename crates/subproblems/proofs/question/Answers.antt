@@ -28,20 +28,17 @@ overflow_add-r c = let h = c.given_of.ensures.1 in let f = c.moved-f.ensures.0 i
 pub loop-o-preserved : goal.loop-o-preserved
 loop-o-preserved c = let h = c.loop-o-test.true in
     let a = c.args in
-    let l = c.loop-o in
-    let p = c.order-perm in (
+    (
       omega arith,
       ⊎_elim
-          (λ w. turned_more a.asked a.t1 p.result l.o l.r h l.invariant.1 w.2.result _ _ w.2.ensures.0
-          (subst (λ (z : ℕ). Moved z p.result 6 w.2.result) w.1.ensures.0 w.2.ensures.1)
+          (λ w. turned_more a.asked a.t1 c.order-perm.result c.loop-o.o c.loop-o.r h c.loop-o.invariant.1 w.2.result _ _ w.2.ensures.0
+          (subst (λ (z : ℕ). Moved z c.order-perm.result 6 w.2.result) w.1.ensures.0 w.2.ensures.1)
           (ap (λ (z : ℕ). z * 64 + w.2.result) w.3.ensures.0) w.4)
-          (λ w. turned_skip a.asked a.t1 p.result l.o l.r h l.invariant.1 _ (sym w.0.left ∙ c.in_set.ensures) w.1)
+          (λ w. turned_skip a.asked a.t1 c.order-perm.result c.loop-o.o c.loop-o.r h c.loop-o.invariant.1 _ (sym w.0.left ∙ c.in_set.ensures) w.1)
           c.if-in_set.branch,
     )
 
 pub returns : goal.returns
 returns c = let a = c.args in
-    let l = c.loop-o in
-    let p = c.order-perm in
-    same_of a.asked a.known a.t1 p.result l.r p.ensures.0 p.ensures.1
-    (subst (λ (z : ℕ). Turned a.asked a.t1 p.result z l.r) (let h = c.loop-o-test.false in let z = l.invariant.0 in omega arith) l.invariant.1)
+    same_of a.asked a.known a.t1 c.order-perm.result c.loop-o.r c.order-perm.ensures.0 c.order-perm.ensures.1
+    (subst (λ (z : ℕ). Turned a.asked a.t1 c.order-perm.result z c.loop-o.r) (let h = c.loop-o-test.false in let z = c.loop-o.invariant.0 in omega arith) c.loop-o.invariant.1)

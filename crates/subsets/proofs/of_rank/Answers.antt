@@ -14,31 +14,27 @@ loop-i-init c = (omega arith, refl)
 pub overflow_mul-s : goal.overflow_mul-s
 overflow_mul-s c = let a = c.args in
     let p = c.requires in
-    let l = c.loop-i in
-    let z = rank_room l.i a.r (let h = c.loop-i-test.true in omega arith) in
+    let z = rank_room c.loop-i.i a.r (let h = c.loop-i-test.true in omega arith) in
     omega arith
 
 pub overflow_add-s : goal.overflow_add-s
 overflow_add-s c = let a = c.args in
     let p = c.requires in
-    let l = c.loop-i in
-    let z = rank_room l.i a.r (let h = c.loop-i-test.true in omega arith) in
+    let z = rank_room c.loop-i.i a.r (let h = c.loop-i-test.true in omega arith) in
     omega arith
 
 pub loop-i-preserved : goal.loop-i-preserved
 loop-i-preserved c = let a = c.args in
-    let l = c.loop-i in
     let h = c.loop-i-test.true in
     let t = c.has.ensures in
-    let R : c.if-has.s ≡ rank (l.i + 1) a.r = ⊎_elim
-    (λ w. w.1 ∙ rank_in l.i a.r l.s (sym t ∙ w.0.taken) l.invariant.1)
-    (λ w. w.1 ∙ rank_out l.i a.r l.s (sym t ∙ w.0.left) l.invariant.1)
+    let R : c.if-has.s ≡ rank (c.loop-i.i + 1) a.r = ⊎_elim
+    (λ w. w.1 ∙ rank_in c.loop-i.i a.r c.loop-i.s (sym t ∙ w.0.taken) c.loop-i.invariant.1)
+    (λ w. w.1 ∙ rank_out c.loop-i.i a.r c.loop-i.s (sym t ∙ w.0.left) c.loop-i.invariant.1)
     c.if-has.branch in
     (omega arith, R)
 
 pub returns : goal.returns
 returns c = let a = c.args in
-    let l = c.loop-i in
     let h = c.loop-i-test.false in
-    let z : l.i ≡ a.m = (let b = l.invariant.0 in omega arith) in
-    l.invariant.1 ∙ ap (λ (i : ℕ). rank i a.r) z
+    let z : c.loop-i.i ≡ a.m = (let b = c.loop-i.invariant.0 in omega arith) in
+    c.loop-i.invariant.1 ∙ ap (λ (i : ℕ). rank i a.r) z

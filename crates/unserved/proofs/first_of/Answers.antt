@@ -19,10 +19,9 @@ first_outputs-r-requires c = c.requires.2
 pub loop-r-init : goal.loop-r-init
 loop-r-init c = let a = c.args in
     let p = c.requires in
-    let n = c.first_outputs-r in
-    let e = n.ensures in
+    let e = c.first_outputs-r.ensures in
     let z : 0 < 2 ^ a.m = pow_pos a.m in
-    (omega arith, sift_start a.cl.now a.budgets a.v a.m a.limit a.k n.result e, p.4)
+    (omega arith, sift_start a.cl.now a.budgets a.v a.m a.limit a.k c.first_outputs-r.result e, p.4)
 
 pub of_rank-s-requires : goal.of_rank-s-requires
 of_rank-s-requires c = c.requires.2
@@ -36,67 +35,56 @@ kept_of-kept-requires c = let p = c.requires in
 
 pub served-requires : goal.served-requires
 served-requires c = let p = c.requires in
-    let l = c.loop-r in
-    let d = c.kept_of-kept in
-    (d.ensures.classes, p.1, d.ensures.few, p.3, l.invariant.2)
+    (c.kept_of-kept.ensures.classes, p.1, c.kept_of-kept.ensures.few, p.3, c.loop-r.invariant.2)
 
 pub shape_of-mem-then-not-served : goal.shape_of-mem-then-not-served
 shape_of-mem-then-not-served c = let p = c.requires in
-    let w = c.served in
-    w.ensures.1 ∙ sym p.4
+    c.served.ensures.1 ∙ sym p.4
 
 pub returns-then-not-served : goal.returns-then-not-served
 returns-then-not-served c = let a = c.args in
-    let l = c.loop-r in
-    let s = c.of_rank-s in
-    let d = c.kept_of-kept in
-    let w = c.served in
     let n = c.members-l.ensures.count in
     let some = c.loop-r-test.true in
     let count = c.if-l-k.true in
     let left = c.if-not-served.true-raw in
-    let lacking = stand_lacking a.cl.now a.budgets a.v a.m a.limit s.result d.result.labels d.result.budgets d.result.outputs w.result
-    d.ensures w.ensures.0 (not-true _ left) in
-    (sift_found a.cl.now a.budgets a.v a.m a.limit a.k l.r s.result l.invariant.0 s.ensures l.invariant.1 some (sym n ∙ count) lacking, w.ensures.1)
+    let lacking = stand_lacking a.cl.now a.budgets a.v a.m a.limit c.of_rank-s.result c.kept_of-kept.result.labels c.kept_of-kept.result.budgets c.kept_of-kept.result.outputs c.served.result
+    c.kept_of-kept.ensures c.served.ensures.0 (not-true _ left) in
+    (sift_found a.cl.now a.budgets a.v a.m a.limit a.k c.loop-r.r c.of_rank-s.result c.loop-r.invariant.0 c.of_rank-s.ensures c.loop-r.invariant.1 some (sym n ∙ count) lacking, c.served.ensures.1)
 
 pub loop-r-preserved : goal.loop-r-preserved
 loop-r-preserved c = let a = c.args in
     let p = c.requires in
-    let l = c.loop-r in
     let h = c.loop-r-test.true in
-    let s = c.of_rank-s in
     let n = c.members-l.ensures.count in
-    let few = l.invariant.0 in
-    let P : List ℕ → Type 0 = λ mem. FitFrom a.cl.now a.budgets a.v a.m a.limit a.k l.r × (length mem ≡ entry_count * entry_size) in
+    let few = c.loop-r.invariant.0 in
+    let P : List ℕ → Type 0 = λ mem. FitFrom a.cl.now a.budgets a.v a.m a.limit a.k c.loop-r.r × (length mem ≡ entry_count * entry_size) in
     let came = c.if-l-k.branch in
     let R : P c.if-l-k.mem = ⊎_elim
     (λ w. let d = w.1 in subst P (sym w.9) (
-      sift_served a.cl.now a.budgets a.v a.m a.limit a.k l.r s.result few s.ensures l.invariant.1
-          (stand_fits a.cl.now a.budgets a.v a.m a.limit s.result d.result.labels d.result.budgets d.result.outputs w.5.result d.ensures w.5.ensures.0
+      sift_served a.cl.now a.budgets a.v a.m a.limit a.k c.loop-r.r c.of_rank-s.result few c.of_rank-s.ensures c.loop-r.invariant.1
+          (stand_fits a.cl.now a.budgets a.v a.m a.limit c.of_rank-s.result d.result.labels d.result.budgets d.result.outputs w.5.result d.ensures w.5.ensures.0
           (not-false _ w.8.left)),
       w.5.ensures.1,
     ))
     (⊎_elim
     (λ w. let d = w.1 in subst P (sym w.4) (
-      sift_fewer a.cl.now a.budgets a.v a.m a.limit a.k l.r s.result few s.ensures l.invariant.1
+      sift_fewer a.cl.now a.budgets a.v a.m a.limit a.k c.loop-r.r c.of_rank-s.result few c.of_rank-s.ensures c.loop-r.invariant.1
           d.result.labels d.result.budgets d.result.outputs d.ensures w.3.left p.5,
-      l.invariant.2,
+      c.loop-r.invariant.2,
     ))
     (λ w. subst P (sym w.1) (
-      sift_other a.cl.now a.budgets a.v a.m a.limit a.k l.r s.result few s.ensures l.invariant.1
+      sift_other a.cl.now a.budgets a.v a.m a.limit a.k c.loop-r.r c.of_rank-s.result few c.of_rank-s.ensures c.loop-r.invariant.1
           (λ e. w.0.left (n ∙ e)),
-      l.invariant.2,
+      c.loop-r.invariant.2,
     )))
     came in
     (omega arith, subst (FitFrom a.cl.now a.budgets a.v a.m a.limit a.k) (omega arith) R.0, R.1)
 
 pub shape_of-mem : goal.shape_of-mem
 shape_of-mem c = let p = c.requires in
-    let l = c.loop-r in
-    l.invariant.2 ∙ sym p.4
+    c.loop-r.invariant.2 ∙ sym p.4
 
 pub returns : goal.returns
 returns c = let a = c.args in
-    let l = c.loop-r in
     let h = c.loop-r-test.false in
-    (sift_end a.cl.now a.budgets a.v a.m a.limit a.k (l.r + 1) (omega arith) l.invariant.1, l.invariant.2)
+    (sift_end a.cl.now a.budgets a.v a.m a.limit a.k (c.loop-r.r + 1) (omega arith) c.loop-r.invariant.1, c.loop-r.invariant.2)

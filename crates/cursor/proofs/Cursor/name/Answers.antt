@@ -7,8 +7,7 @@ use Rattle.cursor.specs.NamedLaws.{no_letter_bad}
 use Rattle.cursor.proofs.Cursor.name.Goals as goal
 
 pub named-requires : goal.named-requires
-named-requires c = let kind = c.kind-f in
-    (c.requires, sym kind.ensures ∙ c.in-Letter.is)
+named-requires c = (c.requires, sym c.kind-f.ensures ∙ c.in-Letter.is)
 
 pub returns-in-Letter : goal.returns-in-Letter
 returns-in-Letter c = c.named.ensures

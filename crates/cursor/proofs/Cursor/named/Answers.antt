@@ -9,14 +9,10 @@ pub returns-then-e-at-gt-MAX_NAME : goal.returns-then-e-at-gt-MAX_NAME
 returns-then-e-at-gt-MAX_NAME c = long_bad _ _ _ c.word_end-e.ensures (omega arith)
 
 pub returns-then-is_operator_word : goal.returns-then-is_operator_word
-returns-then-is_operator_word c = let packed = c.packed-v in
-    let asked = c.is_operator_word in
-    operator_bad _ _ _ c.word_end-e.ensures _ (omega arith) packed.ensures
-    (sym asked.ensures ∙ c.if-is_operator_word.true)
+returns-then-is_operator_word c = operator_bad _ _ _ c.word_end-e.ensures _ (omega arith) c.packed-v.ensures
+    (sym c.is_operator_word.ensures ∙ c.if-is_operator_word.true)
 
 pub returns : goal.returns
-returns c = let packed = c.packed-v in
-    let asked = c.is_operator_word in
-    named_there _ _ _ c.word_end-e.ensures _ (omega arith) packed.ensures _ c.requires.1
-    (sym asked.ensures ∙ c.if-is_operator_word.false)
+returns c = named_there _ _ _ c.word_end-e.ensures _ (omega arith) c.packed-v.ensures _ c.requires.1
+    (sym c.is_operator_word.ensures ∙ c.if-is_operator_word.false)
     refl

@@ -18,37 +18,30 @@ pub overflow_add-count : goal.overflow_add-count
 overflow_add-count c = omega arith
 
 pub loop-v-smaller : goal.loop-v-smaller
-loop-v-smaller c = let next-name = c.next_name-n in
-    let n = c.n-1.given in
-    let more : NameNext c.args.s.now c.loop-v.c.at _ n.0.1.0 = rw n.1 at next-name.ensures in
+loop-v-smaller c = let n = c.n-1.given in
+    let more : NameNext c.args.s.now c.loop-v.c.at _ n.0.1.0 = rw n.1 at c.next_name-n.ensures in
     omega arith
 
 pub loop-v-preserved : goal.loop-v-preserved
-loop-v-preserved c = let next-name = c.next_name-n in
-    let h = c.loop-v in
-    let n = c.n-1.given in
-    gathered_more _ _ _ _ n.0.0 n.0.1.0 _ _ h.invariant
-    (rw n.1 at next-name.ensures)
+loop-v-preserved c = let n = c.n-1.given in
+    gathered_more _ _ _ _ n.0.0 n.0.1.0 _ _ c.loop-v.invariant
+    (rw n.1 at c.next_name-n.ensures)
     c.keep.ensures
 
 pub returns-in-End : goal.returns-in-End
-returns-in-End c = let next-name = c.next_name-n in
-    let a = c.args in
-    let h = c.loop-v in
+returns-in-End c = let a = c.args in
     let n = c.n-in-End-1.given in
-    gathered_all a.s.now a.self.at h.c.at
-    (record { ok = true; next = n.0.0; count = h.count; names = h.names })
-    h.invariant
-    (rw n.1 at next-name.ensures)
+    gathered_all a.s.now a.self.at c.loop-v.c.at
+    (record { ok = true; next = n.0.0; count = c.loop-v.count; names = c.loop-v.names })
+    c.loop-v.invariant
+    (rw n.1 at c.next_name-n.ensures)
     refl
 
 pub returns-in-Bad : goal.returns-in-Bad
-returns-in-Bad c = let next-name = c.next_name-n in
-    let a = c.args in
-    let h = c.loop-v in
-    gathered_bad a.s.now a.self.at h.c.at h.count
-    (record { ok = false; next = a.self; count = h.count; names = h.names })
-    h.names
-    h.invariant
-    (rw c.in-Bad.is at next-name.ensures)
+returns-in-Bad c = let a = c.args in
+    gathered_bad a.s.now a.self.at c.loop-v.c.at c.loop-v.count
+    (record { ok = false; next = a.self; count = c.loop-v.count; names = c.loop-v.names })
+    c.loop-v.names
+    c.loop-v.invariant
+    (rw c.in-Bad.is at c.next_name-n.ensures)
     refl

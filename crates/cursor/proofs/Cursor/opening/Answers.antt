@@ -5,8 +5,7 @@ use Rattle.cursor.specs.OpenedLaws.{opening_other}
 use Rattle.cursor.proofs.Cursor.opening.Goals as goal
 
 pub opens_name-requires : goal.opens_name-requires
-opens_name-requires c = let kind = c.kind-f in
-    (c.requires, sym kind.ensures ∙ c.in-Letter.is)
+opens_name-requires c = (c.requires, sym c.kind-f.ensures ∙ c.in-Letter.is)
 
 pub opens_digit-requires : goal.opens_digit-requires
 opens_digit-requires c = sym c.kind-f.ensures ∙ c.in-Digit.is

@@ -15,25 +15,20 @@ use Rattle.cursor.proofs.Cursor.opens_bracket.Goals as goal
 pub returns-in_default : goal.returns-in_default
 returns-in_default c = let s = c.args.s.now in
     let t = drop c.args.self.at s in
-    let m = c.byte-m in
-    bracket_bad t c.requires (moved_nowhere s m.result (eat (open_bracket ∷ []) t) m.ensures c.in_default.is)
+    bracket_bad t c.requires (moved_nowhere s c.byte-m.result (eat (open_bracket ∷ []) t) c.byte-m.ensures c.in_default.is)
 
 pub operator-w-requires : goal.operator-w-requires
 operator-w-requires c = let a = c.args in
-    let m = c.byte-m in
     let g = c.m-1.given in
-    (moved_to a.s.now m.result (eat (open_bracket ∷ []) (drop a.self.at a.s.now)) m.ensures g.0.0 g.1).inside
+    (moved_to a.s.now c.byte-m.result (eat (open_bracket ∷ []) (drop a.self.at a.s.now)) c.byte-m.ensures g.0.0 g.1).inside
 
 pub returns-in_default-g : goal.returns-in_default-g
 returns-in_default-g c = let s = c.args.s.now in
     let t = drop c.args.self.at s in
-    let m = c.byte-m in
     let g = c.m-1.given in
-    let w = c.operator-w in
-    let b = c.byte-g in
     unspaced_bad s t c.requires g.0.0
-    (moved_to s m.result (eat (open_bracket ∷ []) t) m.ensures g.0.0 g.1)
-    w.result w.ensures (moved_nowhere s b.result (eat (space ∷ []) (from s w.result.next)) b.ensures c.in_default-g.is)
+    (moved_to s c.byte-m.result (eat (open_bracket ∷ []) t) c.byte-m.ensures g.0.0 g.1)
+    c.operator-w.result c.operator-w.ensures (moved_nowhere s c.byte-g.result (eat (space ∷ []) (from s c.operator-w.result.next)) c.byte-g.ensures c.in_default-g.is)
 
 -- a space follows: what the operator opens
 abbrev start : goal.In-To-g → goal.Start
@@ -45,13 +40,10 @@ opened : (c : goal.In-To-g) (o : Operator)
 opened c o e =
     let s = (start c).args.s.now in
     let t = drop (start c).args.self.at s in
-    let m = c.byte-m in
     let g = c.m-1.given in
-    let w = c.operator-w in
-    let b = c.byte-g in
     let n = c.g-1.given in
-    operator_opened s t (start c).requires g.0.0 (moved_to s m.result (eat (open_bracket ∷ []) t) m.ensures g.0.0 g.1)
-    w.result w.ensures o n.0.0 e (moved_to s b.result (eat (space ∷ []) (from s w.result.next)) b.ensures n.0.0 n.1)
+    operator_opened s t (start c).requires g.0.0 (moved_to s c.byte-m.result (eat (open_bracket ∷ []) t) c.byte-m.ensures g.0.0 g.1)
+    c.operator-w.result c.operator-w.ensures o n.0.0 e (moved_to s c.byte-g.result (eat (space ∷ []) (from s c.operator-w.result.next)) c.byte-g.ensures n.0.0 n.1)
 
 pub returns-in-Not : goal.returns-in-Not
 returns-in-Not c = opened (goal.at.returns-in-Not c).In-To-g Not c.in-Not.is

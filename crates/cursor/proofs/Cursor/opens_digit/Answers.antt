@@ -10,23 +10,18 @@ use Rattle.cursor.proofs.Cursor.opens_digit.Goals as goal
 pub returns-in-To : goal.returns-in-To
 returns-in-To c = let s = c.args.s.now in
     let t = drop c.args.self.at s in
-    let z = c.byte-zero in
     let g = c.zero-1.given in
-    zero_opened s t c.requires g.0.0 (moved_to s z.result (eat (0x30 ∷ []) t) z.ensures g.0.0 g.1)
+    zero_opened s t c.requires g.0.0 (moved_to s c.byte-zero.result (eat (0x30 ∷ []) t) c.byte-zero.ensures g.0.0 g.1)
 
 pub returns-in-To-one : goal.returns-in-To-one
 returns-in-To-one c = let s = c.args.s.now in
     let t = drop c.args.self.at s in
-    let o = c.byte-one in
     let g = c.one-1.given in
-    one_opened s t c.requires g.0.0 (moved_to s o.result (eat (0x31 ∷ []) t) o.ensures g.0.0 g.1)
+    one_opened s t c.requires g.0.0 (moved_to s c.byte-one.result (eat (0x31 ∷ []) t) c.byte-one.ensures g.0.0 g.1)
 
 pub returns-in-Bad-one : goal.returns-in-Bad-one
-returns-in-Bad-one c = let enum_told = c.enum_told-1 in
-    let s = c.args.s.now in
+returns-in-Bad-one c = let s = c.args.s.now in
     let t = drop c.args.self.at s in
-    let z = c.byte-zero in
-    let o = c.byte-one in
     digit_bad t c.requires
-    (moved_nowhere s z.result (eat (0x30 ∷ []) t) z.ensures enum_told.given.1)
-    (moved_nowhere s o.result (eat (0x31 ∷ []) t) o.ensures c.in-Bad-one.is)
+    (moved_nowhere s c.byte-zero.result (eat (0x30 ∷ []) t) c.byte-zero.ensures c.in-Bad.is)
+    (moved_nowhere s c.byte-one.result (eat (0x31 ∷ []) t) c.byte-one.ensures c.in-Bad-one.is)

@@ -24,10 +24,8 @@ pub bounds-w-i : goal.bounds-w-i
 bounds-w-i c = omega arith
 
 pub returns-then-s-at-2 : goal.returns-then-s-at-2
-returns-then-s-at-2 c = let loop = c.loop-i in
-    let loop-test = c.loop-i-test in
-    eating_differs _ _ _ _ loop.invariant
-    loop-test.true c.if-s-at-2.true
+returns-then-s-at-2 c = eating_differs _ _ _ _ c.loop-i.invariant
+    c.loop-i-test.true c.if-s-at-2.true
 
 pub overflow_add-i : goal.overflow_add-i
 overflow_add-i c = omega arith
@@ -36,9 +34,7 @@ pub loop-i-smaller : goal.loop-i-smaller
 loop-i-smaller c = omega arith
 
 pub loop-i-preserved : goal.loop-i-preserved
-loop-i-preserved c = let loop = c.loop-i in
-    let loop-test = c.loop-i-test in
-    eating_more _ _ _ _ loop.invariant loop-test.true
+loop-i-preserved c = eating_more _ _ _ _ c.loop-i.invariant c.loop-i-test.true
     c.if-s-at-2.false
 
 pub overflow_add-result : goal.overflow_add-result
