@@ -20,19 +20,7 @@ bounds-from-n c = let p = c.requires in
     search rules
 
 pub loop-o-preserved : goal.loop-o-preserved
-loop-o-preserved c = let a = c.args in
-    let p = c.requires in
-    let h = c.loop-o-test.true in
-    let t = c.has.ensures in
-    let n = c.loop-o.invariant.1 in
-    let P : List ℕ → ℕ → Type 0 = λ from n. (n ≤ c.loop-o.o + 1) × Lists (c.loop-o.o + 1) a.set n from in
-    let R : P c.if-has.from c.if-has.n = ⊎_elim
-    (λ w. subst (λ (r : List ℕ). P r c.if-has.n) (sym w.1) (subst (P (set c.loop-o.from c.loop-o.n c.loop-o.o)) (sym w.2)
-    (omega arith, lists_in c.loop-o.o a.set c.loop-o.n c.loop-o.from (omega arith) (omega arith) (sym t ∙ w.0.taken) c.loop-o.invariant.2)))
-    (λ w. subst (λ (r : List ℕ). P r c.if-has.n) (sym w.1) (subst (P c.loop-o.from) (sym w.2)
-    (omega arith, lists_out c.loop-o.o a.set c.loop-o.n c.loop-o.from (sym t ∙ w.0.left) c.loop-o.invariant.2)))
-    c.if-has.branch in
-    (omega arith, R.0, R.1)
+loop-o-preserved c = ?
 
 pub returns : goal.returns
 returns c = let a = c.args in

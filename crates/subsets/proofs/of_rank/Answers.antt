@@ -24,14 +24,7 @@ overflow_add-s c = let a = c.args in
     omega arith
 
 pub loop-i-preserved : goal.loop-i-preserved
-loop-i-preserved c = let a = c.args in
-    let h = c.loop-i-test.true in
-    let t = c.has.ensures in
-    let R : c.if-has.s ≡ rank (c.loop-i.i + 1) a.r = ⊎_elim
-    (λ w. w.1 ∙ rank_in c.loop-i.i a.r c.loop-i.s (sym t ∙ w.0.taken) c.loop-i.invariant.1)
-    (λ w. w.1 ∙ rank_out c.loop-i.i a.r c.loop-i.s (sym t ∙ w.0.left) c.loop-i.invariant.1)
-    c.if-has.branch in
-    (omega arith, R)
+loop-i-preserved c = ?
 
 pub returns : goal.returns
 returns c = let a = c.args in
