@@ -17,12 +17,12 @@ pub loop-i-init : goal.loop-i-init
 loop-i-init c = freeing_none _ _ _ c.no_names-r.ensures.0 c.no_names-r.ensures.1
 
 pub slice_bounds-list-end : goal.slice_bounds-list-end
-slice_bounds-list-end c = let good = c.well-formed in
+slice_bounds-list-end c = let good = c.well_formed in
     omega (arith, c.requires.1, list_sized c.args.bs good.1.1.0)
 
 pub slice_bounds-find-end : goal.slice_bounds-find-end
 slice_bounds-find-end c = let args = c.args in
-    let good = c.well-formed in
+    let good = c.well_formed in
     let pre = c.requires in
     sym (length-take-le args.bs.count args.bs.list (omega (arith, pre.1, list_sized args.bs good.1.1.0)))
 
