@@ -11,7 +11,7 @@ use borrow.Author.Rules.{rules}
 use Rattle.comparing.proofs.compare.Goals as goal
 
 pub power-rows-requires : goal.power-rows-requires
-power-rows-requires c = omega (arith, c.requires.drawing.holds.inputs-few)
+power-rows-requires c = omega (arith, c.requires.drawing.holds.inputs_few)
 
 -- how many rows there are
 few : (c : goal.After-power-rows) → c.power.result ≤ max_rows
@@ -21,19 +21,19 @@ pub outputs-init : goal.outputs-init
 outputs-init c = agreed_none
 
 pub offset_bounds-k-o : goal.offset_bounds-k-o
-offset_bounds-k-o c = omega (arith, c.requires.drawing.holds.outputs-few, c.outputs-test.true)
+offset_bounds-k-o c = omega (arith, c.requires.drawing.holds.outputs_few, c.outputs-test.true)
 
 pub bounds-k-o : goal.bounds-k-o
-bounds-k-o c = omega (arith, c.requires.drawing.holds.outputs-few, c.outputs-test.true)
+bounds-k-o c = omega (arith, c.requires.drawing.holds.outputs_few, c.outputs-test.true)
 
 pub bounds-reads-o : goal.bounds-reads-o
-bounds-reads-o c = omega (arith, c.requires.drawing.holds.outputs-few, c.outputs-test.true)
+bounds-reads-o c = omega (arith, c.requires.drawing.holds.outputs_few, c.outputs-test.true)
 
 pub offset_bounds-nodeat-o : goal.offset_bounds-nodeat-o
-offset_bounds-nodeat-o c = omega (arith, c.requires.drawing.holds.outputs-few, c.outputs-test.true)
+offset_bounds-nodeat-o c = omega (arith, c.requires.drawing.holds.outputs_few, c.outputs-test.true)
 
 pub bounds-nodeat-o : goal.bounds-nodeat-o
-bounds-nodeat-o c = omega (arith, c.requires.drawing.holds.outputs-few, c.outputs-test.true)
+bounds-nodeat-o c = omega (arith, c.requires.drawing.holds.outputs_few, c.outputs-test.true)
 
 pub in_rows-digits-requires : goal.in_rows-digits-requires
 in_rows-digits-requires c = some_ready c.requires c.outputs.o c.outputs-test.true
@@ -58,7 +58,7 @@ loop-r-preserved c = let counted = (goal.at.loop-r-preserved c).After-power-rows
 
 pub overflow_add-o : goal.overflow_add-o
 overflow_add-o c = let pre = c.requires in
-    omega (arith, pre.drawing.holds.outputs-few, c.outputs-test.true)
+    omega (arith, pre.drawing.holds.outputs_few, c.outputs-test.true)
 
 pub outputs-preserved : goal.outputs-preserved
 outputs-preserved c = agreed_more c.outputs.o c.loop-r.r c.power-rows.result c.outputs.invariant
