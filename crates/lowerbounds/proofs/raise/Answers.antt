@@ -13,7 +13,7 @@ pub power-p-requires : goal.power-p-requires
 power-p-requires c = c.requires.2
 
 pub loop-l-init : goal.loop-l-init
-loop-l-init c = let a = c.args in (omega arith, raised_start a.o a.d a.t3 a.base.now)
+loop-l-init c = let a = c.args in (omega arith, raised_start a.o a.d a.kinds a.base.now)
 
 pub overflow_mul-i : goal.overflow_mul-i
 overflow_mul-i c = let small = c.requires.1 in search rules
@@ -48,11 +48,11 @@ loop-l-preserved c = let a = c.args in
     let h = c.loop-l-test.true in
     let long = pre.0 in
     let small = pre.1 in
-    let blocks = ap (λ (z : ℕ). (item a.t3 c.loop-l.l + z - 1) / 2 ^ a.d) c.power-p.ensures.0 in
-    let Next : List ℕ → Type 0 = Raised a.o a.d (c.loop-l.l + 1) a.t3 a.base.now in (
+    let blocks = ap (λ (z : ℕ). (item a.kinds c.loop-l.l + z - 1) / 2 ^ a.d) c.power-p.ensures.0 in
+    let Next : List ℕ → Type 0 = Raised a.o a.d (c.loop-l.l + 1) a.kinds a.base.now in (
       omega arith,
-      ⊎_elim (λ w. subst Next (sym w.1) (raised_more a.o a.d a.t3 a.base.now c.loop-l.l _ c.loop-l.base (omega arith) blocks c.loop-l.invariant.1))
-          (λ w. subst Next (sym w.1) (raised_kept a.o a.d a.t3 a.base.now c.loop-l.l c.loop-l.base c.loop-l.invariant.1)) c.if-base-i.branch,
+      ⊎_elim (λ w. subst Next (sym w.1) (raised_more a.o a.d a.kinds a.base.now c.loop-l.l _ c.loop-l.base (omega arith) blocks c.loop-l.invariant.1))
+          (λ w. subst Next (sym w.1) (raised_kept a.o a.d a.kinds a.base.now c.loop-l.l c.loop-l.base c.loop-l.invariant.1)) c.if-base-i.branch,
     )
 
 pub shape_of-base : goal.shape_of-base
@@ -63,4 +63,4 @@ returns c = let a = c.args in
     let h = c.loop-l-test.false in
     let le = c.loop-l.invariant.0 in
     let end : c.loop-l.l ≡ 32 = omega arith in
-    subst (λ (n : ℕ). Raised a.o a.d n a.t3 a.base.now c.loop-l.base) end c.loop-l.invariant.1
+    subst (λ (n : ℕ). Raised a.o a.d n a.kinds a.base.now c.loop-l.base) end c.loop-l.invariant.1

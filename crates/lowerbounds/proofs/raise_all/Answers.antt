@@ -38,10 +38,10 @@ pub loop-q-preserved : goal.loop-q-preserved
 loop-q-preserved c = let a = c.args in
     let pre = c.requires in
     let h = c.loop-q-test.true in
-    let Next : List ℕ → Type 0 = Based a.cl.now a.t5 a.v a.j (a.j * 32) in (
+    let Next : List ℕ → Type 0 = Based a.cl.now a.rows a.v a.j (a.j * 32) in (
       omega arith,
       ⊎_elim
-          (λ w. subst Next (sym w.7) (raised_based a.cl.now a.t5 a.v a.j a.o c.loop-q.q w.1.result w.3.result c.loop-q.base _ pre.3 h
+          (λ w. subst Next (sym w.7) (raised_based a.cl.now a.rows a.v a.j a.o c.loop-q.q w.1.result w.3.result c.loop-q.base _ pre.3 h
           (ap (λ (d : ℕ). 2 ^ d) w.1.ensures.0) w.3.ensures w.4.ensures c.loop-q.invariant.1))
           (λ w. subst Next (sym w.2) c.loop-q.invariant.1) c.if-q-o.branch,
     )
