@@ -43,15 +43,7 @@ loop-f-preserved c = let a = c.args in
     let low : c.loop-f.f < 2 ^ a.u = subst (λ (n : ℕ). c.loop-f.f < n) c.single-end.ensures h in
     let B : ℕ → Type 0 = Best a.cl.now a.codes.now a.v a.o a.u a.budget (c.loop-f.f + 1) in (
       omega arith,
-      ⊎_elim
-          (λ w. subst B (sym w.3)
-          (best_sooner a.cl.now a.codes.now a.v a.o a.u a.budget c.loop-f.f c.loop-f.best low (sym first ∙ w.0.taken) (w.1.ensures.0 w.2.taken) c.loop-f.invariant.1))
-          (⊎_elim
-          (λ w. subst B (sym w.3)
-          (best_unsuited a.cl.now a.codes.now a.v a.o a.u a.budget c.loop-f.f c.loop-f.best (w.1.ensures.1 w.2.left) c.loop-f.invariant.1))
-          (λ w. subst B (sym w.1)
-          (best_not_sooner a.cl.now a.codes.now a.v a.o a.u a.budget c.loop-f.f c.loop-f.best low (sym first ∙ w.0.left) c.loop-f.invariant.1)))
-          c.if-sooner.branch,
+      let h = c.if-sooner.branch in ?,
     )
 
 pub returns : goal.returns
