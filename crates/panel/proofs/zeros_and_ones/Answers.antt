@@ -11,12 +11,13 @@ pub loop-i-init : goal.loop-i-init
 loop-i-init c = record { few = omega arith; is = refl }
 
 pub returns-then-m-i-ne49 : goal.returns-then-m-i-ne49
-returns-then-m-i-ne49 c = byte_other _ _ c.loop-i.invariant c.loop-i-test.true c.if-m-i-ne48.true (eqb-false _ _ c.if-m-i-ne49.true)
+returns-then-m-i-ne49 c = byte_other _ _ c.loop-i.invariant c.loop-i-test.true c.if-m-i-ne48.true c.if-m-i-ne49.true
 
 pub loop-i-preserved : goal.loop-i-preserved
 loop-i-preserved c = let passed = c.loop-i.invariant in
     let inside = c.loop-i-test.true in
-    ⊎_elim (λ w. byte_one _ _ passed inside (eqb-true _ _ (not-false _ w.2.left))) (λ w. byte_zero _ _ passed inside w.left) c.else-m-i-ne48.branch
+    let b = c.else-m-i-ne48.branch in
+    ?
 
 pub returns : goal.returns
 returns c = bytes_all _ _ c.loop-i.invariant c.loop-i-test.false
