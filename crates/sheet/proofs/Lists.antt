@@ -1,7 +1,5 @@
 -- How long the array of a list of names is: what is told of such a list says so. Assumes nothing.
-use mathlib.Core.Path.{◌≡◌, sym, ◌∙◌}
-use mathlib.Core.List.{List}
-use lib.ListN.{length, length-map}
+use Rattle.std.proofs.Common.{◌≡◌, List, length}
 use mir.Val.{Val}
 use denote.Laws.{Is}
 use Rattle.limits.specs.Limits.{max_inputs}
@@ -9,4 +7,4 @@ use Rattle.cursor.specs.declared.NameList.{NameList}
 use Rattle.cursor.specs.contracts.NameList as list
 
 pub list_sized : (w : NameList) {vs : List Val} → Is list.the_row w vs → length w.names ≡ max_inputs
-list_sized w g = sym (length-map w.names _) ∙ g.1.1.1.1.1.0.1.0.1
+list_sized w g = g.1.1.1.1.1.0.1.0.1

@@ -65,9 +65,9 @@ loop-i-preserved c = let args = c.args in
     let e = c.loop-i.invariant.1 in (
       omega arith,
       e,
-      ⊎_elim (λ w. subst (λ (z : List ℕ). Table args.t1 (c.loop-i.i + 1) z) (sym w.2) (table_more args.t1 c.loop-i.i c.loop-i.r _ (omega arith) w.1.ensures c.loop-i.invariant.2))
-          (λ w. subst (λ (z : List ℕ). Table args.t1 (c.loop-i.i + 1) z) (sym w.1) (table_more args.t1 c.loop-i.i c.loop-i.r _ (omega arith)
-          (entry_again args.t1 c.loop-i.i c.loop-i.r _ _ refl refl w.0.left c.loop-i.invariant.2) c.loop-i.invariant.2)) c.if-first-c.branch,
+      ⊎_elim (λ w. subst (λ (z : List ℕ). Table args.ms (c.loop-i.i + 1) z) (sym w.2) (table_more args.ms c.loop-i.i c.loop-i.r _ (omega arith) w.1.ensures c.loop-i.invariant.2))
+          (λ w. subst (λ (z : List ℕ). Table args.ms (c.loop-i.i + 1) z) (sym w.1) (table_more args.ms c.loop-i.i c.loop-i.r _ (omega arith)
+          (entry_again args.ms c.loop-i.i c.loop-i.r _ _ refl refl w.0.left c.loop-i.invariant.2) c.loop-i.invariant.2)) c.if-first-c.branch,
     )
 
 pub returns : goal.returns

@@ -10,10 +10,7 @@ use borrow.Author.Rules.{rules}
 use Rattle.panel.proofs.added.Goals as goal
 
 pub loop-o-init : goal.loop-o-init
-loop-o-init c = added_none _ _ _ c.well-formed.0.1.0.1
-
-pub bounds-marks-o : goal.bounds-marks-o
-bounds-marks-o c = omega arith
+loop-o-init c = added_none _ _ _ c.well_formed.0.1.0.1
 
 pub offset_bounds-next-o : goal.offset_bounds-next-o
 offset_bounds-next-o c = omega (arith, c.requires)
@@ -26,12 +23,6 @@ offset_bounds-next-o-then-marks-o-eq49 c = omega (arith, c.requires)
 
 pub bounds-next-o-then-marks-o-eq49 : goal.bounds-next-o-then-marks-o-eq49
 bounds-next-o-then-marks-o-eq49 c = omega (arith, c.requires)
-
-pub overflow_add-o : goal.overflow_add-o
-overflow_add-o c = omega arith
-
-pub loop-o-smaller : goal.loop-o-smaller
-loop-o-smaller c = omega arith
 
 pub loop-o-preserved : goal.loop-o-preserved
 loop-o-preserved c = let pre = c.requires in

@@ -21,13 +21,13 @@ said c =
     text_read c.args.pla.now c.read_text-t.result c.read_text-t.ensures (not-false _ c.if-not-t.false)
 
 -- question 14: the line of the first other mark
-other : (c : goal.After-other_mark-line) → OtherIs c.other-mark.result (other_mark first_cube (said c.before.before.before.before.before.before.before).text.cubes)
+other : (c : goal.After-other_mark-line) → OtherIs c.other_mark.result (other_mark first_cube (said c.before.before.before.before.before.before.before).text.cubes)
 other c =
     let passed = (goal.at.HELPER c).Else-not-t in
     let w = said passed in
     let r = w.read_as in
-    c.other_mark-line.ensures w.text.cubes r.end
-    (read_stand c.args.pla.now w.text c.read_text-t.result r) (sym r.cubes-counted)
+    c.other_mark_line.ensures w.text.cubes r.end
+    (read_stand c.args.pla.now w.text c.read_text-t.result r) (sym r.cubes_counted)
 
 pub returns-then-not-t : goal.returns-then-not-t
 returns-then-not-t c = let p = c.args.pla.now in
@@ -59,7 +59,7 @@ returns-then-line-gt0 c = let marked = (goal.at.returns-then-line-gt0 c).After-o
     let b = c.args.board.now in
     examined p b _
     (other-found p c.read_text-t.result (said passed) b _ c.if-inputs-gt-MAX_INPUTS.false c.if-outputs-gt-MAX_OUTPUTS.false
-    c.other_mark-line.result (other marked) c.if-line-gt0.true c.refused-then-line-gt0.ensures)
+    c.other_mark_line.result (other marked) c.if-line-gt0.true c.refused-then-line-gt0.ensures)
 
 pub returns-then-not-b : goal.returns-then-not-b
 returns-then-not-b c = let marked = (goal.at.returns-then-not-b c).After-other_mark-line in
@@ -68,7 +68,7 @@ returns-then-not-b c = let marked = (goal.at.returns-then-not-b c).After-other_m
     let b = c.args.board.now in
     examined p b _
     (board-refused p c.read_text-t.result (said passed) b _ c.if-inputs-gt-MAX_INPUTS.false c.if-outputs-gt-MAX_OUTPUTS.false
-    c.other_mark-line.result (other marked) c.if-line-gt0.false c.read_board-b.result c.read_board-b.ensures
+    c.other_mark_line.result (other marked) c.if-line-gt0.false c.read_board-b.result c.read_board-b.ensures
     (not-true _ c.if-not-b.true) c.refused-then-not-b.ensures)
 
 pub ask_panel-requires : goal.ask_panel-requires
@@ -85,6 +85,6 @@ returns c = let marked = (goal.at.returns c).After-other_mark-line in
     let w = said passed in
     examined p b _
     (panel-answered p c.read_text-t.result w b _ c.if-inputs-gt-MAX_INPUTS.false c.if-outputs-gt-MAX_OUTPUTS.false
-    c.other_mark-line.result (other marked) c.if-line-gt0.false c.read_board-b.result c.read_board-b.ensures
+    c.other_mark_line.result (other marked) c.if-line-gt0.false c.read_board-b.result c.read_board-b.ensures
     (not-false _ c.if-not-b.false)
     (λ bs n v. c.ask_panel.ensures w.text bs n w.read_as (pla_print_of_read p w.text w.is_read).writable v))

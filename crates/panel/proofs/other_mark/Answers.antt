@@ -13,7 +13,7 @@ room : (c : goal.In-loop-k)
     → c.loop-k.at + (c.args.i + 1 + c.args.o) < length c.args.s.now
 room c =
     let pre = c.requires in
-    (cube_there c.loop-k.invariant.cubes-from c.loop-k-test.true pre.list pre.end pre.stand pre.counted).inside
+    (cube_there c.loop-k.invariant.cubes_from c.loop-k-test.true pre.list pre.end pre.stand pre.counted).inside
 
 pub loop-k-init : goal.loop-k-init
 loop-k-init c = marks_start _ _ _ _ _
@@ -27,33 +27,21 @@ overflow_add-m-in-loop-k c = omega (arith, room c)
 pub overflow_add-e : goal.overflow_add-e
 overflow_add-e c = omega (arith, room c)
 
-pub slice_bounds-zeros_and_ones-count : goal.slice_bounds-zeros_and_ones-count
-slice_bounds-zeros_and_ones-count c = omega arith
-
-pub slice_bounds-zeros_and_ones-start : goal.slice_bounds-zeros_and_ones-start
-slice_bounds-zeros_and_ones-start c = omega arith
-
 pub slice_bounds-zeros_and_ones-end : goal.slice_bounds-zeros_and_ones-end
 slice_bounds-zeros_and_ones-end c = omega (arith, room c)
 
 pub overflow_add-result : goal.overflow_add-result
 overflow_add-result c = let at = (goal.at.overflow_add-result c).In-loop-k in
-    omega (arith, room (at), c.loop-k.invariant.cubes-from.apart)
+    omega (arith, room (at), c.loop-k.invariant.cubes_from.apart)
 
 pub returns-then-not-zeros_and_ones : goal.returns-then-not-zeros_and_ones
-returns-then-not-zeros_and_ones c = mark_found _ _ _ _ _ _ _ c.loop-k.invariant c.loop-k-test.true _ _ refl refl (sym (not-true _ c.if-not-zeros_and_ones.true-raw) ∙ c.zeros_and_ones.ensures)
+returns-then-not-zeros_and_ones c = mark_found _ _ _ _ _ _ _ c.loop-k.invariant c.loop-k-test.true _ _ refl refl (sym c.if-not-zeros_and_ones.true ∙ c.zeros_and_ones.ensures)
 
 pub overflow_add-at : goal.overflow_add-at
 overflow_add-at c = omega (arith, room (goal.at.overflow_add-at c).In-loop-k)
 
-pub overflow_add-k : goal.overflow_add-k
-overflow_add-k c = omega arith
-
-pub loop-k-smaller : goal.loop-k-smaller
-loop-k-smaller c = omega arith
-
 pub loop-k-preserved : goal.loop-k-preserved
-loop-k-preserved c = marks_more _ _ _ _ _ _ _ c.loop-k.invariant c.loop-k-test.true _ _ refl refl (sym (not-false _ c.if-not-zeros_and_ones.false-raw) ∙ c.zeros_and_ones.ensures)
+loop-k-preserved c = marks_more _ _ _ _ _ _ _ c.loop-k.invariant c.loop-k-test.true _ _ refl refl (sym c.if-not-zeros_and_ones.false ∙ c.zeros_and_ones.ensures)
 
 pub returns : goal.returns
 returns c = marks_none _ _ _ _ _ _ _ c.loop-k.invariant c.loop-k-test.false

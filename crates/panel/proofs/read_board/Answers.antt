@@ -11,17 +11,14 @@ use Rattle.panel.proofs.read_board.Goals as goal
 
 -- question 1 passed
 sizes : (c : goal.Else-not-sized) → true ≡ sized c.before.before.before.args.b.now
-sizes c = sym (not-false _ c.if-not-sized.false-raw) ∙ c.sized.ensures
+sizes c = sym c.if-not-sized.false ∙ c.sized.ensures
 
 pub returns-then-not-sized : goal.returns-then-not-sized
-returns-then-not-sized c = board_not_sized _ _ (sym (not-true _ c.if-not-sized.true-raw) ∙ c.sized.ensures) c.bad_board.ensures
+returns-then-not-sized c = board_not_sized _ _ (sym c.if-not-sized.true ∙ c.sized.ensures) c.bad_board.ensures
 
 pub slice_bounds-names_line-end : goal.slice_bounds-names_line-end
 slice_bounds-names_line-end c = let args = c.args in
     sym (length-take-le c.line_end-e.result args.b.now c.line_end-e.ensures.inside)
-
--- LEFT slice-aggregate-names-line-2 : tie.Need-slice-aggregate-names-line-2
--- LEFT slice-aggregate-names-line-2 c = search rules
 
 pub returns-then-not-w : goal.returns-then-not-w
 unfolding read_bound

@@ -14,7 +14,7 @@ room : (c : goal.In-loop-k)
 room c =
     let pre = c.requires in
     let w = read_cubes _ pre.text _ pre.read_as in
-    (cube_there c.loop-k.invariant.cubes-from c.loop-k-test.true w.list w.end w.stand w.counted).inside
+    (cube_there c.loop-k.invariant.cubes_from c.loop-k-test.true w.list w.end w.stand w.counted).inside
 
 pub loop-k-init : goal.loop-k-init
 loop-k-init c = tables_start _ _ _ _ _ (outputs_counted _ _ c.requires)
@@ -28,23 +28,11 @@ overflow_add-e c = omega (arith, room c)
 pub overflow_add-e-in-loop-k : goal.overflow_add-e-in-loop-k
 overflow_add-e-in-loop-k c = omega (arith, room c)
 
-pub slice_bounds-covered-count : goal.slice_bounds-covered-count
-slice_bounds-covered-count c = omega arith
-
-pub slice_bounds-covered-start : goal.slice_bounds-covered-start
-slice_bounds-covered-start c = omega arith
-
 pub slice_bounds-covered-end : goal.slice_bounds-covered-end
 slice_bounds-covered-end c = omega (arith, room c)
 
 pub overflow_add-m-in-loop-k : goal.overflow_add-m-in-loop-k
 overflow_add-m-in-loop-k c = omega (arith, room (goal.at.overflow_add-m-in-loop-k c).In-loop-k)
-
-pub slice_bounds-added-count : goal.slice_bounds-added-count
-slice_bounds-added-count c = omega arith
-
-pub slice_bounds-added-start : goal.slice_bounds-added-start
-slice_bounds-added-start c = omega arith
 
 pub slice_bounds-added-end : goal.slice_bounds-added-end
 slice_bounds-added-end c = omega (arith, room (goal.at.slice_bounds-added-end c).In-loop-k)
@@ -57,12 +45,6 @@ added-next-requires c = let pre = c.requires in
 
 pub overflow_add-at : goal.overflow_add-at
 overflow_add-at c = omega (arith, room (goal.at.overflow_add-at c).In-loop-k)
-
-pub overflow_add-k : goal.overflow_add-k
-overflow_add-k c = omega arith
-
-pub loop-k-smaller : goal.loop-k-smaller
-loop-k-smaller c = omega arith
 
 pub loop-k-preserved : goal.loop-k-preserved
 loop-k-preserved c = tables_more _ _ _ _ _ _ _ _ c.loop-k.invariant c.loop-k-test.true _ _ _ _ refl refl c.covered-rows.ensures c.added-next.ensures

@@ -12,12 +12,6 @@ loop-count-init c = gathering_none _ _ _ _ c.requires refl
 pub keep-requires : goal.keep-requires
 keep-requires c = c.loop-count.invariant.sized
 
-pub overflow_add-count : goal.overflow_add-count
-overflow_add-count c = omega arith
-
-pub loop-count-smaller : goal.loop-count-smaller
-loop-count-smaller c = omega arith
-
 pub loop-count-preserved : goal.loop-count-preserved
 loop-count-preserved c = let v = c.r-1.given in
     gathering_more _ _ _ _ _ _ c.loop-count.invariant v.0.0 v.0.1.0 _ c.loop-count-test.true (rw v.1 at c.spaced_name-r.ensures) c.keep.ensures

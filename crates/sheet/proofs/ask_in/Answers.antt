@@ -3,9 +3,6 @@ use borrow.Author.Rules.{rules}
 use Rattle.sheet.specs.InLaws.{in_reads}
 use Rattle.sheet.proofs.ask_in.Goals as goal
 
--- LEFT slice-aggregate-names-line : tie.Need-slice-aggregate-names-line
--- LEFT slice-aggregate-names-line c = search rules
-
 pub returns : goal.returns
 returns c = λ d h f.
     c.asked_in.ensures d _ (in_reads _ c.names_line.result c.names_line.ensures) h f

@@ -4,12 +4,6 @@ use borrow.Author.Rules.{rules}
 use Rattle.sheet.specs.AskLineLaws.{line_design, line_no_design, line_in, line_bound, line_limit, line_end, line_out, line_over}
 use Rattle.sheet.proofs.ask_line.Goals as goal
 
--- LEFT slice-aggregate-equal : tie.Need-slice-aggregate-equal
--- LEFT slice-aggregate-equal c = search rules
-
--- LEFT slice-aggregate-equal-2 : tie.Need-slice-aggregate-equal-2
--- LEFT slice-aggregate-equal-2 c = search rules
-
 pub returns-then-equal : goal.returns-then-equal
 returns-then-equal c = λ d h f. line_design d c.args.l.now c.onward.result c.in-Design.is (sym c.equal.ensures ∙ c.if-equal.true) c.onward.ensures h
 

@@ -20,11 +20,11 @@ returns-then-not-p c = let a = c.args in
 pub returns-then-not-closes : goal.returns-then-not-closes
 returns-then-not-closes c = let a = c.args in
     let read = not-false c.formula-p.result.ok c.if-not-p.false in
-    let more = sym c.closes.ensures ∙ not-true c.closes.result c.if-not-closes.true-raw in
+    let more = sym c.closes.ensures ∙ c.if-not-closes.true in
     out-unclosed a.l.now (map name_of a.inputs.now) c.formula-p.result (drop a.c.at a.l.now) c.formula-p.ensures a.n read more c.no_out-then-not-closes.result c.no_out-then-not-closes.ensures
 
 pub returns : goal.returns
 returns c = let a = c.args in
     let read = not-false c.formula-p.result.ok c.if-not-p.false in
-    let ends = sym c.closes.ensures ∙ not-false c.closes.result c.if-not-closes.false-raw in
+    let ends = sym c.closes.ensures ∙ c.if-not-closes.false in
     out-closed a.l.now (map name_of a.inputs.now) c.formula-p.result (drop a.c.at a.l.now) c.formula-p.ensures a.n read ends

@@ -9,9 +9,6 @@ use Rattle.cursor.specs.MovedLaws.{moved-start, moved_to, moved_nowhere}
 use Rattle.sheet.specs.OutLineLaws.{out_no_head, out_no_name, out-no-space, out-after}
 use Rattle.sheet.proofs.out_line.Goals as goal
 
--- LEFT slice-aggregate-text : tie.Need-slice-aggregate-text
--- LEFT slice-aggregate-text c = search rules
-
 pub text-m-requires : goal.text-m-requires
 text-m-requires c = omega (arith, c.start.ensures)
 
@@ -24,40 +21,32 @@ returns-in_default c = let a = c.args in
 pub name-w-requires : goal.name-w-requires
 name-w-requires c = let a = c.args in
     let h = moved-start a.l.now (bytes "(out ") c.text-m.result c.start.result c.start.ensures c.text-m.ensures in
-    let m = c.m-1.given in
-    let head = moved_to a.l.now c.text-m.result (eat (bytes "(out ") a.l.now) h m.0.0 m.1 in
+    let head = moved_to a.l.now c.text-m.result (eat (bytes "(out ") a.l.now) h c.in-To.c c.in-To.is in
     head.inside
 
 pub returns-in_default-w : goal.returns-in_default-w
 returns-in_default-w c = let a = c.args in
     let h = moved-start a.l.now (bytes "(out ") c.text-m.result c.start.result c.start.ensures c.text-m.ensures in
-    let m = c.m-1.given in
-    let head = moved_to a.l.now c.text-m.result (eat (bytes "(out ") a.l.now) h m.0.0 m.1 in
+    let head = moved_to a.l.now c.text-m.result (eat (bytes "(out ") a.l.now) h c.in-To.c c.in-To.is in
     out_no_name a.l.now (map name_of a.inputs.now) c.no_out-in_default-w.result head
     (rw c.in_default-w.is at c.name-w.ensures) c.no_out-in_default-w.ensures
 
 pub returns-in_default-g : goal.returns-in_default-g
 returns-in_default-g c = let a = c.args in
     let h = moved-start a.l.now (bytes "(out ") c.text-m.result c.start.result c.start.ensures c.text-m.ensures in
-    let m = c.m-1.given in
-    let head = moved_to a.l.now c.text-m.result (eat (bytes "(out ") a.l.now) h m.0.0 m.1 in
-    let w = c.w-1.given in
-    out-no-space a.l.now (map name_of a.inputs.now) c.no_out-in_default-g.result head (rw w.1 at c.name-w.ensures)
-    (moved_nowhere a.l.now c.byte-g.result (eat (space ∷ []) (from a.l.now w.0.1.0)) c.byte-g.ensures c.in_default-g.is)
+    let head = moved_to a.l.now c.text-m.result (eat (bytes "(out ") a.l.now) h c.in-To.c c.in-To.is in
+    out-no-space a.l.now (map name_of a.inputs.now) c.no_out-in_default-g.result head (rw c.in-Name.is at c.name-w.ensures)
+    (moved_nowhere a.l.now c.byte-g.result (eat (space ∷ []) (from a.l.now c.in-Name.e)) c.byte-g.ensures c.in_default-g.is)
     c.no_out-in_default-g.ensures
 
 pub out_formula-requires : goal.out_formula-requires
 out_formula-requires c = let l = c.args.l.now in
-    let g = c.g-1.given in
-    (moved_to l c.byte-g.result (eat (space ∷ []) (from l c.in-Name.e)) c.byte-g.ensures g.0.0 g.1).inside
+    (moved_to l c.byte-g.result (eat (space ∷ []) (from l c.in-Name.e)) c.byte-g.ensures c.in-To-g.f c.in-To-g.is).inside
 
 pub returns : goal.returns
 returns c = let a = c.args in
     let h = moved-start a.l.now (bytes "(out ") c.text-m.result c.start.result c.start.ensures c.text-m.ensures in
-    let m = c.m-1.given in
-    let head = moved_to a.l.now c.text-m.result (eat (bytes "(out ") a.l.now) h m.0.0 m.1 in
-    let w = c.w-1.given in
-    let g = c.g-1.given in
-    out-after a.l.now (map name_of a.inputs.now) c.out_formula.result head (rw w.1 at c.name-w.ensures)
-    (moved_to a.l.now c.byte-g.result (eat (space ∷ []) (from a.l.now w.0.1.0)) c.byte-g.ensures g.0.0 g.1)
+    let head = moved_to a.l.now c.text-m.result (eat (bytes "(out ") a.l.now) h c.in-To.c c.in-To.is in
+    out-after a.l.now (map name_of a.inputs.now) c.out_formula.result head (rw c.in-Name.is at c.name-w.ensures)
+    (moved_to a.l.now c.byte-g.result (eat (space ∷ []) (from a.l.now c.in-Name.e)) c.byte-g.ensures c.in-To-g.f c.in-To-g.is)
     c.out_formula.ensures
