@@ -1,7 +1,7 @@
 #!/usr/bin/env python3
 """problems.py [--prototype FILE] [--border PROGRAM] [--seconds N] FILES..: the search on problem files, question by question.
 
-The program border (`rt check border` builds it) is asked for the fewest cells, and then, digit by digit, for the first tables:
+The program border (`tools/programs border` builds it) is asked for the fewest cells, and then, digit by digit, for the first tables:
 is there a core with these tables fixed and these digits of the next one? Each core is looked at. A file NAME.labels has
 problems as bench/border/ has them, and a file ANSWERS beside it the fewest cells of NAME. Any other file has lines:
 
@@ -259,7 +259,7 @@ def main():
     if args.prototype and any(path.suffix == ".labels" for path in args.files):
         parser.error("another search is asked about files of the second form alone")
     if not args.border.exists():
-        sys.exit(f"{args.border} is not there: `rt check border` builds it")
+        sys.exit(f"{args.border} is not there: `tools/programs border` builds it")
     prototype = None
     if args.prototype:
         OUT.mkdir(parents=True, exist_ok=True)

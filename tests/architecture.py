@@ -22,7 +22,7 @@ TIMES_SECTION = "## How long each crate takes"
 def listed():
     """NAME: the names that its line of crates.txt lists"""
     lines = (line.split("#")[0].strip() for line in (ROOT / "crates.txt").read_text().splitlines())
-    return {name.strip(): rest.split() for name, rest in (line.split(":") for line in lines if line)}
+    return {name.split()[0]: rest.split() for name, rest in (line.split(":") for line in lines if line)}
 
 
 def source(name):
@@ -32,9 +32,9 @@ def source(name):
 
 def imported(name):
     """the crates that the files of a crate name in their imports"""
-    found = re.findall(r"\b([a-z0-9_]+)::", source(name)) + re.findall(r"Rattle·([a-z0-9_]+)", source(name))
+    found = re.findall(r"\b([a-z0-9_]+)::", source(name)) + re.findall(r"Rattle\.([a-z0-9_]+)\.", source(name))
     for path in (ROOT / "crates" / name).rglob("*.antt"):
-        found += re.findall(r"^use Rattle·([a-z0-9_]+)", path.read_text(), re.M)
+        found += re.findall(r"^use Rattle\.([a-z0-9_]+)\.", path.read_text(), re.M)
     return set(found)
 
 

@@ -1,7 +1,7 @@
 #!/usr/bin/env python3
 """Compares include/cellmapper.h with the code, the definitions and the README: each of its sizes is the limit that stands beside it
 in NUMBERS, as crates/limits has it for the code and for the definitions; each of its refusals is one by which the crates beside it in
-REFUSALS refuse, and the code refuses by no other; it declares the functions that crates/cellmapper/src/lib.rt gives to callers in C,
+REFUSALS refuse, and the code refuses by no other; it declares the functions that crates/cellmapper_c/src/lib.rt gives to callers in C,
 and no other; its version is that of the README's line `Version: `. Where there are gcc and g++, they take it as C and as C++."""
 import pathlib
 import re
@@ -12,11 +12,11 @@ import sys
 ROOT = pathlib.Path(__file__).resolve().parent.parent
 HEADER = ROOT / "include/cellmapper.h"
 NUMBERS = {
-    "CELLMAPPER_MAX_SHEET": ("MAX_SHEET", "maxSheet"),
-    "CELLMAPPER_MAX_NETWORK": ("MAX_NETWORK", "maxNetwork"),
-    "CELLMAPPER_MAX_PLA": ("MAX_PLA", "maxPla"),
-    "CELLMAPPER_MAX_TABLE": ("MAX_ROWS", "maxRows"),
-    "CELLMAPPER_MAX_BLIF": ("MAX_BLIF", "maxBlif"),
+    "CELLMAPPER_MAX_SHEET": ("MAX_SHEET", "max_sheet"),
+    "CELLMAPPER_MAX_NETWORK": ("MAX_NETWORK", "max_network"),
+    "CELLMAPPER_MAX_PLA": ("MAX_PLA", "max_pla"),
+    "CELLMAPPER_MAX_TABLE": ("MAX_ROWS", "max_rows"),
+    "CELLMAPPER_MAX_BLIF": ("MAX_BLIF", "max_blif"),
 }
 # the crates whose code names the number of the refusal
 REFUSALS = {
@@ -47,7 +47,7 @@ COMPILERS = [
 
 
 def limits():
-    """name: its value, from lines such as `pub const MAX_ROWS: usize = 1 << MAX_INPUTS;` and `maxRows = 2 ^ maxInputs`"""
+    """name: its value, from lines such as `pub const MAX_ROWS: usize = 1 << MAX_INPUTS;` and `max_rows = 2 ^ max_inputs`"""
     code = (ROOT / "crates/limits/src/lib.rt").read_text()
     definitions = (ROOT / "crates/limits/specs/Limits.antt").read_text()
     values = {}
@@ -98,7 +98,7 @@ def refusal_faults(header):
 
 def function_faults(header):
     declared = set(re.findall(r"^uint32_t (cellmapper_\w+)\(", header, re.M))
-    code = (ROOT / "crates/cellmapper/src/lib.rt").read_text()
+    code = (ROOT / "crates/cellmapper_c/src/lib.rt").read_text()
     there = set(re.findall(r"""^pub extern "C" fn (\w+)(?:<'a>)?\(""", code, re.M))
     return [f"{name} is not both declared and there" for name in sorted(declared ^ there)]
 

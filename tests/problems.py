@@ -4,7 +4,7 @@
 The kinds: base; wires (given tables are the digits of the vertex number); given (given tables at random); budgets (other than
 widths, and none that fits); known (the first open cell has known digits); all of these together; again (each such problem four
 times in a row, with other known digits, so that what border remembers of one is used for the next). COUNT small problems of each
-kind (20,000) of up to 8 vertices are drawn from SEED (1) and answered by the program border (`rt check border` builds it) and
+kind (20,000) of up to 8 vertices are drawn from SEED (1) and answered by the program border (`tools/programs border` builds it) and
 by problems.cpp, which tries every table; needs g++. COUNT / 500 problems of 16 to 32 vertices and up to 8 outputs follow for
 each kind: cadical (Debian package) has to say of the direct encoding (bench/direct.py) that no fewer cells serve, or none up to
 the limit. A problem that border or cadical does not end in 10 seconds is left out. Each core that is found is looked at: it

@@ -14,7 +14,7 @@ def need(*names, folder=BIN):
     if missing:
         test = pathlib.Path(sys.argv[0]).name
         where = folder.relative_to(ROOT) if folder.is_relative_to(ROOT) else folder
-        sys.exit(f"{test} needs {', '.join(f'{where}/{name}' for name in missing)}: rt check {' '.join(missing)}")
+        sys.exit(f"{test} needs {', '.join(f'{where}/{name}' for name in missing)}: tools/programs {' '.join(missing)}")
 
 
 def need_tools(*names):

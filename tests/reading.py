@@ -8,6 +8,18 @@ import re
 import sys
 
 ROOT = pathlib.Path(__file__).resolve().parent.parent
+EXPORTED = [
+    "cellmapper_table",
+    "cellmapper_map",
+    "cellmapper_cause",
+    "cellmapper_check",
+    "cellmapper_export",
+    "cellmapper_line",
+    "cellmapper_pla_table",
+    "cellmapper_pla_map",
+    "cellmapper_pla_cause",
+    "cellmapper_pla_check",
+]
 OPERATIONS = {
     "design": ["table"],
     "checker": ["check"],
@@ -15,54 +27,46 @@ OPERATIONS = {
     "blif": ["export"],
     "locate": ["place_of", "line_at"],
     "pla": ["table", "map", "cause", "check"],
-    "cellmapper": [
-        "cellmapper_table",
-        "cellmapper_map",
-        "cellmapper_cause",
-        "cellmapper_check",
-        "cellmapper_export",
-        "cellmapper_line",
-        "cellmapper_pla_table",
-        "cellmapper_pla_map",
-        "cellmapper_pla_cause",
-        "cellmapper_pla_check",
-    ],
+    "cellmapper": EXPORTED,
+    "cellmapper_c": EXPORTED,
 }
 THEOREMS = [
-    ("demands", "Demand1Laws", "sheet-demand-1"),
-    ("demands", "Demand1Laws", "demand-1"),
-    ("demands", "Demand2Laws", "sheet-demand-2"),
-    ("demands", "Demand2Laws", "demand-2"),
-    ("demands", "Demand3Laws", "sheet-demand-3"),
-    ("demands", "Demand3Laws", "demand-3"),
-    ("mapper", "FunctionLaws", "outcome-one"),
-    ("mapper", "FunctionLaws", "examined-one"),
-    ("mapper", "CauseFunctionLaws", "cause-is-one"),
-    ("mapper", "CauseFunctionLaws", "cause-of-one"),
-    ("demands", "CauseDemandLaws", "cause-true"),
-    ("reports", "StoppedLaws", "table-stopped"),
-    ("reports", "StoppedLaws", "map-stopped"),
-    ("reports", "StoppedLaws", "check-stopped"),
-    ("reports", "StoppedLaws", "export-stopped"),
-    ("sheet", "DesignLaws", "design-spelled"),
-    ("network", "SheetLaws", "network-spelled"),
+    ("demands", "Demand1Laws", "sheet_demand_1"),
+    ("demands", "Demand1Laws", "demand_1"),
+    ("demands", "Demand2Laws", "sheet_demand_2"),
+    ("demands", "Demand2Laws", "demand_2"),
+    ("demands", "Demand3Laws", "sheet_demand_3"),
+    ("demands", "Demand3Laws", "demand_3"),
+    ("mapper", "FunctionLaws", "outcome_one"),
+    ("mapper", "FunctionLaws", "examined_one"),
+    ("mapper", "CauseFunctionLaws", "cause_is_one"),
+    ("mapper", "CauseFunctionLaws", "cause_of_one"),
+    ("demands", "CauseDemandLaws", "cause_true"),
+    ("reports", "StoppedLaws", "table_stopped"),
+    ("reports", "StoppedLaws", "map_stopped"),
+    ("reports", "StoppedLaws", "check_stopped"),
+    ("reports", "StoppedLaws", "export_stopped"),
+    ("sheet", "DesignLaws", "design_spelled"),
+    ("network", "SheetLaws", "network_spelled"),
     ("blif", "SimulatedLaws", "simulated"),
-    ("blif", "SimulatedLaws", "sheet-export-demand"),
-    ("blif", "SimulatedLaws", "export-demand"),
-    ("panel", "ValueLaws", "panel-says"),
-    ("panel", "DesignLaws", "panel-refused"),
-    ("panel", "QuestionLaws", "question-refuses"),
-    ("pla", "SameAnswersLaws", "pair-as-sheet"),
-    ("pla", "DemandLaws", "panel-demand-1"),
-    ("pla", "DemandLaws", "panel-demand-2"),
-    ("pla", "DemandLaws", "panel-demand-3"),
-    ("pla", "FunctionLaws", "panel-outcome-one"),
-    ("pla", "FunctionLaws", "panel-cause-one"),
+    ("blif", "SimulatedLaws", "sheet_export_demand"),
+    ("blif", "SimulatedLaws", "export_demand"),
+    ("panel", "ValueLaws", "panel_says"),
+    ("panel", "DesignLaws", "panel_refused"),
+    ("panel", "QuestionLaws", "question_refuses"),
+    ("pla", "SameAnswersLaws", "pair_as_sheet"),
+    ("pla", "DemandLaws", "panel_demand_1"),
+    ("pla", "DemandLaws", "panel_demand_2"),
+    ("pla", "DemandLaws", "panel_demand_3"),
+    ("pla", "FunctionLaws", "panel_outcome_one"),
+    ("pla", "FunctionLaws", "panel_cause_one"),
     ("blif", "CellNameLaws", "cells-apart"),
-    ("blif", "CellNameLaws", "name-no-cell"),
-    ("blif", "CellNameLaws", "cell-new"),
-    ("blif", "LengthLaws", "text-fits"),
+    ("blif", "CellNameLaws", "name_no_cell"),
+    ("blif", "CellNameLaws", "cell_new"),
+    ("blif", "LengthLaws", "text_fits"),
 ]
+# What the page calls the logic's own: lists, pairs, equality, numbers and truth values.
+LOGIC = set("ℕ ⊤ ⊥ List [] Bool true false not zero suc refl Option some none Unit absurd".split())
 WORD = re.compile(r"[^\s(){}\[\];,λ⌜⌝×⊎→∷≡⊥∙]+")
 HEAD = re.compile(r"^(?:pub |abbrev |unfoldable |record |data )*(?P<name>\S+)")
 
@@ -85,8 +89,8 @@ def imports(text):
 
 def path_of(module):
     """the file of a module of the repository's specs/, else none"""
-    m = re.match(r"Rattle·(\w+?)(?:·specs)?\.specs\.(\w+)$", module)
-    return f"crates/{m[1]}/specs/{m[2]}.antt" if m else None
+    m = re.match(r"Rattle\.(\w+)\.specs\.(\w+)$", module)
+    return f"crates/{m[1]}/specs/{m[2]}.antt" if m and (ROOT / "crates" / m[1]).is_dir() else None
 
 
 class Module:
@@ -122,7 +126,7 @@ class Closure:
         return self.modules[path]
 
     def follow(self, module, name):
-        if module.startswith("lib."):
+        if module.startswith("Rattle.std.") and name not in LOGIC and "◌" not in name:
             self.kit.add(name)
         path = path_of(module)
         if path is None or (path, name) in self.seen:
@@ -153,7 +157,7 @@ class Code:
 
     def contract(self, name):
         m = re.search(r"pub (?:extern \"C\" )?fn " + name + r"\b(.*?)\n\{", self.text, re.S)
-        return "\n".join(re.findall(r"⌜(.*?)⌝", m[1], re.S))
+        return re.sub(r"^.*?(?=\b(?:requires|ensures)\b)", "", m[1], flags=re.S)
 
 
 def reached():
@@ -166,7 +170,7 @@ def reached():
         path = f"crates/{crate}/specs/{name}.antt"
         here = found.module(path)
         found.seen.add((path, theorem))
-        found.read(here.statement(theorem), here, f"Rattle·{crate}.specs.{name}")
+        found.read(here.statement(theorem), here, f"Rattle.{crate}.specs.{name}")
     return found
 
 

@@ -2,7 +2,7 @@
 """search.py [--reference FILE] [COUNT [SEED]]: the search against the reference search on random problems.
 
 COUNT problems (10,000) of up to 8 outputs, 32 vertices and 16 joint classes are drawn from SEED (1) and given to the program
-border (`rt check border` builds it) and to FILE, a search in C++ that is not proved (by default bench/reference.cpp). The fewest
+border (`tools/programs border` builds it) and to FILE, a search in C++ that is not proved (by default bench/reference.cpp). The fewest
 cells must agree. A problem on which the reference takes over 5 million nodes is left out."""
 import argparse
 import pathlib

@@ -16,9 +16,10 @@ ghost use Rattle.cache.specs.Cache.{Honest};
 ghost use Rattle.readingsets.specs.Choice.{max_given};
 ghost use Rattle.border.specs.Line.{line_length, ZeroFirst};
 
-use libc::{STDERR_FILENO, STDIN_FILENO, STDOUT_FILENO};
+use console::{STDERR, STDIN, STDOUT};
 use limits::{LABELS, MAX_VERTICES, SEARCH_OUTPUTS};
 use readingsets::MAX_GIVEN;
+use std::time::CpuClock;
 
 // Where the parts of a line start, after a space each, and its length, with the line feed.
 const VERTICES: usize = 4;
@@ -177,10 +178,12 @@ fn number(line: &[u8], at: usize, most: u8) -> u8
     at_most(tens * 10 + ones, most)
 }
 
-// The processor time so far: POSIX has 1,000,000 of clock's units to a second. 0 where it is not known.
-fn microseconds() -> u64 {
-    let t = libc::clock();
-    if t > 0 { t as u64 } else { 0 }
+// The processor time so far in microseconds. 0 where it is not known.
+fn microseconds(rt: &HostRuntime) -> u64 {
+    match rt.process_cpu_time() {
+        Ok(t) => u64::try_from(t.as_micros()).unwrap_or(u64::MAX),
+        Err(_) => 0,
+    }
 }
 
 // What is asked of the search, but for the number of cells.
@@ -213,26 +216,26 @@ fn put_name(line: &[u8], fd: i32) -> bool
 fn put_step(line: &[u8], cells: u8, nodes: u64, time: u64)
     requires { length line.now ≡ line_length }
 {
-    put_name(line, STDERR_FILENO);
-    io::write_all(STDERR_FILENO, b"cells ");
-    io::print_decimal(STDERR_FILENO, cells as u64);
-    io::write_all(STDERR_FILENO, b" nodes ");
-    io::print_decimal(STDERR_FILENO, nodes);
-    io::write_all(STDERR_FILENO, b" us ");
-    io::print_decimal(STDERR_FILENO, time);
-    io::write_all(STDERR_FILENO, b"\n");
+    put_name(line, STDERR);
+    io::write_all(STDERR, b"cells ");
+    io::print_decimal(STDERR, cells as u64);
+    io::write_all(STDERR, b" nodes ");
+    io::print_decimal(STDERR, nodes);
+    io::write_all(STDERR, b" us ");
+    io::print_decimal(STDERR, time);
+    io::write_all(STDERR, b"\n");
 }
 
 // Writes rows and codes: a row in hexadecimal digits, a code as a byte, 0 being 0.
 fn put_core(line: &[u8], rows: [u16; SEARCH_OUTPUTS], codes: [u8; MAX_VERTICES])
     requires { length line.now ≡ line_length }
 {
-    put_name(line, STDERR_FILENO);
-    io::write_all(STDERR_FILENO, b"core ");
+    put_name(line, STDERR);
+    io::write_all(STDERR, b"core ");
     let mut o: usize = 0;
     while o < SEARCH_OUTPUTS {
-        io::print_hex(STDERR_FILENO, rows[o] as u64, 4);
-        io::write_all(STDERR_FILENO, b" ");
+        io::print_hex(STDERR, rows[o] as u64, 4);
+        io::write_all(STDERR, b" ");
         o += 1;
     }
     let mut text = [0u8; MAX_VERTICES];
@@ -241,8 +244,8 @@ fn put_core(line: &[u8], rows: [u16; SEARCH_OUTPUTS], codes: [u8; MAX_VERTICES])
         text[x] = b'0' + codes[x] % limits::MAX_CODES as u8;
         x += 1;
     }
-    io::write_all(STDERR_FILENO, &text);
-    io::write_all(STDERR_FILENO, b"\n");
+    io::write_all(STDERR, &text);
+    io::write_all(STDERR, b"\n");
 }
 
 // The fewest open cells that there may be: one where digits of it are known.
@@ -328,6 +331,7 @@ struct Answer {
 // The answer to a line's problem, of which asks has what is asked about the outputs kept; by says which of these stands for each
 // of the m outputs. Writes what standard error gets but for the time in all. What is remembered with few cells holds with more.
 fn solve(
+    rt: &HostRuntime,
     line: &[u8],
     labels: &[u8],
     tables: &[u16],
@@ -349,9 +353,9 @@ fn solve(
     while u <= most {
         let mut p = asks;
         p.cells = u;
-        let start = microseconds();
+        let start = microseconds(rt);
         let c = seeking::seek_where(labels, tables, mem, p, fits, nodes);
-        let took = std::num::wrapping_sub_u64(microseconds(), start);
+        let took = std::num::wrapping_sub_u64(microseconds(rt), start);
         put_step(line, u, std::num::wrapping_sub_u64(c.nodes, nodes), took);
         nodes = c.nodes;
         time = std::num::wrapping_add_u64(time, took);
@@ -379,9 +383,9 @@ fn solve(
 // Writes the fewest cells.
 fn put_cells(found: bool, cells: u8) -> bool {
     if found {
-        io::print_decimal(STDOUT_FILENO, cells as u64)
+        io::print_decimal(STDOUT, cells as u64)
     } else {
-        io::write_all(STDOUT_FILENO, b"inf")
+        io::write_all(STDOUT, b"inf")
     }
 }
 
@@ -389,19 +393,19 @@ fn put_cells(found: bool, cells: u8) -> bool {
 fn put_answer(line: &[u8], a: Answer)
     requires { length line.now ≡ line_length }
 {
-    let is_written = put_name(line, STDOUT_FILENO)
+    let is_written = put_name(line, STDOUT)
         && put_cells(a.found, a.cells)
-        && io::write_all(STDOUT_FILENO, b" ")
-        && io::print_decimal(STDOUT_FILENO, a.nodes)
-        && io::write_all(STDOUT_FILENO, b"\n");
+        && io::write_all(STDOUT, b" ")
+        && io::print_decimal(STDOUT, a.nodes)
+        && io::write_all(STDOUT, b"\n");
     console::tell(b"border", is_written);
-    put_name(line, STDERR_FILENO);
-    io::print_decimal(STDERR_FILENO, a.time);
-    io::write_all(STDERR_FILENO, b" us\n");
+    put_name(line, STDERR);
+    io::print_decimal(STDERR, a.time);
+    io::write_all(STDERR, b" us\n");
 }
 
 // Answers the problem of a line after that of past, which the cache is about. The problem that it is about then.
-fn report(line: &[u8], past: Past, mem: &mut [u16]) -> Past
+fn report(rt: &HostRuntime, line: &[u8], past: Past, mem: &mut [u16]) -> Past
     requires { (length line.now ≡ line_length) × ZeroFirst past.kn past.val × Honest past.labels past.tables past.kn past.val past.vertices mem.old }
     ensures { ZeroFirst result.kn result.val × Honest result.labels result.tables result.kn result.val result.vertices mem.new }
 {
@@ -426,7 +430,7 @@ fn report(line: &[u8], past: Past, mem: &mut [u16]) -> Past
         val: whole.val,
     };
     let fits = fit(seeking::all_fit(fitting(line), m));
-    let a = solve(line, &classes, &tables, asks, by, m, fits, mem);
+    let a = solve(rt, line, &classes, &tables, asks, by, m, fits, mem);
     put_answer(line, a);
     Past {
         labels: classes,
@@ -437,7 +441,7 @@ fn report(line: &[u8], past: Past, mem: &mut [u16]) -> Past
     }
 }
 
-fn main() {
+fn main(rt: HostRuntime) {
     let mut line = [0u8; LINE];
     let mut mem = [0u16; cache::SIZE];
     let mut past = Past {
@@ -449,11 +453,11 @@ fn main() {
     };
     let mut i: usize = 0;
     while i < LINES {
-        let got = io::read_full(STDIN_FILENO, &mut line);
+        let got = io::read_full(STDIN, &mut line);
         if got < LINE {
             return;
         }
-        let next = report(&line, past, &mut mem);
+        let next = report(&rt, &line, past, &mut mem);
         past = next;
         i += 1;
     }

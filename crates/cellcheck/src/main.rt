@@ -2,7 +2,7 @@
 // `refused N line L`. Everything that matters is in checker.
 #![tactic(auto)]
 use comparing::Checked;
-use libc::STDOUT_FILENO;
+use console::STDOUT;
 
 // Compares two sheets. Answers whether the answer was written.
 fn answer(sheet: &[u8], network: &[u8]) -> bool {
@@ -10,7 +10,7 @@ fn answer(sheet: &[u8], network: &[u8]) -> bool {
     match r {
         Checked::Refused { number, line } => console::two(b"refused ", number, b" line ", line),
         Checked::Differs { output, row } => console::two(b"differs output ", output, b" row ", row),
-        Checked::Same => io::write_all(STDOUT_FILENO, b"same\n"),
+        Checked::Same => io::write_all(STDOUT, b"same\n"),
     }
 }
 

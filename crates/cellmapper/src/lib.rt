@@ -1,8 +1,9 @@
 // Table, Map, Check and Export on sheets, the line that a refusal names and the cause of a refusal by 8, and Table, Map, Check and
-// the cause on PLA panels, for a caller in C, as include/cellmapper.h declares them: a slice is a pointer and a length, and what a
-// function has to say beside its result goes through references that the caller lends. Rests on design, mapper, checker, blif,
+// the cause on PLA panels, as a caller in C has them (crate cellmapper_c, include/cellmapper.h): what a function has to say beside
+// its result goes through references that the caller lends. Rests on design, mapper, checker, blif,
 // locate and pla, and adds nothing to what they answer; on reports for what a caller is told of an answer.
 #![tactic(auto)]
+
 ghost use Rattle.std.specs.Prelude.{◌≡◌};
 ghost use Rattle.sheet.specs.Examine as sheets;
 ghost use Rattle.design.specs.Tabulate.{tabulate, table_of};
@@ -12,8 +13,7 @@ ghost use Rattle.panel.specs.Examine.{examine};
 ghost use Rattle.locate.specs.Located.{located};
 ghost use Rattle.reports.specs.Report.{table_report, check_report, export_report, ReportedMap, ReportedCause, line_report};
 
-#[unsafe(no_mangle)]
-pub extern "C" fn cellmapper_table(
+pub fn cellmapper_table(
     sheet: &[u8],
     output: usize,
     buffer: &mut [u8],
@@ -31,8 +31,7 @@ pub extern "C" fn cellmapper_table(
     r.number
 }
 
-#[unsafe(no_mangle)]
-pub extern "C" fn cellmapper_map(
+pub fn cellmapper_map(
     sheet: &[u8],
     buffer: &mut [u8],
     line: &mut usize,
@@ -50,8 +49,7 @@ pub extern "C" fn cellmapper_map(
     r.number
 }
 
-#[unsafe(no_mangle)]
-pub extern "C" fn cellmapper_cause(sheet: &[u8], outputs: &mut usize) -> u32
+pub fn cellmapper_cause(sheet: &[u8], outputs: &mut usize) -> u32
     ensures value { result ≡ 0 }
     ensures reported_cause { ReportedCause (sheets.examine sheet.now) outputs.new }
 {
@@ -60,8 +58,7 @@ pub extern "C" fn cellmapper_cause(sheet: &[u8], outputs: &mut usize) -> u32
     0
 }
 
-#[unsafe(no_mangle)]
-pub extern "C" fn cellmapper_check(
+pub fn cellmapper_check(
     sheet: &[u8],
     network: &[u8],
     line: &mut usize,
@@ -81,8 +78,7 @@ pub extern "C" fn cellmapper_check(
     r.number
 }
 
-#[unsafe(no_mangle)]
-pub extern "C" fn cellmapper_export(
+pub fn cellmapper_export(
     sheet: &[u8],
     network: &[u8],
     buffer: &mut [u8],
@@ -100,8 +96,7 @@ pub extern "C" fn cellmapper_export(
     r.number
 }
 
-#[unsafe(no_mangle)]
-pub extern "C" fn cellmapper_line<'a>(
+pub fn cellmapper_line<'a>(
     sheet: &'a [u8],
     network: &'a [u8],
     number: usize,
@@ -120,8 +115,7 @@ pub extern "C" fn cellmapper_line<'a>(
     0
 }
 
-#[unsafe(no_mangle)]
-pub extern "C" fn cellmapper_pla_table(
+pub fn cellmapper_pla_table(
     pla: &[u8],
     board: &[u8],
     output: usize,
@@ -140,8 +134,7 @@ pub extern "C" fn cellmapper_pla_table(
     told.number
 }
 
-#[unsafe(no_mangle)]
-pub extern "C" fn cellmapper_pla_map(
+pub fn cellmapper_pla_map(
     pla: &[u8],
     board: &[u8],
     buffer: &mut [u8],
@@ -160,8 +153,7 @@ pub extern "C" fn cellmapper_pla_map(
     told.number
 }
 
-#[unsafe(no_mangle)]
-pub extern "C" fn cellmapper_pla_cause(pla: &[u8], board: &[u8], outputs: &mut usize) -> u32
+pub fn cellmapper_pla_cause(pla: &[u8], board: &[u8], outputs: &mut usize) -> u32
     ensures value { result ≡ 0 }
     ensures reported_cause { ReportedCause (examine pla.now board.now) outputs.new }
 {
@@ -170,8 +162,7 @@ pub extern "C" fn cellmapper_pla_cause(pla: &[u8], board: &[u8], outputs: &mut u
     0
 }
 
-#[unsafe(no_mangle)]
-pub extern "C" fn cellmapper_pla_check(
+pub fn cellmapper_pla_check(
     pla: &[u8],
     board: &[u8],
     network: &[u8],

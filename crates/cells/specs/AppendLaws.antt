@@ -1,6 +1,6 @@
 -- Two lists of cells put together: a pair is told apart by both together exactly when one of the lists tells it apart, and what
 -- an output reads of each adds up. Assumes nothing.
-use Rattle.std.specs.Prelude.{◌≡◌, List, [], ◌∷◌, ◌++◌, ◌⊎◌, ℕ, ◌+◌, ◌-◌}
+use Rattle.std.specs.Prelude.{◌≡◌, List, [], ◌∷◌, ◌++◌, ◌⊎◌, ℕ, ◌+◌}
 use Rattle.std.proofs.Common.{inl, inr, ⊎_elim, arith}
 use Rattle.cells.specs.Core.{Cell, Apart, reading}
 

@@ -1,7 +1,7 @@
 -- Both ways between lists of cells and numbers. A list of cells is a number for each output and each vertex, digit by digit; and numbers
 -- give a list of cells that serves where the numbers tell apart and no row has more digits than the output's budget: a cell that tells
 -- two vertices apart is a digit that the output reads and in which the two codes differ. Assumes nothing.
-use Rattle.std.specs.Prelude.{◌≡◌, refl, Bool, true, false, List, [], ◌∷◌, ◌⊎◌, ℕ, zero, suc, ◌+◌, ◌-◌, ◌*◌, ◌/◌, ◌%◌, ◌^◌, ◌≤◌, ◌<◌, length}
+use Rattle.std.specs.Prelude.{◌≡◌, refl, Bool, true, false, List, [], ◌∷◌, ◌⊎◌, ℕ, zero, suc, ◌+◌, ◌*◌, ◌/◌, ◌%◌, ◌^◌, ◌≤◌, ◌<◌, length}
 use Rattle.std.proofs.Common.{sym, ap, ap₂, ◌∙◌, subst, inl, inr, ⊎_elim, arith, pow-suc}
 use Rattle.bits.specs.LogicLaws.{true_false, never_both, bit_le}
 use Rattle.bits.specs.Digit.{digit, on}

@@ -1,7 +1,7 @@
 -- What may be changed in a core that serves, for any conflict: seeing the tables through a map of vertices (so that each is constant on
 -- joint classes), reading more cells up to the budget, and adding idle cells. Each change keeps every pair of vertices apart that was
 -- apart. Assumes nothing.
-use Rattle.std.specs.Prelude.{◌≡◌, refl, Bool, true, false, not, List, [], ◌∷◌, ◌⊎◌, ℕ, zero, suc, ◌+◌, ◌-◌, min, ◌≤◌, ◌<◌, ltb, length}
+use Rattle.std.specs.Prelude.{◌≡◌, refl, Bool, true, false, not, List, [], ◌∷◌, ℕ, zero, suc, ◌+◌, ◌-◌, min, ◌≤◌, ◌<◌, ltb, length}
 use Rattle.std.proofs.Common.{sym, ap, subst, inl, inr, ⊎_elim, arith, ltb-true, ltb-false}
 use Rattle.bits.specs.Logic.{orb, bit}
 use Rattle.bits.specs.LogicLaws.{bit_le}
@@ -40,12 +40,12 @@ mapped_serves rep v v' m Conflict Conflict' budget b h l s = record {
 pub filled-length : (d : ℕ → ℕ) (l : List Cell) → length (filled d l) ≡ length l
 unfolding filled
 filled-length d [] = refl
-filled-length d (c ∷ l) = ap suc (filled-length _ l)
+filled-length d (c ∷ l) = ap suc (filled-length (λ (o : ℕ). d o - bit (not (c.readers o))) l)
 
 pub filled_apart : (o x y : ℕ) (d : ℕ → ℕ) (l : List Cell) → Apart o x y l → Apart o x y (filled d l)
 unfolding filled
 filled_apart o x y d [] a = a
-filled_apart o x y d (c ∷ l) a = ⊎_elim (λ p. inl (ap (λ (b : Bool). orb b (ltb 0 (d o))) p.0, p.1)) (λ r. inr (filled_apart o x y _ l r)) a
+filled_apart o x y d (c ∷ l) a = ⊎_elim (λ p. inl (ap (λ (b : Bool). orb b (ltb 0 (d o))) p.0, p.1)) (λ r. inr (filled_apart o x y (λ (o : ℕ). d o - bit (not (c.readers o))) l r)) a
 
 reading-le : (o : ℕ) (l : List Cell) → reading o l ≤ length l
 unfolding reading

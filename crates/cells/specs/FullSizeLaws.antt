@@ -2,7 +2,7 @@
 -- all; reading more tells apart more, and no table changes by that. From numbers to lists: the given cells have their tables, so the
 -- numbers' cells can be replaced by them. Open cells may be asked to be 0 at vertex 0: one number exclusive-or'd to all codes changes
 -- no pair that is told apart. Assumes nothing.
-use Rattle.std.specs.Prelude.{◌≡◌, refl, Bool, true, false, List, [], ◌∷◌, ◌++◌, ◌⊎◌, ℕ, zero, suc, ◌+◌, ◌-◌, ◌*◌, ◌^◌, min, ◌≤◌, ◌<◌, leb, length}
+use Rattle.std.specs.Prelude.{◌≡◌, refl, Bool, true, false, not, List, [], ◌∷◌, ◌++◌, ◌⊎◌, ℕ, zero, suc, ◌+◌, ◌-◌, ◌*◌, ◌^◌, min, ◌≤◌, ◌<◌, leb, length}
 use Rattle.std.proofs.Common.{sym, ap, ap₂, ◌∙◌, subst, inl, inr, ⊎_elim, arith, length-append, pow_pos, le-leb}
 use Rattle.std.proofs.Math.Decide.{dec_lt}
 use Rattle.std.specs.Int.Bits.{bit_and, bit_xor}
@@ -75,7 +75,7 @@ code_append_next (c ∷ l) k x i =
 filled_code : (d : ℕ → ℕ) (l : List Cell) (x : ℕ) → code_of (filled d l) x ≡ code_of l x
 unfolding filled number_of
 filled_code d [] x = refl
-filled_code d (c ∷ l) x = ap (λ (n : ℕ). bit (c.table x) + 2 * n) (filled_code _ l x)
+filled_code d (c ∷ l) x = ap (λ (n : ℕ). bit (c.table x) + 2 * n) (filled_code (λ (o : ℕ). d o - bit (not (c.readers o))) l x)
 
 -- ---- from lists to numbers
 full_of_length : (u v m : ℕ) (Conflict : ℕ → ℕ → ℕ → Type 0) (budget : ℕ → ℕ) (l given : List Cell) → length l ≤ u → Serves v m Conflict budget (l ++ given)

@@ -2,7 +2,7 @@
 -- pairwise in the digits of a mask are at most 2 to the number of its digits, since each digit of the mask splits the list in two, and
 -- what is left when no digit is left is one number at most. Buckets: where each bucket holds at most n, a list has at most n times as
 -- many elements as buckets. Assumes nothing.
-use Rattle.std.specs.Prelude.{◌≡◌, true, false, not, ◌⊎◌}
+use Rattle.std.specs.Prelude.{◌≡◌, true, false, not}
 use Rattle.std.proofs.Math.Path.{refl}
 use Rattle.std.proofs.Common.{sym, ap, ◌∙◌, subst, ⊎_elim, pow-suc}
 use Rattle.std.proofs.Math.Bool.{Bool}

@@ -1,6 +1,6 @@
 -- The order of cells when outputs are given their rows in any order: which cells may change places, when a row is in order, and what is
 -- kept. The cells from k to u - 1 may change places; those before have known digits, those after are given. Assumes nothing.
-use Rattle.std.specs.Prelude.{◌≡◌, true, false, ◌⊎◌, ℕ, suc, ◌-◌, ◌^◌, ◌≤◌, ◌<◌}
+use Rattle.std.specs.Prelude.{◌≡◌, true, false, ◌⊎◌, ℕ, suc, ◌^◌, ◌≤◌, ◌<◌}
 use Rattle.bits.specs.Digit.{on}
 use Rattle.bits.specs.Count.{count}
 use Rattle.cells.specs.Codes.{Coded}

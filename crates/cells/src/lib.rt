@@ -2,6 +2,7 @@
 // that the search rests on, in specs/. The code is sets of numbers below 64, kept as the digits of one number, and the sizes of
 // sets of cells.
 #![tactic(auto)]
+
 ghost use Rattle.std.specs.Prelude.{◌≡◌, true, ◌<◌, ◌≤◌, ◌^◌};
 ghost use Rattle.limits.specs.Limits.{max_cells, max_codes};
 ghost use Rattle.bits.specs.Digit.{on};

@@ -69,11 +69,11 @@ module _ (k : Sheet) (list : List ℕ) (sh : Shape) (c : Counts k) (s : DigitsAr
     (gv : Gathered (take k.inputs list) 1 sh.vertex) (gf : Gathered (take k.inputs list) sh.vertices sh.free)
     (sv : length sh.vertex ≡ max_vertices) (sf : length sh.free ≡ max_free_rows) where
   few_vertices : sh.vertices ≤ max_vertices
-  few_vertices = few_power k.bounds sh.vertices v c.few-bound
+  few_vertices = few_power k.bounds sh.vertices v c.few_bound
 
   few_free : sh.frees ≤ max_free_rows
   few_free =
-      let a : k.inputs ≤ max_inputs = c.few-inputs in
+      let a : k.inputs ≤ max_inputs = c.few_inputs in
       let b : 1 ≤ k.bounds = c.some-bound in
       let few : k.inputs - k.bounds ≤ max_inputs - 1 = omega arith in
       subst (λ (n : ℕ). n ≤ max_free_rows) (sym f) (pow_mono {j = max_inputs - 1} few)
@@ -92,7 +92,7 @@ module _ (k : Sheet) (list : List ℕ) (sh : Shape) (c : Counts k) (s : DigitsAr
   inside x y l m =
       let digits : List ℕ = take k.inputs list in
       let size : length list ≡ max_inputs = s.size in
-      let few : k.inputs ≤ max_inputs = c.few-inputs in
+      let few : k.inputs ≤ max_inputs = c.few_inputs in
       let long : length digits ≡ k.inputs = length-take-le k.inputs list (omega arith) in
       let sum : get_or sh.vertex x 0 + get_or sh.free y 0 ≡ gathered digits (y * 2 ^ k.bounds + x)
       = ap₂ (λ (a b : ℕ). a + b) (at_vertex x l) (at_free y m)
@@ -108,7 +108,7 @@ module _ (k : Sheet) (list : List ℕ) (sh : Shape) (c : Counts k) (s : DigitsAr
       let a : k.inputs ≡ length ns = h.inputs_counted in
       let b : k.bounds ≡ length bs = h.bound-counted in
       let digits : take k.inputs list ≡ map (digit_of bs (free ns bs)) ns
-      = digit_list ns bs (take k.bounds k.bound) list k.inputs c.few-inputs s p.parted (sym a) h.bound_placed in
+      = digit_list ns bs (take k.bounds k.bound) list k.inputs c.few_inputs s p.parted (sym a) h.bound_placed in
       let vertices : sh.vertices ≡ vertex_count bs = v ∙ ap (λ (n : ℕ). 2 ^ n) b in
       record {
         vertices = vertices;

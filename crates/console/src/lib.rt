@@ -5,7 +5,12 @@
 ghost use Rattle.std.specs.Prelude.{◌≤◌, length};
 ghost use Rattle.io.specs.Counts.{IsPrefixLen};
 
-use libc::{STDERR_FILENO, STDIN_FILENO, STDOUT_FILENO};
+// The file descriptors of the standard streams, as POSIX numbers them.
+pub const STDIN: i32 = 0;
+
+pub const STDOUT: i32 = 1;
+
+pub const STDERR: i32 = 2;
 
 // How much is read at a time of what is dropped.
 const AT_A_TIME: usize = 4096;
@@ -13,7 +18,7 @@ const AT_A_TIME: usize = 4096;
 // Reads further, and answers whether there may be more.
 fn read_on() -> bool {
     let mut rest = [0u8; AT_A_TIME];
-    io::read_full(STDIN_FILENO, &mut rest) == AT_A_TIME
+    io::read_full(STDIN, &mut rest) == AT_A_TIME
 }
 
 // Reads standard input to its end. A loop has to end, and nothing says that the input does: the turns are counted down from
@@ -30,7 +35,7 @@ fn drain() {
 pub fn read_text(buffer: &mut [u8]) -> usize
     ensures { IsPrefixLen result buffer.new }
 {
-    let n = io::read_full(STDIN_FILENO, buffer);
+    let n = io::read_full(STDIN, buffer);
     if n == buffer.len() {
         drain();
     }
@@ -69,24 +74,24 @@ pub fn two_sheets(s: &[u8]) -> Sheets
 // Prints the first bytes of a text, where it has so many. Answers whether they were written.
 pub fn show(text: &[u8], length: usize) -> bool {
     if length <= text.len() {
-        return io::write_all(STDOUT_FILENO, &text[..length]);
+        return io::write_all(STDOUT, &text[..length]);
     }
     false
 }
 
 // Prints a line of two numbers, each after a text. Answers whether all of it was written.
 pub fn two(first: &[u8], a: usize, second: &[u8], b: usize) -> bool {
-    io::write_all(STDOUT_FILENO, first)
-        && io::print_decimal(STDOUT_FILENO, a as u64)
-        && io::write_all(STDOUT_FILENO, second)
-        && io::print_decimal(STDOUT_FILENO, b as u64)
-        && io::write_all(STDOUT_FILENO, b"\n")
+    io::write_all(STDOUT, first)
+        && io::print_decimal(STDOUT, a as u64)
+        && io::write_all(STDOUT, second)
+        && io::print_decimal(STDOUT, b as u64)
+        && io::write_all(STDOUT, b"\n")
 }
 
 // Tells on standard error where a program's answer was not written in full: a program here has no exit status that could say so.
 pub fn tell(program: &[u8], is_written: bool) {
     if !is_written {
-        io::write_all(STDERR_FILENO, program);
-        io::write_all(STDERR_FILENO, b": the answer could not be written\n");
+        io::write_all(STDERR, program);
+        io::write_all(STDERR, b": the answer could not be written\n");
     }
 }

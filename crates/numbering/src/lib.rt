@@ -2,6 +2,7 @@
 // the numbers are spread over the digits of its private cells. It rests on the laws of specs/NumberLaws. From here up to readers
 // vertices are plain numbers, whatever they stand for: the crate joint hands in joint classes.
 #![tactic(auto)]
+
 ghost use Rattle.std.specs.Prelude.{◌≡◌, true, false, ℕ, ◌+◌, ◌<◌, ◌≤◌, List};
 ghost use Rattle.limits.specs.Limits.{search_outputs, max_vertices, max_codes, max_cells};
 ghost use Rattle.problem.specs.Problem.{part_of, item, Labels, Plan, Knows, Told};

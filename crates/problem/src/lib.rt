@@ -11,6 +11,7 @@
 //   known       vertices kn at which cell 0 has its digit already, and these digits, val
 //   told        what a search answers: codes that tell the classes of every part apart, or no solution goes on from what it had
 #![tactic(auto)]
+
 ghost use Rattle.std.specs.Prelude.{◌≡◌, ◌<◌, ◌≤◌, length};
 ghost use Rattle.limits.specs.Limits.{search_outputs, max_vertices, label_count};
 ghost use Rattle.problem.specs.Problem.{label_at, part_at, part_of, Labels};

@@ -2,6 +2,7 @@
 // the given tables that an output reads agree, and a label stands for a class inside a part. An output that reads no given
 // table keeps its classes as labels, all in part 0.
 #![tactic(auto)]
+
 ghost use Rattle.std.specs.Prelude.{◌≡◌, true, false, ℕ, ◌*◌, ◌<◌, ◌≤◌, length};
 ghost use Rattle.limits.specs.Limits.{search_outputs, max_vertices};
 ghost use Rattle.problem.specs.Problem.{item, Labels};

@@ -7,7 +7,7 @@
 ghost use Rattle.std.specs.Prelude.{◌≡◌, ◌≤◌, ◌<◌, length};
 
 use design::Tabled;
-use libc::{STDIN_FILENO, STDOUT_FILENO};
+use console::{STDIN, STDOUT};
 
 // The most bytes of standard input.
 const MAX_TEXT: usize = 655360;
@@ -171,12 +171,12 @@ fn put_remark(line: &mut [u8], at: usize, fine: bool) -> usize {
 // Says how a block with this name went. Answers whether it was written.
 fn report(name: &[u8], ok: bool, came: &[u8]) -> bool {
     if ok {
-        io::write_all(STDOUT_FILENO, name) && io::write_all(STDOUT_FILENO, b" ok\n")
+        io::write_all(STDOUT, name) && io::write_all(STDOUT, b" ok\n")
     } else {
-        io::write_all(STDOUT_FILENO, name)
-            && io::write_all(STDOUT_FILENO, b" WRONG ")
-            && io::write_all(STDOUT_FILENO, came)
-            && io::write_all(STDOUT_FILENO, b"\n")
+        io::write_all(STDOUT, name)
+            && io::write_all(STDOUT, b" WRONG ")
+            && io::write_all(STDOUT, came)
+            && io::write_all(STDOUT, b"\n")
     }
 }
 
@@ -264,15 +264,15 @@ fn execute_all(t: &[u8]) -> bool {
 }
 
 fn report_all(done: u64, wrong: u64) -> bool {
-    io::print_decimal(STDOUT_FILENO, done)
-        && io::write_all(STDOUT_FILENO, b" sheets, ")
-        && io::print_decimal(STDOUT_FILENO, wrong)
-        && io::write_all(STDOUT_FILENO, b" wrong\n")
+    io::print_decimal(STDOUT, done)
+        && io::write_all(STDOUT, b" sheets, ")
+        && io::print_decimal(STDOUT, wrong)
+        && io::write_all(STDOUT, b" wrong\n")
 }
 
 fn main() {
     let mut text = [0u8; MAX_TEXT];
-    let n = io::read_full(STDIN_FILENO, &mut text);
+    let n = io::read_full(STDIN, &mut text);
     let is_written = execute_all(part(&text, 0, n));
     console::tell(b"tablecases", is_written);
 }

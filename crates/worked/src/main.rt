@@ -2,7 +2,7 @@
 // Map on sheet A with a buffer of 95 bytes, which stays as it was, with one of 96, and with one of 97, whose last byte stays;
 // and on sheet I within 4 cells, within 3, and with a fourth output. Everything that matters is in mapper.
 #![tactic(auto)]
-use libc::STDOUT_FILENO;
+use console::STDOUT;
 use mapper::Mapped;
 
 // Map's answer on a sheet and a buffer. Each function here answers whether all of what it has to say was written.
@@ -20,7 +20,7 @@ fn sheet_a(buffer: &mut [u8]) -> bool {
         b"(design 1)\n(in a b c d)\n(bound a b c)\n(limit 2)\n(out f (xor a b c d))\n(out g (and (xor a b c) d))\n(end)\n",
         buffer,
     );
-    is_written && io::write_all(STDOUT_FILENO, buffer) && io::write_all(STDOUT_FILENO, b"\n")
+    is_written && io::write_all(STDOUT, buffer) && io::write_all(STDOUT, b"\n")
 }
 
 fn sheets_b() -> bool {

@@ -3,7 +3,6 @@ use lib.Bits.{and_mask}
 use lib.Dec.{eqb}
 use Prim.Native.Nat.{ℕ, ◌/◌, ◌^◌}
 use mathlib.Core.Path.{ap}
-use borrow.Author.Rules.{rules}
 use Rattle.cells.proofs.in_set.Goals as goal
 
 pub returns : goal.returns

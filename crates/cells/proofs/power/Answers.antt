@@ -1,4 +1,3 @@
-use borrow.Author.Rules.{rules}
 use Rattle.cells.specs.SetsLaws.{power_is}
 use Rattle.cells.proofs.power.Goals as goal
 

@@ -1,6 +1,5 @@
 use lib.Pow.{pow-lt}
 use native.Mathlib.Nat.{one-mul, mod-eq_of_lt}
-use borrow.Author.Rules.{rules}
 use Rattle.cells.proofs.single.Goals as goal
 
 pub returns : goal.returns

@@ -2,7 +2,6 @@ use Rattle.cells.specs.Sets.{With}
 use lib.Bits.{bit_or}
 use Prim.Native.Nat.{ℕ}
 use mathlib.Core.Path.{subst, sym}
-use borrow.Author.Rules.{rules}
 use Rattle.cells.specs.SetsLaws.{with_power}
 use Rattle.cells.proofs.with.Goals as goal
 

@@ -2,7 +2,6 @@ use Rattle.cells.specs.Sets.{Without}
 use lib.Bits.{bit_and}
 use Prim.Native.Nat.{ℕ, ◌-◌, ◌^◌}
 use mathlib.Core.Path.{subst, sym}
-use borrow.Author.Rules.{rules}
 use Rattle.cells.specs.SetsLaws.{without_power}
 use Rattle.cells.proofs.without.Goals as goal
 

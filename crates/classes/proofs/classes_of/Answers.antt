@@ -13,7 +13,7 @@ pub loop-o-init : goal.loop-o-init
 loop-o-init c = outlined_none c.shape_of-shape.ensures _
 
 pub bounds-k-o : goal.bounds-k-o
-bounds-k-o c = omega (arith, c.loop-o-test.true, c.requires.few-outputs)
+bounds-k-o c = omega (arith, c.loop-o-test.true, c.requires.few_outputs)
 
 pub slice_bounds-vertex-end : goal.slice_bounds-vertex-end
 slice_bounds-vertex-end c = vertex_fits c.shape_of-shape.ensures
@@ -32,29 +32,29 @@ local_classes-l-requires c = (parts_inside c.shape_of-shape.ensures, few_part c.
 
 pub with_output-keys-requires : goal.with_output-keys-requires
 with_output-keys-requires c = (
-      c.shape_of-shape.ensures.few-vertices,
-      output_keyable c.shape_of-shape.ensures c.requires.few-outputs c.loop-o.invariant c.loop-o-test.true
+      c.shape_of-shape.ensures.few_vertices,
+      output_keyable c.shape_of-shape.ensures c.requires.few_outputs c.loop-o.invariant c.loop-o-test.true
           c.local_classes-l.result c.local_classes-l.ensures,
     )
 
 pub width-requires : goal.width-requires
-width-requires c = few_classes c.shape_of-shape.ensures c.requires.few-outputs c.loop-o.invariant c.loop-o-test.true
+width-requires c = few_classes c.shape_of-shape.ensures c.requires.few_outputs c.loop-o.invariant c.loop-o-test.true
     c.local_classes-l.result c.local_classes-l.ensures
 
 pub bounds-widths-o : goal.bounds-widths-o
-bounds-widths-o c = omega (arith, c.loop-o-test.true, c.requires.few-outputs)
+bounds-widths-o c = omega (arith, c.loop-o-test.true, c.requires.few_outputs)
 
 pub bounds-locals-o : goal.bounds-locals-o
-bounds-locals-o c = omega (arith, c.loop-o-test.true, c.requires.few-outputs)
+bounds-locals-o c = omega (arith, c.loop-o-test.true, c.requires.few_outputs)
 
 pub overflow_add-o : goal.overflow_add-o
-overflow_add-o c = omega (arith, c.loop-o-test.true, c.requires.few-outputs)
+overflow_add-o c = omega (arith, c.loop-o-test.true, c.requires.few_outputs)
 
 pub loop-o-smaller : goal.loop-o-smaller
 loop-o-smaller c = (let a = c.loop-o-test.true in omega arith)
 
 pub loop-o-preserved : goal.loop-o-preserved
-loop-o-preserved c = outlined_more c.shape_of-shape.ensures c.requires.few-outputs c.loop-o.invariant c.loop-o-test.true
+loop-o-preserved c = outlined_more c.shape_of-shape.ensures c.requires.few_outputs c.loop-o.invariant c.loop-o-test.true
     c.local_classes-l.result c.local_classes-l.ensures c.with_output-keys.result
     c.width.result c.with_output-keys.ensures c.width.ensures.0 c.width.ensures.1
 
@@ -65,7 +65,7 @@ pub slice_bounds-global_classes-end : goal.slice_bounds-global_classes-end
 slice_bounds-global_classes-end c = sym (keys_part c.shape_of-shape.ensures c.loop-o.invariant)
 
 pub global_classes-globals-requires : goal.global_classes-globals-requires
-global_classes-globals-requires c = (let a = keys_part c.shape_of-shape.ensures c.loop-o.invariant in let b = c.shape_of-shape.ensures.few-vertices in omega arith)
+global_classes-globals-requires c = (let a = keys_part c.shape_of-shape.ensures c.loop-o.invariant in let b = c.shape_of-shape.ensures.few_vertices in omega arith)
 
 pub returns : goal.returns
 returns c = outlined_all c.shape_of-shape.ensures c.loop-o.invariant c.loop-o-test.false c.global_classes-globals.result

@@ -1,4 +1,3 @@
-use mathlib.Core.Logic.{⊎_elim}
 use mathlib.Core.Path.{refl}
 use Prim.Native.Nat.{◌≤◌, ◌-◌}
 use native.Mathlib.Omega.{arith}
@@ -9,6 +8,7 @@ use Rattle.classes.specs.ColumnLaws.{same-column}
 use Rattle.classes.specs.Seen.{seen, alike_seen}
 use Rattle.classes.specs.declared.LocalClass.{LocalClass}
 use Rattle.classes.proofs.local_classes.Goals as goal
+use Rattle.classes.proofs.local_classes.Goals.{then-y-x, else-y-x}
 
 pub loop-x-init : goal.loop-x-init
 loop-x-init c = (search rules, numbered_none (search rules))
@@ -25,10 +25,10 @@ loop-x-preserved c = let l = c.loop-x-test.true in
     let columns = seen c.args.t.now c.args.vertex.now c.args.free.now in
     let equivalence = same-column columns (length c.args.free.now) in (
       omega arith,
-      ⊎_elim
-          (λ w. numbered_old equivalence c.loop-x.invariant.1 (omega arith) w.0.taken c.first_equal-first.ensures w.2 w.3)
-          (λ w. numbered_new c.loop-x.invariant.1 (omega arith) w.0.left c.first_equal-first.ensures w.1 refl w.2)
-          c.if-y-x.branch,
+      elim c.if-y-x.branch [
+          then-y-x w ↦ numbered_old equivalence c.loop-x.invariant.1 (omega arith) w.if-y-x.true c.first_equal-first.ensures w.classes-is w.count-is
+        | else-y-x w ↦ numbered_new c.loop-x.invariant.1 (omega arith) w.if-y-x.false c.first_equal-first.ensures w.classes-is refl w.count-is
+      ],
     )
 
 pub returns : goal.returns

@@ -1,5 +1,4 @@
 use mathlib.Core.Path.{◌≡◌, sym, ap, ◌∙◌}
-use mathlib.Core.Logic.{⊎_elim}
 use Prim.Native.Nat.{◌+◌, ◌≤◌, ◌-◌}
 use native.Mathlib.Omega.{arith}
 use lib.ListN.{get_or}
@@ -8,6 +7,7 @@ use Rattle.comparing.specs.CodeLaws.{code_none, code_with, code_without, code_sm
 use borrow.Author.Rules.{rules}
 use Rattle.bits.specs.LogicLaws.{bit_le}
 use Rattle.comparing.proofs.code.Goals as goal
+use Rattle.comparing.proofs.code.Goals.{then-has, else-has}
 
 pub loop-i-init : goal.loop-i-init
 loop-i-init c = (omega arith, code_none c.args.t.now c.args.lutat c.args.mask c.args.x.0)
@@ -32,27 +32,27 @@ overflow_add-c c = let few = c.requires.0 in
     omega (
       arith,
       c.one.ensures,
-      bit_le (one_at a.t.now (get_or a.t2 c.loop-i.i 0 + a.x.0)),
-      code_small a.t.now a.t2 a.mask a.x.0 c.loop-i.i (omega arith),
+      bit_le (one_at a.t.now (get_or a.lutat c.loop-i.i 0 + a.x.0)),
+      code_small a.t.now a.lutat a.mask a.x.0 c.loop-i.i (omega arith),
     )
 
 pub loop-i-preserved : goal.loop-i-preserved
 loop-i-preserved c = let told = c.has.ensures in
     let turn = c.loop-i-test.true in
     let a = c.args in
-    ⊎_elim
-    (λ w. (
-      omega arith,
-      w.3
-          ∙ code_with a.t.now a.t2 a.mask a.x.0 c.loop-i.i c.loop-i.c w.2.result c.loop-i.invariant.1
-          (sym told ∙ w.0.taken) w.2.ensures,
-    ))
-    (λ w. (
-      omega arith,
-      w.1
-          ∙ code_without a.t.now a.t2 a.mask a.x.0 c.loop-i.i c.loop-i.c c.loop-i.invariant.1 (sym told ∙ w.0.left),
-    ))
-    c.if-has.branch
+    elim c.if-has.branch [
+        then-has w ↦ (
+          omega arith,
+          w.c-is
+              ∙ code_with a.t.now a.lutat a.mask a.x.0 c.loop-i.i c.loop-i.c w.one.result c.loop-i.invariant.1
+              (sym told ∙ w.if-has.true) w.one.ensures,
+        )
+      | else-has w ↦ (
+          omega arith,
+          w.c-is
+              ∙ code_without a.t.now a.lutat a.mask a.x.0 c.loop-i.i c.loop-i.c c.loop-i.invariant.1 (sym told ∙ w.if-has.false),
+        )
+    ]
 
 pub returns : goal.returns
 returns c = let e : c.loop-i.i ≡ c.args.luts = omega (arith, c.loop-i.invariant.0, c.loop-i-test.false) in

@@ -1,5 +1,4 @@
 use mathlib.Core.Path.{refl, sym, ◌∙◌}
-use mathlib.Core.Logic.{⊎_elim}
 use Prim.Native.Nat.{◌-◌, ◌≤◌}
 use native.Mathlib.Omega.{arith}
 use Rattle.limits.specs.Limits.{max_rows}
@@ -9,31 +8,28 @@ use Rattle.comparing.specs.CompareLaws.{Agreed, AgreedRows, Ended, rows_few, agr
 use Rattle.comparing.specs.CompareLaws.{ended_agreed, ended_differs, answer_differs, answer_same, some_ready}
 use borrow.Author.Rules.{rules}
 use Rattle.comparing.proofs.compare.Goals as goal
+use Rattle.comparing.proofs.compare.Goals.{Left-outputs, else-outputs-test, then-outputs-test+then-loop-r-test+then-differs}
 
 pub power-rows-requires : goal.power-rows-requires
-power-rows-requires c = omega (arith, c.requires.drawing.holds.inputs-few)
-
--- how many rows there are
-few : (c : goal.After-power-rows) → c.power.result ≤ max_rows
-few c = rows_few c.requires c.power-rows.result c.power-rows.ensures
+power-rows-requires c = omega (arith, c.requires.drawing.holds.inputs_few)
 
 pub outputs-init : goal.outputs-init
 outputs-init c = agreed_none
 
 pub offset_bounds-k-o : goal.offset_bounds-k-o
-offset_bounds-k-o c = omega (arith, c.requires.drawing.holds.outputs-few, c.outputs-test.true)
+offset_bounds-k-o c = omega (arith, c.requires.drawing.holds.outputs_few, c.outputs-test.true)
 
 pub bounds-k-o : goal.bounds-k-o
-bounds-k-o c = omega (arith, c.requires.drawing.holds.outputs-few, c.outputs-test.true)
+bounds-k-o c = omega (arith, c.requires.drawing.holds.outputs_few, c.outputs-test.true)
 
 pub bounds-reads-o : goal.bounds-reads-o
-bounds-reads-o c = omega (arith, c.requires.drawing.holds.outputs-few, c.outputs-test.true)
+bounds-reads-o c = omega (arith, c.requires.drawing.holds.outputs_few, c.outputs-test.true)
 
 pub offset_bounds-nodeat-o : goal.offset_bounds-nodeat-o
-offset_bounds-nodeat-o c = omega (arith, c.requires.drawing.holds.outputs-few, c.outputs-test.true)
+offset_bounds-nodeat-o c = omega (arith, c.requires.drawing.holds.outputs_few, c.outputs-test.true)
 
 pub bounds-nodeat-o : goal.bounds-nodeat-o
-bounds-nodeat-o c = omega (arith, c.requires.drawing.holds.outputs-few, c.outputs-test.true)
+bounds-nodeat-o c = omega (arith, c.requires.drawing.holds.outputs_few, c.outputs-test.true)
 
 pub in_rows-digits-requires : goal.in_rows-digits-requires
 in_rows-digits-requires c = some_ready c.requires c.outputs.o c.outputs-test.true
@@ -42,50 +38,42 @@ pub loop-r-init : goal.loop-r-init
 loop-r-init c = rows_none c.outputs.o
 
 pub differs-requires : goal.differs-requires
-differs-requires c = let counted = (goal.at.differs-requires c).After-power-rows in
-    omega (arith, few counted, c.loop-r-test.true)
+differs-requires c = omega (arith, rows_few c.requires c.power-rows.result c.power-rows.ensures, c.loop-r-test.true)
 
 pub overflow_add-r : goal.overflow_add-r
-overflow_add-r c = let counted = (goal.at.overflow_add-r c).After-power-rows in
-    omega (arith, few counted, c.loop-r-test.true)
+overflow_add-r c = omega (arith, rows_few c.requires c.power-rows.result c.power-rows.ensures, c.loop-r-test.true)
 
 pub loop-r-preserved : goal.loop-r-preserved
-loop-r-preserved c = let counted = (goal.at.loop-r-preserved c).After-power-rows in
-    rows_more c.outputs.o c.loop-r.r c.power-rows.result
+loop-r-preserved c = rows_more c.outputs.o c.loop-r.r c.power-rows.result
     (table_at c.args.k.tables c.outputs.o) c.in_rows-digits.result
-    c.outputs-test.true c.loop-r-test.true c.power-rows.ensures (few counted)
+    c.outputs-test.true c.loop-r-test.true c.power-rows.ensures (rows_few c.requires c.power-rows.result c.power-rows.ensures)
     refl c.in_rows-digits.ensures c.loop-r.invariant (sym c.differs.ensures ∙ c.if-differs.false)
 
 pub overflow_add-o : goal.overflow_add-o
 overflow_add-o c = let pre = c.requires in
-    omega (arith, pre.drawing.holds.outputs-few, c.outputs-test.true)
+    omega (arith, pre.drawing.holds.outputs_few, c.outputs-test.true)
 
 pub outputs-preserved : goal.outputs-preserved
 outputs-preserved c = agreed_more c.outputs.o c.loop-r.r c.power-rows.result c.outputs.invariant
     c.outputs-test.true c.power-rows.ensures c.loop-r.invariant c.loop-r-test.false
 
 -- what is known where the ways out of the loops meet
-ended : (c : goal.Left-outputs)
-    → Ended c.args.t.now
-    c.args.k
-    (places_of c.args.n)
-    c.args.shape
-    c.outputs.o
-    c.outputs-test.r
+ended : (c : Left-outputs)
+    → Ended c.args.t.now c.args.k (places_of c.args.n) c.args.shape c.outputs.o c.outputs-test.r
 ended c =
-    let counted = (goal.at.HELPER c).After-power-rows in
-    ⊎_elim
-    (λ w. rw w.1 (ended_agreed c.outputs.o c.outputs.r c.outputs.invariant w.0.left))
-    (λ w.
-    rw w.10
-    (ended_differs c.outputs.o w.4.r c.power-rows.result
-    (table_at c.args.k.tables c.outputs.o) w.3.result
-    w.0.taken w.5.taken c.power-rows.ensures (few counted)
-    refl w.3.ensures c.outputs.invariant w.4.inv (sym w.8.ensures ∙ w.9.taken)))
-    c.outputs-test.branch
+    elim c.outputs-test.branch [
+        else-outputs-test w ↦ rw w.r-is (ended_agreed c.outputs.o c.outputs.r c.outputs.invariant w.outputs-test.false)
+      | then-outputs-test+then-loop-r-test+then-differs w ↦
+          rw w.r-is
+          (ended_differs c.outputs.o w.loop-r.r c.power-rows.result
+          (table_at c.args.k.tables c.outputs.o) w.in_rows-digits.result
+          w.outputs-test.true w.loop-r-test.true c.power-rows.ensures (rows_few c.requires c.power-rows.result c.power-rows.ensures)
+          refl w.in_rows-digits.ensures c.outputs.invariant w.loop-r.invariant (sym w.differs.ensures ∙ w.if-differs.true))
+    ]
 
 pub returns-then-o-outputs : goal.returns-then-o-outputs
-returns-then-o-outputs c = answer_differs c.outputs.o c.outputs-test.r (ended (goal.at.returns-then-o-outputs c).Left-outputs) c.if-o-outputs.true
+returns-then-o-outputs c =
+    answer_differs c.outputs.o c.outputs-test.r (ended (goal.at.returns-then-o-outputs c).Left-outputs) c.if-o-outputs.true
 
 pub returns : goal.returns
 returns c = answer_same c.outputs.o c.outputs-test.r (ended (goal.at.returns c).Left-outputs) c.if-o-outputs.false

@@ -9,7 +9,7 @@ pub loop-x-init : goal.loop-x-init
 loop-x-init c = (omega arith, filled_none (search rules))
 
 pub code-c-requires : goal.code-c-requires
-code-c-requires c = (c.requires.few-luts, λ i l. code_ready c.requires c.loop-x.x c.loop-x-test.true i l)
+code-c-requires c = (c.requires.few_luts, λ i l. code_ready c.requires c.loop-x.x c.loop-x-test.true i l)
 
 pub overflow_mul-c : goal.overflow_mul-c
 overflow_mul-c c = omega (arith, (vertex_room c.requires c.loop-x.x c.code-c.result c.loop-x-test.true c.code-c.ensures).readable)
@@ -20,12 +20,12 @@ overflow_add-at c = omega (arith, (vertex_room c.requires c.loop-x.x c.code-c.re
 pub put_vertex-requires : goal.put_vertex-requires
 put_vertex-requires c = (
       c.loop-x.invariant.1.size,
-      omega (arith, c.requires.few-vertices, c.loop-x-test.true),
+      omega (arith, c.requires.few_vertices, c.loop-x-test.true),
       vertex_room c.requires c.loop-x.x c.code-c.result c.loop-x-test.true c.code-c.ensures,
     )
 
 pub overflow_add-x : goal.overflow_add-x
-overflow_add-x c = omega (arith, c.requires.few-vertices, c.loop-x-test.true)
+overflow_add-x c = omega (arith, c.requires.few_vertices, c.loop-x-test.true)
 
 pub loop-x-preserved : goal.loop-x-preserved
 loop-x-preserved c = let l = c.loop-x-test.true in

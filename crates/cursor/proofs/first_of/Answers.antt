@@ -17,16 +17,16 @@ pub returns-in-97-to-122 : goal.returns-in-97-to-122
 returns-in-97-to-122 c = first_letter _ (letter-small _ (omega arith) (omega arith))
 
 pub returns-in_default : goal.returns-in_default
-returns-in_default c = first_other _ (letter_below _ (omega arith)) (numeral_below _ (omega arith)) c.in_default-1.rest.1
+returns-in_default c = first_other _ (letter_below _ (omega arith)) (numeral_below _ (omega arith)) (omega arith)
 
 pub returns-in_default-2 : goal.returns-in_default-2
-returns-in_default-2 c = let rest = c.in_default-1.rest in
-    first_other _ (letter_below _ (omega arith)) (numeral_above _ (omega arith)) rest.1
+returns-in_default-2 c =
+    first_other _ (letter_below _ (omega arith)) (numeral_above _ (omega arith)) (omega arith)
 
 pub returns-in_default-3 : goal.returns-in_default-3
-returns-in_default-3 c = let rest = c.in_default-1.rest in
-    first_other _ (letter_amid _ (omega arith) (omega arith)) (numeral_above _ (omega arith)) rest.1
+returns-in_default-3 c =
+    first_other _ (letter_amid _ (omega arith) (omega arith)) (numeral_above _ (omega arith)) (omega arith)
 
 pub returns-in_default-4 : goal.returns-in_default-4
-returns-in_default-4 c = let rest = c.in_default-1.rest in
-    first_other _ (letter_above _ (omega arith)) (numeral_above _ (omega arith)) rest.1
+returns-in_default-4 c =
+    first_other _ (letter_above _ (omega arith)) (numeral_above _ (omega arith)) (omega arith)

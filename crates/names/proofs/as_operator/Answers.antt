@@ -1,4 +1,5 @@
 -- `as_operator`: each operator word by its number, and no other number holds one. Assumes nothing.
+use Rattle.std.proofs.Common.{arith}
 use Rattle.text.specs.Bytes.{same}
 use Rattle.names.specs.Name.{operator}
 use Rattle.names.specs.Pack.{unpack_within, name_of}
@@ -22,5 +23,4 @@ unfolding operator name_of unpack_within same
 returns-in-7499640 c = operator_of c.in-7499640.is
 
 pub returns-in_default : goal.returns-in_default
-returns-in_default c = let none = c.in_default.rest in
-    operator_none c.args.w c.ranges.w.fits none.0.0.0.1 none.0.0.1 none.0.1 none.1
+returns-in_default c = operator_none c.args.w c.ranges.w.fits (omega arith) (omega arith) (omega arith) (omega arith)

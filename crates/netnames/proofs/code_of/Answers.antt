@@ -1,5 +1,4 @@
 use mathlib.Core.Path.{sym, ap, subst, ◌∙◌}
-use mathlib.Core.Logic.{⊎_elim}
 use Prim.Native.Nat.{ℕ, ◌-◌, ◌+◌}
 use native.Mathlib.Omega.{arith}
 use borrow.Author.Rules.{rules}
@@ -7,6 +6,7 @@ use Rattle.bits.specs.Digit.{on}
 use Rattle.bits.specs.Logic.{bit}
 use Rattle.netnames.specs.NumbersLaws.{Coding, coding_none, coding_without, coding_with, coding_below, coding_all, digit_read}
 use Rattle.netnames.proofs.code_of.Goals as goal
+use Rattle.netnames.proofs.code_of.Goals.{then-has, else-has}
 
 pub loop-i-init : goal.loop-i-init
 loop-i-init c = coding_none _ _ _
@@ -20,13 +20,13 @@ overflow_add-code c = let pre = c.requires in
 
 pub loop-i-preserved : goal.loop-i-preserved
 loop-i-preserved c = let args = c.args in
-    ⊎_elim
-    (λ w. subst (λ (k : ℕ). Coding args.mask args.n args.u (c.loop-i.i + 1) k) (sym w.4)
-    (coding_with c.loop-i.invariant c.loop-i-test.true (digit_read c.loop-i.i c.has.ensures c.wide.ensures w.0.taken)
-    (w.3.ensures.0 ∙ ap bit (w.2.ensures ∙ ap (λ (k : ℕ). on k c.loop-i.i) w.1.ensures))))
-    (λ w. subst (λ (k : ℕ). Coding args.mask args.n args.u (c.loop-i.i + 1) k) (sym w.1)
-    (coding_without c.loop-i.invariant c.loop-i-test.true (digit_read c.loop-i.i c.has.ensures c.wide.ensures w.0.left)))
-    c.if-has.branch
+    elim c.if-has.branch [
+      then-has w ↦ subst (λ (k : ℕ). Coding args.mask args.n args.u (c.loop-i.i + 1) k) (sym w.code-is)
+        (coding_with c.loop-i.invariant c.loop-i-test.true (digit_read c.loop-i.i c.has.ensures c.wide.ensures w.if-has.true)
+        (w.bit_of.ensures.0 ∙ ap bit (w.has-then-has.ensures ∙ ap (λ (k : ℕ). on k c.loop-i.i) w.wide-then-has.ensures)))
+    | else-has w ↦ subst (λ (k : ℕ). Coding args.mask args.n args.u (c.loop-i.i + 1) k) (sym w.code-is)
+        (coding_without c.loop-i.invariant c.loop-i-test.true (digit_read c.loop-i.i c.has.ensures c.wide.ensures w.if-has.false))
+    ]
 
 pub returns : goal.returns
 returns c = coding_all c.loop-i.invariant c.loop-i-test.false c.requires

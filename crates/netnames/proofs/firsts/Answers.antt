@@ -10,7 +10,7 @@ pub loop-x-init : goal.loop-x-init
 loop-x-init c = filling_none _ _
 
 pub loop-x-preserved : goal.loop-x-preserved
-loop-x-preserved c = filling_more c.loop-x.invariant c.loop-x-test.true c.code_of_lem.ensures.0 c.code_of_lem.ensures.1
+loop-x-preserved c = filling_more c.loop-x.invariant c.loop-x-test.true c.code_of.ensures.0 c.code_of.ensures.1
 
 pub returns : goal.returns
 returns c = filling_all c.loop-x.invariant c.loop-x-test.false

@@ -15,10 +15,7 @@ pub pushed-r-requires : goal.pushed-r-requires
 pushed-r-requires c = omega arith
 
 pub loop-i-preserved : goal.loop-i-preserved
-loop-i-preserved c = let args = c.args in
-    let good = c.well-formed in
-    let pre = c.requires in
-    (growing_more c.loop-i.invariant.0 c.loop-i-test.true (omega (arith, pre, list_sized args.b good.1.0)) c.pushed-r.ensures.0 refl, omega arith)
+loop-i-preserved c = (growing_more c.loop-i.invariant.0 c.loop-i-test.true (omega arith) c.pushed-r.ensures.0 refl, omega arith)
 
 pub returns : goal.returns
 returns c = (growing_all c.loop-i.invariant.0 c.loop-i-test.false, omega (arith, c.loop-i.invariant.0.within))

@@ -8,9 +8,6 @@ use Rattle.netsheet.specs.Reading.{moved, PlaceFits}
 use Rattle.netsheet.specs.AskLaws.{safe_moved, network_line_lem, luts_line, node_line, count_line, end_line_lem, over_line}
 use Rattle.netsheet.proofs.ask_line.Goals as goal
 
--- LEFT slice-aggregate-equal : tie.Need-slice-aggregate-equal
--- LEFT slice-aggregate-equal c = search rules
-
 pub ask_lut-requires : goal.ask_lut-requires
 ask_lut-requires c = let pre = c.requires in
     (pre.0, pre.1.few, pre.2)
@@ -22,9 +19,6 @@ ask_node-requires c = let pre = c.requires in
 
 pub is_count-requires : goal.is_count-requires
 is_count-requires c = omega (arith, c.requires.1.few)
-
--- LEFT slice-aggregate-equal-2 : tie.Need-slice-aggregate-equal-2
--- LEFT slice-aggregate-equal-2 c = search rules
 
 pub returns-in-Network : goal.returns-in-Network
 returns-in-Network c = let a = c.args in

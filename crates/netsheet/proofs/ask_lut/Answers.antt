@@ -25,7 +25,7 @@ ask_node-requires c = let pre = c.requires in
     (pre.0, pre.1, omega arith, pre.2)
 
 pub returns-in-At : goal.returns-in-At
-returns-in-At c = let good = c.well-formed in
+returns-in-At c = let good = c.well_formed in
     let a = c.args in
     let line = rw c.in-At.is at c.lut_line-r.ensures in
     let few = lut_few (map name_of (take a.k.bounds a.k.bound)) a.s.luts a.l.now line in (

@@ -15,19 +15,19 @@ pub bounds-outs-o : goal.bounds-outs-o
 bounds-outs-o c = omega (arith, c.requires.2)
 
 pub slice_bounds-free-end : goal.slice_bounds-free-end
-slice_bounds-free-end c = let good = c.well-formed in
-    omega (arith, c.requires.0.few-free, free-sized c.args.k good.1.1.0)
+slice_bounds-free-end c = let good = c.well_formed in
+    omega (arith, c.requires.0.few_free, free-sized c.args.k good.1.1.0)
 
 pub slice_bounds-read_node-end : goal.slice_bounds-read_node-end
-slice_bounds-read_node-end c = let good = c.well-formed in
+slice_bounds-read_node-end c = let good = c.well_formed in
     let a = c.args in
-    sym (length-take-le a.k.frees a.k.free (omega (arith, c.requires.0.few-free, free-sized a.k good.1.1.0)))
+    sym (length-take-le a.k.frees a.k.free (omega (arith, c.requires.0.few_free, free-sized a.k good.1.1.0)))
 
 pub read_node-r-requires : goal.read_node-r-requires
-read_node-r-requires c = let good = c.well-formed in
+read_node-r-requires c = let good = c.well_formed in
     let a = c.args in
     let pre = c.requires in
-    let few = pre.0.few-free in
+    let few = pre.0.few_free in
     let count = length-take-le a.k.frees a.k.free (omega (arith, free-sized a.k good.1.1.0)) in
     (omega arith, pre.1)
 
@@ -41,9 +41,9 @@ with_node-requires c = c.requires.2
 pub returns-in-At : goal.returns-in-At
 returns-in-At c = let a = c.args in
     let pre = c.requires in
-    let owned = c.well-formed in
+    let owned = c.well_formed in
     let line = rw c.in-At.is at c.read_node-r.ensures in (
-      safe_node a.s c.with_node.result _ _ _ _ c.with_node.ensures pre.1 pre.0.few-outputs,
+      safe_node a.s c.with_node.result _ _ _ _ c.with_node.ensures pre.1 pre.0.few_outputs,
       λ t d w q n h here below. node_good a.l.now t a.at d w a.k a.s c.with_node.result q n h
           a.o here below line c.with_node.ensures
           (reads_sized a.s owned.1.1.1.0) (nodeat_sized a.s owned.1.1.1.0) pre.2,

@@ -14,24 +14,24 @@ returns-then-u-ge-MAX_CELLS c = let a = c.args in
     no_more_luts (map name_of (take a.k.bounds a.k.bound)) a.u a.l.now c.if-u-ge-MAX_CELLS.true
 
 pub slice_bounds-bound-end : goal.slice_bounds-bound-end
-slice_bounds-bound-end c = let good = c.well-formed in
-    omega (arith, c.requires.few-bound, bound-sized c.args.k good.1.0)
+slice_bounds-bound-end c = let good = c.well_formed in
+    omega (arith, c.requires.few_bound, bound-sized c.args.k good.1.0)
 
 pub slice_bounds-read_lut-end : goal.slice_bounds-read_lut-end
-slice_bounds-read_lut-end c = let good = c.well-formed in
+slice_bounds-read_lut-end c = let good = c.well_formed in
     let a = c.args in
-    sym (length-take-le a.k.bounds a.k.bound (omega (arith, c.requires.few-bound, bound-sized a.k good.1.0)))
+    sym (length-take-le a.k.bounds a.k.bound (omega (arith, c.requires.few_bound, bound-sized a.k good.1.0)))
 
 pub read_lut-requires : goal.read_lut-requires
-read_lut-requires c = let good = c.well-formed in
+read_lut-requires c = let good = c.well_formed in
     let a = c.args in
-    let few = c.requires.few-bound in
+    let few = c.requires.few_bound in
     let count = length-take-le a.k.bounds a.k.bound (omega (arith, bound-sized a.k good.1.0)) in
     (omega arith, omega (arith, c.if-u-ge-MAX_CELLS.false))
 
 pub returns : goal.returns
-returns c = let good = c.well-formed in
+returns c = let good = c.well_formed in
     let a = c.args in
-    let few = c.requires.few-bound in
+    let few = c.requires.few_bound in
     let count = length-take-le a.k.bounds a.k.bound (omega (arith, bound-sized a.k good.1.0)) in
     one_more_lut (map name_of (take a.k.bounds a.k.bound)) a.u a.l.now c.read_lut.result _ _ c.if-u-ge-MAX_CELLS.false count c.read_lut.ensures

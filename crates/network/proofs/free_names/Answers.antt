@@ -12,17 +12,18 @@ use Rattle.network.specs.FreeNameLaws.{Freeing, freeing_none, freeing_bound, fre
 use Rattle.network.specs.Shown.{shown}
 use Rattle.network.proofs.Arrays.{list_sized}
 use Rattle.network.proofs.free_names.Goals as goal
+use Rattle.network.proofs.free_names.Goals.{in-At, in-Nowhere}
 
 pub loop-i-init : goal.loop-i-init
 loop-i-init c = freeing_none _ _ _ c.no_names-r.ensures.0 c.no_names-r.ensures.1
 
 pub slice_bounds-list-end : goal.slice_bounds-list-end
-slice_bounds-list-end c = let good = c.well-formed in
+slice_bounds-list-end c = let good = c.well_formed in
     omega (arith, c.requires.1, list_sized c.args.bs good.1.1.0)
 
 pub slice_bounds-find-end : goal.slice_bounds-find-end
 slice_bounds-find-end c = let args = c.args in
-    let good = c.well-formed in
+    let good = c.well_formed in
     let pre = c.requires in
     sym (length-take-le args.bs.count args.bs.list (omega (arith, pre.1, list_sized args.bs good.1.1.0)))
 
@@ -32,13 +33,12 @@ pushed-r-requires c = omega (arith, c.loop-i.invariant.few, c.requires.0)
 pub loop-i-preserved : goal.loop-i-preserved
 loop-i-preserved c = let args = c.args in
     let pre = c.requires in
-    let few : args.n ≤ length args.t1 = omega (arith, pre.0) in
+    let few : args.n ≤ length args.names = omega (arith, pre.0) in
     let vs = take args.bs.count args.bs.list in
-    ⊎_elim
-    (λ w. subst (λ (q : Names). Freeing args.t1 (map name_of vs) args.n (c.loop-i.i + 1) q.count (shown q)) (sym w.2)
-    (freeing_bound vs c.loop-i.invariant c.loop-i-test.true few c.find-p.ensures w.1.given.1))
-    (λ w. freeing_free vs c.loop-i.invariant c.loop-i-test.true few c.find-p.ensures w.1.given.1 (ap shown w.3 ∙ w.2.ensures.0) (ap (λ (q : Names). q.count) w.3 ∙ w.2.ensures.1))
-    c.match-p.branch
+    elim c.match-p.branch [
+        in-At w ↦ rw w.r-is (freeing_bound vs c.loop-i.invariant c.loop-i-test.true few c.find-p.ensures w.in-At.is)
+      | in-Nowhere w ↦ rw w.r-is (freeing_free vs c.loop-i.invariant c.loop-i-test.true few c.find-p.ensures w.in-Nowhere.is w.pushed-r.ensures.0 w.pushed-r.ensures.1)
+    ]
 
 pub returns : goal.returns
 returns c = freeing_all c.loop-i.invariant c.loop-i-test.false

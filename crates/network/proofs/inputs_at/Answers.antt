@@ -11,9 +11,6 @@ returns-in_default c = let a = c.args in
     let items = rw c.in_default.is at c.names_at-m.ensures in
     inputs_no_names a.first (map name_of a.ns.now) (drop a.c.at a.s.now) items
 
--- LEFT slice-aggregate-text : tie.Need-slice-aggregate-text
--- LEFT slice-aggregate-text c = search rules
-
 pub text-requires : goal.text-requires
 text-requires c = let items = rw c.in-To.is at c.names_at-m.ensures in
     items.inside

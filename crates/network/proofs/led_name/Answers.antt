@@ -11,9 +11,6 @@ use Rattle.network.proofs.led_name.Goals as goal
 pub returns-then-first : goal.returns-then-first
 returns-then-first c = rw c.if-first.true c.name_at.ensures
 
--- LEFT slice-aggregate-text : tie.Need-slice-aggregate-text
--- LEFT slice-aggregate-text c = search rules
-
 pub returns-in_default : goal.returns-in_default
 returns-in_default c = let a = c.args in
     let gap = rw c.in_default.is at c.text-m.ensures in

@@ -6,9 +6,6 @@ use Rattle.names.specs.Pack.{name_of}
 use Rattle.network.specs.HeadLaws.{lut_no_word, lut_no_number, lut-no-list, lut_list}
 use Rattle.network.proofs.lut_head.Goals as goal
 
--- LEFT slice-aggregate-text : tie.Need-slice-aggregate-text
--- LEFT slice-aggregate-text c = search rules
-
 pub text-m-requires : goal.text-m-requires
 text-m-requires c = omega (arith, c.start.ensures)
 
@@ -26,9 +23,6 @@ returns-in_default-m c = let a = c.args in
     let word = rw (c.in-To.is, c.start.ensures) at c.text-m.ensures in
     let number = rw c.in_default-m.is at c.lut_at-m.ensures in
     lut_no_number a.l.now (map name_of a.bs.now) a.i word number
-
--- LEFT slice-aggregate-text-2 : tie.Need-slice-aggregate-text-2
--- LEFT slice-aggregate-text-2 c = search rules
 
 pub text-m-requires-2 : goal.text-m-requires-2
 text-m-requires-2 c = let number = rw c.in-To-m.is at c.lut_at-m.ensures in

@@ -5,9 +5,6 @@ use Rattle.names.specs.Pack.{name_of}
 use Rattle.network.specs.HeadLaws.{node_no_word, node_no_name, node_list}
 use Rattle.network.proofs.node_head.Goals as goal
 
--- LEFT slice-aggregate-text : tie.Need-slice-aggregate-text
--- LEFT slice-aggregate-text c = search rules
-
 pub text-m-requires : goal.text-m-requires
 text-m-requires c = omega (arith, c.start.ensures)
 
@@ -25,9 +22,6 @@ returns-in_default-m c = let a = c.args in
     let word = rw (c.in-To.is, c.start.ensures) at c.text-m.ensures in
     let name = rw c.in_default-m.is at c.name_at-m.ensures in
     node_no_name a.l.now (name_of a.name) word name
-
--- LEFT slice-aggregate-text-2 : tie.Need-slice-aggregate-text-2
--- LEFT slice-aggregate-text-2 c = search rules
 
 pub text-requires : goal.text-requires
 text-requires c = let name = rw c.in-To-m.is at c.name_at-m.ensures in

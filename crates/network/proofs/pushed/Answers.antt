@@ -7,4 +7,4 @@ use Rattle.network.proofs.Arrays.{list_sized}
 use Rattle.network.proofs.pushed.Goals as goal
 
 pub returns : goal.returns
-returns c = (named_more c.args.ns.list c.args.ns.count c.args.v (omega (arith, c.requires, list_sized c.args.ns c.well-formed.0)), refl)
+returns c = (named_more c.args.ns.list c.args.ns.count c.args.v (omega (arith, c.requires, list_sized c.args.ns c.well_formed.0)), refl)

@@ -5,6 +5,7 @@ use borrow.Author.Rules.{rules}
 use Rattle.network.specs.NumbersLaws.{shifted_byte, mask_fits}
 use Rattle.network.specs.GatherLaws.{Gathered, gathered_none, gathered_with, gathered-without, gathered_all}
 use Rattle.network.proofs.reads_at.Goals as goal
+use Rattle.network.proofs.reads_at.Goals.{in-To, in-Bad}
 
 pub loop-i-init : goal.loop-i-init
 loop-i-init c = let a = c.args in
@@ -33,14 +34,14 @@ loop-i-smaller c = omega arith
 pub loop-i-preserved : goal.loop-i-preserved
 loop-i-preserved c = let below = c.requires.1 in
     let turn = c.loop-i-test.true in
-    ⊎_elim
-    (λ w.
-    let there = rw w.1.given.1 at c.lut_at-m.ensures in
-    rw (w.3, w.4, w.5, shifted_byte c.loop-i.i (omega arith)) (gathered_with c.loop-i.invariant turn there))
-    (λ w.
-    let missing = rw w.1.given.1 at c.lut_at-m.ensures in
-    rw (w.2, w.3, w.4) (gathered-without c.loop-i.invariant turn missing))
-    c.match-m.branch
+    elim c.match-m.branch [
+        in-To w ↦
+          let there = rw w.in-To.is at c.lut_at-m.ensures in
+          rw (w.next-is, w.mask-is, w.count-is, shifted_byte c.loop-i.i (omega arith)) (gathered_with c.loop-i.invariant turn there)
+      | in-Bad w ↦
+          let missing = rw w.in-Bad.is at c.lut_at-m.ensures in
+          rw (w.next-is, w.mask-is, w.count-is) (gathered-without c.loop-i.invariant turn missing)
+    ]
 
 pub returns : goal.returns
 returns c = gathered_all c.loop-i.invariant c.loop-i-test.false

@@ -1,6 +1,4 @@
-use Rattle.numbering.specs.Number.{Finished}
 use native.Mathlib.Omega.{arith}
-use Prim.Native.Nat.{◌≤◌, ◌-◌}
 use borrow.Author.Rules.{rules}
 use Rattle.numbering.specs.NumberLaws.{written-whole, written_large, finished_start, finished_more, finished_all, finished_fixed, crowded}
 use Rattle.numbering.proofs.finish.Goals as goal

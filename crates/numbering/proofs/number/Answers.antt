@@ -1,12 +1,10 @@
-use Rattle.numbering.specs.Number.{key, Passed}
-use Rattle.problem.specs.Problem.{label_at, part_of}
 use native.Mathlib.Omega.{arith}
-use Prim.Native.Nat.{ℕ, ◌≤◌, ◌-◌}
-use mathlib.Core.Logic.{⊎_elim}
-use mathlib.Core.Path.{◌≡◌, refl, sym, ap, ◌∙◌}
+use Prim.Native.Nat.{ℕ}
+use mathlib.Core.Path.{refl, sym, ap, ◌∙◌}
 use borrow.Author.Rules.{rules}
 use Rattle.numbering.specs.NumberLaws.{both_same, passed_start, number_old, at_miss, at_low, at_high, number_new}
 use Rattle.numbering.proofs.number.Goals as goal
+use Rattle.numbering.proofs.number.Goals.{then-together+else-l-class+then-next-n, then-together+else-l-class+else-next-n, else-together}
 
 pub label-class-requires : goal.label-class-requires
 label-class-requires c = let z = c.requires.0.long in (omega arith, c.requires.1, c.requires.2)
@@ -15,7 +13,7 @@ pub part-own-requires : goal.part-own-requires
 part-own-requires c = (c.requires.0, c.requires.1, c.requires.2)
 
 pub loop-y-init : goal.loop-y-init
-loop-y-init c = let a = c.args in (omega arith, refl, c.label-class.ensures, passed_start a.cl.now a.t4 a.o a.mask a.x a.t5, c.part-own.ensures.0)
+loop-y-init c = let a = c.args in (omega arith, refl, c.label-class.ensures, passed_start a.cl.now a.codes a.o a.mask a.x a.nums, c.part-own.ensures.0)
 
 pub bounds-codes-y : goal.bounds-codes-y
 bounds-codes-y c = let z = c.requires.2 in search rules
@@ -37,7 +35,7 @@ pub returns-then-l-class : goal.returns-then-l-class
 returns-then-l-class c = let args = c.args in
     let pre = c.requires in
     let t = c.together.ensures.0 c.if-together.true in
-    number_old args.cl.now args.t4 args.o args.mask args.x args.t5 c.loop-y.y c.loop-y-test.true (both_same (t.0 ∙ c.loop-y.invariant.4) (t.1 ∙ c.loop-y.invariant.1))
+    number_old args.cl.now args.codes args.o args.mask args.x args.nums c.loop-y.y c.loop-y-test.true (both_same (t.0 ∙ c.loop-y.invariant.4) (t.1 ∙ c.loop-y.invariant.1))
     (sym c.label-l.ensures ∙ c.if-l-class.true ∙ c.loop-y.invariant.2) pre.3
 
 pub overflow_add-next : goal.overflow_add-next
@@ -55,14 +53,21 @@ loop-y-preserved c = let args = c.args in
       omega arith,
       c.loop-y.invariant.1,
       c.loop-y.invariant.2,
-      ⊎_elim (λ w. let k = t.0 w.0.taken in at_high args.cl.now args.t4 args.o args.mask args.x args.t5 c.loop-y.y c.loop-y.next _
-          w.1.result c.label-class.result h (both_same (k.0 ∙ c.loop-y.invariant.4) (k.1 ∙ c.loop-y.invariant.1)) w.1.ensures c.loop-y.invariant.2 w.2.left w.3.taken w.4 pre.3 c.loop-y.invariant.3)
-          (⊎_elim (λ w. at_low args.cl.now args.t4 args.o args.mask args.x args.t5 c.loop-y.y c.loop-y.next _ w.1.result c.label-class.result w.1.ensures c.loop-y.invariant.2
-          w.2.left w.3.left w.4 c.loop-y.invariant.3) (λ w. at_miss args.cl.now args.t4 args.o args.mask args.x args.t5 c.loop-y.y c.loop-y.next _
-          (λ e. t.1 w.0.left (ap (λ (k : ℕ × ℕ). k.0) e ∙ sym c.loop-y.invariant.4) (ap (λ (k : ℕ × ℕ). k.1) e ∙ sym c.loop-y.invariant.1)) w.1 c.loop-y.invariant.3)) c.if-together.branch,
+      elim c.if-together.branch [
+        | then-together+else-l-class+then-next-n w ↦ let k = t.0 w.if-together.true in
+            at_high args.cl.now args.codes args.o args.mask args.x args.nums c.loop-y.y c.loop-y.next _
+            w.label-l.result c.label-class.result h (both_same (k.0 ∙ c.loop-y.invariant.4) (k.1 ∙ c.loop-y.invariant.1))
+            w.label-l.ensures c.loop-y.invariant.2 w.if-l-class.false w.if-next-n.true w.next-is pre.3 c.loop-y.invariant.3
+        | then-together+else-l-class+else-next-n w ↦ at_low args.cl.now args.codes args.o args.mask args.x args.nums c.loop-y.y c.loop-y.next _
+            w.label-l.result c.label-class.result w.label-l.ensures c.loop-y.invariant.2
+            w.if-l-class.false w.if-next-n.false w.next-is c.loop-y.invariant.3
+        | else-together w ↦ at_miss args.cl.now args.codes args.o args.mask args.x args.nums c.loop-y.y c.loop-y.next _
+            (λ e. t.1 w.if-together.false (ap (λ (k : ℕ × ℕ). k.0) e ∙ sym c.loop-y.invariant.4) (ap (λ (k : ℕ × ℕ). k.1) e ∙ sym c.loop-y.invariant.1))
+            w.next-is c.loop-y.invariant.3
+      ],
       c.loop-y.invariant.4,
     )
 
 pub returns : goal.returns
 returns c = let args = c.args in
-    number_new args.cl.now args.t4 args.o args.mask args.x args.t5 c.loop-y.y c.loop-y.next c.loop-y-test.false c.loop-y.invariant.0 c.loop-y.invariant.3
+    number_new args.cl.now args.codes args.o args.mask args.x args.nums c.loop-y.y c.loop-y.next c.loop-y-test.false c.loop-y.invariant.0 c.loop-y.invariant.3

@@ -1,11 +1,7 @@
 use Rattle.numbering.specs.Number.{key, Passed}
 use Rattle.problem.specs.Problem.{label_at, part_of}
-use native.Mathlib.Omega.{arith}
-use Prim.Native.Nat.{ℕ, ◌≤◌, ◌-◌}
-use mathlib.Core.Logic.{⊎_elim}
-use mathlib.Core.Path.{◌≡◌, refl, sym, ap, ◌∙◌}
-use borrow.Author.Rules.{rules}
-use Rattle.numbering.specs.NumberLaws.{both_same, passed_start, number_old, at_miss, at_low, at_high, number_new}
+use Prim.Native.Nat.{◌≤◌, ◌-◌}
+use mathlib.Core.Path.{◌≡◌}
 use Rattle.numbering.proofs.number.Given as goal
 
 abbrev pub invariant-loop-y : goal.invariant-loop-y

@@ -1,6 +1,6 @@
 use Rattle.numbering.specs.Number.{Numbered}
 use native.Mathlib.Omega.{arith}
-use Prim.Native.Nat.{ℕ, ◌≤◌, ◌-◌}
+use Prim.Native.Nat.{ℕ}
 use mathlib.Core.Path.{◌≡◌, refl, subst}
 use borrow.Author.Rules.{rules}
 use Rattle.numbering.specs.NumberLaws.{numbered_more, numbered-start}

@@ -1,9 +1,5 @@
 use Rattle.numbering.specs.Number.{Numbered}
-use native.Mathlib.Omega.{arith}
-use Prim.Native.Nat.{ℕ, ◌≤◌, ◌-◌}
-use mathlib.Core.Path.{◌≡◌, refl, subst}
-use borrow.Author.Rules.{rules}
-use Rattle.numbering.specs.NumberLaws.{numbered_more, numbered-start}
+use Prim.Native.Nat.{◌≤◌, ◌-◌}
 use Rattle.numbering.proofs.numbers.Given as goal
 
 abbrev pub invariant-loop-x : goal.invariant-loop-x

@@ -1,11 +1,8 @@
-use Rattle.numbering.specs.Number.{Spreading}
 use native.Mathlib.Omega.{arith}
-use Prim.Native.Nat.{◌≤◌, ◌-◌}
-use mathlib.Core.Logic.{⊎_elim}
 use mathlib.Core.Path.{sym, ◌∙◌}
-use borrow.Author.Rules.{rules}
 use Rattle.numbering.specs.NumberLaws.{spread_low, spreading_start, spreading_skip, spreading_one, spreading_zero, spreading_end}
 use Rattle.numbering.proofs.spread.Goals as goal
+use Rattle.numbering.proofs.spread.Goals.{then-in_set, then-in_set-2, else-in_set-2, else-in_set}
 
 pub loop-i-init : goal.loop-i-init
 loop-i-init c = (omega arith, spreading_start c.args.n c.args.p)
@@ -20,14 +17,15 @@ pub loop-i-preserved : goal.loop-i-preserved
 loop-i-preserved c = let args = c.args in
     let h = c.loop-i-test.true in (
       omega arith,
-      ⊎_elim
-          (λ w. ⊎_elim
-          (λ z. spreading_one args.n args.p c.loop-i.i c.loop-i.r c.loop-i.k _ _ _ (sym w.0.taken ∙ c.in_set.ensures) (sym z.0.taken ∙ w.1.ensures) z.1.ensures (w.3 ∙ z.2)
-          w.4 c.loop-i.invariant.1)
-          (λ z. spreading_zero args.n args.p c.loop-i.i c.loop-i.r c.loop-i.k _ _ (sym w.0.taken ∙ c.in_set.ensures) (sym z.0.left ∙ w.1.ensures) (w.3 ∙ z.1) w.4 c.loop-i.invariant.1)
-          w.2.came)
-          (λ w. spreading_skip args.n args.p c.loop-i.i c.loop-i.r c.loop-i.k _ _ (sym w.0.left ∙ c.in_set.ensures) w.1 w.2 c.loop-i.invariant.1)
-          c.if-in_set.branch,
+      elim c.if-in_set.branch [
+        | then-in_set w ↦ elim w.if-in_set-2.branch [
+          | then-in_set-2 z ↦ spreading_one args.n args.p c.loop-i.i c.loop-i.r c.loop-i.k _ _ _ (sym w.if-in_set.true ∙ c.in_set.ensures)
+              (sym z.if-in_set-2.true ∙ w.in_set-then-in_set.ensures) z.with-r.ensures (w.r-is ∙ z.r-is) w.k-is c.loop-i.invariant.1
+          | else-in_set-2 z ↦ spreading_zero args.n args.p c.loop-i.i c.loop-i.r c.loop-i.k _ _ (sym w.if-in_set.true ∙ c.in_set.ensures)
+              (sym z.if-in_set-2.false ∙ w.in_set-then-in_set.ensures) (w.r-is ∙ z.r-is) w.k-is c.loop-i.invariant.1
+        ]
+        | else-in_set w ↦ spreading_skip args.n args.p c.loop-i.i c.loop-i.r c.loop-i.k _ _ (sym w.if-in_set.false ∙ c.in_set.ensures) w.r-is w.k-is c.loop-i.invariant.1
+      ],
     )
 
 pub overflow_cast-result : goal.overflow_cast-result

@@ -1,7 +1,6 @@
 use mathlib.Core.Path.{sym, ◌∙◌}
 use borrow.Author.Tests.{eqb-true, eqb-false}
 use Rattle.bits.specs.LogicLaws.{true_false}
-use borrow.Author.Rules.{rules}
 use Rattle.numbering.proofs.together.Goals as goal
 
 pub returns-then-own-b : goal.returns-then-own-b

@@ -1,6 +1,6 @@
 use Rattle.numbering.specs.Number.{Wrote}
 use native.Mathlib.Omega.{arith}
-use Prim.Native.Nat.{ℕ, ◌≤◌, ◌-◌}
+use Prim.Native.Nat.{ℕ}
 use mathlib.Core.Path.{◌≡◌, subst}
 use borrow.Author.Rules.{rules}
 use Rattle.numbering.specs.NumberLaws.{wrote-start, wrote_more}
@@ -21,10 +21,9 @@ bounds-r-x-in-loop-x c = let h = c.loop-x-test.true in let z = c.requires in sea
 pub loop-x-preserved : goal.loop-x-preserved
 loop-x-preserved c = let a = c.args in
     let h = c.loop-x-test.true in
-    let few = c.requires in
-    (
+    let few = c.requires in (
       omega arith,
-      wrote_more a.t1 a.p a.cap c.loop-x.x a.codes c.loop-x.r c.spread.result (omega arith) c.ranges.p.fits c.if-cap-n.false c.spread.ensures c.loop-x.invariant.1,
+      wrote_more a.nums a.p a.cap c.loop-x.x a.codes c.loop-x.r c.spread.result (omega arith) c.ranges.p.fits c.if-cap-n.false c.spread.ensures c.loop-x.invariant.1,
     )
 
 pub returns : goal.returns
@@ -32,4 +31,4 @@ returns c = let a = c.args in
     let left = c.loop-x-test.false in
     let upto = c.loop-x.invariant.0 in
     let e : c.loop-x.x ≡ a.v = omega arith in
-    subst (λ (n : ℕ). Wrote a.t1 a.p a.cap n a.codes c.loop-x.r) e c.loop-x.invariant.1
+    subst (λ (n : ℕ). Wrote a.nums a.p a.cap n a.codes c.loop-x.r) e c.loop-x.invariant.1

@@ -1,9 +1,5 @@
 use Rattle.numbering.specs.Number.{Wrote}
-use native.Mathlib.Omega.{arith}
-use Prim.Native.Nat.{ℕ, ◌≤◌, ◌-◌}
-use mathlib.Core.Path.{◌≡◌, subst}
-use borrow.Author.Rules.{rules}
-use Rattle.numbering.specs.NumberLaws.{wrote-start, wrote_more}
+use Prim.Native.Nat.{◌≤◌, ◌-◌}
 use Rattle.numbering.proofs.write.Given as goal
 
 abbrev pub invariant-loop-x : goal.invariant-loop-x

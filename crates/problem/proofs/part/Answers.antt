@@ -2,7 +2,6 @@ use native.Mathlib.Omega.{arith}
 use Prim.Native.Nat.{◌+◌, ◌*◌}
 use mathlib.Core.Path.{ap, ◌∙◌}
 use Rattle.problem.specs.Problem.{part_at}
-use borrow.Author.Rules.{rules}
 use Rattle.problem.proofs.part.Goals as goal
 
 pub label-l-requires : goal.label-l-requires

@@ -1,6 +1,6 @@
 use native.Mathlib.Omega.{arith}
-use Prim.Native.Nat.{ℕ, ◌≤◌, ◌-◌, ◌*◌, ◌/◌}
-use mathlib.Core.Path.{◌≡◌, refl, subst}
+use Prim.Native.Nat.{ℕ, ◌*◌, ◌/◌}
+use mathlib.Core.Path.{refl, subst}
 use Rattle.limits.specs.Limits.{max_vertices, label_count}
 use Rattle.bits.specs.FilledLaws.{filled_none}
 use Rattle.relation.specs.RefiningLaws.{copied_more}

@@ -1,12 +1,7 @@
-use native.Mathlib.Omega.{arith}
-use Prim.Native.Nat.{ℕ, ◌≤◌, ◌-◌, ◌*◌, ◌/◌}
-use mathlib.Core.Path.{◌≡◌, refl, subst}
-use Rattle.limits.specs.Limits.{max_vertices, label_count}
-use Rattle.bits.specs.FilledLaws.{filled_none}
-use Rattle.relation.specs.RefiningLaws.{copied_more}
-use Rattle.cells.specs.ListLaws.{zeros_are}
+use Prim.Native.Nat.{◌≤◌, ◌-◌, ◌*◌}
+use mathlib.Core.Path.{◌≡◌}
+use Rattle.limits.specs.Limits.{max_vertices}
 use Rattle.relation.specs.Refining.{Copied}
-use borrow.Author.Rules.{rules}
 use Rattle.relation.proofs.copied.Given as goal
 
 abbrev pub invariant-loop-k : goal.invariant-loop-k

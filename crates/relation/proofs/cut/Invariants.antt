@@ -1,11 +1,5 @@
-use native.Mathlib.Omega.{arith}
-use Prim.Native.Nat.{ℕ, ◌+◌, ◌≤◌, ◌-◌}
-use mathlib.Core.List.{List}
-use mathlib.Core.Logic.{⊎_elim}
-use mathlib.Core.Path.{sym, subst}
+use Prim.Native.Nat.{◌≤◌, ◌-◌}
 use Rattle.relation.specs.Refining.{Cutting}
-use borrow.Author.Rules.{rules}
-use Rattle.relation.specs.RefiningLaws.{cutting_start, cutting_none, cutting_more, cutting_leaves}
 use Rattle.relation.proofs.cut.Given as goal
 
 abbrev pub invariant-loop-i : goal.invariant-loop-i

@@ -1,6 +1,5 @@
 use native.Mathlib.Omega.{arith}
-use Prim.Native.Nat.{ℕ, ◌<◌, ◌≤◌, ◌-◌}
-use mathlib.Core.Path.{◌≡◌, refl, sym, ap, ◌∙◌}
+use mathlib.Core.Path.{refl, sym, ap, ◌∙◌}
 use mathlib.Core.Logic.{⊎_elim}
 use Rattle.problem.specs.Problem.{item}
 use borrow.Author.Rules.{rules}
@@ -24,7 +23,7 @@ loop-y-preserved c = let a = c.args in
     let h = c.loop-y-test.true in (
       omega arith,
       c.loop-y.invariant.1,
-      λ z k e. ⊎_elim (λ b. c.loop-y.invariant.2 z b e) (λ q. c.if-keys-y.false (ap (item a.t1) (sym q) ∙ e ∙ sym c.loop-y.invariant.1)) (less_or_equal z c.loop-y.y (omega arith)),
+      λ z k e. ⊎_elim (λ b. c.loop-y.invariant.2 z b e) (λ q. c.if-keys-y.false (ap (item a.keys) (sym q) ∙ e ∙ sym c.loop-y.invariant.1)) (less_or_equal z c.loop-y.y (omega arith)),
     )
 
 pub returns : goal.returns

@@ -1,10 +1,6 @@
-use native.Mathlib.Omega.{arith}
 use Prim.Native.Nat.{ℕ, ◌<◌, ◌≤◌, ◌-◌}
-use mathlib.Core.Path.{◌≡◌, refl, sym, ap, ◌∙◌}
-use mathlib.Core.Logic.{⊎_elim}
+use mathlib.Core.Path.{◌≡◌}
 use Rattle.problem.specs.Problem.{item}
-use borrow.Author.Rules.{rules}
-use Rattle.bits.specs.CountLaws.{less_or_equal}
 use Rattle.relation.proofs.first.Given as goal
 
 abbrev pub invariant-loop-y : goal.invariant-loop-y

@@ -1,11 +1,5 @@
-use native.Mathlib.Omega.{arith}
 use Prim.Native.Nat.{◌≤◌, ◌-◌}
-use mathlib.Core.Path.{sym, subst}
-use Rattle.bits.specs.LogicLaws.{true_false}
 use Rattle.relation.specs.Relation.{Inside}
-use Rattle.relation.specs.RelationLaws.{inside_start, inside_more}
-use borrow.Author.Tests.{not-false}
-use borrow.Author.Rules.{rules}
 use Rattle.relation.proofs.inside.Given as goal
 
 abbrev pub invariant-loop-x : goal.invariant-loop-x

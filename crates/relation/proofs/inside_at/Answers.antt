@@ -1,14 +1,13 @@
 use native.Mathlib.Omega.{arith}
-use Prim.Native.Nat.{ℕ, ◌<◌, ◌≤◌, ◌-◌}
-use mathlib.Core.Path.{◌≡◌, sym, ◌∙◌, subst}
+use Prim.Native.Nat.{ℕ}
+use mathlib.Core.Path.{sym, ◌∙◌, subst}
 use mathlib.Core.Logic.{⊎_elim}
 use Rattle.bits.specs.LogicLaws.{true_false}
 use Rattle.bits.specs.CountLaws.{less_or_equal}
-use Rattle.problem.specs.Problem.{label_at}
 use Rattle.relation.specs.Relation.{Conflict}
 use Rattle.relation.specs.RelationLaws.{different_conflict, equal_no_conflict}
-use borrow.Author.Rules.{rules}
 use Rattle.relation.proofs.inside_at.Goals as goal
+use Rattle.relation.proofs.inside_at.Goals.{then-label-b+else-label-a, else-label-b}
 
 pub label-a-requires : goal.label-a-requires
 label-a-requires c = let p = c.requires in let w = p.0.long in (omega arith, p.1, p.3)
@@ -43,10 +42,10 @@ loop-y-preserved c = let a = c.args in
     let h = c.loop-y-test.true in
     let e = c.label.ensures in
     let T : ℕ → Type 0 = λ z. Conflict cl a.o a.x z → Conflict cl a.q a.x z in
-    let here : T c.loop-y.y = ⊎_elim
-    (λ w k. absurd (equal_no_conflict cl a.o a.x c.loop-y.y (sym i.1 ∙ sym w.2.left ∙ w.1.ensures) k))
-    (λ w k. different_conflict cl a.q a.x c.loop-y.y (λ d. w.left (e ∙ sym d ∙ sym i.2)))
-    c.if-label-b.branch in (
+    let here : T c.loop-y.y = elim c.if-label-b.branch [
+      | then-label-b+else-label-a w ↦ λ k. absurd (equal_no_conflict cl a.o a.x c.loop-y.y (sym i.1 ∙ sym w.if-label-a.false ∙ w.label-then-label-b.ensures) k)
+      | else-label-b w ↦ λ k. different_conflict cl a.q a.x c.loop-y.y (λ d. w.if-label-b.false (e ∙ sym d ∙ sym i.2))
+    ] in (
       omega arith,
       i.1,
       i.2,

@@ -1,11 +1,9 @@
 use native.Mathlib.Omega.{arith}
-use Prim.Native.Nat.{◌≤◌, ◌-◌}
 use mathlib.Core.Path.{sym, subst}
 use Rattle.bits.specs.LogicLaws.{true_false}
 use Rattle.relation.specs.Relation.{NoneLeft}
 use Rattle.relation.specs.RelationLaws.{none_left_start, none_left_more}
 use borrow.Author.Tests.{not-false, not-true}
-use borrow.Author.Rules.{rules}
 use Rattle.relation.proofs.none_left.Goals as goal
 
 pub loop-x-init : goal.loop-x-init
@@ -16,9 +14,9 @@ told-requires c = let q = c.requires in let z = q.3 in let h = c.loop-x-test.tru
 
 pub returns-then-not-told : goal.returns-then-not-told
 returns-then-not-told c = let h = c.loop-x-test.true in (
-      λ e. absurd (true_false (sym e)),
-      λ e s. c.told.ensures.1 (not-true _ c.if-not-told.true-raw) (λ y k. s.none c.loop-x.x y h (omega arith)),
-    )
+  λ e. absurd (true_false (sym e)),
+  λ e s. c.told.ensures.1 (not-true _ c.if-not-told.true-raw) (λ y k. s.none c.loop-x.x y h (omega arith)),
+)
 
 pub loop-x-preserved : goal.loop-x-preserved
 loop-x-preserved c = let a = c.args in

@@ -1,11 +1,11 @@
 use native.Mathlib.Omega.{arith}
-use Prim.Native.Nat.{ℕ, ◌<◌, ◌≤◌, ◌-◌}
-use mathlib.Core.Logic.{⊎_elim}
+use Prim.Native.Nat.{ℕ, ◌<◌}
 use mathlib.Core.Path.{refl, subst}
-use Rattle.relation.specs.Refining.{Numbers, Numbering}
+use Rattle.relation.specs.Refining.{Numbers}
 use borrow.Author.Rules.{rules}
 use Rattle.relation.specs.RefiningLaws.{numbering_start, numbering_old, numbering_new}
 use Rattle.relation.proofs.numbers.Goals as goal
+use Rattle.relation.proofs.numbers.Goals.{then-y-x, else-y-x}
 
 pub loop-x-init : goal.loop-x-init
 loop-x-init c = (omega arith, numbering_start c.args.keys _ refl)
@@ -31,10 +31,10 @@ loop-x-preserved c = let h = c.loop-x-test.true in
     let b : c.loop-x.x < 32 = omega arith in
     let f = c.first-y.ensures in (
       omega arith,
-      ⊎_elim
-          (λ w. numbering_old c.args.keys c.loop-x.x c.loop-x.next c.loop-x.r b c.loop-x.invariant.1 c.first-y.result _ _ f w.0.taken w.2 w.1)
-          (λ w. numbering_new c.args.keys c.loop-x.x c.loop-x.next c.loop-x.r b c.loop-x.invariant.1 c.first-y.result _ _ f w.0.left w.2 w.1)
-          c.if-y-x.branch,
+      elim c.if-y-x.branch [
+        | then-y-x w ↦ numbering_old c.args.keys c.loop-x.x c.loop-x.next c.loop-x.r b c.loop-x.invariant.1 c.first-y.result _ _ f w.if-y-x.true w.k-is w.next-is
+        | else-y-x w ↦ numbering_new c.args.keys c.loop-x.x c.loop-x.next c.loop-x.r b c.loop-x.invariant.1 c.first-y.result _ _ f w.if-y-x.false w.k-is w.next-is
+      ],
     )
 
 pub returns : goal.returns

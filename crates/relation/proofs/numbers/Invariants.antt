@@ -1,10 +1,5 @@
-use native.Mathlib.Omega.{arith}
-use Prim.Native.Nat.{ℕ, ◌<◌, ◌≤◌, ◌-◌}
-use mathlib.Core.Logic.{⊎_elim}
-use mathlib.Core.Path.{refl, subst}
-use Rattle.relation.specs.Refining.{Numbers, Numbering}
-use borrow.Author.Rules.{rules}
-use Rattle.relation.specs.RefiningLaws.{numbering_start, numbering_old, numbering_new}
+use Prim.Native.Nat.{◌≤◌, ◌-◌}
+use Rattle.relation.specs.Refining.{Numbering}
 use Rattle.relation.proofs.numbers.Given as goal
 
 abbrev pub invariant-loop-x : goal.invariant-loop-x

@@ -1,10 +1,9 @@
 use native.Mathlib.Omega.{arith}
-use Prim.Native.Nat.{ℕ, ◌+◌, ◌*◌, ◌-◌}
+use Prim.Native.Nat.{ℕ, ◌+◌, ◌*◌}
 use mathlib.Core.Path.{refl, ap}
 use Rattle.limits.specs.Limits.{max_vertices}
 use Rattle.bits.specs.FilledLaws.{filled_none, filled_more, filled_fewer}
 use Rattle.problem.specs.Problem.{item}
-use Rattle.relation.specs.Refining.{Paired}
 use borrow.Author.Rules.{rules}
 use Rattle.relation.proofs.pairs.Goals as goal
 

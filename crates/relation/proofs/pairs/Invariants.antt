@@ -1,11 +1,5 @@
-use native.Mathlib.Omega.{arith}
-use Prim.Native.Nat.{ℕ, ◌+◌, ◌*◌, ◌-◌}
-use mathlib.Core.Path.{refl, ap}
-use Rattle.limits.specs.Limits.{max_vertices}
-use Rattle.bits.specs.FilledLaws.{filled_none, filled_more, filled_fewer}
-use Rattle.problem.specs.Problem.{item}
+use Prim.Native.Nat.{◌-◌}
 use Rattle.relation.specs.Refining.{Paired}
-use borrow.Author.Rules.{rules}
 use Rattle.relation.proofs.pairs.Given as goal
 
 abbrev pub invariant-loop-x : goal.invariant-loop-x

@@ -1,9 +1,5 @@
-use native.Mathlib.Omega.{arith}
-use Prim.Native.Nat.{ℕ, ◌≤◌, ◌-◌}
-use mathlib.Core.Path.{refl, subst}
+use Prim.Native.Nat.{◌≤◌, ◌-◌}
 use Rattle.relation.specs.Refining.{Placed}
-use borrow.Author.Rules.{rules}
-use Rattle.relation.specs.RefiningLaws.{placed_start, placed_more}
 use Rattle.relation.proofs.place.Given as goal
 
 abbrev pub invariant-loop-x : goal.invariant-loop-x

@@ -1,15 +1,14 @@
 use native.Mathlib.Omega.{arith}
-use Prim.Native.Nat.{ℕ, ◌<◌, ◌≤◌, ◌-◌}
-use mathlib.Core.Path.{◌≡◌, refl, sym, ◌∙◌, subst}
+use Prim.Native.Nat.{ℕ}
+use mathlib.Core.Path.{refl, sym, ◌∙◌, subst}
 use mathlib.Core.Logic.{⊎_elim}
-use lib.Bits.{bit_and}
 use Rattle.bits.specs.LogicLaws.{true_false}
 use Rattle.bits.specs.CountLaws.{less_or_equal}
-use Rattle.problem.specs.Problem.{item, label_at}
 use Rattle.relation.specs.Relation.{Left}
 use Rattle.relation.specs.RelationLaws.{different_conflict, equal_not_left}
 use borrow.Author.Rules.{rules}
 use Rattle.relation.proofs.told.Goals as goal
+use Rattle.relation.proofs.told.Goals.{then-given-y+else-label, else-given-y}
 
 pub loop-y-init : goal.loop-y-init
 loop-y-init c = (omega arith, refl, c.label-label.ensures, λ z h. absurd (omega arith))
@@ -26,8 +25,7 @@ label-requires c = let z = c.requires.3 in search rules
 pub returns-then-label : goal.returns-then-label
 returns-then-label c = let a = c.args in
     let i = c.loop-y.invariant in
-    let h = c.loop-y-test.true in
-    (
+    let h = c.loop-y-test.true in (
       λ e. absurd (true_false (sym e)),
       λ e none. none c.loop-y.y h (record {
         conflict = different_conflict a.cl.now a.o a.x c.loop-y.y (λ q. c.if-label.true (c.label.ensures ∙ sym q ∙ sym i.2));
@@ -40,10 +38,10 @@ loop-y-preserved c = let a = c.args in
     let i = c.loop-y.invariant in
     let h = c.loop-y-test.true in
     let L : ℕ → Type 0 = Left a.cl.now a.given.now a.g a.o a.x in
-    let here : L c.loop-y.y → ⊥ = ⊎_elim
-    (λ w. equal_not_left a.cl.now a.given.now a.g a.o a.x c.loop-y.y (sym i.2 ∙ sym w.2.left ∙ w.1.ensures))
-    (λ w k. w.left (sym k.agree ∙ sym i.1))
-    c.if-given-y.branch in (
+    let here : L c.loop-y.y → ⊥ = elim c.if-given-y.branch [
+      | then-given-y+else-label w ↦ equal_not_left a.cl.now a.given.now a.g a.o a.x c.loop-y.y (sym i.2 ∙ sym w.if-label.false ∙ w.label.ensures)
+      | else-given-y w ↦ λ k. w.if-given-y.false (sym k.agree ∙ sym i.1)
+    ] in (
       omega arith,
       i.1,
       i.2,
