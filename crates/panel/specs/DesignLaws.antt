@@ -90,10 +90,15 @@ module _ (p b : List ℕ) (x : Pla) (bs : List Name) (n : ℕ) where
       (λ c l. (second_text, by_limit x bs n k c.counted c.once (known ∙ c.known) l))
       (λ c l. panel_right e w k c l))
 
+-- what is asked after the second text's spelling: the laws below take it as a premise, and each law about pairs shows it itself
+abbrev pub AsksBoard : Type 0
+AsksBoard = (bs : List Name) (n : ℕ) (x : Pla) → with_board (board bs n) x ≡ ask_names x (ask_board bs n)
+
 -- ---- questions 1 and 2 on the second text
-with_board_right : (p b : List ℕ) (x : Pla) (y : Board) → TextPassed p x → sized b ≡ true → read_board (lines b) ≡ y → PairRight p b (with_board y x)
-with_board_right p b x (misspelled l) h s e = (second_text, by_board x l h s e)
-with_board_right p b x (board bs n) h s e = names_right p b x bs n (record { text_passed = h; board-sized = s; board_is_read = e })
+with_board_right : AsksBoard → (p b : List ℕ) (x : Pla) (y : Board) → TextPassed p x → sized b ≡ true → read_board (lines b) ≡ y → PairRight p b (with_board y x)
+with_board_right a p b x (misspelled l) h s e = (second_text, by_board x l h s e)
+with_board_right a p b x (board bs n) h s e =
+    subst (PairRight p b) (sym (a bs n x)) (names_right p b x bs n (record { text_passed = h; board-sized = s; board_is_read = e }))
 
 -- ---- questions 12 to 14
 -- a refusal of the PLA text, whatever the second text is, or what the questions leave
@@ -136,25 +141,28 @@ unfolding examine_text
 text_right p = further_right p (read_pla p) refl
 
 -- ---- every pair
-beside_right : (p b : List ℕ) (y : text.Examined) → TextRight p y → PairRight p b (beside_text y b)
-beside_right p b (text.refused q l) h = (pla_text, h b)
-beside_right p b (text.passed x) h = go (sized b) refl
+beside_right : AsksBoard → (p b : List ℕ) (y : text.Examined) → TextRight p y → PairRight p b (beside_text y b)
+beside_right a p b (text.refused q l) h = (pla_text, h b)
+beside_right a p b (text.passed x) h = go (sized b) refl
   where
     go : (t : Bool) → sized b ≡ t → PairRight p b (pick t (with_board (read_board (lines b)) x) (refused 1 0))
-    go true e = with_board_right p b x (read_board (lines b)) h e refl
+    go true e = with_board_right a p b x (read_board (lines b)) h e refl
     go false e = (second_text, by_size x h e)
 
-pair_right : (p b : List ℕ) → PairRight p b (examine p b)
+pair_right : AsksBoard → (p b : List ℕ) → PairRight p b (examine p b)
 unfolding examine
-pair_right p b = beside_right p b (examine_text p) (text_right p)
+pair_right a p b = beside_right a p b (examine_text p) (text_right p)
 
 pub panel_refused : (p b : List ℕ) (q l : ℕ) → examine p b ≡ refused q l → PanelRefusal p b q l
 panel_refused p b q l e =
-    let (t, r) = subst (PairRight p b) e (pair_right p b) in
-    refusal_right p b t q l r
+    let (t, r) = subst (PairRight p b) e (pair_right (λ bs n x. refl) p b) in
+    refusal_right p b (λ m k. refl) t q l r
 
 pub panel_valid : (p b : List ℕ) (d : Design) → examine p b ≡ valid d → Panel p b d
-panel_valid p b d e = (subst (PairRight p b) e (pair_right p b)).0
+panel_valid p b d e = (subst (PairRight p b) e (pair_right (λ bs n x. refl) p b)).0
+
+pub well_formed_by : AsksBoard → (p b : List ℕ) (d : Design) → examine p b ≡ valid d → WellFormed d
+well_formed_by a p b d e = (subst (PairRight p b) e (pair_right a p b)).1
 
 pub panel_well_formed : (p b : List ℕ) (d : Design) → examine p b ≡ valid d → WellFormed d
-panel_well_formed p b d e = (subst (PairRight p b) e (pair_right p b)).1
+panel_well_formed p b d e = well_formed_by (λ bs n x. refl) p b d e

@@ -25,13 +25,13 @@ use Rattle.panel.specs.Questions as text
 use Rattle.panel.specs.Questions.{too_many, other_mark, refused_at, further_asked, examine_text}
 use Rattle.panel.specs.Board.{Board, misspelled, board, read_board}
 use Rattle.panel.specs.Examine.{ask_names, ask_board, with_board, beside_text, examine}
-use Rattle.panel.specs.DesignLaws.{panel_well_formed}
+use Rattle.panel.specs.DesignLaws.{well_formed_by}
 use Rattle.panel.specs.Held.{OtherIs, Readable, BoardRead, BoardIs}
 use Rattle.panel.specs.declared.BoardLines.{BoardLines}
 
 -- ---- what is answered is the answer of an examination
 pub examined : (p b : List ℕ) (r : Examined) → ExaminedIs (examine p b) r → ExaminedIs (examine p b) r × Examination r
-examined p b r h = (h, record { found = examine p b; is = h; right = panel_well_formed p b })
+examined p b r h = (h, record { found = examine p b; is = h; right = well_formed_by (λ bs n x. refl) p b })
 
 answered : (p b : List ℕ) (y : sheets.Examined) (r : Examined) → examine p b ≡ y → ExaminedIs y r → ExaminedIs (examine p b) r
 answered p b y r e h = subst (λ (z : sheets.Examined). ExaminedIs z r) (sym e) h
