@@ -1,5 +1,5 @@
 -- What a test of every number below n says of each of them. Assumes nothing.
-use Rattle.std.specs.Prelude.{◌≡◌, refl, ◌⊎◌, Bool, true, false, ℕ, zero, suc, ◌<◌}
+use Rattle.std.specs.Prelude.{◌≡◌, refl, Bool, true, false, ℕ, zero, suc, ◌<◌}
 use Rattle.std.proofs.Common.{subst, sym, ⊎_elim, arith}
 use Rattle.bits.specs.LogicLaws.{true_false, and_left, and_right}
 use Rattle.bits.specs.CountLaws.{less_or_equal}

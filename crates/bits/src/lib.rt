@@ -1,6 +1,7 @@
 // Binary digits, truth values, counting and filled arrays: what stands in specs/ is what the crates above cite. The code is one
 // test of a digit, and powers of 2.
 #![tactic(auto)]
+
 ghost use Rattle.std.specs.Prelude.{◌≡◌, ◌<◌, ◌^◌};
 ghost use Rattle.bits.specs.Digit.{on};
 

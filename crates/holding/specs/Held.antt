@@ -1,5 +1,5 @@
 -- Which blocks each class of an output holds among the vertices with codes. Assumes nothing.
-use Rattle.std.specs.Prelude.{◌≡◌, true, false, List, ℕ, ◌-◌, ◌≤◌, ◌<◌, length, get_or}
+use Rattle.std.specs.Prelude.{◌≡◌, true, false, List, ℕ, ◌≤◌, ◌<◌, length, get_or}
 use Rattle.std.specs.Int.Bits.{bit_and}
 use Rattle.limits.specs.Limits.{max_vertices, max_codes}
 use Rattle.bits.specs.Digit.{on}

@@ -4,7 +4,6 @@ use Rattle.std.specs.Prelude.{◌≡◌, true, List, ◌⊎◌, ℕ, ◌+◌, �
 use Rattle.limits.specs.Limits.{max_vertices, max_codes}
 use Rattle.bits.specs.Digit.{on}
 use Rattle.problem.specs.Problem.{label_at, part_of, item}
-use Rattle.holding.specs.Wants.{need}
 
 -- of the first n sets each code that may stay stays
 pub record Narrowed (Stays : ℕ → ℕ → Type 0) (dom : List ℕ) (n : ℕ) (r : List ℕ) : Type 0 where

@@ -3,7 +3,7 @@
 -- class needs no block more loses all codes outside the blocks that the class holds, and one whose class needs one more loses
 -- those outside these and the blocks in common: with such a code the class would have a block too many for the places, so no
 -- solution has it. What solutions say stands in RulesLaws. Assumes nothing.
-use Rattle.std.specs.Prelude.{◌≡◌, refl, true, List, ◌⊎◌, ℕ, ◌+◌, ◌-◌, ◌*◌, ◌≤◌, ◌<◌, length, set}
+use Rattle.std.specs.Prelude.{◌≡◌, refl, true, List, ℕ, ◌+◌, ◌*◌, ◌≤◌, ◌<◌, length, set}
 use Rattle.std.proofs.Common.{sym, ap, ◌∙◌, subst, ⊎_elim, arith, length-set, get_or-set_same, get_or-set_other}
 use Rattle.std.specs.Int.Bits.{bit_and}
 use Rattle.bits.specs.Digit.{on}

@@ -1,7 +1,7 @@
 -- The search for codes, step by step: the next vertex, codes given, and the two answers. Each step says only that no solution
 -- is lost; what is found is tested by writing it out. A vertex without a code left ends the search: a solution has a code for
 -- it in its set. Assumes nothing.
-use Rattle.std.specs.Prelude.{◌≡◌, refl, Bool, true, false, List, ◌⊎◌, ℕ, ◌+◌, ◌-◌, ◌≤◌, ◌<◌, leb, length, set}
+use Rattle.std.specs.Prelude.{◌≡◌, refl, Bool, true, false, List, ℕ, ◌+◌, ◌≤◌, ◌<◌, leb, length, set}
 use Rattle.std.proofs.Common.{sym, ap, ◌∙◌, subst, ⊎_elim, arith, get_or-set_same, get_or-set_other, leb-true, le-leb}
 use Rattle.bits.specs.LogicLaws.{true_false, never_both, false_unless}
 use Rattle.bits.specs.Digit.{on}

@@ -1,7 +1,7 @@
 -- How many blocks each class of an output needs: those that it holds, one more where some vertex of it can take none of these,
 -- and two more where the vertices that can take none have no block in common; and what the classes of each part need together.
 -- Assumes nothing.
-use Rattle.std.specs.Prelude.{◌≡◌, true, List, ◌⊎◌, ℕ, ◌+◌, ◌-◌, ◌*◌, ◌≤◌, ◌<◌, max, eqb, length, get_or}
+use Rattle.std.specs.Prelude.{◌≡◌, true, List, ◌⊎◌, ℕ, ◌+◌, ◌*◌, ◌≤◌, ◌<◌, max, eqb, length, get_or}
 use Rattle.std.specs.Int.Bits.{bit_and}
 use Rattle.limits.specs.Limits.{max_vertices, max_codes}
 use Rattle.bits.specs.Logic.{pick}

@@ -1,6 +1,7 @@
 // What the classes of one output hold while vertices take codes, and the sets of codes of the others narrowed by it. A rule
 // that prunes is one law of specs/NarrowLaws, specs/FullLaws or specs/ReachLaws: what it takes away is in no solution.
 #![tactic(auto)]
+
 ghost use Rattle.std.specs.Prelude.{◌≡◌, true, false, not, ℕ, ◌+◌, ◌-◌, ◌*◌, ◌^◌, ◌<◌, ◌≤◌, max, eqb, length, get_or};
 ghost use Rattle.bits.specs.Logic.{pick};
 ghost use Rattle.limits.specs.Limits.{search_outputs, max_vertices, label_count, block_count, max_cells, max_codes};

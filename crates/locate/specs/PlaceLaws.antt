@@ -44,12 +44,12 @@ bytes_of : (b : Bool) (d t : Bor (List ℕ)) → sheet_of b d.now t.now ≡ (she
 bytes_of true d t = refl
 bytes_of false d t = refl
 
-pub line_is : (d t s : Bor (List ℕ)) (q l : ℕ) (b : Bool) (start end γ : ℕ)
+pub line_is : (d t s : Bor (List ℕ)) (q l : ℕ) (b : Bool) (start end : ℕ)
     → RangeIs (located d.now t.now q l) b start end
     → sheet_of b d t ≡ s
     → LineIs (located d.now t.now q l) d t
-    (record { ref_ptr = (s.ref_ptr.0, start + s.ref_ptr.1); ghost_name = γ; now = take (end - start) (drop start s.now) })
-line_is d t s q l b start end γ x e =
+    (record { ref_ptr = (s.ref_ptr.0, start + s.ref_ptr.1); now = take (end - start) (drop start s.now) })
+line_is d t s q l b start end x e =
     let p = located d.now t.now q l in
     let sheet : s ≡ sheet_of p.second d t = sym e ∙ ap (λ (c : Bool). sheet_of c d t) x.which in
     let bytes : s.now ≡ sheet_of p.second d.now t.now = ap (λ (r : Bor (List ℕ)). r.now) sheet ∙ sym (bytes_of p.second d t) in

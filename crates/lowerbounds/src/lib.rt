@@ -1,5 +1,6 @@
 // How many blocks each class of each output cannot do without, for given reading sets (specs/Reasons has the argument).
 #![tactic(auto)]
+
 ghost use Rattle.std.specs.Prelude.{◌≡◌, ℕ, ◌*◌, ◌<◌, ◌≤◌, length};
 ghost use Rattle.limits.specs.Limits.{search_outputs, max_vertices, label_count, max_cells};
 ghost use Rattle.problem.specs.Problem.{Labels, item};

@@ -195,7 +195,7 @@ lines-said ended ls x u e =
     let o = b.item in
     let c = line_said ended input_names_line (read_named input_names_word i) (from_output_names ended o) b.others x b.others-unbroken b.onward_says in
     let ns = c.item in
-    let d = line_said ended output_names_line (read_named output_names_word o) (from_count ended ns) c.others x c.others-unbroken c.onward-says in
+    let d = line_said ended output_names_line (read_named output_names_word o) (from_count ended ns) c.others x c.others-unbroken c.onward_says in
     let ms = d.item in
     let f = line_said ended cubes_line (read_count cubes_word 0) (from_cubes ended ns ms) d.others x d.others-unbroken d.onward_says in
     let h : Head = record { inputs = ns; outputs = ms; cubes = f.item } in

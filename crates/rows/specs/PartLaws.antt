@@ -1,6 +1,6 @@
 -- A number cut in two at digit n: which digits of the whole its lower part, x % 2 ^ n, and its upper part, x / 2 ^ n, have.
 -- Assumes nothing.
-use Rattle.std.specs.Prelude.{◌≡◌, ℕ, ◌+◌, ◌-◌, ◌/◌, ◌%◌, ◌^◌, eqb}
+use Rattle.std.specs.Prelude.{◌≡◌, ℕ, ◌+◌, ◌/◌, ◌%◌, ◌^◌, eqb}
 use Rattle.std.proofs.Common.{ap, shr-shr}
 use Rattle.bits.specs.Digit.{on, digit}
 

@@ -1,6 +1,7 @@
 // Truth tables of up to ten inputs: all 1,024 rows in sixteen words, row r as digit r % 64 of word r / 64. Each function says
 // what its table holds on every row. Beside them the step from a row to the next over some of its digits.
 #![tactic(auto)]
+
 ghost use Rattle.std.specs.Prelude.{◌≡◌, not, ℕ, ◌<◌, ◌≤◌, length};
 ghost use Rattle.std.proofs.lemmas.List.Edits.{sets};
 ghost use Rattle.limits.specs.Limits.{max_rows, table_words};

@@ -2,7 +2,6 @@ use mathlib.Core.Path.{ap}
 use Prim.Native.Nat.{ℕ, ◌/◌, ◌^◌}
 use lib.Dec.{eqb}
 use lib.Bits.{and_mask}
-use borrow.Author.Rules.{rules}
 use Rattle.bits.specs.Digit.{on, digit}
 use Rattle.bits.proofs.has.Goals as goal
 

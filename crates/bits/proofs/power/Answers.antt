@@ -4,7 +4,6 @@ use Prim.Native.Nat.{ℕ, ◌*◌, ◌%◌, ◌^◌, ◌≤◌, ◌<◌}
 use native.Mathlib.Omega.{arith}
 use native.Mathlib.Nat.{mod-eq_of_lt, one-mul}
 use lib.Pow.{pow_mono}
-use borrow.Author.Rules.{rules}
 use Rattle.bits.proofs.power.Goals as goal
 
 abbrev wordEnd : ℕ

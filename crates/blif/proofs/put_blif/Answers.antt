@@ -26,9 +26,6 @@ put_nodes-r-requires c = let pre = c.requires in
       nodes_ready _ _ _ _ _ p _ (ap length free),
     )
 
--- LEFT slice-aggregate-put-text : tie.Need-slice-aggregate-put-text
--- LEFT slice-aggregate-put-text c = search rules
-
 pub returns : goal.returns
 returns c = λ d w p.
     (let bound = bound-shown _ _ _ d w p c.bound_names-bs.ensures.0 in

@@ -8,9 +8,6 @@ use Rattle.blif.specs.BlockLaws.{head_text_lem}
 use Rattle.blif.proofs.Arrays.{inputs_counted, outputs_counted}
 use Rattle.blif.proofs.put_head.Goals as goal
 
--- LEFT slice-aggregate-put-text : tie.Need-slice-aggregate-put-text
--- LEFT slice-aggregate-put-text c = search rules
-
 pub slice_bounds-names-end : goal.slice_bounds-names-end
 slice_bounds-names-end c = let pre = c.requires in
     let args = c.args in
@@ -29,9 +26,6 @@ put_items-q-requires c = let args = c.args in
     let good = c.well-formed in
     let count = inputs_counted args.k good.1.1.0 pre.1 in
     omega (arith, pre, count, c.put_text-p.ensures.place, c.put_text-p.ensures.short)
-
--- LEFT slice-aggregate-put-text-2 : tie.Need-slice-aggregate-put-text-2
--- LEFT slice-aggregate-put-text-2 c = search rules
 
 pub put_text-r-requires : goal.put_text-r-requires
 put_text-r-requires c = let args = c.args in

@@ -11,9 +11,6 @@ use Rattle.blif.specs.BlockLaws.{block_text_lem}
 use Rattle.blif.proofs.Arrays.{shown-counted}
 use Rattle.blif.proofs.put_lut.Goals as goal
 
--- LEFT slice-aggregate-put-text : tie.Need-slice-aggregate-put-text
--- LEFT slice-aggregate-put-text c = search rules
-
 pub returns : goal.returns
 returns c = let args = c.args in
     let good = c.well-formed in

@@ -15,9 +15,6 @@ use Rattle.blif.specs.BlockLaws.{block_text_two, two-counted}
 use Rattle.blif.proofs.Arrays.{shown-counted}
 use Rattle.blif.proofs.put_node.Goals as goal
 
--- LEFT slice-aggregate-put-text : tie.Need-slice-aggregate-put-text
--- LEFT slice-aggregate-put-text c = search rules
-
 pub put_rows-requires : goal.put_rows-requires
 put_rows-requires c = let earlier = (goal.at.put_rows-requires c).After-put_listed-arg-1 in
     let args = c.args in

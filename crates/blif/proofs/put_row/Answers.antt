@@ -8,9 +8,6 @@ pub returns-then-digit-ne49 : goal.returns-then-digit-ne49
 returns-then-digit-ne49 c = let args = c.args in
     row_absent args.n args.r args.digit _ _ c.if-digit-ne49.true
 
--- LEFT slice-aggregate-put-text : tie.Need-slice-aggregate-put-text
--- LEFT slice-aggregate-put-text c = search rules
-
 pub put_text-requires : goal.put_text-requires
 put_text-requires c = let pre = c.requires in
     omega (arith, pre, c.put_inputs-p.ensures.place, c.put_inputs-p.ensures.short)
@@ -18,9 +15,6 @@ put_text-requires c = let pre = c.requires in
 pub returns-then-n-eq0 : goal.returns-then-n-eq0
 returns-then-n-eq0 c = let args = c.args in
     row_alone args.n args.r args.digit c.if-digit-ne49.false c.put_inputs-p.ensures c.if-n-eq0.true c.put_text.ensures
-
--- LEFT slice-aggregate-put-text-2 : tie.Need-slice-aggregate-put-text-2
--- LEFT slice-aggregate-put-text-2 c = search rules
 
 pub put_text-requires-2 : goal.put_text-requires-2
 put_text-requires-2 c = let pre = c.requires in

@@ -16,8 +16,3 @@ in_set-requires c = let p = c.requires in
     let z = p.0.low (c.loop-o.o * 32 + c.args.x) (omega arith) in
     let e = c.label-l.ensures in
     omega arith
-
-pub loop-o-preserved : goal.loop-o-preserved
-loop-o-preserved c = let h = c.loop-o-test.true in
-    let z = c.loop-o.invariant.1 in
-    (omega arith, ⊎_elim (λ w. let e = w.1 in omega arith) (λ w. let e = w.1 in omega arith) c.if-not-in_set.branch)

@@ -8,21 +8,6 @@ use Rattle.cubes.proofs.covered.Goals as goal
 pub loop-i-init : goal.loop-i-init
 loop-i-init c = narrowed_none _ _ c.constant-t.ensures
 
-pub bounds-l-i : goal.bounds-l-i
-bounds-l-i c = omega arith
-
-pub overflow_sub-n : goal.overflow_sub-n
-overflow_sub-n c = omega arith
-
-pub overflow_sub-n-in-loop-i : goal.overflow_sub-n-in-loop-i
-overflow_sub-n-in-loop-i c = omega arith
-
-pub overflow_add-i : goal.overflow_add-i
-overflow_add-i c = omega arith
-
-pub loop-i-smaller : goal.loop-i-smaller
-loop-i-smaller c = omega arith
-
 pub loop-i-preserved : goal.loop-i-preserved
 loop-i-preserved c = narrowed_more _ _ _ _ c.loop-i.invariant c.loop-i-test.true c.narrowed-next.ensures
 

@@ -1,5 +1,5 @@
 -- `literal`: the three bytes, and any other. Assumes nothing.
-use mathlib.Core.Path.{sym, ap}
+use Rattle.std.proofs.Common.{sym, ap, arith}
 use borrow.Author.Tests.{ne_eqb}
 use Rattle.cubes.specs.Spelled.{is_literal}
 use Rattle.cubes.proofs.literal.Goals as goal
@@ -19,5 +19,4 @@ returns-in-45 c = sym (ap is_literal c.in-45.is)
 pub returns-in_default : goal.returns-in_default
 unfolding is_literal
 returns-in_default c = let b = c.args.b in
-    let none = c.in_default.rest in
-    simp (ne_eqb b 0x30 none.0.0.1, ne_eqb b 0x31 none.0.1, ne_eqb b 0x2D none.1)
+    simp (ne_eqb b 0x30 (λ e. omega arith), ne_eqb b 0x31 (λ e. omega arith), ne_eqb b 0x2D (λ e. omega arith))

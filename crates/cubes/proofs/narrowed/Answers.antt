@@ -1,5 +1,5 @@
 -- `narrowed`: by the literal's byte. Assumes nothing.
-use borrow.Author.Rules.{rules}
+use Rattle.std.proofs.Common.{arith}
 use Rattle.cubes.specs.RowsLaws.{left_zero, left_one, left-any}
 use Rattle.cubes.proofs.narrowed.Goals as goal
 
@@ -13,5 +13,4 @@ returns-in-49 c = let a = c.args in
 
 pub returns-in_default : goal.returns-in_default
 returns-in_default c = let a = c.args in
-    let none = c.in_default.rest in
-    left-any a.b a.p a.t none.0.1 none.1
+    left-any a.b a.p a.t (λ e. omega arith) (λ e. omega arith)

@@ -19,11 +19,11 @@ loop-i-init c = (omega arith, refl)
 
 pub returns-then-not-plain : goal.returns-then-not-plain
 returns-then-not-plain c = let args = c.args in
-    walk_stopped args.s.now c.loop-i.i c.loop-i-test.true (sym (not-true _ c.if-not-plain.true-raw) ∙ c.plain.ensures) ∙ sym c.loop-i.invariant.1 ∙ sym (sized-rest args.s.now c.if-n-lt1.false c.if-n-gt-MAX_SHEET.false)
+    walk_stopped args.s.now c.loop-i.i c.loop-i-test.true (sym c.if-not-plain.true ∙ c.plain.ensures) ∙ sym c.loop-i.invariant.1 ∙ sym (sized-rest args.s.now c.if-n-lt1.false c.if-n-gt-MAX_SHEET.false)
 
 pub loop-i-preserved : goal.loop-i-preserved
 loop-i-preserved c = let args = c.args in
-    (omega arith, c.loop-i.invariant.1 ∙ walk_on args.s.now c.loop-i.i c.loop-i-test.true (sym (not-false _ c.if-not-plain.false-raw) ∙ c.plain.ensures))
+    (omega arith, c.loop-i.invariant.1 ∙ walk_on args.s.now c.loop-i.i c.loop-i-test.true (sym c.if-not-plain.false ∙ c.plain.ensures))
 
 pub returns : goal.returns
 returns c = let args = c.args in

@@ -5,8 +5,8 @@ use borrow.Author.Rules.{rules}
 use Rattle.design.proofs.table.Goals as goal
 
 pub table_of-requires : goal.table_of-requires
-table_of-requires c = c.examine.ensures.1
+table_of-requires c = c.examine.ensures.examination
 
 pub returns : goal.returns
 returns c = table_of_sheet c.args.s.now c.args.output c.args.buffer.now _
-    (c.table_of.ensures (spec.examine c.args.s.now) c.examine.ensures.0)
+    (c.table_of.ensures (spec.examine c.args.s.now) c.examine.ensures.examined_is)

@@ -10,6 +10,7 @@ use Rattle.dominance.specs.DominanceLaws.{choosing_start, choosing-dominated, ch
 use borrow.Author.Rules.{rules}
 use Rattle.cells.specs.ListLaws.{zeros_are}
 use Rattle.dominance.proofs.chosen.Goals as goal
+use Rattle.dominance.proofs.chosen.Goals.{then-k-n, else-k-n}
 
 pub ranks-requires : goal.ranks-requires
 ranks-requires c = let p = c.requires in (p.0, p.1, p.2)
@@ -87,13 +88,13 @@ loop-i-preserved c = let a = c.args in
     let o = item c.falling-order.result c.loop-i.i in
     let low = c.falling-order.ensures.0.low c.loop-i.i h in
     let P : List ℕ → ℕ → Type 0 = λ from n. Choosing a.cl.now a.budgets a.v a.m c.falling-order.result (c.loop-i.i + 1) n from (set c.loop-i.by o c.dominator-k.result) in
-    let R : P c.if-k-n.from c.if-k-n.n = ⊎_elim
-    (λ w. subst (λ (r : List ℕ). P r c.if-k-n.n) (sym w.1) (subst (P (set c.loop-i.from c.loop-i.n o)) (sym w.2)
-    (choosing-kept a.cl.now a.budgets a.v a.m c.falling-order.result c.loop-i.i c.loop-i.n c.loop-i.from c.loop-i.by c.dominator-k.result (omega arith) s w.0.taken (omega arith) low)))
-    (λ w. let e = w.0.left in subst (λ (r : List ℕ). P r c.if-k-n.n) (sym w.1) (subst (P c.loop-i.from) (sym w.2)
-    (choosing-dominated a.cl.now a.budgets a.v a.m c.falling-order.result c.loop-i.i c.loop-i.n c.loop-i.from c.loop-i.by c.dominator-k.result (omega arith) s
-    (omega arith) (c.dominator-k.ensures.dominates (omega arith)))))
-    c.if-k-n.branch in
+    let R : P c.if-k-n.from c.if-k-n.n = elim c.if-k-n.branch [
+        then-k-n w ↦ subst (λ (r : List ℕ). P r c.if-k-n.n) (sym w.from-is) (subst (P (set c.loop-i.from c.loop-i.n o)) (sym w.n-is)
+          (choosing-kept a.cl.now a.budgets a.v a.m c.falling-order.result c.loop-i.i c.loop-i.n c.loop-i.from c.loop-i.by c.dominator-k.result (omega arith) s w.if-k-n.true (omega arith) low))
+      | else-k-n w ↦ (let e = w.if-k-n.false in subst (λ (r : List ℕ). P r c.if-k-n.n) (sym w.from-is) (subst (P c.loop-i.from) (sym w.n-is)
+          (choosing-dominated a.cl.now a.budgets a.v a.m c.falling-order.result c.loop-i.i c.loop-i.n c.loop-i.from c.loop-i.by c.dominator-k.result (omega arith) s
+          (omega arith) (c.dominator-k.ensures.dominates (omega arith)))))
+    ] in
     (omega arith, R)
 
 pub returns : goal.returns

@@ -3,6 +3,7 @@ use Prim.Native.Nat.{◌≤◌, ◌+◌, ◌-◌, ◌*◌}
 use native.Mathlib.Omega.{arith}
 use borrow.Author.Rules.{rules}
 use Rattle.dominance.proofs.classes.Goals as goal
+use Rattle.dominance.proofs.classes.Goals.{then-not-in_set, else-not-in_set}
 
 pub label-l-requires : goal.label-l-requires
 label-l-requires c = let p = c.requires in let h = c.loop-x-test.true in let b = p.1 in let w = p.0.long in (omega arith, p.2, omega arith)
@@ -38,6 +39,4 @@ pub overflow_add-x : goal.overflow_add-x
 overflow_add-x c = let b = c.requires.1 in let h = c.loop-x-test.true in omega arith
 
 pub loop-x-preserved : goal.loop-x-preserved
-loop-x-preserved c = let h = c.loop-x-test.true in
-    let z = c.loop-x.invariant.1 in
-    (omega arith, ⊎_elim (λ w. let e = w.3 in omega arith) (λ w. let e = w.2 in omega arith) c.if-not-in_set.branch)
+loop-x-preserved c = (omega arith, elim c.if-not-in_set.branch [ then-not-in_set w ↦ omega arith | else-not-in_set w ↦ omega arith ])

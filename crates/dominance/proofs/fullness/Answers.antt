@@ -2,6 +2,7 @@ use mathlib.Core.Logic.{⊎_elim}
 use native.Mathlib.Omega.{arith}
 use borrow.Author.Rules.{rules}
 use Rattle.dominance.proofs.fullness.Goals as goal
+use Rattle.dominance.proofs.fullness.Goals.{then-budget-lt-MOST, else-budget-lt-MOST}
 
 pub overflow_shr-result : goal.overflow_shr-result
-overflow_shr-result c = ⊎_elim (λ w. let h = w.0.taken in let e = w.1 in omega arith) (λ w. let e = w.1 in omega arith) c.if-budget-lt-MOST.branch
+overflow_shr-result c = elim c.if-budget-lt-MOST.branch [ then-budget-lt-MOST w ↦ omega arith | else-budget-lt-MOST w ↦ omega arith ]

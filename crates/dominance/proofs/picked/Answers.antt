@@ -26,4 +26,4 @@ pub returns : goal.returns
 returns c = let a = c.args in
     let h = c.loop-i-test.false in
     let z = c.loop-i.invariant.0 in
-    subst (λ (z : ℕ). Picked a.t1 a.t2 z c.loop-i.r) (omega arith) c.loop-i.invariant.1
+    subst (λ (z : ℕ). Picked a.budgets a.from z c.loop-i.r) (omega arith) c.loop-i.invariant.1

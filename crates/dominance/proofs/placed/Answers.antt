@@ -36,4 +36,4 @@ pub returns : goal.returns
 returns c = let a = c.args in
     let h = c.loop-o-test.false in
     let z = c.loop-o.invariant.0 in
-    subst (λ (z : ℕ). Placed a.t1 a.t2 z c.loop-o.r) (omega arith) c.loop-o.invariant.1
+    subst (λ (z : ℕ). Placed a.rows a.by z c.loop-o.r) (omega arith) c.loop-o.invariant.1

@@ -3,7 +3,7 @@ use Rattle.first.specs.FirstLaws.{answered_none, witness_kept, answered_found}
 use borrow.Author.Tests.{not-true, not-false}
 use native.Mathlib.Omega.{arith}
 use mathlib.Core.Path.{refl}
-use borrow.Author.Rules.{rules, length_unmapped}
+use Rattle.std.proofs.Common.{◌≡◌, length, rules}
 use Rattle.first.proofs.first.Goals as goal
 
 pub fewest-core-requires : goal.fewest-core-requires
@@ -24,7 +24,7 @@ least_tables-t-requires c = let a = c.args in
     let n = c.kept-kept.result in
     let few = c.fewest-core.ensures.0.few in
     let b = p.3 in
-    let long = length_unmapped ℕ r.codes 32 c.fewest-core.type-inv.1.1.1.1.1.0.1.0.1 in (
+    let long : length r.codes ≡ 32 = search rules in (
       c.kept-kept.ensures.classes,
       p.1,
       c.kept-kept.ensures.few,

@@ -13,8 +13,8 @@ pub returns-then-not-in_set : goal.returns-then-not-in_set
 returns-then-not-in_set c = let p = c.requires in
     let a = c.args in
     let q = a.p in
-    let zero = sym c.in_set.ensures ∙ not-true _ c.if-not-in_set.true-raw in
-    (lowest_zero a.cl.now q.budgets q.vertices q.outputs q.cells a.i a.x a.t5 p.4 p.5 p.6 zero, p.7, p.8)
+    let zero = sym c.in_set.ensures ∙ c.if-not-in_set.true in
+    (lowest_zero a.cl.now q.budgets q.vertices q.outputs q.cells a.i a.x a.codes p.4 p.5 p.6 zero, p.7, p.8)
 
 pub ask-a-requires : goal.ask-a-requires
 ask-a-requires c = let p = c.requires in
@@ -27,8 +27,8 @@ pub returns-then-not-a : goal.returns-then-not-a
 returns-then-not-a c = let p = c.requires in
     let a = c.args in
     let q = a.p in
-    let one = sym c.in_set.ensures ∙ not-false _ c.if-not-in_set.false-raw in (
-      lowest_one a.cl.now q.budgets q.vertices q.outputs q.cells a.i a.x a.t5 p.4 p.5 p.6 c.ask-a.result.codes c.ask-a.result.ok
+    let one = sym c.in_set.ensures ∙ c.if-not-in_set.false in (
+      lowest_one a.cl.now q.budgets q.vertices q.outputs q.cells a.i a.x a.codes p.4 p.5 p.6 c.ask-a.result.codes c.ask-a.result.ok
           (not-true _ c.if-not-a.true) one c.ask-a.ensures.0,
       p.7,
       c.ask-a.ensures.1,
@@ -54,9 +54,9 @@ returns c = let p = c.requires in
     let a = c.args in
     let q = a.p in
     let found = not-false _ c.if-not-a.false in
-    let low = lowest_found a.cl.now q.budgets q.vertices q.outputs q.cells a.i a.x a.t5 p.4 p.5 p.6 c.ask-a.result.codes c.ask-a.result.ok
+    let low = lowest_found a.cl.now q.budgets q.vertices q.outputs q.cells a.i a.x a.codes p.4 p.5 p.6 c.ask-a.result.codes c.ask-a.result.ok
     found c.ask-a.ensures.0 in
-    let stands = stands_found a.cl.now q.budgets q.vertices q.outputs q.cells a.i a.x a.t5 a.given.now c.ask-a.result.codes c.ask-a.result.ok
+    let stands = stands_found a.cl.now q.budgets q.vertices q.outputs q.cells a.i a.x a.codes a.given.now c.ask-a.result.codes c.ask-a.result.ok
     p.4 found c.ask-a.ensures.0 p.7 in (
       lowest_same a.cl.now q.budgets q.vertices q.outputs q.cells a.i (a.x + 1) c.ask-a.result.codes c.sorted-least.result p.4 (let h = p.5 in omega arith)
           low c.sorted-least.ensures.0 (c.sorted-least.ensures.1 a.cl.now q.budgets q.outputs low.witness),

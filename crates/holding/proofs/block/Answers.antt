@@ -1,4 +1,3 @@
-use borrow.Author.Rules.{rules}
 use Rattle.holding.specs.BlocksLaws.{spans_block}
 use Rattle.holding.proofs.block.Goals as goal
 

@@ -1,13 +1,6 @@
-use mathlib.Core.Path.{◌≡◌, refl, sym, subst}
-use mathlib.Core.Logic.{⊎_elim}
-use mathlib.Core.List.{List}
-use Prim.Native.Nat.{ℕ, ◌≤◌, ◌<◌, ◌+◌, ◌-◌, ◌*◌, ◌/◌, ◌%◌}
-use native.Mathlib.Omega.{arith}
-use lib.Bits.{bit_and, and_le_l}
-use Rattle.problem.specs.Problem.{item}
+use mathlib.Core.Path.{◌≡◌}
+use Prim.Native.Nat.{◌≤◌, ◌-◌, ◌*◌}
 use Rattle.holding.specs.Blocks.{Table}
-use borrow.Author.Rules.{rules}
-use Rattle.holding.specs.BlocksLaws.{table_more, entry_again}
 use Rattle.holding.proofs.blocks.Given as goal
 
 abbrev pub invariant-loop-i : goal.invariant-loop-i

@@ -1,12 +1,11 @@
 use mathlib.Core.Path.{sym, ◌∙◌, subst}
-use Prim.Native.Nat.{ℕ, ◌≤◌, ◌+◌, ◌-◌, ◌*◌}
+use Prim.Native.Nat.{ℕ, ◌+◌, ◌*◌}
 use native.Mathlib.Omega.{arith}
-use mathlib.Core.Logic.{⊎_elim}
-use borrow.Author.Tests.{not-true}
 use Rattle.holding.specs.Full.{Crowd}
 use borrow.Author.Rules.{rules}
 use Rattle.holding.specs.FullLaws.{crowd_start, crowd_same, crowd_more}
 use Rattle.holding.proofs.classes_in.Goals as goal
+use Rattle.holding.proofs.classes_in.Goals.{then-inside+then-not-in_set, then-inside+else-not-in_set, else-inside}
 
 pub strangers-seen-requires : goal.strangers-seen-requires
 strangers-seen-requires c = (c.requires.0, c.requires.2)
@@ -60,13 +59,14 @@ loop-y-preserved c = let h = c.loop-y-test.true in
     let a = c.args in
     let low = p.0.low (a.o * 32 + c.loop-y.y) (omega arith) in (
       omega arith,
-      ⊎_elim
-          (λ w. let q = c.inside.ensures w.0.taken in let e = w.1.ensures in crowd_more a.cl.now a.codes.now a.o a.p a.b c.loop-y.y c.loop-y.seen c.loop-y.count
-          w.1.result w.4.result _ _ e (omega arith) q.0 q.1 (sym w.2.ensures ∙ not-true _ w.3.taken) w.4.ensures w.5 w.6 c.loop-y.invariant.1)
-          (⊎_elim
-          (λ w. crowd_same a.cl.now a.codes.now a.o a.p a.b c.loop-y.y c.loop-y.seen c.loop-y.count _ _ w.4 w.5 c.loop-y.invariant.1)
-          (λ w. crowd_same a.cl.now a.codes.now a.o a.p a.b c.loop-y.y c.loop-y.seen c.loop-y.count _ _ w.1 w.2 c.loop-y.invariant.1))
-          c.if-inside.branch,
+      elim c.if-inside.branch [
+        | then-inside+then-not-in_set w ↦ let q = c.inside.ensures w.if-inside.true in
+            let e = w.label-l.ensures in
+            crowd_more a.cl.now a.codes.now a.o a.p a.b c.loop-y.y c.loop-y.seen c.loop-y.count
+            w.label-l.result w.with-seen.result _ _ e (omega arith) q.0 q.1 (sym w.in_set.ensures ∙ w.if-not-in_set.true) w.with-seen.ensures w.seen-is w.count-is c.loop-y.invariant.1
+        | then-inside+else-not-in_set w ↦ crowd_same a.cl.now a.codes.now a.o a.p a.b c.loop-y.y c.loop-y.seen c.loop-y.count _ _ w.seen-is w.count-is c.loop-y.invariant.1
+        | else-inside w ↦ crowd_same a.cl.now a.codes.now a.o a.p a.b c.loop-y.y c.loop-y.seen c.loop-y.count _ _ w.seen-is w.count-is c.loop-y.invariant.1
+      ],
     )
 
 pub returns : goal.returns

@@ -1,11 +1,5 @@
-use mathlib.Core.Path.{sym, ◌∙◌, subst}
-use Prim.Native.Nat.{ℕ, ◌≤◌, ◌+◌, ◌-◌, ◌*◌}
-use native.Mathlib.Omega.{arith}
-use mathlib.Core.Logic.{⊎_elim}
-use borrow.Author.Tests.{not-true}
+use Prim.Native.Nat.{◌≤◌, ◌-◌}
 use Rattle.holding.specs.Full.{Crowd}
-use borrow.Author.Rules.{rules}
-use Rattle.holding.specs.FullLaws.{crowd_start, crowd_same, crowd_more}
 use Rattle.holding.proofs.classes_in.Given as goal
 
 abbrev pub invariant-loop-y : goal.invariant-loop-y

@@ -2,7 +2,6 @@ use mathlib.Core.Path.{sym, subst}
 use Prim.Native.Nat.{ℕ, ◌+◌, ◌*◌}
 use native.Mathlib.Omega.{arith}
 use Rattle.holding.specs.Full.{Crowd}
-use borrow.Author.Rules.{rules}
 use Rattle.holding.specs.FullLaws.{crowd_one}
 use Rattle.holding.proofs.crowd.Goals as goal
 

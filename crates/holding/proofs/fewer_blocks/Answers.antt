@@ -1,11 +1,7 @@
-use Rattle.holding.specs.Reach.{Left}
 use Rattle.bits.specs.LogicLaws.{true_false}
 use Rattle.holding.specs.ReachLaws.{left-start, left_more, left_end}
-use Rattle.problem.specs.Problem.{Block}
 use borrow.Author.Tests.{ltb-true}
-use lib.ListN.{get_or}
 use native.Mathlib.Omega.{arith}
-use Prim.Native.Nat.{ℕ, ◌<◌, ◌+◌, ◌-◌, ◌*◌}
 use mathlib.Core.Path.{sym}
 use borrow.Author.Rules.{rules}
 use Rattle.holding.proofs.fewer_blocks.Goals as goal

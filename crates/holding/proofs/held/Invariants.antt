@@ -1,13 +1,7 @@
 use Rattle.holding.specs.Held.{Held}
-use Rattle.problem.specs.Problem.{item, Block}
-use borrow.Author.Tests.{not-true, not-false}
-use lib.ListN.{length, get_or}
-use native.Mathlib.Omega.{arith}
+use Rattle.problem.specs.Problem.{Block}
+use lib.ListN.{get_or}
 use Prim.Native.Nat.{ℕ, ◌<◌, ◌≤◌, ◌+◌, ◌-◌, ◌*◌}
-use mathlib.Core.Logic.{⊎_elim}
-use mathlib.Core.Path.{◌≡◌, sym, ◌∙◌, subst}
-use borrow.Author.Rules.{rules}
-use Rattle.holding.specs.HeldLaws.{held_start, at_skip, at_old, at_new}
 use Rattle.holding.proofs.held.Given as goal
 
 abbrev pub invariant-loop-y : goal.invariant-loop-y

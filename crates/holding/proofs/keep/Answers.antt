@@ -1,4 +1,3 @@
-use Prim.Native.Nat.{◌-◌}
 use Rattle.bits.specs.DigitLaws.{on-ones}
 use Rattle.holding.specs.BlocksLaws.{on_either}
 use borrow.Author.Rules.{rules}

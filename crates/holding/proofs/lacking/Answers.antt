@@ -1,8 +1,7 @@
 use borrow.Author.Tests.{ltb-false}
 use native.Mathlib.Omega.{arith}
-use Prim.Native.Nat.{ℕ, ◌≤◌, ◌-◌, max}
+use Prim.Native.Nat.{ℕ, ◌≤◌, max}
 use mathlib.Core.Path.{ap, ◌∙◌, subst}
-use borrow.Author.Rules.{rules}
 use Rattle.holding.proofs.lacking.Goals as goal
 
 pub class_part-q-requires : goal.class_part-q-requires

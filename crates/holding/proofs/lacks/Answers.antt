@@ -1,7 +1,7 @@
 use Rattle.holding.specs.Reach.{Lacks}
 use lib.ListN.{get_or}
 use native.Mathlib.Omega.{arith}
-use Prim.Native.Nat.{ℕ, ◌≤◌, ◌-◌, max}
+use Prim.Native.Nat.{ℕ, max}
 use mathlib.Core.Path.{refl, ap, ◌∙◌, subst}
 use borrow.Author.Rules.{rules}
 use Rattle.holding.specs.ReachLaws.{lacks_start, lacks_more}
@@ -48,8 +48,7 @@ overflow_add-news c = let n = c.counted-s.ensures.1 in
 
 pub loop-l-preserved : goal.loop-l-preserved
 loop-l-preserved c = let a = c.args in
-    let h = c.loop-l-test.true in
-    (
+    let h = c.loop-l-test.true in (
       omega arith,
       lacks_more a.cl.now a.owns.now a.wants.now a.base.now a.o a.p c.loop-l.l c.class_part-q.result c.larger-n.result c.loop-l.total c.loop-l.news _ _ c.counted-t.result c.counted-s.result c.class_part-q.ensures.0
           (c.larger-n.ensures.0 ∙ ap (max (get_or a.wants.now c.loop-l.l 0)) c.label.ensures) c.counted-t.ensures.0 c.counted-t.ensures.1 c.counted-s.ensures.0

@@ -1,10 +1,5 @@
 use Rattle.holding.specs.Reach.{Lacks}
-use lib.ListN.{get_or}
-use native.Mathlib.Omega.{arith}
-use Prim.Native.Nat.{ℕ, ◌≤◌, ◌-◌, max}
-use mathlib.Core.Path.{refl, ap, ◌∙◌, subst}
-use borrow.Author.Rules.{rules}
-use Rattle.holding.specs.ReachLaws.{lacks_start, lacks_more}
+use Prim.Native.Nat.{◌≤◌, ◌-◌}
 use Rattle.holding.proofs.lacks.Given as goal
 
 abbrev pub invariant-loop-l : goal.invariant-loop-l

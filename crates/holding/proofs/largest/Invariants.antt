@@ -1,7 +1,4 @@
-use mathlib.Core.Logic.{⊎_elim}
-use native.Mathlib.Omega.{arith}
 use Prim.Native.Nat.{◌<◌, ◌≤◌, ◌-◌}
-use borrow.Author.Rules.{rules}
 use Rattle.holding.proofs.largest.Given as goal
 
 abbrev pub invariant-loop-i : goal.invariant-loop-i

@@ -1,11 +1,5 @@
 use Rattle.holding.specs.Narrow.{Narrowed, Stays}
-use mathlib.Core.Logic.{⊎_elim}
-use native.Mathlib.Omega.{arith}
-use Prim.Native.Nat.{ℕ, ◌≤◌, ◌<◌, ◌+◌, ◌-◌, ◌*◌}
-use mathlib.Core.Path.{◌≡◌, sym, ◌∙◌, subst}
-use lib.ListN.{length}
-use borrow.Author.Rules.{rules}
-use Rattle.holding.specs.NarrowLaws.{narrowed_start, narrowed_same, keep_more}
+use Prim.Native.Nat.{◌≤◌, ◌-◌}
 use Rattle.holding.proofs.narrow.Given as goal
 
 abbrev pub invariant-loop-y : goal.invariant-loop-y

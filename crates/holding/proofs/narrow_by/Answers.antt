@@ -4,8 +4,7 @@ use Rattle.bits.specs.LogicLaws.{true_false}
 use Rattle.holding.specs.ReachLaws.{settled_no_room}
 use Rattle.holding.specs.NarrowLaws.{settled_tight, kept-start}
 use Rattle.holding.specs.WantsLaws.{wanted_held}
-use mir.Syntax.{w8, w64}
-use borrow.Author.Rules.{rules, elem_fits_field}
+use borrow.Author.Rules.{rules}
 use Rattle.holding.proofs.narrow_by.Goals as goal
 
 pub bounds-spots-o : goal.bounds-spots-o
@@ -13,12 +12,6 @@ bounds-spots-o c = let pre = c.requires in
     let outs = pre.4 in
     let o = pre.5 in
     search rules
-
-pub overflow_cast-spot : goal.overflow_cast-spot
-overflow_cast-spot c = let good = c.well-formed in
-    let args = c.args in
-    let g = good.1.1.1.0 in
-    elem_fits_field w8 w64 args.p.spots _ args.o g.1.1.1.1.1.0.1.1 tt
 
 pub bounds-caps-o : goal.bounds-caps-o
 bounds-caps-o c = let pre = c.requires in
@@ -33,7 +26,7 @@ busiest-b-requires c = let pre = c.requires in
     let o = pre.5 in
     let s = pre.8 in
     let w = pre.9 in
-    (pre.0, pre.1, omega arith, wanted_held _ _ _ _ _ _ _ args.n.wants args.meet.now w, s.owns-long, w.long)
+    (pre.0, pre.1, omega arith, wanted_held _ _ _ _ _ _ _ args.n.wants args.meet.now w, s.owns_long, w.long)
 
 pub no_room-requires : goal.no_room-requires
 no_room-requires c = let pre = c.requires in
@@ -43,7 +36,7 @@ no_room-requires c = let pre = c.requires in
     let s = pre.8 in
     let w = pre.9 in
     let wanted = wanted_held _ _ _ _ _ _ _ args.n.wants args.meet.now w in
-    (pre.0, pre.1, pre.2.long, pre.3, omega arith, pre.7, s.own-long, pre.6, wanted, c.busiest-b.ensures.0)
+    (pre.0, pre.1, pre.2.long, pre.3, omega arith, pre.7, s.own_long, pre.6, wanted, c.busiest-b.ensures.0)
 
 pub returns-then-no_room : goal.returns-then-no_room
 returns-then-no_room c = let args = c.args in
@@ -66,7 +59,7 @@ narrow-requires c = let pre = c.requires in
     let o = pre.5 in
     let s = pre.8 in
     let w = pre.9 in
-    (pre.0, pre.1, few, omega arith, s.own-long, w.meet-long, λ l k. let z = s.less l k in omega arith, pre.6, pre.7)
+    (pre.0, pre.1, few, omega arith, s.own_long, w.meet_long, λ l k. let z = s.less l k in omega arith, pre.6, pre.7)
 
 pub shape_of-dom : goal.shape_of-dom
 shape_of-dom c = let pre = c.requires in

@@ -1,5 +1,4 @@
 use mathlib.Core.Logic.{inl, inr}
-use borrow.Author.Rules.{rules}
 use Rattle.holding.proofs.no_room.Goals as goal
 
 pub returns-then-t-total : goal.returns-then-t-total

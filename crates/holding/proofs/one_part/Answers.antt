@@ -1,13 +1,11 @@
 use Rattle.problem.specs.Problem.{part_at}
 use native.Mathlib.Omega.{arith}
-use Prim.Native.Nat.{ℕ, ◌<◌, ◌≤◌, ◌-◌}
 use mathlib.Core.Logic.{⊎_elim}
-use mathlib.Core.Bool.{true}
-use mathlib.Core.Path.{◌≡◌, sym, ap, ◌∙◌}
-use borrow.Author.Rules.{rules}
+use mathlib.Core.Path.{sym, ap, ◌∙◌}
 use Rattle.bits.specs.LogicLaws.{never_both}
 use Rattle.bits.specs.CountLaws.{less_or_equal}
 use Rattle.holding.proofs.one_part.Goals as goal
+use Rattle.holding.proofs.one_part.Goals.{then-q-p, else-q-p}
 
 pub loop-l-init : goal.loop-l-init
 loop-l-init c = (omega arith, λ e k h. absurd (omega arith))
@@ -20,10 +18,10 @@ loop-l-preserved c = let a = c.args in
     let h = c.loop-l-test.true in
     let q = c.class_part-q.ensures.0 in (
       omega arith,
-      ⊎_elim
-          (λ w e. absurd (never_both e w.1))
-          (λ w e k i. ⊎_elim (c.loop-l.invariant.1 (sym w.1 ∙ e) k) (λ j. ap (part_at a.cl.now a.o) j ∙ sym q ∙ w.0.left) (less_or_equal k c.loop-l.l (omega arith)))
-          c.if-q-p.branch,
+      elim c.if-q-p.branch [
+        | then-q-p w ↦ λ e. absurd (never_both e w.all-is)
+        | else-q-p w ↦ λ e k i. ⊎_elim (c.loop-l.invariant.1 (sym w.all-is ∙ e) k) (λ j. ap (part_at a.cl.now a.o) j ∙ sym q ∙ w.if-q-p.false) (less_or_equal k c.loop-l.l (omega arith))
+      ],
     )
 
 pub returns : goal.returns

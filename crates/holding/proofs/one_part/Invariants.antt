@@ -1,12 +1,7 @@
 use Rattle.problem.specs.Problem.{part_at}
-use native.Mathlib.Omega.{arith}
 use Prim.Native.Nat.{ℕ, ◌<◌, ◌≤◌, ◌-◌}
-use mathlib.Core.Logic.{⊎_elim}
 use mathlib.Core.Bool.{true}
-use mathlib.Core.Path.{◌≡◌, sym, ap, ◌∙◌}
-use borrow.Author.Rules.{rules}
-use Rattle.bits.specs.LogicLaws.{never_both}
-use Rattle.bits.specs.CountLaws.{less_or_equal}
+use mathlib.Core.Path.{◌≡◌}
 use Rattle.holding.proofs.one_part.Given as goal
 
 abbrev pub invariant-loop-l : goal.invariant-loop-l

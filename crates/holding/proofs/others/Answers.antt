@@ -1,11 +1,10 @@
 use mathlib.Core.Path.{subst}
-use Prim.Native.Nat.{ℕ, ◌≤◌, ◌-◌}
+use Prim.Native.Nat.{ℕ}
 use native.Mathlib.Omega.{arith}
-use mathlib.Core.Logic.{⊎_elim}
 use Rattle.holding.specs.Full.{Others}
-use borrow.Author.Rules.{rules}
 use Rattle.holding.specs.FullLaws.{others-start, others_in, others_out}
 use Rattle.holding.proofs.others.Goals as goal
+use Rattle.holding.proofs.others.Goals.{then-q-p, else-q-p}
 
 pub loop-l-init : goal.loop-l-init
 loop-l-init c = (omega arith, others-start c.args.cl.now c.args.o c.args.p)
@@ -20,8 +19,10 @@ pub loop-l-preserved : goal.loop-l-preserved
 loop-l-preserved c = let args = c.args in
     let h = c.loop-l-test.true in (
       omega arith,
-      ⊎_elim (λ w. others_out args.cl.now args.o args.p c.loop-l.l c.loop-l.r _ w.1.result w.1.ensures w.2 c.loop-l.invariant.1)
-          (λ w. others_in args.cl.now args.o args.p c.loop-l.l c.loop-l.r _ c.class_part-q.result c.class_part-q.ensures.0 w.0.left w.1 c.loop-l.invariant.1) c.if-q-p.branch,
+      elim c.if-q-p.branch [
+        | then-q-p w ↦ others_out args.cl.now args.o args.p c.loop-l.l c.loop-l.r _ w.with-r.result w.with-r.ensures w.r-is c.loop-l.invariant.1
+        | else-q-p w ↦ others_in args.cl.now args.o args.p c.loop-l.l c.loop-l.r _ c.class_part-q.result c.class_part-q.ensures.0 w.if-q-p.false w.r-is c.loop-l.invariant.1
+      ],
     )
 
 pub returns : goal.returns

@@ -1,10 +1,5 @@
-use mathlib.Core.Path.{subst}
-use Prim.Native.Nat.{ℕ, ◌≤◌, ◌-◌}
-use native.Mathlib.Omega.{arith}
-use mathlib.Core.Logic.{⊎_elim}
+use Prim.Native.Nat.{◌≤◌, ◌-◌}
 use Rattle.holding.specs.Full.{Others}
-use borrow.Author.Rules.{rules}
-use Rattle.holding.specs.FullLaws.{others-start, others_in, others_out}
 use Rattle.holding.proofs.others.Given as goal
 
 abbrev pub invariant-loop-l : goal.invariant-loop-l

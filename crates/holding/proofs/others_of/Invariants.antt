@@ -1,8 +1,6 @@
 -- `others_of` is safe and ends: the parts not yet looked at become fewer with each turn. Which parts it answers is no matter of
 -- proof, since each part that is asked about is judged by itself. Assumes nothing.
-use native.Mathlib.Omega.{arith}
 use Prim.Native.Nat.{◌-◌}
-use borrow.Author.Rules.{rules}
 use Rattle.holding.proofs.others_of.Given as goal
 
 abbrev pub invariant-loop-p : goal.invariant-loop-p

@@ -1,8 +1,5 @@
 -- The first part that is out of reach is the one of the contract; the set of parts still to be asked about falls with each turn.
 -- Assumes nothing.
-use Rattle.bits.specs.LogicLaws.{true_false}
-use mathlib.Core.Path.{sym}
-use borrow.Author.Rules.{rules}
 use Rattle.holding.proofs.others_out_of_reach.Given as goal
 
 abbrev pub invariant-loop-rest : goal.invariant-loop-rest

@@ -1,13 +1,5 @@
-use Rattle.holding.specs.Wants.{need}
-use Rattle.problem.specs.Problem.{part_at}
-use lib.ListN.{length, get_or}
 use Rattle.holding.specs.Reach.{Reached}
-use mathlib.Core.Logic.{⊎_elim}
-use native.Mathlib.Omega.{arith}
-use Prim.Native.Nat.{ℕ, ◌≤◌, ◌<◌, ◌+◌, ◌-◌, ◌*◌}
-use mathlib.Core.Path.{◌≡◌, subst}
-use borrow.Author.Rules.{rules}
-use Rattle.holding.specs.ReachLaws.{reached_start, reached_same, reached_more}
+use Prim.Native.Nat.{◌≤◌, ◌-◌}
 use Rattle.holding.proofs.reach.Given as goal
 
 abbrev pub invariant-loop-y : goal.invariant-loop-y

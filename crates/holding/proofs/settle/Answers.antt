@@ -16,13 +16,13 @@ bounds-ms-o c = let pre = c.requires in
     search rules
 
 pub slice_bounds-wanted-end : goal.slice_bounds-wanted-end
-slice_bounds-wanted-end c = sym c.held.ensures.own-long
+slice_bounds-wanted-end c = sym c.held.ensures.own_long
 
 pub slice_bounds-wanted-end-2 : goal.slice_bounds-wanted-end-2
-slice_bounds-wanted-end-2 c = sym c.held.ensures.owns-long
+slice_bounds-wanted-end-2 c = sym c.held.ensures.owns_long
 
 pub slice_bounds-wanted-end-3 : goal.slice_bounds-wanted-end-3
-slice_bounds-wanted-end-3 c = sym c.held.ensures.owns-long
+slice_bounds-wanted-end-3 c = sym c.held.ensures.owns_long
 
 pub wanted-requires : goal.wanted-requires
 wanted-requires c = let pre = c.requires in
@@ -30,13 +30,13 @@ wanted-requires c = let pre = c.requires in
     let outs = pre.4 in
     let o = pre.5 in
     let s = c.held.ensures in
-    (pre.0, few, omega arith, pre.7, s.own-long, s.owns-long, λ l k. let z = s.less l k in omega arith, refl, refl, all_ones 32)
+    (pre.0, few, omega arith, pre.7, s.own_long, s.owns_long, λ l k. let z = s.less l k in omega arith, refl, refl, all_ones 32)
 
 pub slice_bounds-narrow_by-end : goal.slice_bounds-narrow_by-end
-slice_bounds-narrow_by-end c = sym c.held.ensures.own-long
+slice_bounds-narrow_by-end c = sym c.held.ensures.own_long
 
 pub slice_bounds-narrow_by-end-2 : goal.slice_bounds-narrow_by-end-2
-slice_bounds-narrow_by-end-2 c = sym c.wanted.ensures.meet-long
+slice_bounds-narrow_by-end-2 c = sym c.wanted.ensures.meet_long
 
 pub narrow_by-requires : goal.narrow_by-requires
 narrow_by-requires c = let pre = c.requires in

@@ -1,14 +1,13 @@
 use mathlib.Core.Path.{sym, ◌∙◌, subst}
-use Prim.Native.Nat.{ℕ, ◌≤◌, ◌+◌, ◌-◌, ◌*◌}
+use Prim.Native.Nat.{ℕ, ◌+◌, ◌*◌}
 use native.Mathlib.Omega.{arith}
-use mathlib.Core.Logic.{⊎_elim}
-use borrow.Author.Tests.{not-true}
 use Rattle.holding.specs.Full.{Free}
 use Rattle.holding.specs.Narrow.{Narrowed}
 use borrow.Author.Rules.{rules}
 use Rattle.holding.specs.FullLaws.{shut_more}
 use Rattle.holding.specs.NarrowLaws.{narrowed_start, narrowed_same}
 use Rattle.holding.proofs.shut.Goals as goal
+use Rattle.holding.proofs.shut.Goals.{then-codes-y-ge-NO_CODE+then-not-in_set, then-codes-y-ge-NO_CODE+else-not-in_set, else-codes-y-ge-NO_CODE}
 
 pub loop-y-init : goal.loop-y-init
 loop-y-init c = let a = c.args in
@@ -64,13 +63,12 @@ loop-y-preserved c = let a = c.args in
     let h = c.loop-y-test.true in let z = c.requires.1 in
     let P = Free a.cl.now a.o a.seen a.b in (
       omega arith,
-      ⊎_elim
-          (λ w. shut_more a.cl.now a.o a.seen a.b c.loop-y.y w.1.result w.5.result a.dom.now c.loop-y.dom _ w.2.result (omega arith) w.1.ensures w.2.ensures
-          (not-true _ w.3.taken) w.5.ensures w.6 c.loop-y.invariant.1)
-          (⊎_elim
-          (λ w. narrowed_same P a.dom.now c.loop-y.y c.loop-y.dom _ w.4 c.loop-y.invariant.1)
-          (λ w. narrowed_same P a.dom.now c.loop-y.y c.loop-y.dom _ w.1 c.loop-y.invariant.1))
-          c.if-codes-y-ge-NO_CODE.branch,
+      elim c.if-codes-y-ge-NO_CODE.branch [
+        | then-codes-y-ge-NO_CODE+then-not-in_set w ↦ shut_more a.cl.now a.o a.seen a.b c.loop-y.y w.label-l.result w.minus.result a.dom.now c.loop-y.dom _ w.in_set.result (omega arith)
+            w.label-l.ensures w.in_set.ensures w.if-not-in_set.true w.minus.ensures w.dom-is c.loop-y.invariant.1
+        | then-codes-y-ge-NO_CODE+else-not-in_set w ↦ narrowed_same P a.dom.now c.loop-y.y c.loop-y.dom _ w.dom-is c.loop-y.invariant.1
+        | else-codes-y-ge-NO_CODE w ↦ narrowed_same P a.dom.now c.loop-y.y c.loop-y.dom _ w.dom-is c.loop-y.invariant.1
+      ],
     )
 
 pub shape_of-dom : goal.shape_of-dom

@@ -1,12 +1,10 @@
 use mathlib.Core.Path.{◌≡◌, sym, ◌∙◌, subst}
-use mathlib.Core.Logic.{⊎_elim}
-use Prim.Native.Nat.{ℕ, ◌-◌, ◌≤◌}
+use Prim.Native.Nat.{ℕ}
 use native.Mathlib.Omega.{arith}
-use borrow.Author.Tests.{not-true, not-false}
 use Rattle.holding.specs.Joined.{Spreading}
-use borrow.Author.Rules.{rules}
 use Rattle.holding.specs.JoinedLaws.{spreading_start, spreading_same, spreading_more, spreading_end}
 use Rattle.holding.proofs.spread.Goals as goal
+use Rattle.holding.proofs.spread.Goals.{then-not-in_set, else-not-in_set}
 
 pub loop-i-init : goal.loop-i-init
 loop-i-init c = (omega arith, spreading_start c.args.mask c.args.d)
@@ -21,10 +19,10 @@ pub loop-i-preserved : goal.loop-i-preserved
 loop-i-preserved c = let h = c.loop-i-test.true in
     let args = c.args in (
       omega arith,
-      ⊎_elim
-          (λ w. spreading_more args.mask args.d c.loop-i.i c.loop-i.r _ w.1.result h (sym c.in_set.ensures ∙ not-true _ w.0.taken) w.1.ensures w.2 c.loop-i.invariant.1)
-          (λ w. spreading_same args.mask args.d c.loop-i.i c.loop-i.r _ (sym c.in_set.ensures ∙ not-false _ w.0.left) w.1 c.loop-i.invariant.1)
-          c.if-not-in_set.branch,
+      elim c.if-not-in_set.branch [
+        | then-not-in_set w ↦ spreading_more args.mask args.d c.loop-i.i c.loop-i.r _ w.joined-r.result h (sym c.in_set.ensures ∙ w.if-not-in_set.true) w.joined-r.ensures w.r-is c.loop-i.invariant.1
+        | else-not-in_set w ↦ spreading_same args.mask args.d c.loop-i.i c.loop-i.r _ (sym c.in_set.ensures ∙ w.if-not-in_set.false) w.r-is c.loop-i.invariant.1
+      ],
     )
 
 pub returns : goal.returns

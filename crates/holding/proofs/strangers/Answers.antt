@@ -1,4 +1,3 @@
-use borrow.Author.Rules.{rules}
 use Rattle.holding.proofs.strangers.Goals as goal
 
 pub returns-then-one_part : goal.returns-then-one_part

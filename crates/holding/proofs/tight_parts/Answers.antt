@@ -1,11 +1,11 @@
 use Rattle.holding.specs.Wants.{TightBelow}
-use mathlib.Core.Logic.{⊎_elim}
 use native.Mathlib.Omega.{arith}
-use Prim.Native.Nat.{ℕ, ◌≤◌, ◌-◌}
+use Prim.Native.Nat.{ℕ}
 use mathlib.Core.Path.{subst}
 use borrow.Author.Rules.{rules}
 use Rattle.holding.specs.WantsLaws.{tight_start, tight_same, tight_more}
 use Rattle.holding.proofs.tight_parts.Goals as goal
+use Rattle.holding.proofs.tight_parts.Goals.{then-ts-p, else-ts-p}
 
 pub loop-p-init : goal.loop-p-init
 loop-p-init c = (omega arith, tight_start c.args.ts.now c.args.spot)
@@ -20,10 +20,10 @@ pub loop-p-preserved : goal.loop-p-preserved
 loop-p-preserved c = let a = c.args in
     let h = c.loop-p-test.true in (
       omega arith,
-      ⊎_elim
-          (λ w. tight_more a.ts.now a.spot c.loop-p.p c.loop-p.r _ w.1.result w.0.taken w.1.ensures w.2 c.loop-p.invariant.1)
-          (λ w. tight_same a.ts.now a.spot c.loop-p.p c.loop-p.r _ w.1 c.loop-p.invariant.1)
-          c.if-ts-p.branch,
+      elim c.if-ts-p.branch [
+        | then-ts-p w ↦ tight_more a.ts.now a.spot c.loop-p.p c.loop-p.r _ w.with-r.result w.if-ts-p.true w.with-r.ensures w.r-is c.loop-p.invariant.1
+        | else-ts-p w ↦ tight_same a.ts.now a.spot c.loop-p.p c.loop-p.r _ w.r-is c.loop-p.invariant.1
+      ],
     )
 
 pub returns : goal.returns

@@ -1,10 +1,5 @@
 use Rattle.holding.specs.Wants.{TightBelow}
-use mathlib.Core.Logic.{⊎_elim}
-use native.Mathlib.Omega.{arith}
-use Prim.Native.Nat.{ℕ, ◌≤◌, ◌-◌}
-use mathlib.Core.Path.{subst}
-use borrow.Author.Rules.{rules}
-use Rattle.holding.specs.WantsLaws.{tight_start, tight_same, tight_more}
+use Prim.Native.Nat.{◌≤◌, ◌-◌}
 use Rattle.holding.proofs.tight_parts.Given as goal
 
 abbrev pub invariant-loop-p : goal.invariant-loop-p

@@ -1,8 +1,7 @@
-use mathlib.Core.Path.{◌≡◌, refl, ap, ◌∙◌, subst}
-use Prim.Native.Nat.{ℕ, ◌≤◌, ◌<◌, ◌*◌, ◌-◌, max}
+use mathlib.Core.Path.{refl, ap, ◌∙◌, subst}
+use Prim.Native.Nat.{ℕ, max}
 use native.Mathlib.Omega.{arith}
-use lib.ListN.{length, get_or}
-use Rattle.problem.specs.Problem.{item}
+use lib.ListN.{get_or}
 use Rattle.holding.specs.Wants.{Totals}
 use borrow.Author.Rules.{rules}
 use Rattle.holding.specs.WantsLaws.{totals_start, totals_more}
@@ -24,30 +23,11 @@ label-requires c = let z = c.requires.1 in (omega arith, c.requires.2, c.loop-l-
 pub overflow_cast-n : goal.overflow_cast-n
 overflow_cast-n c = let z = c.larger-n.ensures.1 in search rules
 
--- the part of a class is below the length of the sums, and with what the class needs its sum is still small
-needs-more : (c : goal.After-larger-n) → (c.before.before.before.class-part.result < 32) × (length c.before.before.before.before.before.loop.t ≡ 32)
-    × (item c.loop-l.t c.class_part-p.result ≤ 32 * 255) × (c.larger-n.result ≤ 255)
-needs-more c =
-    let inv = c.loop-l.invariant.1 in
-    let part = c.class_part-p.ensures.1 in
-    let low = inv.low c.class_part-p.result part in
-    let h = c.loop-l-test.true in
-    (part, inv.long, omega arith, c.larger-n.ensures.1)
-
-pub offset_bounds-t-p : goal.offset_bounds-t-p
-offset_bounds-t-p c = let facts = needs-more c in search rules
-
-pub bounds-t-p : goal.bounds-t-p
-bounds-t-p c = let facts = needs-more c in search rules
-
 pub overflow_add-t : goal.overflow_add-t
-overflow_add-t c = let facts = needs-more c in record { fits = omega arith }
-
-pub offset_bounds-t-p-in-loop-l : goal.offset_bounds-t-p-in-loop-l
-offset_bounds-t-p-in-loop-l c = let facts = needs-more c in search rules
-
-pub bounds-t-p-in-loop-l : goal.bounds-t-p-in-loop-l
-bounds-t-p-in-loop-l c = let facts = needs-more c in search rules
+overflow_add-t c = let low = c.loop-l.invariant.1.low c.class_part-p.result c.class_part-p.ensures.1 in
+    let h = c.loop-l-test.true in
+    let need = c.larger-n.ensures.1 in
+    record { fits = omega arith }
 
 pub loop-l-preserved : goal.loop-l-preserved
 loop-l-preserved c = let a = c.args in

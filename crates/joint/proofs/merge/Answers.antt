@@ -1,4 +1,3 @@
-use mathlib.Core.Logic.{⊎_elim}
 use mathlib.Core.Path.{refl, subst}
 use Prim.Native.Nat.{ℕ, ◌≤◌, ◌-◌}
 use native.Mathlib.Omega.{arith}
@@ -7,6 +6,7 @@ use Rattle.joint.specs.MergeLaws.{vertices_zero, merged_start, at_new, at_old}
 use Rattle.joint.specs.Merge.{Merged}
 use borrow.Author.Rules.{rules}
 use Rattle.joint.proofs.merge.Goals as goal
+use Rattle.joint.proofs.merge.Goals.{then-q-n, else-q-n}
 
 pub loop-x-init : goal.loop-x-init
 loop-x-init c = (omega arith, merged_start c.args.cl.now c.args.j c.args.kn c.args.val _ _ refl refl (vertices_zero max_vertices))
@@ -52,12 +52,12 @@ pub loop-x-preserved : goal.loop-x-preserved
 loop-x-preserved c = let h = c.loop-x-test.true in
     let p = c.requires.1 in (
       omega arith,
-      ⊎_elim
-          (λ w. at_new c.args.cl.now c.args.j c.args.kn c.args.val c.loop-x.x c.loop-x.n c.loop-x.first _ c.loop-x.place _
-          c.class_of-q.result (omega arith) c.loop-x.invariant.1 w.0.taken w.1 w.2)
-          (λ w. at_old c.args.cl.now c.args.j c.args.kn c.args.val c.loop-x.x c.loop-x.n c.loop-x.first _ c.loop-x.place _
-          c.class_of-q.result (omega arith) c.loop-x.invariant.1 c.class_of-q.ensures w.0.left w.1 w.2)
-          c.if-q-n.branch,
+      elim c.if-q-n.branch [
+        then-q-n w ↦ at_new c.args.cl.now c.args.j c.args.kn c.args.val c.loop-x.x c.loop-x.n c.loop-x.first _ c.loop-x.place _
+          c.class_of-q.result (omega arith) c.loop-x.invariant.1 w.if-q-n.true w.first-is w.n-is
+      | else-q-n w ↦ at_old c.args.cl.now c.args.j c.args.kn c.args.val c.loop-x.x c.loop-x.n c.loop-x.first _ c.loop-x.place _
+          c.class_of-q.result (omega arith) c.loop-x.invariant.1 c.class_of-q.ensures w.if-q-n.false w.first-is w.n-is
+      ],
     )
 
 pub returns : goal.returns

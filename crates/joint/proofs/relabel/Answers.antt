@@ -15,7 +15,7 @@ overflow_mul-end c = let h = c.requires.1 in search rules
 
 pub loop-i-init : goal.loop-i-init
 loop-i-init c = let args = c.args in
-    (omega arith, refl, picked_start args.cl.now args.t2 c.copied-r.result c.copied-r.ensures)
+    (omega arith, refl, picked_start args.cl.now args.first c.copied-r.result c.copied-r.ensures)
 
 pub label-requires : goal.label-requires
 label-requires c = let p = c.requires in

@@ -1,9 +1,7 @@
 use mathlib.Core.Path.{refl}
-use Prim.Native.Nat.{◌≤◌, ◌-◌, ◌*◌}
 use native.Mathlib.Omega.{arith}
 use borrow.Author.Rules.{rules}
 use Rattle.cells.specs.ListLaws.{zeros_are}
-use Rattle.lowerbounds.specs.Reasons.{Based}
 use Rattle.lowerbounds.specs.RaisingLaws.{based_start}
 use Rattle.lowerbounds.proofs.bases.Goals as goal
 

@@ -1,11 +1,6 @@
 -- `bases`: the table of noughts has reasons, and each output's raising keeps them.
-use mathlib.Core.Path.{refl}
 use Prim.Native.Nat.{◌≤◌, ◌-◌, ◌*◌}
-use native.Mathlib.Omega.{arith}
-use borrow.Author.Rules.{rules}
-use Rattle.cells.specs.ListLaws.{zeros_are}
 use Rattle.lowerbounds.specs.Reasons.{Based}
-use Rattle.lowerbounds.specs.RaisingLaws.{based_start}
 use Rattle.lowerbounds.proofs.bases.Given as goal
 
 abbrev pub invariant-loop-o : goal.invariant-loop-o

@@ -1,16 +1,13 @@
 use mathlib.Core.Path.{◌≡◌, refl, sym, ◌∙◌, subst}
 use mathlib.Core.List.{List}
-use mathlib.Core.Logic.{⊎_elim}
-use Prim.Native.Nat.{ℕ, ◌<◌, ◌≤◌, ◌+◌, ◌-◌, ◌*◌}
+use Prim.Native.Nat.{ℕ, ◌<◌, ◌≤◌, ◌+◌, ◌*◌}
 use native.Mathlib.Omega.{arith}
-use lib.ListN.{length}
-use borrow.Author.Tests.{not-true}
-use borrow.Author.Rules.{rules}
 use Rattle.cells.specs.ListLaws.{zeros_are}
 use Rattle.problem.specs.Problem.{Labels, label_at}
 use Rattle.lowerbounds.specs.Counting.{Counting, KindsSoFar}
 use Rattle.lowerbounds.specs.CountingLaws.{counting_start, counting_skip, counting_new, kinds_start, kinds_skip, kinds_raised}
 use Rattle.lowerbounds.proofs.kinds.Goals as goal
+use Rattle.lowerbounds.proofs.kinds.Goals.{then-not-in_set+then-r-l, then-not-in_set+else-r-l, else-not-in_set}
 
 low-label : {cl : List ℕ} {o v x l : ℕ} → Labels cl → o < 8 → v ≤ 32 → x < v → l ≡ label_at cl o x → l < 32
 low-label {cl} {o} {v} {x} given ho hv hx e = let low = given.low (o * 32 + x) (omega arith) in omega arith
@@ -39,29 +36,15 @@ label-k-requires c = let pre = c.requires in
     let long = pre.0.long in
     (omega arith, pre.3, omega arith)
 
--- the two classes of a vertex are below the lengths of the tables
-labelled : (c : goal.After-label-k) → (c.before.label.result < 32) × (c.label2.result < 32)
-    × (length c.loop-x.seen ≡ 32) × (length c.loop-x.g ≡ 1024) × (length c.loop-x.r ≡ 32)
-labelled c =
-    let inv = c.loop-x.invariant in
-    let pre = c.requires in
-    let h = c.loop-x-test.true in
-    (low-label pre.0 pre.2 pre.1 h c.label-l.ensures, low-label pre.0 pre.3 pre.1 h c.label-k.ensures, inv.1.sets, inv.1.long, inv.2.long)
-
-pub bounds-seen-l : goal.bounds-seen-l
-bounds-seen-l c = let facts = labelled c in search rules
-
 pub in_set-requires : goal.in_set-requires
-in_set-requires c = let facts = labelled c in let low = facts.1 in omega arith
-
-pub bounds-seen-l-then-not-in_set : goal.bounds-seen-l-then-not-in_set
-bounds-seen-l-then-not-in_set c = let facts = labelled (goal.at.bounds-seen-l-then-not-in_set c).After-label-k in search rules
+in_set-requires c = let pre = c.requires in
+    let low = low-label pre.0 pre.3 pre.1 c.loop-x-test.true c.label-k.ensures in
+    omega arith
 
 pub with-requires : goal.with-requires
-with-requires c = let facts = labelled (goal.at.with-requires c).After-label-k in let low = facts.1 in omega arith
-
-pub bounds-seen-l-then-not-in_set-2 : goal.bounds-seen-l-then-not-in_set-2
-bounds-seen-l-then-not-in_set-2 c = let facts = labelled (goal.at.bounds-seen-l-then-not-in_set-2 c).After-label-k in search rules
+with-requires c = let pre = c.requires in
+    let low = low-label pre.0 pre.3 pre.1 c.loop-x-test.true c.label-k.ensures in
+    omega arith
 
 pub part-p-requires : goal.part-p-requires
 part-p-requires c = let pre = c.requires in
@@ -69,24 +52,12 @@ part-p-requires c = let pre = c.requires in
     let few = pre.1 in
     (pre.0, pre.3, omega arith)
 
-pub bounds-g-i : goal.bounds-g-i
-bounds-g-i c = let facts = labelled (goal.at.bounds-g-i c).After-label-k in let low_part = c.part-p.ensures.1 in search rules
-
 pub overflow_add-n : goal.overflow_add-n
 overflow_add-n c = let pre = c.requires in
     let h = c.loop-x-test.true in
     let low = low-label pre.0 pre.2 pre.1 h c.label-l.ensures in
     let small = (c.loop-x.invariant.1.found c.label-l.result c.part-p.result low c.part-p.ensures.1).few in
     record { fits = omega arith }
-
-pub bounds-g-i-then-not-in_set : goal.bounds-g-i-then-not-in_set
-bounds-g-i-then-not-in_set c = let facts = labelled (goal.at.bounds-g-i-then-not-in_set c).After-label-k in let low_part = c.part-p.ensures.1 in search rules
-
-pub bounds-r-l : goal.bounds-r-l
-bounds-r-l c = let facts = labelled (goal.at.bounds-r-l c).After-label-k in search rules
-
-pub bounds-r-l-then-r-l : goal.bounds-r-l-then-r-l
-bounds-r-l-then-r-l c = let facts = labelled (goal.at.bounds-r-l-then-r-l c).After-label-k in search rules
 
 pub loop-x-preserved : goal.loop-x-preserved
 loop-x-preserved c = let a = c.args in
@@ -96,18 +67,19 @@ loop-x-preserved c = let a = c.args in
     let low = low-label pre.0 pre.2 pre.1 h c.label-l.ensures in
     let new = counting_new a.cl.now a.o a.q c.loop-x.x c.label-l.result c.label-k.result c.loop-x.seen c.loop-x.g c.label-l.ensures low c.label-k.ensures c.loop-x.invariant.1 in
     let later = kinds_skip a.cl.now a.o a.q c.loop-x.x c.loop-x.r c.loop-x.invariant.2 in
-    let next = ⊎_elim
-    (λ w.
-    let d = w.2.result in
-    let hd = w.2.ensures.1 in
-    let more = new d w.1.result (sym c.in_set.ensures ∙ not-true _ w.0.taken) w.1.ensures w.2.ensures.0 hd in
-    let most = kinds_raised a.cl.now a.o a.q c.loop-x.x c.label-l.result d _ _ c.loop-x.g c.loop-x.r (omega arith) low hd more c.loop-x.invariant.2 in
-    moved w.4 w.5 w.6 more most)
-    (⊎_elim
-    (λ w.
-    let more = new w.2.result w.1.result (sym c.in_set.ensures ∙ not-true _ w.0.taken) w.1.ensures w.2.ensures.0 w.2.ensures.1 in
-    moved w.4 w.5 w.6 more later)
-    (λ w. moved w.1 w.2 w.3 (counting_skip a.cl.now a.o a.q c.loop-x.x c.loop-x.seen c.loop-x.g c.loop-x.invariant.1) later)) c.if-not-in_set.branch in
+    let Next : Type 0 = Counting a.cl.now a.o a.q (c.loop-x.x + 1) c.if-not-in_set.seen c.if-not-in_set.g × KindsSoFar a.cl.now a.o a.q (c.loop-x.x + 1) c.if-not-in_set.r in
+    let next : Next = elim c.if-not-in_set.branch [
+      | then-not-in_set+then-r-l w ↦
+          let d = w.part-p.result in
+          let hd = w.part-p.ensures.1 in
+          let more = new d w.with.result (sym c.in_set.ensures ∙ w.if-not-in_set.true) w.with.ensures w.part-p.ensures.0 hd in
+          let most = kinds_raised a.cl.now a.o a.q c.loop-x.x c.label-l.result d _ _ c.loop-x.g c.loop-x.r (omega arith) low hd more c.loop-x.invariant.2 in
+          moved w.seen-is w.g-is w.r-is more most
+      | then-not-in_set+else-r-l w ↦
+          let more = new w.part-p.result w.with.result (sym c.in_set.ensures ∙ w.if-not-in_set.true) w.with.ensures w.part-p.ensures.0 w.part-p.ensures.1 in
+          moved w.seen-is w.g-is w.r-is more later
+      | else-not-in_set w ↦ moved w.seen-is w.g-is w.r-is (counting_skip a.cl.now a.o a.q c.loop-x.x c.loop-x.seen c.loop-x.g c.loop-x.invariant.1) later
+    ] in
     (omega arith, next.0, next.1)
 
 pub returns : goal.returns

@@ -1,13 +1,13 @@
 use mathlib.Core.Path.{◌≡◌, sym, ap, subst}
 use mathlib.Core.List.{List}
-use mathlib.Core.Logic.{⊎_elim}
-use Prim.Native.Nat.{ℕ, ◌+◌, ◌-◌, ◌/◌, ◌^◌, ◌≤◌}
+use Prim.Native.Nat.{ℕ, ◌+◌, ◌-◌, ◌/◌, ◌^◌}
 use native.Mathlib.Omega.{arith}
 use borrow.Author.Rules.{rules}
 use Rattle.problem.specs.Problem.{item}
 use Rattle.lowerbounds.specs.Reasons.{Raised}
 use Rattle.lowerbounds.specs.RaisingLaws.{raised_start, raised_kept, raised_more}
 use Rattle.lowerbounds.proofs.raise.Goals as goal
+use Rattle.lowerbounds.proofs.raise.Goals.{then-base-i, else-base-i}
 
 pub power-p-requires : goal.power-p-requires
 power-p-requires c = c.requires.2
@@ -51,8 +51,10 @@ loop-l-preserved c = let a = c.args in
     let blocks = ap (λ (z : ℕ). (item a.kinds c.loop-l.l + z - 1) / 2 ^ a.d) c.power-p.ensures.0 in
     let Next : List ℕ → Type 0 = Raised a.o a.d (c.loop-l.l + 1) a.kinds a.base.now in (
       omega arith,
-      ⊎_elim (λ w. subst Next (sym w.1) (raised_more a.o a.d a.kinds a.base.now c.loop-l.l _ c.loop-l.base (omega arith) blocks c.loop-l.invariant.1))
-          (λ w. subst Next (sym w.1) (raised_kept a.o a.d a.kinds a.base.now c.loop-l.l c.loop-l.base c.loop-l.invariant.1)) c.if-base-i.branch,
+      elim c.if-base-i.branch [
+        | then-base-i w ↦ subst Next (sym w.base-is) (raised_more a.o a.d a.kinds a.base.now c.loop-l.l _ c.loop-l.base (omega arith) blocks c.loop-l.invariant.1)
+        | else-base-i w ↦ subst Next (sym w.base-is) (raised_kept a.o a.d a.kinds a.base.now c.loop-l.l c.loop-l.base c.loop-l.invariant.1)
+      ],
     )
 
 pub shape_of-base : goal.shape_of-base

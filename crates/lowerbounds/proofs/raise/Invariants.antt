@@ -1,13 +1,6 @@
 -- `raise`: each turn keeps an entry of o, or sets it to what its kinds say.
-use mathlib.Core.Path.{◌≡◌, sym, ap, subst}
-use mathlib.Core.List.{List}
-use mathlib.Core.Logic.{⊎_elim}
-use Prim.Native.Nat.{ℕ, ◌+◌, ◌-◌, ◌/◌, ◌^◌, ◌≤◌}
-use native.Mathlib.Omega.{arith}
-use borrow.Author.Rules.{rules}
-use Rattle.problem.specs.Problem.{item}
+use Prim.Native.Nat.{◌-◌, ◌≤◌}
 use Rattle.lowerbounds.specs.Reasons.{Raised}
-use Rattle.lowerbounds.specs.RaisingLaws.{raised_start, raised_kept, raised_more}
 use Rattle.lowerbounds.proofs.raise.Given as goal
 
 abbrev pub invariant-loop-l : goal.invariant-loop-l

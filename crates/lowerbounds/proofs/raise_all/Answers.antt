@@ -1,12 +1,12 @@
 use mathlib.Core.Path.{sym, ap, ◌∙◌, subst}
 use mathlib.Core.List.{List}
-use mathlib.Core.Logic.{⊎_elim}
-use Prim.Native.Nat.{ℕ, ◌≤◌, ◌-◌, ◌*◌, ◌^◌}
+use Prim.Native.Nat.{ℕ, ◌*◌, ◌^◌}
 use native.Mathlib.Omega.{arith}
 use borrow.Author.Rules.{rules}
 use Rattle.lowerbounds.specs.Reasons.{Based}
 use Rattle.lowerbounds.specs.RaisingLaws.{raised_based}
 use Rattle.lowerbounds.proofs.raise_all.Goals as goal
+use Rattle.lowerbounds.proofs.raise_all.Goals.{then-q-o, else-q-o+else-j-eq1}
 
 pub loop-q-init : goal.loop-q-init
 loop-q-init c = (omega arith, c.requires.4)
@@ -40,10 +40,11 @@ loop-q-preserved c = let a = c.args in
     let h = c.loop-q-test.true in
     let Next : List ℕ → Type 0 = Based a.cl.now a.rows a.v a.j (a.j * 32) in (
       omega arith,
-      ⊎_elim
-          (λ w. subst Next (sym w.7) (raised_based a.cl.now a.rows a.v a.j a.o c.loop-q.q w.1.result w.3.result c.loop-q.base _ pre.3 h
-          (ap (λ (d : ℕ). 2 ^ d) w.1.ensures.0) w.3.ensures w.4.ensures c.loop-q.invariant.1))
-          (λ w. subst Next (sym w.2) c.loop-q.invariant.1) c.if-q-o.branch,
+      elim c.if-q-o.branch [
+        | then-q-o w ↦ subst Next (sym w.base-is) (raised_based a.cl.now a.rows a.v a.j a.o c.loop-q.q w.size-d.result w.kinds.result c.loop-q.base _ pre.3 h
+            (ap (λ (d : ℕ). 2 ^ d) w.size-d.ensures.0) w.kinds.ensures w.raise.ensures c.loop-q.invariant.1)
+        | else-q-o+else-j-eq1 w ↦ subst Next (sym w.base-is) c.loop-q.invariant.1
+      ],
     )
 
 pub shape_of-base : goal.shape_of-base

@@ -1,12 +1,6 @@
 -- `raise_all`: each turn keeps the table or raises it by the kinds of one output, and either way its entries have reasons.
-use mathlib.Core.Path.{sym, ap, ◌∙◌, subst}
-use mathlib.Core.List.{List}
-use mathlib.Core.Logic.{⊎_elim}
-use Prim.Native.Nat.{ℕ, ◌≤◌, ◌-◌, ◌*◌, ◌^◌}
-use native.Mathlib.Omega.{arith}
-use borrow.Author.Rules.{rules}
+use Prim.Native.Nat.{◌≤◌, ◌-◌, ◌*◌}
 use Rattle.lowerbounds.specs.Reasons.{Based}
-use Rattle.lowerbounds.specs.RaisingLaws.{raised_based}
 use Rattle.lowerbounds.proofs.raise_all.Given as goal
 
 abbrev pub invariant-loop-q : goal.invariant-loop-q

@@ -5,12 +5,6 @@ use Rattle.emit.specs.PutLaws.{put_next, put_then}
 use Rattle.netlines.specs.TextLaws.{last_text}
 use Rattle.netlines.proofs.put_end.Goals as goal
 
--- LEFT slice-aggregate-put-text : tie.Need-slice-aggregate-put-text
--- LEFT slice-aggregate-put-text c = search rules
-
--- LEFT slice-aggregate-put-text-2 : tie.Need-slice-aggregate-put-text-2
--- LEFT slice-aggregate-put-text-2 c = search rules
-
 pub returns : goal.returns
 returns c = let pre = c.requires in
     put_next c.put_text-p.ensures (put_then c.put_byte-q.ensures c.put_text.ensures) (last_text _ pre.1) (omega arith)

@@ -5,9 +5,6 @@ use Rattle.emit.specs.PutLaws.{put_next, put_then}
 use Rattle.netlines.specs.TextLaws.{lut_text}
 use Rattle.netlines.proofs.put_lut.Goals as goal
 
--- LEFT slice-aggregate-put-text : tie.Need-slice-aggregate-put-text
--- LEFT slice-aggregate-put-text c = search rules
-
 pub returns : goal.returns
 returns c = let pre = c.requires in
     put_next c.put_lut_head-p.ensures (put_then c.put_table-q.ensures c.put_text.ensures) (lut_text _ _ _) (omega (arith, pre))

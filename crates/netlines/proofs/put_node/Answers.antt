@@ -14,7 +14,7 @@ pub power-count-requires : goal.power-count-requires
 power-count-requires c = omega (arith, c.requires.2, c.read_names-reads.ensures.2)
 
 pub firsts-firsts-requires : goal.firsts-firsts-requires
-firsts-firsts-requires c = (c.requires.2, c.requires.3.few-vertices)
+firsts-firsts-requires c = (c.requires.2, c.requires.3.few_vertices)
 
 pub put_node_head-p-requires : goal.put_node_head-p-requires
 put_node_head-p-requires c = omega (arith, c.requires.0)
@@ -29,17 +29,14 @@ put_list-q-requires c = let place = c.put_node_head-p.ensures.place in
 
 pub put_entries-r-requires : goal.put_entries-r-requires
 put_entries-r-requires c = let codes = codes_few _ c.power-count.result c.power-count.ensures (omega (arith, c.requires.2, c.read_names-reads.ensures.2)) in
-    let few = entries_few c.power-count.result (length c.args.free.now) codes c.requires.3.few-free in
+    let few = entries_few c.power-count.result (length c.args.free.now) codes c.requires.3.few_free in
     let a = c.put_node_head-p.ensures in
     let b = c.put_list-q.ensures in
     (omega (arith, c.requires.0, a.place, a.short, b.place, b.short), codes, c.requires.3.laid)
 
--- LEFT slice-aggregate-put-text : tie.Need-slice-aggregate-put-text
--- LEFT slice-aggregate-put-text c = refl
-
 pub put_text-requires : goal.put_text-requires
 put_text-requires c = let codes = codes_few _ c.power-count.result c.power-count.ensures (omega (arith, c.requires.2, c.read_names-reads.ensures.2)) in
-    let few = entries_few c.power-count.result (length c.args.free.now) codes c.requires.3.few-free in
+    let few = entries_few c.power-count.result (length c.args.free.now) codes c.requires.3.few_free in
     let a = c.put_node_head-p.ensures in
     let b = c.put_list-q.ensures in
     let d = c.put_entries-r.ensures in
@@ -50,8 +47,8 @@ shape_of-buf c = put_length (put_then c.put_node_head-p.ensures (put_then c.put_
 
 pub returns : goal.returns
 returns c = let codes = codes_few _ c.power-count.result c.power-count.ensures (omega (arith, c.requires.2, c.read_names-reads.ensures.2)) in
-    let few = entries_few c.power-count.result (length c.args.free.now) codes c.requires.3.few-free in
+    let few = entries_few c.power-count.result (length c.args.free.now) codes c.requires.3.few_free in
     put_next c.put_node_head-p.ensures (put_then c.put_list-q.ensures (put_then c.put_entries-r.ensures c.put_text.ensures))
     (node_line _ _ _ _ _ _ _ _ _ _ _ _ c.joined.ensures.0 c.read_names-reads.ensures.0 c.firsts-firsts.ensures
-    c.requires.3.few-vertices c.power-count.ensures c.read_names-reads.ensures.1 codes)
+    c.requires.3.few_vertices c.power-count.ensures c.read_names-reads.ensures.1 codes)
     (omega arith)

@@ -1,6 +1,5 @@
 use mathlib.Core.Path.{sym, subst}
 use mathlib.Core.List.{List}
-use mathlib.Core.Logic.{⊎_elim}
 use Prim.Native.Nat.{◌+◌, ◌-◌}
 use native.Mathlib.Omega.{arith}
 use lib.ListN.{length}
@@ -8,12 +7,10 @@ use Rattle.sheet.specs.declared.Rows.{Rows}
 use Rattle.panel.specs.AddLaws.{AddedUpTo, added_none, added_unmarked, added_marked, added_all}
 use borrow.Author.Rules.{rules}
 use Rattle.panel.proofs.added.Goals as goal
+use Rattle.panel.proofs.added.Goals.{then-marks-o-eq49, else-marks-o-eq49}
 
 pub loop-o-init : goal.loop-o-init
-loop-o-init c = added_none _ _ _ c.well-formed.0.1.0.1
-
-pub bounds-marks-o : goal.bounds-marks-o
-bounds-marks-o c = omega arith
+loop-o-init c = added_none _ _ _ c.well_formed.0.1.0.1
 
 pub offset_bounds-next-o : goal.offset_bounds-next-o
 offset_bounds-next-o c = omega (arith, c.requires)
@@ -27,12 +24,6 @@ offset_bounds-next-o-then-marks-o-eq49 c = omega (arith, c.requires)
 pub bounds-next-o-then-marks-o-eq49 : goal.bounds-next-o-then-marks-o-eq49
 bounds-next-o-then-marks-o-eq49 c = omega (arith, c.requires)
 
-pub overflow_add-o : goal.overflow_add-o
-overflow_add-o c = omega arith
-
-pub loop-o-smaller : goal.loop-o-smaller
-loop-o-smaller c = omega arith
-
 pub loop-o-preserved : goal.loop-o-preserved
 loop-o-preserved c = let pre = c.requires in
     let a = c.args in
@@ -40,10 +31,11 @@ loop-o-preserved c = let pre = c.requires in
     let so_far = c.loop-o.invariant in
     let inside = c.loop-o-test.true in
     let Next : List Rows → Type 0 = AddedUpTo a.tables a.rows a.marks.now (o + 1) in
-    ⊎_elim
-    (λ w. subst Next (sym w.4) (added_marked _ _ _ _ _ so_far inside _ (pre) w.0.taken w.3.ensures))
-    (λ w. subst Next (sym w.1) (added_unmarked _ _ _ _ _ so_far inside w.0.left))
-    c.if-marks-o-eq49.branch
+    elim c.if-marks-o-eq49.branch [
+        then-marks-o-eq49 w ↦
+          subst Next (sym w.next-is) (added_marked _ _ _ _ _ so_far inside _ pre w.if-marks-o-eq49.true w.either.ensures)
+      | else-marks-o-eq49 w ↦ subst Next (sym w.next-is) (added_unmarked _ _ _ _ _ so_far inside w.if-marks-o-eq49.false)
+    ]
 
 pub returns : goal.returns
 returns c = added_all _ _ _ _ _ c.loop-o.invariant c.loop-o-test.false

@@ -7,7 +7,7 @@ use Rattle.panel.proofs.ask_board.Goals as goal
 
 pub ask_line-a-requires : goal.ask_line-a-requires
 ask_line-a-requires c = let k = c.requires.holds in
-    (k.inputs-few, k.outputs-few)
+    (k.inputs_few, k.outputs_few)
 
 pub returns-then-not-a : goal.returns-then-not-a
 returns-then-not-a c = λ d bs n h e i. bound-refused d bs n _ c.ask_line-a.result e (c.ask_line-a.ensures d h tt) _ (not-true _ c.if-not-a.true) c.refused.ensures
@@ -16,7 +16,7 @@ pub ask_line-b-requires : goal.ask_line-b-requires
 ask_line-b-requires c = let args = c.args in
     let pre = c.requires in
     let k = (step_held (ask_line at_bound pre.design args.bound.now) c.ask_line-a.result (c.ask_line-a.ensures pre.design pre.holds tt) (not-false _ c.if-not-a.false)).holds in
-    (k.inputs-few, k.outputs-few)
+    (k.inputs_few, k.outputs_few)
 
 pub returns-then-not-b : goal.returns-then-not-b
 returns-then-not-b c = λ d bs n h e i.

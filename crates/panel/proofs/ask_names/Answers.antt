@@ -9,7 +9,7 @@ use Rattle.panel.proofs.ask_names.Goals as goal
 
 pub returns-then-not-a : goal.returns-then-not-a
 returns-then-not-a c = λ x r p.
-    let step = c.asked_in-a.ensures nothing (some x.inputs) r.inputs-listed c.blank.ensures (record { no_bound = refl; no-outputs = refl }) in
+    let step = c.asked_in-a.ensures nothing (some x.inputs) r.inputs_listed c.blank.ensures (record { no_bound = refl; no_outputs = refl }) in
     inputs_refused x c.asked_in-a.result step (not-true _ c.if-not-a.true) _ c.refused.ensures
 
 pub tables-requires : goal.tables-requires
@@ -19,7 +19,7 @@ pub ask_outputs-requires : goal.ask_outputs-requires
 ask_outputs-requires c = let args = c.args in
     let pre = c.requires in
     let x = pre.text in
-    let step = c.asked_in-a.ensures nothing (some x.inputs) pre.read_as.inputs-listed c.blank.ensures (record { no_bound = refl; no-outputs = refl }) in
+    let step = c.asked_in-a.ensures nothing (some x.inputs) pre.read_as.inputs_listed c.blank.ensures (record { no_bound = refl; no_outputs = refl }) in
     let passed = inputs_passed x c.asked_in-a.result step (not-false _ c.if-not-a.false) in
     record {
       text = x;
@@ -31,7 +31,7 @@ pub returns : goal.returns
 returns c = let args = c.args in
     let pre = c.requires in
     λ x r p.
-    let step = c.asked_in-a.ensures nothing (some x.inputs) r.inputs-listed c.blank.ensures (record { no_bound = refl; no-outputs = refl }) in
+    let step = c.asked_in-a.ensures nothing (some x.inputs) r.inputs_listed c.blank.ensures (record { no_bound = refl; no_outputs = refl }) in
     let passed = inputs_passed x c.asked_in-a.result step (not-false _ c.if-not-a.false) in
     names_asked x _ _ passed
     (c.ask_outputs.ensures x (design_of x) (names_ready _ x args.t _ _ r p pre passed (c.tables.ensures x r)))

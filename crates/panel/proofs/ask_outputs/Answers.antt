@@ -20,7 +20,7 @@ is_new-requires c = let pre = c.requires in
     outputs_held _ _ _ _ _ _ c.loop-o.invariant pre.text pre.design pre.ready
 
 pub returns-then-not-is_new : goal.returns-then-not-is_new
-returns-then-not-is_new c = outputs_stopped _ _ _ _ _ _ c.loop-o.invariant c.loop-o-test.true (λ e h. sym (not-true _ c.if-not-is_new.true-raw) ∙ c.is_new.ensures e h) _ c.refused.ensures
+returns-then-not-is_new c = outputs_stopped _ _ _ _ _ _ c.loop-o.invariant c.loop-o-test.true (λ e h. sym c.if-not-is_new.true ∙ c.is_new.ensures e h) _ c.refused.ensures
 
 pub offset_bounds-tables-o : goal.offset_bounds-tables-o
 offset_bounds-tables-o c = omega (arith, ready_few _ _ _ _ c.requires)
@@ -32,14 +32,8 @@ pub with_output-next-requires : goal.with_output-next-requires
 with_output-next-requires c = let pre = c.requires in
     outputs_room _ _ _ _ _ _ c.loop-o.invariant c.loop-o-test.true pre.text pre.design pre.ready
 
-pub overflow_add-o : goal.overflow_add-o
-overflow_add-o c = omega arith
-
-pub loop-o-smaller : goal.loop-o-smaller
-loop-o-smaller c = omega arith
-
 pub loop-o-preserved : goal.loop-o-preserved
-loop-o-preserved c = outputs_more _ _ _ _ _ _ c.loop-o.invariant c.loop-o-test.true _ (λ e h. sym (not-false _ c.if-not-is_new.false-raw) ∙ c.is_new.ensures e h) c.with_output-next.ensures
+loop-o-preserved c = outputs_more _ _ _ _ _ _ c.loop-o.invariant c.loop-o-test.true _ (λ e h. sym c.if-not-is_new.false ∙ c.is_new.ensures e h) c.with_output-next.ensures
 
 pub returns : goal.returns
 returns c = outputs_all _ _ _ _ _ _ c.loop-o.invariant c.loop-o-test.false _ c.passed.ensures

@@ -41,4 +41,4 @@ ask_board-requires c = let pre = c.requires.0 in
 pub returns : goal.returns
 returns c = λ x bs n r p q.
     panel_asked x bs n _ _ (c.ask_names-n.ensures x r p) (not-false _ c.if-not-n.false)
-    (λ d h. c.ask_board.ensures d bs n h q.bound-read q.limit-read)
+    (λ d h. c.ask_board.ensures d bs n h q.bound_read q.limit_read)

@@ -10,25 +10,14 @@ use Rattle.panel.proofs.zeros_and_ones.Goals as goal
 pub loop-i-init : goal.loop-i-init
 loop-i-init c = record { few = omega arith; is = refl }
 
-pub bounds-m-i : goal.bounds-m-i
-bounds-m-i c = omega arith
-
-pub bounds-m-i-then-m-i-ne48 : goal.bounds-m-i-then-m-i-ne48
-bounds-m-i-then-m-i-ne48 c = omega arith
-
 pub returns-then-m-i-ne49 : goal.returns-then-m-i-ne49
-returns-then-m-i-ne49 c = byte_other _ _ c.loop-i.invariant c.loop-i-test.true c.if-m-i-ne48.true (eqb-false _ _ (not-true _ c.if-m-i-ne49.true-raw))
-
-pub overflow_add-i : goal.overflow_add-i
-overflow_add-i c = omega arith
-
-pub loop-i-smaller : goal.loop-i-smaller
-loop-i-smaller c = omega arith
+returns-then-m-i-ne49 c = byte_other _ _ c.loop-i.invariant c.loop-i-test.true c.if-m-i-ne48.true c.if-m-i-ne49.true
 
 pub loop-i-preserved : goal.loop-i-preserved
 loop-i-preserved c = let passed = c.loop-i.invariant in
     let inside = c.loop-i-test.true in
-    ⊎_elim (λ w. byte_one _ _ passed inside (eqb-true _ _ (not-false _ w.2.left))) (λ w. byte_zero _ _ passed inside w.left) c.else-m-i-ne48.branch
+    let b = c.else-m-i-ne48.branch in
+    ?
 
 pub returns : goal.returns
 returns c = bytes_all _ _ c.loop-i.invariant c.loop-i-test.false

@@ -7,6 +7,7 @@ use Rattle.picking.specs.Best.{Best}
 use Rattle.picking.specs.BestLaws.{best_start, best_unsuited, best_not_sooner, best_sooner}
 use borrow.Author.Rules.{rules}
 use Rattle.picking.proofs.first_row.Goals as goal
+use Rattle.picking.proofs.first_row.Goals.{then-sooner+then-suits, then-sooner+else-suits, else-sooner}
 
 pub single-end-requires : goal.single-end-requires
 single-end-requires c = let p = c.requires.4 in omega arith
@@ -43,15 +44,14 @@ loop-f-preserved c = let a = c.args in
     let low : c.loop-f.f < 2 ^ a.u = subst (λ (n : ℕ). c.loop-f.f < n) c.single-end.ensures h in
     let B : ℕ → Type 0 = Best a.cl.now a.codes.now a.v a.o a.u a.budget (c.loop-f.f + 1) in (
       omega arith,
-      ⊎_elim
-          (λ w. subst B (sym w.3)
-          (best_sooner a.cl.now a.codes.now a.v a.o a.u a.budget c.loop-f.f c.loop-f.best low (sym first ∙ w.0.taken) (w.1.ensures.0 w.2.taken) c.loop-f.invariant.1))
-          (⊎_elim
-          (λ w. subst B (sym w.3)
-          (best_unsuited a.cl.now a.codes.now a.v a.o a.u a.budget c.loop-f.f c.loop-f.best (w.1.ensures.1 w.2.left) c.loop-f.invariant.1))
-          (λ w. subst B (sym w.1)
-          (best_not_sooner a.cl.now a.codes.now a.v a.o a.u a.budget c.loop-f.f c.loop-f.best low (sym first ∙ w.0.left) c.loop-f.invariant.1)))
-          c.if-sooner.branch,
+      elim c.if-sooner.branch [
+          then-sooner+then-suits w ↦ subst B (sym w.best-is)
+            (best_sooner a.cl.now a.codes.now a.v a.o a.u a.budget c.loop-f.f c.loop-f.best low (sym first ∙ w.if-sooner.true) (w.suits.ensures.0 w.if-suits.true) c.loop-f.invariant.1)
+        | then-sooner+else-suits w ↦ subst B (sym w.best-is)
+            (best_unsuited a.cl.now a.codes.now a.v a.o a.u a.budget c.loop-f.f c.loop-f.best (w.suits.ensures.1 w.if-suits.false) c.loop-f.invariant.1)
+        | else-sooner w ↦ subst B (sym w.best-is)
+            (best_not_sooner a.cl.now a.codes.now a.v a.o a.u a.budget c.loop-f.f c.loop-f.best low (sym first ∙ w.if-sooner.false) c.loop-f.invariant.1)
+      ],
     )
 
 pub returns : goal.returns

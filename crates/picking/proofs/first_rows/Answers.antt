@@ -46,13 +46,13 @@ loop-o-preserved c = let a = c.args in
     let tables = c.widened-tables.result in
     let h = c.loop-o-test.true in (
       c.loop-o.invariant.0,
-      first_rows_more a.cl.now tables a.t3 a.v a.u c.loop-o.o c.loop-o.r _ (omega arith) c.first_row.ensures c.loop-o.invariant.1,
+      first_rows_more a.cl.now tables a.budgets a.v a.u c.loop-o.o c.loop-o.r _ (omega arith) c.first_row.ensures c.loop-o.invariant.1,
     )
 
 pub returns : goal.returns
 returns c = let a = c.args in
     let h = c.loop-o-test.false in
     let rows = c.loop-o.invariant.1 in
-    let all : FirstRows a.cl.now c.widened-tables.result a.t3 a.v a.u a.m c.loop-o.r = record { long = rows.long; done = λ o k. rows.done o (omega arith) } in
-    subst (λ (codes : List ℕ). Picked a.cl.now a.t3 a.v a.m a.u codes c.loop-o.r) c.widened-tables.ensures
-    (picked_of a.cl.now c.widened-tables.result a.t3 a.v a.m a.u c.loop-o.r all)
+    let all : FirstRows a.cl.now c.widened-tables.result a.budgets a.v a.u a.m c.loop-o.r = record { long = rows.long; done = λ o k. rows.done o (omega arith) } in
+    subst (λ (codes : List ℕ). Picked a.cl.now a.budgets a.v a.m a.u codes c.loop-o.r) c.widened-tables.ensures
+    (picked_of a.cl.now c.widened-tables.result a.budgets a.v a.m a.u c.loop-o.r all)

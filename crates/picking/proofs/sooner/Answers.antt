@@ -32,7 +32,7 @@ loop-i-preserved c = let a = c.args in
     let h = c.loop-i-test.true in
     let here : on a.f c.loop-i.i ≡ on a.g c.loop-i.i = sym c.in_set-a.ensures ∙ beq_equal c.in_set-a.result c.in_set.result (not-false _ c.if-a-in_set.false) ∙ c.in_set.ensures in
     let same : ℕ → Type 0 = λ j. on a.f j ≡ on a.g j in
-    (omega arith, λ j c.in_set. ⊎_elim (c.loop-i.invariant.1 j) (λ e. subst same (sym e) here) (less_or_equal j c.loop-i.i (omega arith)))
+    (omega arith, λ j k. ⊎_elim (c.loop-i.invariant.1 j) (λ e. subst same (sym e) here) (less_or_equal j c.loop-i.i (omega arith)))
 
 pub returns : goal.returns
 returns c = let a = c.args in

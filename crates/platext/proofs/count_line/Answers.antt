@@ -13,7 +13,7 @@ pub slice_bounds-count_of-count : goal.slice_bounds-count_of-count
 slice_bounds-count_of-count c = omega (arith, (c.next_line-l.ensures.there (not-false _ c.if-not-l.false)).after-start)
 
 pub slice_bounds-count_of-start : goal.slice_bounds-count_of-start
-slice_bounds-count_of-start c = omega (arith, sub-count-of c)
+slice_bounds-count_of-start c = omega (arith, (c.next_line-l.ensures.there (not-false _ c.if-not-l.false)).after-start)
 
 pub slice_bounds-count_of-end : goal.slice_bounds-count_of-end
 slice_bounds-count_of-end c = omega (arith, (c.next_line-l.ensures.there (not-false _ c.if-not-l.false)).inside)

@@ -10,38 +10,32 @@ use Rattle.platext.specs.CountLaws.{no_count_word, no_number, whole-count, longe
 use borrow.Author.Rules.{rules}
 use Rattle.platext.proofs.count_of.Goals as goal
 
--- the cursor after the line's word
-word : (c : goal.After-text-m)
-    → MovedIs c.args.l.now c.text-m.result
-    (eat c.args.head.now c.args.l.now)
-word c =
-    let a = c.args in
-    moved-start a.l.now a.head.now c.text-m.result c.start.result c.start.ensures c.text-m.ensures
-
 pub text-m-requires : goal.text-m-requires
 text-m-requires c = omega (arith, c.start.ensures)
 
 pub returns-in_default : goal.returns-in_default
-returns-in_default c = let text = (goal.at.returns-in_default c).After-text-m in
-    let a = c.args in
-    no_count_word a.head.now a.l.now (word text) c.in_default.is _ refl
+returns-in_default c = let a = c.args in
+    let word = moved-start a.l.now a.head.now c.text-m.result c.start.result c.start.ensures c.text-m.ensures in
+    no_count_word a.head.now a.l.now word c.in_default.is _ refl
 
 pub number-r-requires : goal.number-r-requires
-number-r-requires c = ((moved_to _ _ _ (word (goal.at.number-r-requires c).After-text-m) _ c.in-To.is).inside, omega arith)
+number-r-requires c = let a = c.args in
+    let word = moved-start a.l.now a.head.now c.text-m.result c.start.result c.start.ensures c.text-m.ensures in
+    ((moved_to _ _ _ word _ c.in-To.is).inside, omega arith)
 
 pub returns-in_default-r : goal.returns-in_default-r
-returns-in_default-r c = let text = (goal.at.returns-in_default-r c).After-text-m in
-    let a = c.args in
-    no_number a.head.now a.l.now (word text) c.in-To.is c.number-r.result c.number-r.ensures c.in_default-r.is _ refl
+returns-in_default-r c = let a = c.args in
+    let word = moved-start a.l.now a.head.now c.text-m.result c.start.result c.start.ensures c.text-m.ensures in
+    no_number a.head.now a.l.now word c.in-To.is c.number-r.result c.number-r.ensures c.in_default-r.is _ refl
 
 pub returns-then-at_end : goal.returns-then-at_end
-returns-then-at_end c = let text = (goal.at.returns-then-at_end c).After-text-m in
-    let a = c.args in
+returns-then-at_end c = let a = c.args in
+    let word = moved-start a.l.now a.head.now c.text-m.result c.start.result c.start.ensures c.text-m.ensures in
     let e = leb-true (length a.l.now) _ (sym c.at_end.ensures ∙ c.if-at_end.true) in
-    whole-count a.head.now a.l.now (word text) c.in-To.is c.number-r.result c.number-r.ensures c.in-Number.is e _ refl
+    whole-count a.head.now a.l.now word c.in-To.is c.number-r.result c.number-r.ensures c.in-Number.is e _ refl
 
 pub returns-else-at_end : goal.returns-else-at_end
-returns-else-at_end c = let text = (goal.at.returns-else-at_end c).After-text-m in
-    let a = c.args in
+returns-else-at_end c = let a = c.args in
+    let word = moved-start a.l.now a.head.now c.text-m.result c.start.result c.start.ensures c.text-m.ensures in
     let e = leb-false (length a.l.now) _ (sym c.at_end.ensures ∙ c.if-at_end.false) in
-    longer-count a.head.now a.l.now (word text) c.in-To.is c.number-r.result c.number-r.ensures c.in-Number.is e _ refl
+    longer-count a.head.now a.l.now word c.in-To.is c.number-r.result c.number-r.ensures c.in-Number.is e _ refl

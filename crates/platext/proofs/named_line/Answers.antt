@@ -13,7 +13,7 @@ pub slice_bounds-names_in-count : goal.slice_bounds-names_in-count
 slice_bounds-names_in-count c = omega (arith, (c.next_line-l.ensures.there (not-false _ c.if-not-l.false)).after-start)
 
 pub slice_bounds-names_in-start : goal.slice_bounds-names_in-start
-slice_bounds-names_in-start c = omega (arith, sub-names-in c)
+slice_bounds-names_in-start c = omega (arith, (c.next_line-l.ensures.there (not-false _ c.if-not-l.false)).after-start)
 
 pub slice_bounds-names_in-end : goal.slice_bounds-names_in-end
 slice_bounds-names_in-end c = omega (arith, (c.next_line-l.ensures.there (not-false _ c.if-not-l.false)).inside)

@@ -20,18 +20,16 @@ names_of-r-requires c = let a = c.args in
 pub returns-then-at_end : goal.returns-then-at_end
 unfolding read_named
 returns-then-at_end c = let a = c.args in
-    let names_of = c.names_of-r in
     let h = moved-start a.l.now a.head.now c.text-m.result c.start.result c.start.ensures c.text-m.ensures in
-    let r = names_of in
+    let r = c.names_of-r in
     let e = leb-true (length a.l.now) r.result.next.at (sym c.at_end.ensures ∙ c.if-at_end.true) in
     whole-line a.head.now a.l.now h (names_of a.n) c.in-To.is r.result r.ensures e
 
 pub returns-else-at_end : goal.returns-else-at_end
 unfolding read_named
 returns-else-at_end c = let a = c.args in
-    let names_of = c.names_of-r in
     let h = moved-start a.l.now a.head.now c.text-m.result c.start.result c.start.ensures c.text-m.ensures in
-    let r = names_of in
+    let r = c.names_of-r in
     let e = leb-false (length a.l.now) r.result.next.at (sym c.at_end.ensures ∙ c.if-at_end.false) in
     longer-line a.head.now a.l.now h (names_of a.n) c.in-To.is r.result r.ensures e c.no_names.result c.no_names.ensures
 

@@ -12,15 +12,8 @@ loop-count-init c = gathering_none _ _ _ _ c.requires refl
 pub keep-requires : goal.keep-requires
 keep-requires c = c.loop-count.invariant.sized
 
-pub overflow_add-count : goal.overflow_add-count
-overflow_add-count c = omega arith
-
-pub loop-count-smaller : goal.loop-count-smaller
-loop-count-smaller c = omega arith
-
 pub loop-count-preserved : goal.loop-count-preserved
-loop-count-preserved c = let v = c.r-1.given in
-    gathering_more _ _ _ _ _ _ c.loop-count.invariant v.0.0 v.0.1.0 _ c.loop-count-test.true (rw v.1 at c.spaced_name-r.ensures) c.keep.ensures
+loop-count-preserved c = gathering_more _ _ _ _ _ _ c.loop-count.invariant c.in-Name.v c.in-Name.next _ c.loop-count-test.true (rw c.in-Name.is at c.spaced_name-r.ensures) c.keep.ensures
 
 pub returns-in-Bad : goal.returns-in-Bad
 returns-in-Bad c = let e = c.in-Bad.is in

@@ -7,8 +7,5 @@ use Rattle.platext.proofs.next_line.Goals as goal
 pub returns-then-s-at : goal.returns-then-s-at
 returns-then-s-at c = nothing_left _ _ _ refl c.if-s-at.true
 
-pub line_end-e-requires : goal.line_end-e-requires
-line_end-e-requires c = omega arith
-
 pub returns : goal.returns
 returns c = next-found _ _ _ c.if-s-at.false c.line_end-e.ensures refl

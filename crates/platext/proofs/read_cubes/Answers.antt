@@ -10,12 +10,6 @@ use Rattle.platext.proofs.read_cubes.Goals as goal
 pub loop-at-init : goal.loop-at-init
 loop-at-init c = cubes_none _ _ _ _ c.requires.0
 
--- LEFT add-t12 : tie.Need-overflow-add-t12 invariant-loop decreases-loop
--- LEFT add-t12 c =
--- LEFT     let loop = c.before.before.before.loop in
--- LEFT     let pre = c.before.before.before.before.before.requires in
--- LEFT     let w = loop.invariant in omega (arith, pre.1)
-
 pub returns-then-not-l : goal.returns-then-not-l
 returns-then-not-l c = let args = c.args in
     no_line_here _ _ _ _ c.loop-at.invariant args.p c.next_line-l.ensures (not-true _ c.if-not-l.true) refl
@@ -28,9 +22,6 @@ slice_bounds-equal-start c = omega (arith, (c.next_line-l.ensures.there (not-fal
 
 pub slice_bounds-equal-end : goal.slice_bounds-equal-end
 slice_bounds-equal-end c = omega (arith, (c.next_line-l.ensures.there (not-false _ c.if-not-l.false)).inside)
-
--- LEFT slice-aggregate-equal : tie.Need-slice-aggregate-equal invariant-loop decreases-loop
--- LEFT slice-aggregate-equal c = search rules
 
 pub at_last-requires : goal.at_last-requires
 at_last-requires c = let pre = c.requires in
@@ -57,7 +48,7 @@ overflow_add-result-then-not-is_cube c = let pre = c.requires in
 
 pub returns-then-not-is_cube : goal.returns-then-not-is_cube
 returns-then-not-is_cube c = let args = c.args in
-    no-cube-here _ _ _ _ c.loop-at.invariant (c.next_line-l.ensures.there (not-false _ c.if-not-l.false)) args.p (sym c.equal.ensures ∙ c.if-equal.false) (sym c.is_cube.ensures ∙ not-true _ c.if-not-is_cube.true-raw) refl
+    no-cube-here _ _ _ _ c.loop-at.invariant (c.next_line-l.ensures.there (not-false _ c.if-not-l.false)) args.p (sym c.equal.ensures ∙ c.if-equal.false) (sym c.is_cube.ensures ∙ c.if-not-is_cube.true) refl
 
 pub overflow_add-start : goal.overflow_add-start
 overflow_add-start c = omega (arith, (c.next_line-l.ensures.there (not-false _ c.if-not-l.false)).inside)
@@ -67,4 +58,4 @@ loop-at-smaller c = let l = c.next_line-l.ensures.there (not-false _ c.if-not-l.
     omega (arith, l.after-start, l.inside)
 
 pub loop-at-preserved : goal.loop-at-preserved
-loop-at-preserved c = one-more-cube _ _ _ _ c.loop-at.invariant (c.next_line-l.ensures.there (not-false _ c.if-not-l.false)) (sym c.equal.ensures ∙ c.if-equal.false) (sym c.is_cube.ensures ∙ not-false _ c.if-not-is_cube.false-raw)
+loop-at-preserved c = one-more-cube _ _ _ _ c.loop-at.invariant (c.next_line-l.ensures.there (not-false _ c.if-not-l.false)) (sym c.equal.ensures ∙ c.if-equal.false) (sym c.is_cube.ensures ∙ c.if-not-is_cube.false)

@@ -9,7 +9,7 @@ use borrow.Author.Rules.{rules}
 use Rattle.platext.proofs.read_cubes.Given as goal
 
 abbrev pub invariant-loop-at : goal.invariant-loop-at
-invariant-loop-at l = Cubes l.s l.at l.i l.o l.cubes cubes
+invariant-loop-at l = Cubes l.s l.at l.i l.o l.start l.cubes
 
 abbrev pub decreases-loop-at : goal.decreases-loop-at
-decreases-loop-at l = length l.s - l.cubes
+decreases-loop-at l = length l.s - l.start

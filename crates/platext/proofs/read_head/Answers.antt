@@ -5,38 +5,23 @@ use Rattle.platext.specs.HeadLaws.{head_bad, no_inputs, no_outputs, no-input-nam
 use borrow.Author.Rules.{rules}
 use Rattle.platext.proofs.read_head.Goals as goal
 
--- LEFT slice-aggregate-count-line : tie.Need-slice-aggregate-count-line
--- LEFT slice-aggregate-count-line c = search rules
-
 pub returns-then-not-i : goal.returns-then-not-i
 returns-then-not-i c = head_bad _ _ _ (no_inputs _ (c.count_line-i.ensures.missing (not-true _ c.if-not-i.true))) c.no_head.ensures
-
--- LEFT slice-aggregate-count-line-2 : tie.Need-slice-aggregate-count-line-2
--- LEFT slice-aggregate-count-line-2 c = search rules
 
 pub returns-then-not-o : goal.returns-then-not-o
 returns-then-not-o c = let i = c.count_line-i.ensures.there (not-false _ c.if-not-i.false) in
     head_bad _ _ _ (no_outputs _ i (c.count_line-o.ensures.missing (not-true _ c.if-not-o.true))) c.no_head-then-not-o.ensures
-
--- LEFT slice-aggregate-named-line : tie.Need-slice-aggregate-named-line
--- LEFT slice-aggregate-named-line c = search rules
 
 pub returns-then-not-inputs : goal.returns-then-not-inputs
 returns-then-not-inputs c = let i = c.count_line-i.ensures.there (not-false _ c.if-not-i.false) in
     let o = c.count_line-o.ensures.there (not-false _ c.if-not-o.false) in
     head_bad _ _ _ (no-input-names _ i o (c.named_line-a.ensures.missing (not-true _ c.if-not-inputs.true))) c.no_head-then-not-inputs.ensures
 
--- LEFT slice-aggregate-named-line-2 : tie.Need-slice-aggregate-named-line-2
--- LEFT slice-aggregate-named-line-2 c = search rules
-
 pub returns-then-not-outputs : goal.returns-then-not-outputs
 returns-then-not-outputs c = let i = c.count_line-i.ensures.there (not-false _ c.if-not-i.false) in
     let o = c.count_line-o.ensures.there (not-false _ c.if-not-o.false) in
     let ns = c.named_line-a.ensures.there (not-false _ c.if-not-inputs.false) in
     head_bad _ _ _ (no-output-names _ i o ns.passed (c.named_line-b.ensures.missing (not-true _ c.if-not-outputs.true))) c.no_head-then-not-outputs.ensures
-
--- LEFT slice-aggregate-count-line-3 : tie.Need-slice-aggregate-count-line-3
--- LEFT slice-aggregate-count-line-3 c = search rules
 
 pub returns-then-not-p : goal.returns-then-not-p
 returns-then-not-p c = let i = c.count_line-i.ensures.there (not-false _ c.if-not-i.false) in

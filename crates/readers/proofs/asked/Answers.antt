@@ -24,7 +24,7 @@ returns-then-in_set c = inl refl
 pub loop-o-preserved : goal.loop-o-preserved
 loop-o-preserved c = let a = c.args in
     let h = c.loop-o-test.true in
-    (omega arith, unread_more a.t1 c.loop-o.o (sym c.in_set.ensures ∙ c.if-in_set.false) c.loop-o.invariant.1)
+    (omega arith, unread_more a.rows c.loop-o.o (sym c.in_set.ensures ∙ c.if-in_set.false) c.loop-o.invariant.1)
 
 pub returns : goal.returns
 returns c = let end = c.loop-o-test.false in

@@ -36,7 +36,7 @@ loop-o-preserved c = let a = c.args in
     let h = c.loop-o-test.true in
     (
       omega arith,
-      planned_more a.t3 a.sh c.loop-o.o c.loop-o.ms c.loop-o.ps c.loop-o.caps c.loop-o.spots _ _ c.power-a.result c.power-b.result (omega arith) refl refl
+      planned_more a.rows a.sh c.loop-o.o c.loop-o.ms c.loop-o.ps c.loop-o.caps c.loop-o.spots _ _ c.power-a.result c.power-b.result (omega arith) refl refl
           (c.power-a.ensures.0 ∙ ap (λ (z : ℕ). 2 ^ z) c.size.ensures.0)
           (c.power-b.ensures.0 ∙ ap (λ (z : ℕ). 2 ^ z) c.size-in-loop-o.ensures.0) c.loop-o.invariant.1,
     )
@@ -45,4 +45,4 @@ pub returns : goal.returns
 returns c = let a = c.args in
     let h = c.loop-o-test.false in
     let z = c.loop-o.invariant.0 in
-    (subst (λ (z : ℕ). Planned a.t3 a.sh z c.loop-o.ms c.loop-o.ps c.loop-o.caps c.loop-o.spots) (omega arith) c.loop-o.invariant.1, refl, refl, refl, refl)
+    (subst (λ (z : ℕ). Planned a.rows a.sh z c.loop-o.ms c.loop-o.ps c.loop-o.caps c.loop-o.spots) (omega arith) c.loop-o.invariant.1, refl, refl, refl, refl)

@@ -19,9 +19,6 @@ bases-base-requires c = (c.requires.0, c.requires.1, c.requires.2)
 pub loop-o-init : goal.loop-o-init
 loop-o-init c = omega arith
 
--- LEFT slice-aggregate-total-2 : tie.Need-slice-aggregate-total-2 invariant-loop decreases-loop
--- LEFT slice-aggregate-total-2 c = search rules
-
 pub total-t-requires : goal.total-t-requires
 total-t-requires c = let h = c.loop-o-test.true in
     let z = c.requires.2 in
@@ -29,9 +26,6 @@ total-t-requires c = let h = c.loop-o-test.true in
 
 pub bounds-spots-o : goal.bounds-spots-o
 bounds-spots-o c = let h = c.loop-o-test.true in let z = c.requires.2 in search rules
-
-pub overflow_cast-spots : goal.overflow_cast-spots
-overflow_cast-spots c = elem_fits_field w8 w64 c.plan-p.result.spots _ c.loop-o.o c.plan-p.type-inv.1.1.1.1.1.0.1.1 tt
 
 pub returns-then-spots-o : goal.returns-then-spots-o
 returns-then-spots-o c = λ e kn val.

@@ -8,7 +8,7 @@ use borrow.Author.Rules.{rules, elem_fits_field}
 use Rattle.readers.proofs.possible.Given as goal
 
 abbrev pub invariant-loop-o : goal.invariant-loop-o
-invariant-loop-o l = o ≤ l.j
+invariant-loop-o l = l.o ≤ l.j
 
 abbrev pub decreases-loop-o : goal.decreases-loop-o
-decreases-loop-o l = l.j - o
+decreases-loop-o l = l.j - l.o

@@ -74,7 +74,6 @@ settle_all-requires c = let pre = c.requires in
     let j = pre.2 in
     let w = c.plan-p.ensures.1 in
     let k = c.plan-p.ensures.2 in
-    let long = c.begin-b.type-inv in
     (pre.0, c.bases-base.ensures.long, blocks_of _ _ c.plan-p.result.outputs c.blocks-bs.ensures, omega arith, omega arith, omega arith, omega arith, search rules, search rules)
 
 pub returns-then-not-settle_all : goal.returns-then-not-settle_all

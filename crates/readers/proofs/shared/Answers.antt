@@ -17,4 +17,4 @@ loop-o-preserved c = let h = c.loop-o-test.true in
 
 pub returns : goal.returns
 returns c = let a = c.args in
-    seen_all a.t1 a.j c.loop-o.o c.loop-o.once c.loop-o.many c.loop-o-test.false c.requires.1 c.loop-o.invariant.1
+    seen_all a.rows a.j c.loop-o.o c.loop-o.once c.loop-o.many c.loop-o-test.false c.requires.1 c.loop-o.invariant.1

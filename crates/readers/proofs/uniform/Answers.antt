@@ -18,9 +18,5 @@ bounds-rows-o c = let h = c.loop-o-test.true in let z = c.requires in search rul
 pub returns-then-m-ne0 : goal.returns-then-m-ne0
 returns-then-m-ne0 c = λ e. absurd (true_false (sym e))
 
-pub loop-o-preserved : goal.loop-o-preserved
-loop-o-preserved c = let args = c.args in
-    let h = c.loop-o-test.true in (omega arith, uniform_more args.t1 args.g c.loop-o.o (⊎_elim (λ w. inr w.1.left) (λ w. inl w.left) c.if-m-g.branch) c.loop-o.invariant.1)
-
 pub returns : goal.returns
 returns c = λ e o h. c.loop-o.invariant.1 o (let z = c.loop-o-test.false in omega arith)

@@ -4,7 +4,7 @@ use Rattle.std.proofs.Common.{rules}
 use Rattle.readingsets.proofs.alive.Goals as goal
 
 pub returns-then-not-possible : goal.returns-then-not-possible
-returns-then-not-possible c = (c.requires.6, λ e. c.possible.ensures (not-true _ c.if-not-possible.true-raw))
+returns-then-not-possible c = (c.requires.6, λ e. c.possible.ensures (c.if-not-possible.true))
 
 pub returns-then-known_bad : goal.returns-then-known_bad
 returns-then-known_bad c = let a = c.args in

@@ -5,6 +5,7 @@ use Rattle.problem.specs.Problem.{item}
 use Rattle.std.proofs.Common.{ℕ, List, sym, refl, ◌∙◌, subst, ⊎_elim, rules}
 use borrow.Author.Tests.{not-true}
 use Rattle.readingsets.proofs.ask_all.Goals as goal
+use Rattle.readingsets.proofs.ask_all.Goals.{then-p-ne0+then-not-c+then-not-c-2, then-p-ne0+then-not-c+else-not-c-2, then-p-ne0+else-not-c, else-p-ne0}
 
 pub returns-then-is_bad : goal.returns-then-is_bad
 returns-then-is_bad c = let a = c.args in
@@ -23,13 +24,12 @@ returns c = let a = c.args in
     let r = c.ask-c.result in
     let H : List ℕ → Type 0 = λ m. Honest a.cl.now a.given.now p.kn p.val p.vertices m in
     let lost = settled_lost a.cl.now a.given.now p.kn p.val p.vertices a.all (item a.rows) r.ok r.codes in
-    let kept = ⊎_elim
-    (λ w.
-    let bad = lost (not-true _ w.2.taken) (c.ask-c.ensures.sure (not-true _ w.4.taken)) in
-    subst H (sym w.9) (w.6.ensures a.cl.now a.given.now p.kn p.val p.vertices (λ e. bad) h))
-    (⊎_elim (λ w. subst H (sym w.5) h) (⊎_elim (λ w. subst H (sym w.3) h) (λ w. subst H (sym w.1) h)))
-    c.if-p-ne0.branch in
+    let kept : H c.if-p-ne0.mem = elim c.if-p-ne0.branch [
+        then-p-ne0+then-not-c+then-not-c-2 w ↦
+          (let bad = lost (not-true _ w.if-not-c.true) (c.ask-c.ensures.sure (not-true _ w.if-not-c-2.true)) in
+          subst H (sym w.mem-is) (w.store.ensures a.cl.now a.given.now p.kn p.val p.vertices (λ e. bad) h))
+      | then-p-ne0+then-not-c+else-not-c-2 w ↦ subst H (sym w.mem-is) h
+      | then-p-ne0+else-not-c w ↦ subst H (sym w.mem-is) h
+      | else-p-ne0 w ↦ subst H (sym w.mem-is) h
+    ] in
     (refl, c.ask-c.ensures, kept)
-
-pub shape_of-mem : goal.shape_of-mem
-shape_of-mem c = (returns-2 c).2.long ∙ sym c.requires.3.long

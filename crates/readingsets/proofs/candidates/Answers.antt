@@ -1,6 +1,7 @@
 use Rattle.std.proofs.Common.{◌≡◌, ◌+◌, ◌-◌, ◌^◌, ◌≤◌, ⊎_elim, arith, rules}
 use Rattle.readingsets.specs.ChoiceLaws.{number_room}
 use Rattle.readingsets.proofs.candidates.Goals as goal
+use Rattle.readingsets.proofs.candidates.Goals.{then-counts, else-counts}
 
 pub overflow_add-p : goal.overflow_add-p
 overflow_add-p c = let q = c.requires in let h = q.4 in let k = q.5 in omega arith
@@ -27,8 +28,4 @@ loop-r-smaller c = let h = c.loop-r-test.true in search rules
 
 pub loop-r-preserved : goal.loop-r-preserved
 loop-r-preserved c = let i = c.loop-r.invariant in
-    let a = i.1 in
-    let b = i.2 in
-    let d = i.3 in
-    let h = c.loop-r-test.true in
-    (i.0, a, ⊎_elim (λ w. let z = w.1 in omega arith) (λ w. let z = w.1 in omega arith) c.if-counts.branch, omega arith)
+    (i.0, i.1, elim c.if-counts.branch [ then-counts w ↦ omega arith | else-counts w ↦ omega arith ], omega arith)

@@ -15,7 +15,7 @@ returns-then-not-s c = let a = c.args in
     let e = c.none.ensures in
     let all = c.first_outputs-all.ensures in
     let B : ℕ → Type 0 = λ d. Barred a.cl.now a.given.now p.kn p.val p.vertices d (item a.rows) in
-    let bad = subst B all (s.1 (not-true _ c.if-not-s.taken)) in
+    let bad = subst B all (s.1 (not-true _ c.if-not-s.true)) in
     (e.2, sure_now p.last r.unsure _ e.1 (settled_none a.cl.now a.given.now p.kn p.val p.vertices _ (item a.rows) r.ok r.codes e.0 bad), s.0)
 
 pub returns : goal.returns

@@ -4,6 +4,7 @@ use Rattle.bits.specs.Digit.{on}
 use Rattle.readingsets.specs.Choice.{Next}
 use Rattle.readingsets.specs.ChoiceLaws.{next_start, next_here, next-found, next_done}
 use Rattle.readingsets.proofs.next.Goals as goal
+use Rattle.readingsets.proofs.next.Goals.{then-not-in_set+then-best-eq-NO_OUTPUT, then-not-in_set+else-best-eq-NO_OUTPUT+then-n-least, then-not-in_set+else-best-eq-NO_OUTPUT+else-n-least, else-not-in_set}
 
 pub loop-o-init : goal.loop-o-init
 loop-o-init c = (omega arith, c.requires.3, next_start c.args.done)
@@ -36,21 +37,18 @@ loop-o-smaller c = let i = c.loop-o.invariant in let h = c.loop-o-test.true in l
 pub loop-o-preserved : goal.loop-o-preserved
 loop-o-preserved c = let done = c.args.done in
     let i = c.loop-o.invariant in
-    let r = i.1 in
-    let h = c.loop-o-test.true in
+    let o = c.loop-o.o in
     let e = c.in_set.ensures in
-    let N : ℕ → Type 0 = λ b. Next (c.loop-o.o + 1) done b in
-    let here : on done c.loop-o.o ≡ false → N c.loop-o.o = next_here done c.loop-o.o (omega arith) in (
+    let N : ℕ → Type 0 = λ b. Next (o + 1) done b in
+    let here : on done o ≡ false → N o = next_here done o (omega arith) in (
       omega arith,
       i.1,
-      ⊎_elim
-          (λ w. subst N (sym w.4) (here (sym e ∙ not-true _ w.0.taken)))
-          (⊎_elim
-          (λ w. subst N (sym w.5) (here (sym e ∙ not-true _ w.0.taken)))
-          (⊎_elim
-          (λ w. subst N (sym w.5) (next-found done c.loop-o.o c.loop-o.best w.3.left i.2))
-          (λ w. subst N (sym w.1) (next_done done c.loop-o.o c.loop-o.best (sym e ∙ not-false _ w.0.left) i.2))))
-          c.if-not-in_set.branch,
+      elim c.if-not-in_set.branch [
+          then-not-in_set+then-best-eq-NO_OUTPUT w ↦ subst N (sym w.best-is) (here (sym e ∙ w.if-not-in_set.true))
+        | then-not-in_set+else-best-eq-NO_OUTPUT+then-n-least w ↦ subst N (sym w.best-is) (here (sym e ∙ w.if-not-in_set.true))
+        | then-not-in_set+else-best-eq-NO_OUTPUT+else-n-least w ↦ subst N (sym w.best-is) (next-found done o c.loop-o.best w.if-best-eq-NO_OUTPUT.false i.2)
+        | else-not-in_set w ↦ subst N (sym w.best-is) (next_done done o c.loop-o.best (sym e ∙ w.if-not-in_set.false) i.2)
+      ],
     )
 
 pub returns : goal.returns

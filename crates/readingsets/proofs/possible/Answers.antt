@@ -26,8 +26,8 @@ possible-requires c = let q = c.requires in (q.0, q.1, q.2)
 pub returns-then-not-possible : goal.returns-then-not-possible
 returns-then-not-possible c = let a = c.args in
     let p = a.p in
-    let none = c.possible.ensures (not-true _ c.if-not-possible.true-raw) p.kn p.val in
-    λ e. barred_alone a.cl.now a.given.now p.kn p.val p.vertices a.done a.n c.with.result (item a.t4) c.with.ensures c.requires.4 none
+    let none = c.possible.ensures (c.if-not-possible.true) p.kn p.val in
+    λ e. barred_alone a.cl.now a.given.now p.kn p.val p.vertices a.done a.n c.with.result (item a.rows) c.with.ensures c.requires.4 none
 
 pub returns-then-p-ne0-2 : goal.returns-then-p-ne0-2
 returns-then-p-ne0-2 c = λ e. absurd (true_false e)

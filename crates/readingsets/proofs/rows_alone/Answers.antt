@@ -1,6 +1,7 @@
 use Rattle.readingsets.specs.ChoiceLaws.{number_room}
 use Rattle.std.proofs.Common.{◌≡◌, ◌+◌, ◌-◌, ◌^◌, ◌≤◌, ⊎_elim, arith, rules}
 use Rattle.readingsets.proofs.rows_alone.Goals as goal
+use Rattle.readingsets.proofs.rows_alone.Goals.{then-all-lt-NOTED, else-all-lt-NOTED}
 
 pub overflow_add-cells : goal.overflow_add-cells
 overflow_add-cells c = let q = c.requires in let h = q.4 in let k = q.5 in omega arith
@@ -10,8 +11,8 @@ power-all-requires c = let q = c.requires in let h = q.4 in let k = q.5 in omega
 
 pub loop-r-init : goal.loop-r-init
 loop-r-init c = let end = c.if-all-lt-NOTED.end in
-    let short : end ≤ 64 = ⊎_elim (λ w. let h = w.0.taken in let e = w.1 in omega arith) (λ w. let e = w.1 in omega arith) c.if-all-lt-NOTED.branch in
-    let within : end ≤ c.power-all.result = ⊎_elim (λ w. let e = w.1 in omega arith) (λ w. let h = w.0.left in let e = w.1 in omega arith) c.if-all-lt-NOTED.branch in
+    let short : end ≤ 64 = elim c.if-all-lt-NOTED.branch [ then-all-lt-NOTED w ↦ omega arith | else-all-lt-NOTED w ↦ omega arith ] in
+    let within : end ≤ c.power-all.result = elim c.if-all-lt-NOTED.branch [ then-all-lt-NOTED w ↦ omega arith | else-all-lt-NOTED w ↦ omega arith ] in
     (omega arith, short, within, c.power-all.ensures.0)
 
 pub row_of-row-requires : goal.row_of-row-requires

@@ -3,6 +3,7 @@ use Rattle.bits.specs.LogicLaws.{true_false}
 use borrow.Author.Tests.{not-true}
 use Rattle.std.proofs.Common.{◌-◌, ◌≤◌, sym, ◌∙◌, ⊎_elim, arith, rules}
 use Rattle.readingsets.proofs.small_questions.Goals as goal
+use Rattle.readingsets.proofs.small_questions.Goals.{then-p-eq2, else-p-eq2}
 
 pub with-last-requires : goal.with-last-requires
 with-last-requires c = c.requires.3
@@ -21,9 +22,8 @@ pub returns-then-not-a : goal.returns-then-not-a
 returns-then-not-a c = (c.settle-a.ensures.0, λ e. c.settle-a.ensures.1 (not-true _ c.if-not-a.true))
 
 pub overflow_add-size : goal.overflow_add-size
-overflow_add-size c = let h = c.loop-size-test.true in
-    let low : c.if-p-eq2.end ≤ 3 = ⊎_elim (λ w. let z = w.1 in omega arith) (λ w. let z = w.1 in omega arith) c.if-p-eq2.branch in
-    search rules
+overflow_add-size c = let low : c.if-p-eq2.end ≤ 3 = elim c.if-p-eq2.branch [ then-p-eq2 w ↦ omega arith | else-p-eq2 w ↦ omega arith ] in
+    omega arith
 
 pub loop-size-preserved : goal.loop-size-preserved
 loop-size-preserved c = c.settle-a.ensures.0

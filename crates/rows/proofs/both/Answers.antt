@@ -1,11 +1,9 @@
-use Prim.Native.Nat.{◌-◌}
 use lib.Bits.{bit_and}
 use borrow.Author.Rules.{rules}
 use Rattle.bits.specs.DigitLaws.{on_and}
 use Rattle.bits.specs.Logic.{andb}
-use Rattle.rows.specs.Words.{row_on}
 use Rattle.rows.specs.WordLaws.{word_of_two}
-use Rattle.rows.proofs.Fill.{Filled, filled_none, filled_more, filled_all}
+use Rattle.rows.proofs.Fill.{filled_none, filled_more, filled_all}
 use Rattle.rows.proofs.both.Goals as goal
 
 pub loop-i-init : goal.loop-i-init

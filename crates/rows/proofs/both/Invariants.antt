@@ -1,12 +1,8 @@
 -- `both`: each turn stores the digit-by-digit and of one word of each table. Assumes nothing.
 use Prim.Native.Nat.{◌-◌}
-use lib.Bits.{bit_and}
-use borrow.Author.Rules.{rules}
-use Rattle.bits.specs.DigitLaws.{on_and}
 use Rattle.bits.specs.Logic.{andb}
 use Rattle.rows.specs.Words.{row_on}
-use Rattle.rows.specs.WordLaws.{word_of_two}
-use Rattle.rows.proofs.Fill.{Filled, filled_none, filled_more, filled_all}
+use Rattle.rows.proofs.Fill.{Filled}
 use Rattle.rows.proofs.both.Given as goal
 
 abbrev pub invariant-loop-i : goal.invariant-loop-i

@@ -1,5 +1,4 @@
 -- `complement`: exclusive or with the table that holds on every row. Assumes nothing.
-use borrow.Author.Rules.{rules}
 use Rattle.bits.specs.Logic.{xorb}
 use Rattle.rows.specs.WordLaws.{rowwise_self, rowwise_two}
 use Rattle.rows.proofs.complement.Goals as goal

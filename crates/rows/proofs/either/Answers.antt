@@ -1,11 +1,9 @@
-use Prim.Native.Nat.{◌-◌}
 use lib.Bits.{bit_or}
 use borrow.Author.Rules.{rules}
 use Rattle.bits.specs.DigitLaws.{on_or}
 use Rattle.bits.specs.Logic.{orb}
-use Rattle.rows.specs.Words.{row_on}
 use Rattle.rows.specs.WordLaws.{word_of_two}
-use Rattle.rows.proofs.Fill.{Filled, filled_none, filled_more, filled_all}
+use Rattle.rows.proofs.Fill.{filled_none, filled_more, filled_all}
 use Rattle.rows.proofs.either.Goals as goal
 
 pub loop-i-init : goal.loop-i-init

@@ -1,12 +1,8 @@
 -- `either`: each turn stores the digit-by-digit or of one word of each table. Assumes nothing.
 use Prim.Native.Nat.{◌-◌}
-use lib.Bits.{bit_or}
-use borrow.Author.Rules.{rules}
-use Rattle.bits.specs.DigitLaws.{on_or}
 use Rattle.bits.specs.Logic.{orb}
 use Rattle.rows.specs.Words.{row_on}
-use Rattle.rows.specs.WordLaws.{word_of_two}
-use Rattle.rows.proofs.Fill.{Filled, filled_none, filled_more, filled_all}
+use Rattle.rows.proofs.Fill.{Filled}
 use Rattle.rows.proofs.either.Given as goal
 
 abbrev pub invariant-loop-i : goal.invariant-loop-i

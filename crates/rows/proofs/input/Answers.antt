@@ -1,7 +1,5 @@
-use Prim.Native.Nat.{◌-◌}
 use borrow.Author.Rules.{rules}
-use Rattle.bits.specs.Digit.{on}
-use Rattle.rows.proofs.Fill.{Filled, filled_none, filled_more, filled_all}
+use Rattle.rows.proofs.Fill.{filled_none, filled_more, filled_all}
 use Rattle.rows.proofs.input.Goals as goal
 
 pub loop-i-init : goal.loop-i-init

@@ -1,8 +1,7 @@
 -- `input`: each turn stores one word of the table of digit p. Assumes nothing.
 use Prim.Native.Nat.{◌-◌}
-use borrow.Author.Rules.{rules}
 use Rattle.bits.specs.Digit.{on}
-use Rattle.rows.proofs.Fill.{Filled, filled_none, filled_more, filled_all}
+use Rattle.rows.proofs.Fill.{Filled}
 use Rattle.rows.proofs.input.Given as goal
 
 abbrev pub invariant-loop-i : goal.invariant-loop-i

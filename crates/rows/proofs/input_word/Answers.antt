@@ -1,6 +1,5 @@
 -- `input_word`: one law for each of its four answers. Assumes nothing.
 use mathlib.Core.Path.{sym, ◌∙◌}
-use borrow.Author.Rules.{rules}
 use Rattle.rows.proofs.Masks.{low_word, high_word, high_none, past_word}
 use Rattle.rows.proofs.input_word.Goals as goal
 

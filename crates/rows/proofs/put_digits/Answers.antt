@@ -1,9 +1,6 @@
 use mathlib.Core.Path.{ap, ◌∙◌}
-use Prim.Native.Nat.{◌-◌}
-use borrow.Author.Rules.{rules}
-use Rattle.rows.specs.Words.{row_on}
 use Rattle.rows.specs.Digits.{digit}
-use Rattle.rows.proofs.Put.{Put, put_none, put_next, put_all}
+use Rattle.rows.proofs.Put.{put_none, put_next, put_all}
 use Rattle.rows.proofs.put_digits.Goals as goal
 
 pub loop-i-init : goal.loop-i-init

@@ -1,10 +1,7 @@
 -- `put_digits`: each turn stores the digit of one row more. Assumes nothing.
-use mathlib.Core.Path.{ap, ◌∙◌}
 use Prim.Native.Nat.{◌-◌}
-use borrow.Author.Rules.{rules}
 use Rattle.rows.specs.Words.{row_on}
-use Rattle.rows.specs.Digits.{digit}
-use Rattle.rows.proofs.Put.{Put, put_none, put_next, put_all}
+use Rattle.rows.proofs.Put.{Put}
 use Rattle.rows.proofs.put_digits.Given as goal
 
 abbrev pub invariant-loop-i : goal.invariant-loop-i

@@ -1,5 +1,4 @@
 -- `row`: the digit that is tested is the row's, by definition. Assumes nothing.
-use borrow.Author.Rules.{rules}
 use Rattle.rows.specs.Words.{row_on}
 use Rattle.rows.proofs.row.Goals as goal
 

@@ -21,11 +21,11 @@ in_set-requires c = let room = c.requires in let h = c.loop-o-test.true in omega
 pub returns-then-not-in_set : goal.returns-then-not-in_set
 returns-then-not-in_set c = let o = c.loop-o.o in
     let h = c.loop-o-test.true in
-    (λ t. absurd (true_false (sym t)), λ f all. never_both (all o h) (sym c.in_set.ensures ∙ not-true _ c.if-not-in_set.true-raw))
+    (λ t. absurd (true_false (sym t)), λ f all. never_both (all o h) (sym c.in_set.ensures ∙ c.if-not-in_set.true))
 
 pub loop-o-preserved : goal.loop-o-preserved
 loop-o-preserved c = let h = c.loop-o-test.true in
-    (omega arith, below_more _ _ c.loop-o.invariant.1 (sym c.in_set.ensures ∙ not-false _ c.if-not-in_set.false-raw))
+    (omega arith, below_more _ _ c.loop-o.invariant.1 (sym c.in_set.ensures ∙ c.if-not-in_set.false))
 
 pub returns : goal.returns
 returns c = let h = c.loop-o-test.false in

@@ -5,10 +5,10 @@ use Rattle.seeking.proofs.seek_where.Goals as goal
 
 pub returns-then-not-all_fit : goal.returns-then-not-all_fit
 returns-then-not-all_fit c = let pre = c.requires in
-    (λ all. absurd (c.all_fit.ensures.1 (not-true _ c.if-not-all_fit.true-raw) all), pre.7)
+    (λ all. absurd (c.all_fit.ensures.1 (c.if-not-all_fit.true) all), pre.7)
 
 pub returns : goal.returns
-returns c = let all = c.all_fit.ensures.0 (not-false _ c.if-not-all_fit.false-raw) in
+returns c = let all = c.all_fit.ensures.0 (c.if-not-all_fit.false) in
     let args = c.args in
     let p = args.p in
     let r = c.seek.result in (

@@ -8,6 +8,7 @@ use native.Mathlib.Omega.{arith}
 use lib.ListN.{set, get_or-replicate}
 use borrow.Author.Rules.{rules}
 use Rattle.subsets.proofs.members.Goals as goal
+use Rattle.subsets.proofs.members.Goals.{then-has, else-has}
 
 pub loop-o-init : goal.loop-o-init
 loop-o-init c = (omega arith, omega arith, lists_start c.args.set _ refl (λ j h. get_or-replicate 8 j 0 0 h))
@@ -20,19 +21,22 @@ bounds-from-n c = let p = c.requires in
     search rules
 
 pub loop-o-preserved : goal.loop-o-preserved
-loop-o-preserved c = let a = c.args in
+loop-o-preserved c =
+    let a = c.args in
     let p = c.requires in
     let h = c.loop-o-test.true in
     let t = c.has.ensures in
-    let n = c.loop-o.invariant.1 in
-    let P : List ℕ → ℕ → Type 0 = λ from n. (n ≤ c.loop-o.o + 1) × Lists (c.loop-o.o + 1) a.set n from in
-    let R : P c.if-has.from c.if-has.n = ⊎_elim
-    (λ w. subst (λ (r : List ℕ). P r c.if-has.n) (sym w.1) (subst (P (set c.loop-o.from c.loop-o.n c.loop-o.o)) (sym w.2)
-    (omega arith, lists_in c.loop-o.o a.set c.loop-o.n c.loop-o.from (omega arith) (omega arith) (sym t ∙ w.0.taken) c.loop-o.invariant.2)))
-    (λ w. subst (λ (r : List ℕ). P r c.if-has.n) (sym w.1) (subst (P c.loop-o.from) (sym w.2)
-    (omega arith, lists_out c.loop-o.o a.set c.loop-o.n c.loop-o.from (sym t ∙ w.0.left) c.loop-o.invariant.2)))
-    c.if-has.branch in
+    let i = c.loop-o in
+    let P : List ℕ → ℕ → Type 0 = λ from n. (n ≤ i.o + 1) × Lists (i.o + 1) a.set n from in
+    let R : P c.if-has.from c.if-has.n =
+        elim c.if-has.branch [
+          then-has w ↦
+            rw (w.from-is, w.n-is) (omega arith, lists_in i.o a.set i.n i.from (omega arith) (omega arith) (sym t ∙ w.if-has.true) i.invariant.2)
+        | else-has w ↦
+            rw (w.from-is, w.n-is) (omega arith, lists_out i.o a.set i.n i.from (sym t ∙ w.if-has.false) i.invariant.2)
+        ] in
     (omega arith, R.0, R.1)
+
 
 pub returns : goal.returns
 returns c = let a = c.args in

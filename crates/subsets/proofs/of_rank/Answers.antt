@@ -6,6 +6,7 @@ use Prim.Native.Nat.{ℕ, ◌+◌, ◌≤◌, ◌-◌}
 use native.Mathlib.Omega.{arith}
 use borrow.Author.Rules.{rules}
 use Rattle.subsets.proofs.of_rank.Goals as goal
+use Rattle.subsets.proofs.of_rank.Goals.{then-has, else-has}
 
 pub loop-i-init : goal.loop-i-init
 unfolding rank
@@ -24,14 +25,18 @@ overflow_add-s c = let a = c.args in
     omega arith
 
 pub loop-i-preserved : goal.loop-i-preserved
-loop-i-preserved c = let a = c.args in
+loop-i-preserved c =
+    let a = c.args in
     let h = c.loop-i-test.true in
     let t = c.has.ensures in
-    let R : c.if-has.s ≡ rank (c.loop-i.i + 1) a.r = ⊎_elim
-    (λ w. w.1 ∙ rank_in c.loop-i.i a.r c.loop-i.s (sym t ∙ w.0.taken) c.loop-i.invariant.1)
-    (λ w. w.1 ∙ rank_out c.loop-i.i a.r c.loop-i.s (sym t ∙ w.0.left) c.loop-i.invariant.1)
-    c.if-has.branch in
+    let i = c.loop-i in
+    let R : c.if-has.s ≡ rank (i.i + 1) a.r =
+        elim c.if-has.branch [
+          then-has w ↦ w.s-is ∙ rank_in i.i a.r i.s (sym t ∙ w.if-has.true) i.invariant.1
+        | else-has w ↦ w.s-is ∙ rank_out i.i a.r i.s (sym t ∙ w.if-has.false) i.invariant.1
+        ] in
     (omega arith, R)
+
 
 pub returns : goal.returns
 returns c = let a = c.args in

@@ -12,6 +12,7 @@ use Prim.Native.Nat.{ℕ, ◌+◌, ◌*◌, ◌^◌, ◌<◌}
 use native.Mathlib.Omega.{arith}
 use borrow.Author.Rules.{rules}
 use Rattle.unserved.proofs.first_of.Goals as goal
+use Rattle.unserved.proofs.first_of.Goals.{then-l-k+then-kept-k+else-not-served, then-l-k+else-kept-k, else-l-k}
 
 pub first_outputs-r-requires : goal.first_outputs-r-requires
 first_outputs-r-requires c = c.requires.2
@@ -46,9 +47,9 @@ returns-then-not-served c = let a = c.args in
     let n = c.members-l.ensures.count in
     let some = c.loop-r-test.true in
     let count = c.if-l-k.true in
-    let left = c.if-not-served.true-raw in
+    let left = c.if-not-served.true in
     let lacking = stand_lacking a.cl.now a.budgets a.v a.m a.limit c.of_rank-s.result c.kept_of-kept.result.labels c.kept_of-kept.result.budgets c.kept_of-kept.result.outputs c.served.result
-    c.kept_of-kept.ensures c.served.ensures.0 (not-true _ left) in
+    c.kept_of-kept.ensures c.served.ensures.0 left in
     (sift_found a.cl.now a.budgets a.v a.m a.limit a.k c.loop-r.r c.of_rank-s.result c.loop-r.invariant.0 c.of_rank-s.ensures c.loop-r.invariant.1 some (sym n ∙ count) lacking, c.served.ensures.1)
 
 pub loop-r-preserved : goal.loop-r-preserved
@@ -58,26 +59,27 @@ loop-r-preserved c = let a = c.args in
     let n = c.members-l.ensures.count in
     let few = c.loop-r.invariant.0 in
     let P : List ℕ → Type 0 = λ mem. FitFrom a.cl.now a.budgets a.v a.m a.limit a.k c.loop-r.r × (length mem ≡ entry_count * entry_size) in
-    let came = c.if-l-k.branch in
-    let R : P c.if-l-k.mem = ⊎_elim
-    (λ w. let d = w.1 in subst P (sym w.9) (
-      sift_served a.cl.now a.budgets a.v a.m a.limit a.k c.loop-r.r c.of_rank-s.result few c.of_rank-s.ensures c.loop-r.invariant.1
-          (stand_fits a.cl.now a.budgets a.v a.m a.limit c.of_rank-s.result d.result.labels d.result.budgets d.result.outputs w.5.result d.ensures w.5.ensures.0
-          (not-false _ w.8.left)),
-      w.5.ensures.1,
-    ))
-    (⊎_elim
-    (λ w. let d = w.1 in subst P (sym w.4) (
-      sift_fewer a.cl.now a.budgets a.v a.m a.limit a.k c.loop-r.r c.of_rank-s.result few c.of_rank-s.ensures c.loop-r.invariant.1
-          d.result.labels d.result.budgets d.result.outputs d.ensures w.3.left p.5,
-      c.loop-r.invariant.2,
-    ))
-    (λ w. subst P (sym w.1) (
-      sift_other a.cl.now a.budgets a.v a.m a.limit a.k c.loop-r.r c.of_rank-s.result few c.of_rank-s.ensures c.loop-r.invariant.1
-          (λ e. w.0.left (n ∙ e)),
-      c.loop-r.invariant.2,
-    )))
-    came in
+    let R : P c.if-l-k.mem = elim c.if-l-k.branch [
+        then-l-k+then-kept-k+else-not-served w ↦
+          (let d = w.kept_of-kept in subst P (sym w.mem-is) (
+          sift_served a.cl.now a.budgets a.v a.m a.limit a.k c.loop-r.r c.of_rank-s.result few c.of_rank-s.ensures c.loop-r.invariant.1
+              (stand_fits a.cl.now a.budgets a.v a.m a.limit c.of_rank-s.result d.result.labels d.result.budgets d.result.outputs w.served.result d.ensures w.served.ensures.0
+              w.if-not-served.false),
+          w.served.ensures.1,
+        ))
+      | then-l-k+else-kept-k w ↦
+          (let d = w.kept_of-kept in subst P (sym w.mem-is) (
+          sift_fewer a.cl.now a.budgets a.v a.m a.limit a.k c.loop-r.r c.of_rank-s.result few c.of_rank-s.ensures c.loop-r.invariant.1
+              d.result.labels d.result.budgets d.result.outputs d.ensures w.if-kept-k.false p.5,
+          c.loop-r.invariant.2,
+        ))
+      | else-l-k w ↦
+          subst P (sym w.mem-is) (
+          sift_other a.cl.now a.budgets a.v a.m a.limit a.k c.loop-r.r c.of_rank-s.result few c.of_rank-s.ensures c.loop-r.invariant.1
+              (λ e. w.if-l-k.false (n ∙ e)),
+          c.loop-r.invariant.2,
+        )
+    ] in
     (omega arith, subst (FitFrom a.cl.now a.budgets a.v a.m a.limit a.k) (omega arith) R.0, R.1)
 
 pub shape_of-mem : goal.shape_of-mem
