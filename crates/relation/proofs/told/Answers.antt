@@ -28,7 +28,7 @@ returns-then-label c = let a = c.args in
     let h = c.loop-y-test.true in (
       λ e. absurd (true_false (sym e)),
       λ e none. none c.loop-y.y h (record {
-        conflict = different_conflict a.cl.now a.o a.x c.loop-y.y (λ q. c.if-label.true (c.label.ensures ∙ sym q ∙ sym i.2));
+        conflict = different_conflict a.cl.now a.o a.x c.loop-y.y (λ q. omega arith);
         agree = sym i.1 ∙ sym c.if-given-y.true;
       }),
     )
