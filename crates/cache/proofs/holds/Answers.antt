@@ -20,7 +20,7 @@ loop-o-preserved c = let h = c.loop-o-test.true in
     (
       omega arith,
       λ q b. ⊎_elim (c.loop-o.invariant.1 q)
-          (λ p. subst (λ (q : ℕ). row_at a.mem.now a.i q ≡ item a.t4 q) (sym p)
+          (λ p. subst (λ (q : ℕ). row_at a.mem.now a.i q ≡ item a.rows q) (sym p)
           (ap (item a.mem.now) (let z : a.i * 9 + suc c.loop-o.o ≡ a.i * 9 + (c.loop-o.o + 1) = omega arith in z) ∙ c.if-mem-i-2.false))
           (less_or_equal q c.loop-o.o (omega arith)),
     )

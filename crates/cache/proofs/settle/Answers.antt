@@ -3,7 +3,7 @@ use Rattle.cache.specs.Cache.{Honest}
 use Rattle.problem.specs.Problem.{item}
 use Rattle.bits.specs.LogicLaws.{true_false}
 use borrow.Author.Tests.{not-true}
-use Rattle.std.proofs.Common.{ℕ, ◌-◌, ◌≤◌, List, sym, ◌∙◌, subst, ⊎_elim, arith, rules}
+use Rattle.std.proofs.Common.{ℕ, ◌-◌, ◌≤◌, List, sym, ◌∙◌, subst, arith, rules}
 use Rattle.cache.proofs.settle.Goals as goal
 
 pub loop-a-init : goal.loop-a-init
@@ -31,17 +31,6 @@ returns-then-not-t c = let a = c.args in
 
 pub overflow_add-a : goal.overflow_add-a
 overflow_add-a c = let h = c.loop-a-test.true in omega arith
-
-pub loop-a-preserved : goal.loop-a-preserved
-loop-a-preserved c = let h = c.loop-a-test.true in
-    let a = c.args in
-    let P : List ℕ → Type 0 = Honest a.cl.now a.given.now a.q.kn a.q.val a.q.vertices in (
-      omega arith,
-      ⊎_elim
-          (λ w. subst P (sym w.10) w.4.ensures.0)
-          (⊎_elim (λ w. subst P (sym w.3) c.loop-a.invariant.1) (λ w. subst P (sym w.1) c.loop-a.invariant.1))
-          c.if-a-n.branch,
-    )
 
 pub shape_of-mem : goal.shape_of-mem
 shape_of-mem c = c.loop-a.invariant.1.long ∙ sym c.requires.3.long

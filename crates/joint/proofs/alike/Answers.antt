@@ -33,4 +33,4 @@ known_at-requires-2 c = c.requires.3
 pub returns : goal.returns
 returns c = λ e.
     let end = c.loop-o-test.false in
-    ((λ o h. c.loop-o.invariant.1 o (omega arith)), sym c.known_at_lem.ensures ∙ eqb-true _ _ e ∙ c.known_at-2.ensures)
+    ((λ o h. c.loop-o.invariant.1 o (omega arith)), sym c.known_at.ensures ∙ eqb-true _ _ e ∙ c.known_at-2.ensures)
