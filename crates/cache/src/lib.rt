@@ -193,6 +193,7 @@ fn tell(cl: &[u8], given: &[u16], mem: &mut [u16], q: Query, asked: u8) -> Reply
 }
 
 // Whether a is a set of some of the outputs of among, those of with among them.
+#[tactic(auto, using(crate::specs::CacheLaws::within_of))]
 fn between(a: u8, with: u8, among: u8) -> bool
     ensures { result ≡ true → (o : ℕ) → on a o ≡ true → on among o ≡ true }
 {
