@@ -93,11 +93,12 @@ operands-loop-next-preserved t c =
     let f = c.nested-one.result in
     let j = c.joined-sum.result in
     let e = joined_read a.s.now (gate_of a.g) i.sum f j c.joined-sum.ensures in
-    let r = e ∙ part_read a.left a.s.now (map name_of a.inputs.now) (read_formula u) f c.nested-one.ensures in
-    (omega (arith, i.invariant.0, formula_left u (read_so_far a.s.now j) r, byte_falls _ (read_so_far a.s.now i.sum) u c.in-To.ensures.is),
+    let r = e ∙ part_read a.left a.s.now (map name_of a.inputs.now) (read_formula u) f c.nested-one.ensures in (
+      omega (arith, i.invariant.0, formula_left u (read_so_far a.s.now j) r, byte_falls _ (read_so_far a.s.now i.sum) u c.in-To.ensures.is),
       λ q x.
-      walk_step a.left a.s.now (map name_of a.inputs.now) (gate_of a.g) q i.sum f j i.enough u
-      (i.invariant.1 q x) c.in-To.ensures.is c.nested-one.ensures c.joined-sum.ensures)
+          walk_step a.left a.s.now (map name_of a.inputs.now) (gate_of a.g) q i.sum f j i.enough u
+          (i.invariant.1 q x) c.in-To.ensures.is c.nested-one.ensures c.joined-sum.ensures,
+    )
 
 pub operands-returns-then-enough : goal.operands-returns-then-enough
 operands-returns-then-enough t c =
