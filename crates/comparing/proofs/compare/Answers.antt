@@ -4,8 +4,9 @@ use native.Mathlib.Omega.{arith}
 use Rattle.limits.specs.Limits.{max_rows}
 use Rattle.sheet.specs.Known.{table_at}
 use Rattle.comparing.specs.Drawing.{places_of}
-use Rattle.comparing.specs.CompareLaws.{Agreed, AgreedRows, Ended, rows_few, agreed_none, rows_none, rows_more, agreed_more}
-use Rattle.comparing.specs.CompareLaws.{ended_agreed, ended_differs, answer_differs, answer_same, some_ready}
+use Rattle.comparing.specs.CompareLaws.{Agreed, AgreedRows, Ended, rows_few, agreed_none, rows_none, agreed_more}
+use Rattle.comparing.specs.CompareLaws.{ended_agreed, answer_differs, answer_same, some_ready}
+use Rattle.comparing.proofs.RowLaws.{rows_more, ended_differs}
 use borrow.Author.Rules.{rules}
 use Rattle.comparing.proofs.compare.Goals as goal
 use Rattle.comparing.proofs.compare.Goals.{Left-outputs, else-outputs-test, then-outputs-test+then-loop-r-test+then-differs}

@@ -7,8 +7,7 @@ use native.Mathlib.Omega.{arith}
 use Rattle.limits.specs.Limits.{max_rows}
 use Rattle.sheet.specs.Known.{table_at}
 use Rattle.comparing.specs.Drawing.{places_of}
-use Rattle.comparing.specs.CompareLaws.{Agreed, AgreedRows, Ended, rows_few, agreed_none, rows_none, rows_more, agreed_more}
-use Rattle.comparing.specs.CompareLaws.{ended_agreed, ended_differs, answer_differs, answer_same, some_ready}
+use Rattle.comparing.specs.CompareLaws.{Agreed, AgreedRows}
 use borrow.Author.Rules.{rules}
 use Rattle.comparing.proofs.compare.Given as goal
 
