@@ -45,7 +45,8 @@ loop-rest-smaller c = let a = c.minus-rest.ensures.less in let b = c.without.ens
 pub loop-rest-preserved : goal.loop-rest-preserved
 loop-rest-preserved c = λ mask b.
     let d = c.args.d in
-    left_more mask d c.loop-rest.rest c.loop-rest.k c.lowest-c.result _ c.without.result c.minus-rest.result (b c.lowest-c.result c.lowest-c.ensures.0) c.without.ensures c.minus-rest.ensures (c.loop-rest.invariant mask b)
+    left_more mask d c.loop-rest.rest c.loop-rest.k c.lowest-c.result _ c.without.result c.minus-rest.result
+    (b c.lowest-c.result c.lowest-c.ensures.0) c.without.ensures c.minus-rest.ensures (c.loop-rest.invariant mask b)
 
 pub returns : goal.returns
 returns c = λ e mask b.

@@ -50,7 +50,8 @@ pub loop-l-preserved : goal.loop-l-preserved
 loop-l-preserved c = let a = c.args in
     let h = c.loop-l-test.true in (
       omega arith,
-      lacks_more a.cl.now a.owns.now a.wants.now a.base.now a.o a.p c.loop-l.l c.class_part-q.result c.larger-n.result c.loop-l.total c.loop-l.news _ _ c.counted-t.result c.counted-s.result c.class_part-q.ensures.0
+      lacks_more a.cl.now a.owns.now a.wants.now a.base.now a.o a.p c.loop-l.l c.class_part-q.result c.larger-n.result
+          c.loop-l.total c.loop-l.news _ _ c.counted-t.result c.counted-s.result c.class_part-q.ensures.0
           (c.larger-n.ensures.0 ∙ ap (max (get_or a.wants.now c.loop-l.l 0)) c.label.ensures) c.counted-t.ensures.0 c.counted-t.ensures.1 c.counted-s.ensures.0
           c.counted-s.ensures.1 refl refl c.loop-l.invariant.1,
     )
