@@ -18,7 +18,7 @@ returns-then-k-ge-MAX_OUTPUTS c = λ d h.
     let r = c.refuse-then-k-ge-MAX_OUTPUTS in
     out_spelled d k h w r.result (read_out c.args.l.now) c.out_line-w.ensures (not-false w.ok c.if-not-w.false) (λ x g.
     elim c.then-k-ge-MAX_OUTPUTS.branch [
-        then-k-ge-MAX_OUTPUTS-via-then-k-ge-MAX_OUTPUTS v ↦
+      | then-k-ge-MAX_OUTPUTS-via-then-k-ge-MAX_OUTPUTS v ↦
           out_fifth d k h w r.result x g v.if-k-ge-MAX_OUTPUTS.true r.ensures
       | then-k-ge-MAX_OUTPUTS-via-else-k-ge-MAX_OUTPUTS+then-w-gt-MAX_DEPTH v ↦
           out_deep d k h w r.result x g v.if-k-ge-MAX_OUTPUTS.false v.if-w-gt-MAX_DEPTH.true r.ensures
