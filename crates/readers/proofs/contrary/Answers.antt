@@ -9,11 +9,11 @@ pub returns-then-v-eq0 : goal.returns-then-v-eq0
 returns-then-v-eq0 c = let e = c.if-v-eq0.true in (λ t. absurd (true_false (sym t)), λ t h. absurd (omega arith))
 
 pub returns-then-not-in_set : goal.returns-then-not-in_set
-returns-then-not-in_set c = let off = sym c.in_set.ensures ∙ not-true _ c.if-not-in_set.true-raw in
+returns-then-not-in_set c = let off = sym c.in_set.ensures ∙ c.if-not-in_set.true in
     (λ t. absurd (true_false (sym t)), λ t h k. absurd (never_both k off))
 
 pub returns : goal.returns
 returns c = let some = c.if-v-eq0.false in
-    let known = sym c.in_set.ensures ∙ not-false _ c.if-not-in_set.false-raw in
+    let known = sym c.in_set.ensures ∙ c.if-not-in_set.false in
     let d = c.in_set-2.ensures in
     (λ t. (omega arith, known, sym d ∙ t), λ t h k. sym d ∙ t)

@@ -91,7 +91,7 @@ returns-then-not-settle_all c = let a = c.args in
           p.kn p.val k.public c.begin-b.result.codes c.begin-b.result.dom c.begin-b.result.dom c.begin-b.result.codes c.begin-b.ensures
           (start-covers a.cl.now c.bases-base.result _ _ _ p.vertices p.outputs p.kn p.val c.begin-b.result.codes c.begin-b.result.dom c.begin-b.result.dom
           k.vertices c.begin-b.ensures (kept-start a.cl.now c.bases-base.result _ _ _ p.vertices p.outputs c.begin-b.result.codes c.begin-b.result.dom))
-          (c.settle_all.ensures.2 (not-true _ c.if-not-settle_all.true-raw) p.kn p.val));
+          (c.settle_all.ensures.2 c.if-not-settle_all.true p.kn p.val));
       never = λ u. refl;
     }
 
