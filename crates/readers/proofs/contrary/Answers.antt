@@ -1,8 +1,6 @@
 use mathlib.Core.Path.{sym, ◌∙◌}
 use native.Mathlib.Omega.{arith}
-use borrow.Author.Tests.{not-true, not-false}
 use Rattle.bits.specs.LogicLaws.{true_false, never_both}
-use borrow.Author.Rules.{rules}
 use Rattle.readers.proofs.contrary.Goals as goal
 
 pub returns-then-v-eq0 : goal.returns-then-v-eq0

@@ -1,4 +1,3 @@
-use borrow.Author.Tests.{not-true}
 use Rattle.readers.specs.KnownLaws.{digit_unknown, digit_one, digit_zero}
 use Rattle.readers.proofs.with_digit.Goals as goal
 
