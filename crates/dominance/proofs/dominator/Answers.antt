@@ -35,9 +35,9 @@ inside-requires c = let p = c.requires in
 
 pub returns-then-inside : goal.returns-then-inside
 returns-then-inside c = let h = c.loop-k-test.true in record {
-      under = omega arith;
-      dominates = λ _. record { inside = c.inside.ensures c.if-inside.true; budget = sym c.if-budgets-q.true };
-    }
+  under = omega arith;
+  dominates = λ _. record { inside = c.inside.ensures c.if-inside.true; budget = sym c.if-budgets-q.true };
+}
 
 pub loop-k-preserved : goal.loop-k-preserved
 loop-k-preserved c = let h = c.loop-k-test.true in omega arith

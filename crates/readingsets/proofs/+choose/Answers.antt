@@ -154,7 +154,7 @@ loop-i-preserved t c = let a = c.args in
     record {
       within = omega arith;
       tried = elim c.if-suits.branch [
-          then-suits+then-a+else-k+else-known_bad w ↦
+        | then-suits+then-a+else-k+else-known_bad w ↦
             (let r = w.choose-k.result in
             let none = chosen_lost a.cl.now a.given.now p.budgets p.kn p.val p.vertices p.outputs p.cells p.tables
             c.with-done_now.result tried r.rows r.codes r.ok w.if-k.false in
@@ -163,7 +163,7 @@ loop-i-preserved t c = let a = c.args in
         | else-suits w ↦ subst S (sym w.unsure-is) (sure_then p.last l.unsure _ _ (past.2 w.if-suits.false c.suits.ensures) i.tried)
       ];
       honest = elim c.if-suits.branch [
-          then-suits+then-a+else-k+else-known_bad w ↦ subst H (sym w.mem-is) w.choose-k.ensures.1
+        | then-suits+then-a+else-k+else-known_bad w ↦ subst H (sym w.mem-is) w.choose-k.ensures.1
         | then-suits+else-a w ↦ subst H (sym w.mem-is) w.alive-a.ensures.0
         | else-suits w ↦ subst H (sym w.mem-is) i.honest
       ];

@@ -25,7 +25,7 @@ returns c = let a = c.args in
     let H : List ℕ → Type 0 = λ m. Honest a.cl.now a.given.now p.kn p.val p.vertices m in
     let lost = settled_lost a.cl.now a.given.now p.kn p.val p.vertices a.all (item a.rows) r.ok r.codes in
     let kept : H c.if-p-ne0.mem = elim c.if-p-ne0.branch [
-        then-p-ne0+then-not-c+then-not-c-2 w ↦
+      | then-p-ne0+then-not-c+then-not-c-2 w ↦
           (let bad = lost (not-true _ w.if-not-c.true) (c.ask-c.ensures.sure (not-true _ w.if-not-c-2.true)) in
           subst H (sym w.mem-is) (w.store.ensures a.cl.now a.given.now p.kn p.val p.vertices (λ e. bad) h))
       | then-p-ne0+then-not-c+else-not-c-2 w ↦ subst H (sym w.mem-is) h
