@@ -1,6 +1,5 @@
 use mathlib.Core.Path.{sym, ◌∙◌}
 use native.Mathlib.Omega.{arith}
-use borrow.Author.Tests.{not-true, not-false}
 use borrow.Author.Rules.{rules}
 use Rattle.joint.specs.DigitsLaws.{unknown_at, one_at, zero_at}
 use Rattle.joint.proofs.known_at.Goals as goal
