@@ -6,8 +6,9 @@ use Rattle.formula.specs.Reader.{read_formula}
 use Rattle.formula.specs.Part.{read_so_far}
 use Rattle.formula.specs.TurnLaws.{byte_falls, formula_left}
 use Rattle.formula.specs.Walk.{WalkOf}
-use Rattle.formula.specs.WalkLaws.{part_read, walk_start, walk_step, walk_closed, walk_short, unread_is, joined_read}
+use Rattle.formula.specs.WalkLaws.{part_read, walk_start, walk_closed, walk_short, unread_is, joined_read}
 use Rattle.formula.specs.OpenedLaws.{opened_falls, name_is, digit_is, not_is, gate_is, nothing_is}
+use Rattle.formula.proofs.WalkStep.{walk_step}
 use Rattle.formula.proofs.+nested_operands.Goals as goal
 
 -- ---- nested
