@@ -2,6 +2,7 @@
 // into one order of the open cells, so that subproblems that differ in that order alone are one, and it is asked on what the
 // given tables leave of the conflicts. It rests on relation, joint and sorting.
 #![tactic(auto)]
+
 ghost use Rattle.std.specs.Prelude.{◌≡◌, true, false, ℕ, ◌<◌, ◌≤◌, ◌/◌, ◌^◌, length};
 ghost use Rattle.limits.specs.Limits.{search_outputs, max_vertices, max_codes, max_cells};
 ghost use Rattle.problem.specs.Problem.{item};

@@ -2,7 +2,6 @@ use Rattle.bits.specs.LogicLaws.{true_false}
 use Rattle.sorting.specs.OrderLaws.{order_plain}
 use native.Mathlib.Omega.{arith}
 use mathlib.Core.Path.{refl, sym, ◌∙◌}
-use borrow.Author.Rules.{rules}
 use Rattle.subproblems.proofs.order.Goals as goal
 
 pub falling-perm-requires : goal.falling-perm-requires
