@@ -1,12 +1,7 @@
-use Rattle.fewest.specs.Count.{NoFewer}
 use Rattle.dominance.specs.KeptLaws.{kept_sought}
-use Rattle.cache.specs.Cache.{Honest}
-use lib.ListN.{length}
 use native.Mathlib.Omega.{arith}
-use Prim.Native.Nat.{◌≤◌, ◌+◌, ◌-◌}
 use mathlib.Core.Logic.{inl}
-use mathlib.Core.Path.{◌≡◌, refl, sym, ◌∙◌}
-use borrow.Author.Rules.{rules}
+use mathlib.Core.Path.{refl, sym, ◌∙◌}
 use Rattle.fewest.specs.CountLaws.{no_fewer_start, no_fewer_more, no_fewer_kept, answer_found, answer_none}
 use Rattle.fewest.proofs.fewest.Goals as goal
 

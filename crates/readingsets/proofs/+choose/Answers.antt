@@ -1,6 +1,6 @@
 use Rattle.std.proofs.Common.{◌≡◌, ℕ, ◌+◌, ◌^◌, ◌<◌, ◌≤◌, Bool, true, false, not, nat_eq, slice_set, sym, refl, ap, ◌∙◌, subst, arith}
 use Rattle.readingsets.specs.ChoiceLaws.{tried_start, tried_all, step_fits, step_on, step_past}
-use Rattle.readingsets.specs.ChoiceLaws.{chosen_end, chosen-found, chosen_lost, chosen_none, done_lost, known_or_none, number_room, on_with_same}
+use Rattle.readingsets.specs.ChoiceLaws.{chosen_end, chosen_lost, chosen_none, done_lost, known_or_none, number_room, on_with_same}
 use Rattle.readingsets.specs.ServedLaws.{served_chosen}
 use Rattle.readingsets.specs.Choice.{Chosen, turned, Tried}
 use Rattle.bits.specs.Digit.{on}

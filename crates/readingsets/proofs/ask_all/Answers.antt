@@ -2,7 +2,7 @@ use Rattle.readingsets.specs.ChoiceLaws.{settled_none, settled_lost}
 use Rattle.coding.specs.LimitLaws.{sure_now}
 use Rattle.cache.specs.Cache.{Honest}
 use Rattle.problem.specs.Problem.{item}
-use Rattle.std.proofs.Common.{ℕ, List, sym, refl, ◌∙◌, subst, ⊎_elim, rules}
+use Rattle.std.proofs.Common.{ℕ, List, sym, refl, subst}
 use borrow.Author.Tests.{not-true}
 use Rattle.readingsets.proofs.ask_all.Goals as goal
 use Rattle.readingsets.proofs.ask_all.Goals.{then-p-ne0+then-not-c+then-not-c-2, then-p-ne0+then-not-c+else-not-c-2, then-p-ne0+else-not-c, else-p-ne0}

@@ -1,5 +1,4 @@
-use borrow.Author.Tests.{not-true, not-false}
-use Rattle.std.proofs.Common.{◌≡◌, ℕ, ◌+◌, ◌-◌, ◌≤◌, false, sym, ◌∙◌, subst, ⊎_elim, arith, rules}
+use Rattle.std.proofs.Common.{◌≡◌, ℕ, ◌+◌, false, sym, ◌∙◌, subst, arith, rules}
 use Rattle.bits.specs.Digit.{on}
 use Rattle.readingsets.specs.Choice.{Next}
 use Rattle.readingsets.specs.ChoiceLaws.{next_start, next_here, next-found, next_done}
