@@ -1,6 +1,6 @@
 -- Check and its examination, one law for each way out of the code. Assumes nothing.
-use Rattle.std.specs.Prelude.{◌≡◌, refl, true, false, List, ℕ, ◌≤◌, ◌<◌, length}
-use Rattle.std.proofs.Common.{sym, ap, ap₂, ◌∙◌, subst, arith}
+use Rattle.std.specs.Prelude.{◌≡◌, refl, true, false, List, ℕ, ◌≤◌, length}
+use Rattle.std.proofs.Common.{sym, ap, ap₂, ◌∙◌, subst}
 use Rattle.bits.specs.LogicLaws.{true_false}
 use Rattle.sheet.specs.Examine as sheets
 use Rattle.sheet.specs.Examine.{Design, valid}
@@ -12,7 +12,6 @@ use Rattle.design.specs.TableLaws.{refused-here, valid_here}
 use Rattle.design.specs.declared.Examined.{Examined}
 use Rattle.classes.specs.ProperLaws.{proper_of}
 use Rattle.classes.specs.Proper.{Proper}
-use Rattle.classes.specs.Width.{budget}
 use Rattle.classes.specs.Answer.{Counts, ClassesAre}
 use Rattle.classes.specs.ShapeLaws.{proper_counts}
 use Rattle.classes.specs.declared.Classes.{Classes}
@@ -20,13 +19,13 @@ use Rattle.network.specs.Network.{Network}
 use Rattle.network.specs.Examine.{Answer, bad_line, network, read_network}
 use Rattle.network.specs.Check.{Checked, refused_by, Pair, refused_pair, pair, examine_pair, compare_pair, check_of, check}
 use Rattle.network.specs.Check.{compared}
-use Rattle.network.specs.CheckLaws.{check-sheet, pair_refused, pair_bad_line, pair_offending, drawn_pair}
+use Rattle.network.specs.CheckLaws.{check-sheet, pair_refused, pair_bad_line}
 use Rattle.netsheet.specs.Answer.{NetworkIs, ReadAs}
 use Rattle.netsheet.specs.Named.{Ranged}
 use Rattle.netsheet.specs.NamedLaws.{holds_ranged}
 use Rattle.netsheet.specs.declared.NetworkSheet.{NetworkSheet}
 use Rattle.checker.specs.Beside.{RefusedPair, BesideIs}
-use Rattle.checker.specs.Limits.{Small, LimitsAre, Judged}
+use Rattle.checker.specs.Limits.{Small}
 use Rattle.comparing.specs.Drawing.{places_of, Drawing, SomeDrawing}
 use Rattle.checker.specs.declared.Beside.{Beside}
 

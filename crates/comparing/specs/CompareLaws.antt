@@ -1,7 +1,7 @@
 -- The comparison, output by output and row by row: what the code knows after some of them is that these agree, and so what
 -- it says at the end is the definition's answer. Assumes nothing.
-use Rattle.std.specs.Prelude.{◌≡◌, true, false, List, ℕ, ◌+◌, ◌^◌, ◌≤◌, ◌<◌, length, get_or}
-use Rattle.std.proofs.Common.{sym, ap, ap₂, ◌∙◌, arith, below_more, pow_mono}
+use Rattle.std.specs.Prelude.{◌≡◌, List, ℕ, ◌+◌, ◌^◌, ◌≤◌, ◌<◌, length, get_or}
+use Rattle.std.proofs.Common.{sym, ap, arith, below_more, pow_mono}
 use Rattle.limits.specs.Limits.{max_inputs, max_rows}
 use Rattle.rows.specs.Words.{row_on}
 use Rattle.sheet.specs.Examine.{Design}
