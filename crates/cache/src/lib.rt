@@ -1,6 +1,7 @@
 // A cache of subproblems answered, and the sets of outputs for which it is asked. What it says was found to have no codes has
 // none; that something has codes, or may have, is used to leave a search out, and nothing rests on it. It rests on subproblems.
 #![tactic(auto)]
+
 ghost use Rattle.std.specs.Prelude.{◌≡◌, ℕ, ◌+◌, ◌*◌, ◌<◌, ◌≤◌, true, false, List, length};
 ghost use Rattle.limits.specs.Limits.{search_outputs, max_vertices};
 ghost use Rattle.bits.specs.Digit.{on};

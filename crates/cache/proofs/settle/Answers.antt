@@ -1,9 +1,8 @@
 use Rattle.cache.specs.CacheLaws.{barred_among}
-use Rattle.cache.specs.Cache.{Honest}
 use Rattle.problem.specs.Problem.{item}
 use Rattle.bits.specs.LogicLaws.{true_false}
 use borrow.Author.Tests.{not-true}
-use Rattle.std.proofs.Common.{ℕ, ◌-◌, ◌≤◌, List, sym, ◌∙◌, subst, arith, rules}
+use Rattle.std.proofs.Common.{sym, ◌∙◌, arith}
 use Rattle.cache.proofs.settle.Goals as goal
 
 pub loop-a-init : goal.loop-a-init
