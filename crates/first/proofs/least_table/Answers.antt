@@ -1,7 +1,5 @@
 use Rattle.first.specs.LowestLaws.{lowest_same, lowest_next, stands_front, remembers_none}
-use Rattle.first.specs.Drawn.{Lowest, Stands, Remembers}
 use native.Mathlib.Omega.{arith}
-use Prim.Native.Nat.{◌≤◌, ◌-◌}
 use mathlib.Core.Path.{sym, ◌∙◌}
 use Rattle.first.proofs.least_table.Goals as goal
 
