@@ -2,13 +2,12 @@
 use Rattle.sheet.specs.Examine as sheets
 use Rattle.comparing.specs.Answer.{checked_of}
 use Rattle.checker.specs.CheckLaws.{sheet_right, answer_of_sheet}
-use borrow.Author.Rules.{rules}
 use Rattle.checker.proofs.check.Goals as goal
 
 pub check_of-requires : goal.check_of-requires
-check_of-requires c = c.examine.ensures.1
+check_of-requires c = c.examine.ensures.examination
 
 pub returns : goal.returns
 returns c = let a = c.args in
     answer_of_sheet a.sheet.now a.network.now (checked_of c.check_of.result)
-    (c.check_of.ensures (sheets.examine a.sheet.now) c.examine.ensures.0 (sheet_right a.sheet.now))
+    (c.check_of.ensures (sheets.examine a.sheet.now) c.examine.ensures.examined_is (sheet_right a.sheet.now))

@@ -3,12 +3,13 @@ use mathlib.Core.Path.{refl}
 use borrow.Author.Tests.{not-true, not-false}
 use Rattle.sheet.specs.Examine as sheets
 use Rattle.design.specs.Answer.{ExaminedIs, Right}
-use Rattle.checker.specs.CheckLaws.{refused-design, Designed, designed, designed_ranged, designed_counts, refused_line, Networked, networked, small, refused_limits, passed_pair}
-use borrow.Author.Rules.{rules}
+use Rattle.checker.specs.CheckLaws.{refused-design, Designed, designed, designed_ranged, designed_counts, refused_line, Networked, networked, small}
+use Rattle.checker.proofs.PassedLaws.{refused_limits, passed_pair}
 use Rattle.checker.proofs.examine_pair.Goals as goal
+use Rattle.checker.proofs.examine_pair.Goals.{Else-not-e, Else-not-n}
 
 -- ---- what is known where the design's examination passed, of each answer that it holds
-module _ (c : goal.Else-not-e) where
+module _ (c : Else-not-e) where
   says : (x : sheets.Examined)
       → ExaminedIs x c.args.e
       → Right x
@@ -21,7 +22,7 @@ module _ (c : goal.Else-not-e) where
       says pre.found pre.is pre.right
 
 -- ---- what is known where the network sheet is read
-read : (c : goal.Else-not-n) {x : sheets.Examined}
+read : (c : Else-not-n) {x : sheets.Examined}
     (g : Designed x c.args.e.sheet)
     → Networked g c.args.network.now c.read_network-n.result
 read c g =
