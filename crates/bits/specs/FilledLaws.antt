@@ -6,7 +6,8 @@ use Rattle.bits.specs.CountLaws.{less_or_equal}
 use Rattle.bits.specs.Filled.{Filled}
 
 -- what holds of the first n entries of an array and of the one that is written next holds of the first n + 1
-pub each_more : (P : ℕ → ℕ → Type 0) (n x : ℕ) (r : List ℕ) → n < length r → P n x → ((k : ℕ) → k < n → P k (get_or r k 0)) → (k : ℕ) → k < n + 1 → P k (get_or (set r n x) k 0)
+pub each_more : (P : ℕ → ℕ → Type 0) (n x : ℕ) (r : List ℕ) → n < length r → P n x → ((k : ℕ) → k < n → P k (get_or r k 0))
+    → (k : ℕ) → k < n + 1 → P k (get_or (set r n x) k 0)
 each_more P n x r b p s k h = ⊎_elim
     (λ l. subst (P k) (sym (get_or-set_other r n k x 0 (λ e. let z : k ≡ n = e in omega arith))) (s k l))
     (λ e. subst (λ (i : ℕ). P i (get_or (set r n x) i 0)) (sym e) (subst (P n) (sym (get_or-set_same r n x 0 b)) p))

@@ -3,6 +3,7 @@
 // of the codes that their budgets allow come first: they leave the least choice. What is found for those kept, or that there is
 // nothing, holds for all (specs/KeptLaws). It rests on relation and sorting, and on the definitions of seeking.
 #![tactic(auto)]
+
 ghost use Rattle.std.specs.Prelude.{◌≡◌, ℕ, ◌<◌, ◌≤◌, length};
 ghost use Rattle.limits.specs.Limits.{search_outputs, max_vertices, label_count};
 ghost use Rattle.problem.specs.Problem.{item};

@@ -2,6 +2,7 @@
 // none, for the outputs that dominance keeps. What is found is a least core, and where nothing is found every core that serves
 // has more cells than the limit: the contract of `fewest` is Theorem B.
 #![tactic(auto)]
+
 ghost use Rattle.std.specs.Prelude.{◌≡◌, ◌*◌, ◌≤◌, length};
 ghost use Rattle.limits.specs.Limits.{search_outputs, max_vertices, max_cells};
 ghost use Rattle.relation.specs.Relation.{Classes};

@@ -3,6 +3,7 @@
 // the search is asked for cells with the digits before it and 0 there. It rests on fewest for the number of cells, on seeking for
 // what is asked, on order for why the digits found are those of the first tables, and on picking for the reading sets.
 #![tactic(auto)]
+
 ghost use Rattle.std.specs.Prelude.{◌≡◌, ◌+◌, ◌*◌, ◌<◌, ◌≤◌, length};
 ghost use Rattle.limits.specs.Limits.{search_outputs, max_vertices, max_cells};
 ghost use Rattle.relation.specs.Relation.{Classes};

@@ -1,5 +1,6 @@
 // The line that a refusal names, as a part of the sheet that it stands in. Rests on text for lines.
 #![tactic(auto)]
+
 ghost use Rattle.locate.specs.Located.{located};
 ghost use Rattle.locate.specs.Places.{SpanIs, RangeIs, LineIs, PlaceIs};
 

@@ -2,6 +2,7 @@
 // serves is kept where it has the first cell in which it differs from the best so far (specs/BestLaws). It rests on relation,
 // which tells whether tables leave a conflict, and on the order of digits.
 #![tactic(auto)]
+
 ghost use Rattle.std.specs.Prelude.{◌≡◌, true, false, ◌^◌, ◌<◌, ◌≤◌, length};
 ghost use Rattle.limits.specs.Limits.{search_outputs, max_vertices, max_cells};
 ghost use Rattle.order.specs.Order.{is_less};

@@ -2,7 +2,7 @@
 -- next output may be taken to read the first ones: a core is replaced by one that differs in the order of these cells alone. So
 -- only rows in that order are tried. Of these, rows that no codes answer, alone or with those chosen before, are passed over:
 -- no core has them. Assumes nothing.
-use Rattle.std.specs.Prelude.{◌≡◌, ℕ, zero, suc, ◌+◌, ◌-◌, ◌*◌, ◌/◌, ◌%◌, ◌^◌, ◌<◌, ◌≤◌, min, Bool, true, false, not, ◌⊎◌, List, length, set, ◌==◌, ◌≢◌, bit_and, bit_or, bit_xor, nat_eq, slice_set, refl}
+use Rattle.std.specs.Prelude.{◌≡◌, ℕ, zero, suc, ◌+◌, ◌-◌, ◌*◌, ◌/◌, ◌%◌, ◌^◌, ◌<◌, ◌≤◌, min, Bool, true, false, not, ◌⊎◌, List, length, ◌==◌, ◌≢◌, bit_and, bit_or, bit_xor, nat_eq, slice_set, refl}
 use Rattle.std.proofs.Common.{sym, ap, ap₂, ◌∙◌, subst, inl, inr, ⊎_elim, arith, mod-eq_of_lt, mod-lt, div-lt_iff_lt-mul, mul_comm, mul-suc, mul-le-mul_left, length-set, pow-add, pow_mono, pow_pos, shr-shr, get_or-set_same, get_or-set_other, eqb-true}
 use Rattle.std.proofs.Math.Decide.{ℕ_discrete, dec_lt}
 use Rattle.std.proofs.Math.Nat.{div-eq_of_lt, add-mul-div_left, add-mul-mod_self_left}

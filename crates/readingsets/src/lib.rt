@@ -3,6 +3,7 @@
 // at last about all. Each output reads as many tables as it may, and of neighbouring open cells that the outputs so far read
 // alike the next one reads the first (specs/ChoiceLaws). The order of the outputs is free. It rests on cache.
 #![tactic(auto)]
+
 ghost use Rattle.std.specs.Prelude.{◌≡◌, ◌+◌, ◌*◌, ◌/◌, ◌%◌, ◌^◌, ◌<◌, ◌≤◌, min, true, false, length, bit_or};
 ghost use Rattle.limits.specs.Limits.{search_outputs, max_vertices, max_cells};
 ghost use Rattle.bits.specs.Digit.{on};

@@ -1,6 +1,7 @@
 // A core of so many open cells beside given tables, or there is none. The crate readingsets is asked in rounds with growing
 // limits: what takes long is left until all else is tried, and "none" is said only by a round that gave nothing up.
 #![tactic(auto)]
+
 ghost use Rattle.std.specs.Prelude.{◌≡◌, true, false, ◌<◌, ◌≤◌, length};
 ghost use Rattle.limits.specs.Limits.{search_outputs, max_vertices, max_cells};
 ghost use Rattle.relation.specs.Relation.{Classes};

@@ -1,6 +1,6 @@
 -- How many lines a text has: one at least where it has a byte, at most one for each byte, and as many as it has 0x0A
 -- where it ends in one. Assumes nothing.
-use Rattle.std.specs.Prelude.{◌≡◌, Bool, true, false, List, [], ◌∷◌, ℕ, ◌-◌, ◌≤◌, ◌<◌, eqb, length, drop}
+use Rattle.std.specs.Prelude.{◌≡◌, Bool, true, false, List, [], ◌∷◌, ℕ, ◌≤◌, ◌<◌, eqb, length, drop}
 use Rattle.std.proofs.Common.{ap, ◌∙◌, arith, drop_of_length-le}
 use Rattle.bits.specs.Logic.{pick}
 use Rattle.text.specs.Bytes.{newline}

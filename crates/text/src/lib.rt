@@ -1,6 +1,7 @@
 // Texts as slices of bytes: whether two are the same, and where a line ends. What the specification says of bytes, lines and
 // numbers stands in specs/.
 #![tactic(auto)]
+
 ghost use Rattle.std.specs.Prelude.{◌≡◌, ◌≤◌, length};
 ghost use Rattle.text.specs.Bytes.{same};
 ghost use Rattle.text.specs.LineEnd.{LineEnd};

@@ -2,6 +2,7 @@
 // to the search. Rests on subsets for sets, on dominance for the outputs that stand for all, on seeking for the search, and on the
 // laws of fewest.
 #![tactic(auto)]
+
 ghost use Rattle.std.specs.Prelude.{◌≡◌, ◌*◌, ◌≤◌, length};
 ghost use Rattle.limits.specs.Limits.{search_outputs, max_vertices, max_cells};
 ghost use Rattle.relation.specs.Relation.{Classes};

@@ -1,7 +1,8 @@
 use Rattle.cache.specs.CacheLaws.{unread_start, unread_same, unread_less, honest_unread}
-use Rattle.std.proofs.Common.{◌≡◌, ℕ, ◌+◌, ◌-◌, ◌≤◌, List, length, sym, ◌∙◌, subst, ⊎_elim, arith, rules}
+use Rattle.std.proofs.Common.{ℕ, ◌+◌, List, sym, ◌∙◌, subst, arith, rules}
 use Rattle.cache.specs.Cache.{Unread}
 use Rattle.cache.proofs.keep_unread.Goals as goal
+use Rattle.cache.proofs.keep_unread.Goals.{then-reads_cell_0, else-reads_cell_0}
 
 pub loop-i-init : goal.loop-i-init
 loop-i-init c = (omega arith, c.requires, unread_start c.args.mem.now)
@@ -18,10 +19,11 @@ loop-i-preserved c = let h = c.loop-i-test.true in
     let P : List ℕ → Type 0 = Unread old (c.loop-i.i + 1) in (
       omega arith,
       c.loop-i.invariant.1,
-      ⊎_elim
-          (λ w. subst P (sym w.1) (unread_less old c.loop-i.i c.loop-i.mem c.loop-i.invariant.2 c.loop-i.invariant.1 h))
-          (λ w. subst P (sym w.1) (unread_same old c.loop-i.i c.loop-i.mem c.loop-i.invariant.2 (c.reads_cell_0.ensures w.0.left)))
-          c.if-reads_cell_0.branch,
+      elim c.if-reads_cell_0.branch [
+        | then-reads_cell_0 w ↦ subst P (sym w.mem-is) (unread_less old c.loop-i.i c.loop-i.mem c.loop-i.invariant.2 c.loop-i.invariant.1 h)
+        | else-reads_cell_0 w ↦ subst P (sym w.mem-is)
+            (unread_same old c.loop-i.i c.loop-i.mem c.loop-i.invariant.2 (c.reads_cell_0.ensures w.if-reads_cell_0.false))
+      ],
     )
 
 pub shape_of-mem : goal.shape_of-mem

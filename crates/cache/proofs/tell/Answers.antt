@@ -2,9 +2,10 @@ use Rattle.problem.specs.Problem.{item}
 use Rattle.subproblems.specs.SubproblemLaws.{settled_barred}
 use Rattle.subproblems.specs.Subproblem.{Barred}
 use Rattle.bits.specs.LogicLaws.{true_false}
-use Rattle.std.proofs.Common.{◌≡◌, false, sym, ◌∙◌, ⊎_elim, rules, eqb-true}
+use Rattle.std.proofs.Common.{◌≡◌, false, sym, ◌∙◌, eqb-true}
 use borrow.Author.Tests.{not-false}
 use Rattle.cache.proofs.tell.Goals as goal
+use Rattle.cache.proofs.tell.Goals.{then-a, else-a}
 
 pub is_bad-requires : goal.is_bad-requires
 is_bad-requires c = c.requires.3.long
@@ -30,13 +31,14 @@ pub store-requires : goal.store-requires
 store-requires c = c.requires.3.long
 
 pub returns : goal.returns
-returns c = let a = c.args in
+returns c =
+    let a = c.args in
     let p = a.q in
-    let s = c.requires.3 in
-    let bad : c.if-a.type-inv ≡ false → Barred a.cl.now a.given.now p.kn p.val p.vertices a.asked (item c.question-asks.result) = λ e. ⊎_elim
-    (λ w. absurd (true_false (sym w.1 ∙ e)))
-    (λ w. settled_barred a.cl.now a.given.now p.kn p.val p.vertices a.asked (item c.question-asks.result) c.ask-a.result.ok c.ask-a.result.codes (c.ask-a.ensures.sure w.0.left) (sym w.1 ∙ e))
-    c.if-a.branch in (
-      c.store.ensures a.cl.now a.given.now p.kn p.val p.vertices bad s,
+    let bad : c.if-a.ok ≡ false → Barred a.cl.now a.given.now p.kn p.val p.vertices a.asked (item c.question-asks.result) = λ e. elim c.if-a.branch [
+      | then-a w ↦ absurd (true_false (sym w.ok-is ∙ e))
+      | else-a w ↦ settled_barred a.cl.now a.given.now p.kn p.val p.vertices a.asked (item c.question-asks.result) c.ask-a.result.ok c.ask-a.result.codes
+          (c.ask-a.ensures.sure w.if-a.false) (sym w.ok-is ∙ e)
+    ] in (
+      c.store.ensures a.cl.now a.given.now p.kn p.val p.vertices bad c.requires.3,
       λ e. c.question-asks.ensures.barred a.cl.now a.given.now p.kn p.val p.vertices (λ n. eqb-true p.kn 0 (not-false _ n)) (bad e),
     )

@@ -1,7 +1,6 @@
 use mathlib.Core.Path.{refl, sym, subst}
 use mathlib.Core.List.{List}
-use mathlib.Core.Logic.{⊎_elim}
-use Prim.Native.Nat.{ℕ, ◌+◌, ◌≤◌, ◌-◌}
+use Prim.Native.Nat.{ℕ, ◌+◌}
 use native.Mathlib.Omega.{arith}
 use lib.ListN.{set}
 use Rattle.problem.specs.Problem.{item}
@@ -89,7 +88,7 @@ loop-i-preserved c = let a = c.args in
     let low = c.falling-order.ensures.0.low c.loop-i.i h in
     let P : List ℕ → ℕ → Type 0 = λ from n. Choosing a.cl.now a.budgets a.v a.m c.falling-order.result (c.loop-i.i + 1) n from (set c.loop-i.by o c.dominator-k.result) in
     let R : P c.if-k-n.from c.if-k-n.n = elim c.if-k-n.branch [
-        then-k-n w ↦ subst (λ (r : List ℕ). P r c.if-k-n.n) (sym w.from-is) (subst (P (set c.loop-i.from c.loop-i.n o)) (sym w.n-is)
+      | then-k-n w ↦ subst (λ (r : List ℕ). P r c.if-k-n.n) (sym w.from-is) (subst (P (set c.loop-i.from c.loop-i.n o)) (sym w.n-is)
           (choosing-kept a.cl.now a.budgets a.v a.m c.falling-order.result c.loop-i.i c.loop-i.n c.loop-i.from c.loop-i.by c.dominator-k.result (omega arith) s w.if-k-n.true (omega arith) low))
       | else-k-n w ↦ (let e = w.if-k-n.false in subst (λ (r : List ℕ). P r c.if-k-n.n) (sym w.from-is) (subst (P c.loop-i.from) (sym w.n-is)
           (choosing-dominated a.cl.now a.budgets a.v a.m c.falling-order.result c.loop-i.i c.loop-i.n c.loop-i.from c.loop-i.by c.dominator-k.result (omega arith) s

@@ -1,7 +1,5 @@
-use mathlib.Core.Logic.{⊎_elim}
-use Prim.Native.Nat.{◌≤◌, ◌+◌, ◌-◌, ◌*◌}
+use Prim.Native.Nat.{◌+◌, ◌*◌}
 use native.Mathlib.Omega.{arith}
-use borrow.Author.Rules.{rules}
 use Rattle.dominance.proofs.classes.Goals as goal
 use Rattle.dominance.proofs.classes.Goals.{then-not-in_set, else-not-in_set}
 

@@ -1,5 +1,4 @@
 use mathlib.Core.Path.{sym}
-use Prim.Native.Nat.{◌≤◌, ◌-◌}
 use native.Mathlib.Omega.{arith}
 use borrow.Author.Rules.{rules}
 use Rattle.dominance.proofs.dominator.Goals as goal
@@ -35,9 +34,9 @@ inside-requires c = let p = c.requires in
 
 pub returns-then-inside : goal.returns-then-inside
 returns-then-inside c = let h = c.loop-k-test.true in record {
-      under = omega arith;
-      dominates = λ _. record { inside = c.inside.ensures c.if-inside.true; budget = sym c.if-budgets-q.true };
-    }
+  under = omega arith;
+  dominates = λ _. record { inside = c.inside.ensures c.if-inside.true; budget = sym c.if-budgets-q.true };
+}
 
 pub loop-k-preserved : goal.loop-k-preserved
 loop-k-preserved c = let h = c.loop-k-test.true in omega arith

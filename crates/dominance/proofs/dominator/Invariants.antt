@@ -1,7 +1,4 @@
-use mathlib.Core.Path.{sym}
 use Prim.Native.Nat.{◌≤◌, ◌-◌}
-use native.Mathlib.Omega.{arith}
-use borrow.Author.Rules.{rules}
 use Rattle.dominance.proofs.dominator.Given as goal
 
 abbrev pub invariant-loop-k : goal.invariant-loop-k

@@ -1,6 +1,4 @@
-use mathlib.Core.Logic.{⊎_elim}
 use native.Mathlib.Omega.{arith}
-use borrow.Author.Rules.{rules}
 use Rattle.dominance.proofs.fullness.Goals as goal
 use Rattle.dominance.proofs.fullness.Goals.{then-budget-lt-MOST, else-budget-lt-MOST}
 

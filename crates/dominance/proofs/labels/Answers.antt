@@ -1,6 +1,6 @@
 use Rattle.dominance.specs.Dominance.{Taken}
 use mathlib.Core.Path.{refl, subst}
-use Prim.Native.Nat.{ℕ, ◌≤◌, ◌-◌, ◌/◌}
+use Prim.Native.Nat.{ℕ, ◌/◌}
 use native.Mathlib.Omega.{arith}
 use borrow.Author.Rules.{rules}
 use Rattle.bits.specs.FilledLaws.{filled_none, filled_more}

@@ -1,9 +1,5 @@
 use Rattle.dominance.specs.Dominance.{Taken}
-use mathlib.Core.Path.{refl, subst}
-use Prim.Native.Nat.{ℕ, ◌≤◌, ◌-◌, ◌/◌}
-use native.Mathlib.Omega.{arith}
-use borrow.Author.Rules.{rules}
-use Rattle.bits.specs.FilledLaws.{filled_none, filled_more}
+use Prim.Native.Nat.{◌≤◌, ◌-◌}
 use Rattle.dominance.proofs.labels.Given as goal
 
 abbrev pub invariant-loop-i : goal.invariant-loop-i

@@ -1,12 +1,7 @@
-use Rattle.fewest.specs.Count.{NoFewer}
 use Rattle.dominance.specs.KeptLaws.{kept_sought}
-use Rattle.cache.specs.Cache.{Honest}
-use lib.ListN.{length}
 use native.Mathlib.Omega.{arith}
-use Prim.Native.Nat.{◌≤◌, ◌+◌, ◌-◌}
 use mathlib.Core.Logic.{inl}
-use mathlib.Core.Path.{◌≡◌, refl, sym, ◌∙◌}
-use borrow.Author.Rules.{rules}
+use mathlib.Core.Path.{refl, sym, ◌∙◌}
 use Rattle.fewest.specs.CountLaws.{no_fewer_start, no_fewer_more, no_fewer_kept, answer_found, answer_none}
 use Rattle.fewest.proofs.fewest.Goals as goal
 
@@ -77,9 +72,8 @@ pub shape_of-mem : goal.shape_of-mem
 shape_of-mem c = c.loop-u.invariant.3.long ∙ sym c.requires.4
 
 pub returns : goal.returns
-returns c = let a = c.args in
-    (
-      answer_none a.cl.now _ a.budgets a.v a.m c.loop-u.u a.limit _ _ c.loop-u-test.false
-          (no_fewer_kept a.cl.now _ a.budgets a.v a.m c.kept-kept.result.labels c.kept-kept.result.budgets c.kept-kept.result.outputs c.kept-kept.result.by c.loop-u.u c.kept-kept.ensures c.loop-u.invariant.2),
-      c.loop-u.invariant.3.long,
-    )
+returns c = let a = c.args in (
+  answer_none a.cl.now _ a.budgets a.v a.m c.loop-u.u a.limit _ _ c.loop-u-test.false
+      (no_fewer_kept a.cl.now _ a.budgets a.v a.m c.kept-kept.result.labels c.kept-kept.result.budgets c.kept-kept.result.outputs c.kept-kept.result.by c.loop-u.u c.kept-kept.ensures c.loop-u.invariant.2),
+  c.loop-u.invariant.3.long,
+)

@@ -1,17 +1,12 @@
 use Rattle.fewest.specs.Count.{NoFewer}
-use Rattle.dominance.specs.KeptLaws.{kept_sought}
 use Rattle.cache.specs.Cache.{Honest}
 use lib.ListN.{length}
-use native.Mathlib.Omega.{arith}
 use Prim.Native.Nat.{◌≤◌, ◌+◌, ◌-◌}
-use mathlib.Core.Logic.{inl}
-use mathlib.Core.Path.{◌≡◌, refl, sym, ◌∙◌}
-use borrow.Author.Rules.{rules}
-use Rattle.fewest.specs.CountLaws.{no_fewer_start, no_fewer_more, no_fewer_kept, answer_found, answer_none}
+use mathlib.Core.Path.{◌≡◌}
 use Rattle.fewest.proofs.fewest.Given as goal
 
 abbrev pub invariant-loop-u : goal.invariant-loop-u
-invariant-loop-u l =     (l.u ≤ l.limit + 1) × (length l.given ≡ 32) × NoFewer l.kept.labels l.given l.asked l.v l.kept.outputs l.u × Honest l.kept.labels l.given 0 0 l.v l.mem
+invariant-loop-u l = (l.u ≤ l.limit + 1) × (length l.given ≡ 32) × NoFewer l.kept.labels l.given l.asked l.v l.kept.outputs l.u × Honest l.kept.labels l.given 0 0 l.v l.mem
 
 abbrev pub decreases-loop-u : goal.decreases-loop-u
 decreases-loop-u l = l.limit + 1 - l.u

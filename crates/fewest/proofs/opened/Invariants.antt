@@ -1,8 +1,5 @@
 use Rattle.fewest.specs.Count.{Opened}
-use mathlib.Core.Path.{refl}
 use Prim.Native.Nat.{◌-◌}
-use borrow.Author.Rules.{rules}
-use Rattle.bits.specs.FilledLaws.{filled_none, filled_more, filled_fewer}
 use Rattle.fewest.proofs.opened.Given as goal
 
 abbrev pub invariant-loop-o : goal.invariant-loop-o

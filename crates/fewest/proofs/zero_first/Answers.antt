@@ -1,8 +1,4 @@
-use Rattle.fewest.specs.Count.{Zeroed}
-use lib.ListN.{get_or}
-use Prim.Native.Nat.{◌-◌}
-use mathlib.Core.Path.{◌≡◌, refl}
-use borrow.Author.Rules.{rules}
+use mathlib.Core.Path.{refl}
 use Rattle.bits.specs.FilledLaws.{filled_none, filled_more, filled_fewer}
 use Rattle.fewest.proofs.zero_first.Goals as goal
 

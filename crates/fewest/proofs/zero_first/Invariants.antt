@@ -1,9 +1,7 @@
 use Rattle.fewest.specs.Count.{Zeroed}
 use lib.ListN.{get_or}
 use Prim.Native.Nat.{◌-◌}
-use mathlib.Core.Path.{◌≡◌, refl}
-use borrow.Author.Rules.{rules}
-use Rattle.bits.specs.FilledLaws.{filled_none, filled_more, filled_fewer}
+use mathlib.Core.Path.{◌≡◌}
 use Rattle.fewest.proofs.zero_first.Given as goal
 
 abbrev pub invariant-loop-x : goal.invariant-loop-x

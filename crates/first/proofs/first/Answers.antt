@@ -1,4 +1,3 @@
-use Prim.Native.Nat.{ℕ}
 use Rattle.first.specs.FirstLaws.{answered_none, witness_kept, answered_found}
 use borrow.Author.Tests.{not-true, not-false}
 use native.Mathlib.Omega.{arith}

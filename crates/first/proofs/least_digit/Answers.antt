@@ -3,7 +3,6 @@ use borrow.Author.Tests.{not-true, not-false}
 use native.Mathlib.Omega.{arith}
 use Prim.Native.Nat.{◌+◌}
 use mathlib.Core.Path.{sym, ◌∙◌}
-use borrow.Author.Rules.{rules}
 use Rattle.first.proofs.least_digit.Goals as goal
 
 pub in_set-requires : goal.in_set-requires

@@ -1,7 +1,5 @@
 use Rattle.first.specs.LowestLaws.{lowest_same, lowest_next, stands_front, remembers_none}
-use Rattle.first.specs.Drawn.{Lowest, Stands, Remembers}
 use native.Mathlib.Omega.{arith}
-use Prim.Native.Nat.{◌≤◌, ◌-◌}
 use mathlib.Core.Path.{sym, ◌∙◌}
 use Rattle.first.proofs.least_table.Goals as goal
 
@@ -17,8 +15,7 @@ clear-requires c = c.requires.6
 pub loop-x-init : goal.loop-x-init
 loop-x-init c = let p = c.requires in
     let a = c.args in
-    let q = a.p in
-    (
+    let q = a.p in (
       omega arith,
       lowest_same a.cl.now q.budgets q.vertices q.outputs q.cells a.i 0 a.codes c.sorted-least.result p.4 (omega arith) p.5 c.sorted-least.ensures.0
           (c.sorted-least.ensures.1 a.cl.now q.budgets q.outputs p.5.witness),

@@ -1,9 +1,8 @@
 use Rattle.first.specs.LowestLaws.{lowest_start}
 use Rattle.first.specs.Drawn.{Lowest}
-use lib.ListN.{length}
 use native.Mathlib.Omega.{arith}
-use Prim.Native.Nat.{ℕ, ◌≤◌, ◌-◌}
-use mathlib.Core.Path.{◌≡◌, sym, subst, ◌∙◌}
+use Prim.Native.Nat.{ℕ}
+use mathlib.Core.Path.{sym, subst, ◌∙◌}
 use Rattle.first.proofs.least_tables.Goals as goal
 
 pub loop-i-init : goal.loop-i-init

@@ -1,9 +1,7 @@
-use Rattle.first.specs.LowestLaws.{lowest_start}
 use Rattle.first.specs.Drawn.{Lowest}
 use lib.ListN.{length}
-use native.Mathlib.Omega.{arith}
-use Prim.Native.Nat.{ℕ, ◌≤◌, ◌-◌}
-use mathlib.Core.Path.{◌≡◌, sym, subst, ◌∙◌}
+use Prim.Native.Nat.{◌≤◌, ◌-◌}
+use mathlib.Core.Path.{◌≡◌}
 use Rattle.first.proofs.least_tables.Given as goal
 
 abbrev pub invariant-loop-i : goal.invariant-loop-i

@@ -1,6 +1,5 @@
 use Rattle.first.specs.UptoLaws.{power_room, upto_power}
 use native.Mathlib.Omega.{arith}
-use borrow.Author.Rules.{rules}
 use Rattle.first.proofs.vertices_upto.Goals as goal
 
 pub overflow_sub-result : goal.overflow_sub-result

@@ -1,11 +1,8 @@
-use Rattle.joint.specs.Merge.{SameLabels}
 use borrow.Author.Tests.{eqb-true}
 use Rattle.bits.specs.LogicLaws.{true_false}
 use Rattle.joint.specs.MergeLaws.{alike_more}
 use native.Mathlib.Omega.{arith}
-use Prim.Native.Nat.{◌≤◌, ◌-◌}
 use mathlib.Core.Path.{sym, ◌∙◌}
-use borrow.Author.Rules.{rules}
 use Rattle.joint.proofs.alike.Goals as goal
 
 pub loop-o-init : goal.loop-o-init
@@ -33,4 +30,4 @@ known_at-requires-2 c = c.requires.3
 pub returns : goal.returns
 returns c = λ e.
     let end = c.loop-o-test.false in
-    ((λ o h. c.loop-o.invariant.1 o (omega arith)), sym c.known_at_lem.ensures ∙ eqb-true _ _ e ∙ c.known_at-2.ensures)
+    ((λ o h. c.loop-o.invariant.1 o (omega arith)), sym c.known_at.ensures ∙ eqb-true _ _ e ∙ c.known_at-2.ensures)

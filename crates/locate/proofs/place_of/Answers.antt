@@ -1,5 +1,4 @@
 -- `place_of`: the place of the line, with the length of the line itself. Assumes nothing.
-use borrow.Author.Rules.{rules}
 use Rattle.locate.specs.Located.{located}
 use Rattle.locate.specs.PlaceLaws.{line_place}
 use Rattle.locate.proofs.place_of.Goals as goal

@@ -1,8 +1,5 @@
-use Prim.Native.Nat.{◌≤◌, ◌-◌}
 use native.Mathlib.Omega.{arith}
-use lib.ListN.{length}
 use borrow.Author.Rules.{rules}
-use Rattle.locate.specs.Reached.{Reached}
 use Rattle.locate.specs.ReachedLaws.{reached_start, reached_hit, reached_more, reached_end}
 use Rattle.locate.proofs.span_of.Goals as goal
 

@@ -1,10 +1,7 @@
 -- `span_of`: each turn passes a line that is not the one asked for. Assumes nothing.
 use Prim.Native.Nat.{◌≤◌, ◌-◌}
-use native.Mathlib.Omega.{arith}
 use lib.ListN.{length}
-use borrow.Author.Rules.{rules}
 use Rattle.locate.specs.Reached.{Reached}
-use Rattle.locate.specs.ReachedLaws.{reached_start, reached_hit, reached_more, reached_end}
 use Rattle.locate.proofs.span_of.Given as goal
 
 abbrev pub invariant-loop-at : goal.invariant-loop-at

@@ -1,6 +1,5 @@
 use mathlib.Core.Path.{◌≡◌, sym, ◌∙◌, subst}
-use mathlib.Core.Logic.{⊎_elim}
-use Prim.Native.Nat.{ℕ, ◌+◌, ◌-◌, ◌^◌, ◌≤◌, ◌<◌}
+use Prim.Native.Nat.{ℕ, ◌+◌, ◌^◌, ◌≤◌, ◌<◌}
 use native.Mathlib.Omega.{arith}
 use lib.Pow.{pow_mono}
 use Rattle.picking.specs.Best.{Best}
@@ -45,7 +44,7 @@ loop-f-preserved c = let a = c.args in
     let B : ℕ → Type 0 = Best a.cl.now a.codes.now a.v a.o a.u a.budget (c.loop-f.f + 1) in (
       omega arith,
       elim c.if-sooner.branch [
-          then-sooner+then-suits w ↦ subst B (sym w.best-is)
+        | then-sooner+then-suits w ↦ subst B (sym w.best-is)
             (best_sooner a.cl.now a.codes.now a.v a.o a.u a.budget c.loop-f.f c.loop-f.best low (sym first ∙ w.if-sooner.true) (w.suits.ensures.0 w.if-suits.true) c.loop-f.invariant.1)
         | then-sooner+else-suits w ↦ subst B (sym w.best-is)
             (best_unsuited a.cl.now a.codes.now a.v a.o a.u a.budget c.loop-f.f c.loop-f.best (w.suits.ensures.1 w.if-suits.false) c.loop-f.invariant.1)

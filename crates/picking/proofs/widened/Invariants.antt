@@ -1,10 +1,5 @@
-use mathlib.Core.Path.{◌≡◌, refl}
 use Prim.Native.Nat.{◌-◌}
-use lib.ListN.{length}
-use Rattle.picking.specs.BestLaws.{copied_all}
-use borrow.Author.Rules.{rules}
 use Rattle.bits.specs.Filled.{Filled}
-use Rattle.bits.specs.FilledLaws.{filled_none, filled_more, filled_fewer}
 use Rattle.problem.specs.Problem.{item}
 use Rattle.picking.proofs.widened.Given as goal
 

@@ -1,6 +1,6 @@
 use Rattle.std.proofs.Common.{◌≡◌, ℕ, ◌+◌, ◌^◌, ◌<◌, ◌≤◌, Bool, true, false, not, nat_eq, slice_set, sym, refl, ap, ◌∙◌, subst, arith}
 use Rattle.readingsets.specs.ChoiceLaws.{tried_start, tried_all, step_fits, step_on, step_past}
-use Rattle.readingsets.specs.ChoiceLaws.{chosen_end, chosen-found, chosen_lost, chosen_none, done_lost, known_or_none, number_room, on_with_same}
+use Rattle.readingsets.specs.ChoiceLaws.{chosen_end, chosen_lost, chosen_none, done_lost, known_or_none, number_room, on_with_same}
 use Rattle.readingsets.specs.ServedLaws.{served_chosen}
 use Rattle.readingsets.specs.Choice.{Chosen, turned, Tried}
 use Rattle.bits.specs.Digit.{on}
@@ -154,7 +154,7 @@ loop-i-preserved t c = let a = c.args in
     record {
       within = omega arith;
       tried = elim c.if-suits.branch [
-          then-suits+then-a+else-k+else-known_bad w ↦
+        | then-suits+then-a+else-k+else-known_bad w ↦
             (let r = w.choose-k.result in
             let none = chosen_lost a.cl.now a.given.now p.budgets p.kn p.val p.vertices p.outputs p.cells p.tables
             c.with-done_now.result tried r.rows r.codes r.ok w.if-k.false in
@@ -163,7 +163,7 @@ loop-i-preserved t c = let a = c.args in
         | else-suits w ↦ subst S (sym w.unsure-is) (sure_then p.last l.unsure _ _ (past.2 w.if-suits.false c.suits.ensures) i.tried)
       ];
       honest = elim c.if-suits.branch [
-          then-suits+then-a+else-k+else-known_bad w ↦ subst H (sym w.mem-is) w.choose-k.ensures.1
+        | then-suits+then-a+else-k+else-known_bad w ↦ subst H (sym w.mem-is) w.choose-k.ensures.1
         | then-suits+else-a w ↦ subst H (sym w.mem-is) w.alive-a.ensures.0
         | else-suits w ↦ subst H (sym w.mem-is) i.honest
       ];

@@ -1,6 +1,4 @@
 use Rattle.readingsets.specs.ChoiceLaws.{known_or_none}
-use borrow.Author.Tests.{not-true}
-use Rattle.std.proofs.Common.{rules}
 use Rattle.readingsets.proofs.alive.Goals as goal
 
 pub returns-then-not-possible : goal.returns-then-not-possible

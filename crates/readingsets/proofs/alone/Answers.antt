@@ -1,4 +1,4 @@
-use Rattle.std.proofs.Common.{◌-◌, ◌≤◌, arith, rules}
+use Rattle.std.proofs.Common.{arith, rules}
 use Rattle.readingsets.proofs.alone.Goals as goal
 
 pub bounds-budgets-o : goal.bounds-budgets-o

@@ -2,7 +2,7 @@ use Rattle.readingsets.specs.ChoiceLaws.{settled_none, settled_lost}
 use Rattle.coding.specs.LimitLaws.{sure_now}
 use Rattle.cache.specs.Cache.{Honest}
 use Rattle.problem.specs.Problem.{item}
-use Rattle.std.proofs.Common.{ℕ, List, sym, refl, ◌∙◌, subst, ⊎_elim, rules}
+use Rattle.std.proofs.Common.{ℕ, List, sym, refl, subst}
 use borrow.Author.Tests.{not-true}
 use Rattle.readingsets.proofs.ask_all.Goals as goal
 use Rattle.readingsets.proofs.ask_all.Goals.{then-p-ne0+then-not-c+then-not-c-2, then-p-ne0+then-not-c+else-not-c-2, then-p-ne0+else-not-c, else-p-ne0}
@@ -25,7 +25,7 @@ returns c = let a = c.args in
     let H : List ℕ → Type 0 = λ m. Honest a.cl.now a.given.now p.kn p.val p.vertices m in
     let lost = settled_lost a.cl.now a.given.now p.kn p.val p.vertices a.all (item a.rows) r.ok r.codes in
     let kept : H c.if-p-ne0.mem = elim c.if-p-ne0.branch [
-        then-p-ne0+then-not-c+then-not-c-2 w ↦
+      | then-p-ne0+then-not-c+then-not-c-2 w ↦
           (let bad = lost (not-true _ w.if-not-c.true) (c.ask-c.ensures.sure (not-true _ w.if-not-c-2.true)) in
           subst H (sym w.mem-is) (w.store.ensures a.cl.now a.given.now p.kn p.val p.vertices (λ e. bad) h))
       | then-p-ne0+then-not-c+else-not-c-2 w ↦ subst H (sym w.mem-is) h

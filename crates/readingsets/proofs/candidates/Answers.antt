@@ -1,4 +1,4 @@
-use Rattle.std.proofs.Common.{◌≡◌, ◌+◌, ◌-◌, ◌^◌, ◌≤◌, ⊎_elim, arith, rules}
+use Rattle.std.proofs.Common.{arith, rules}
 use Rattle.readingsets.specs.ChoiceLaws.{number_room}
 use Rattle.readingsets.proofs.candidates.Goals as goal
 use Rattle.readingsets.proofs.candidates.Goals.{then-counts, else-counts}

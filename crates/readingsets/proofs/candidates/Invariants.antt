@@ -1,5 +1,4 @@
-use Rattle.std.proofs.Common.{◌≡◌, ◌+◌, ◌-◌, ◌^◌, ◌≤◌, ⊎_elim, arith, rules}
-use Rattle.readingsets.specs.ChoiceLaws.{number_room}
+use Rattle.std.proofs.Common.{◌≡◌, ◌+◌, ◌-◌, ◌^◌, ◌≤◌}
 use Rattle.readingsets.proofs.candidates.Given as goal
 
 abbrev pub invariant-loop-r : goal.invariant-loop-r

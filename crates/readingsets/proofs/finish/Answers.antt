@@ -3,7 +3,7 @@ use Rattle.coding.specs.Limit.{Sure}
 use Rattle.coding.specs.LimitLaws.{sure_now}
 use Rattle.subproblems.specs.Subproblem.{Barred, Settled}
 use Rattle.problem.specs.Problem.{item}
-use Rattle.std.proofs.Common.{ℕ, subst, rules}
+use Rattle.std.proofs.Common.{ℕ, subst}
 use borrow.Author.Tests.{not-true}
 use Rattle.readingsets.proofs.finish.Goals as goal
 

@@ -1,5 +1,4 @@
-use borrow.Author.Tests.{not-true, not-false}
-use Rattle.std.proofs.Common.{◌≡◌, ℕ, ◌+◌, ◌-◌, ◌≤◌, false, sym, ◌∙◌, subst, ⊎_elim, arith, rules}
+use Rattle.std.proofs.Common.{◌≡◌, ℕ, ◌+◌, false, sym, ◌∙◌, subst, arith, rules}
 use Rattle.bits.specs.Digit.{on}
 use Rattle.readingsets.specs.Choice.{Next}
 use Rattle.readingsets.specs.ChoiceLaws.{next_start, next_here, next-found, next_done}
@@ -44,7 +43,7 @@ loop-o-preserved c = let done = c.args.done in
       omega arith,
       i.1,
       elim c.if-not-in_set.branch [
-          then-not-in_set+then-best-eq-NO_OUTPUT w ↦ subst N (sym w.best-is) (here (sym e ∙ w.if-not-in_set.true))
+        | then-not-in_set+then-best-eq-NO_OUTPUT w ↦ subst N (sym w.best-is) (here (sym e ∙ w.if-not-in_set.true))
         | then-not-in_set+else-best-eq-NO_OUTPUT+then-n-least w ↦ subst N (sym w.best-is) (here (sym e ∙ w.if-not-in_set.true))
         | then-not-in_set+else-best-eq-NO_OUTPUT+else-n-least w ↦ subst N (sym w.best-is) (next-found done o c.loop-o.best w.if-best-eq-NO_OUTPUT.false i.2)
         | else-not-in_set w ↦ subst N (sym w.best-is) (next_done done o c.loop-o.best (sym e ∙ w.if-not-in_set.false) i.2)

@@ -1,8 +1,5 @@
-use borrow.Author.Tests.{not-true, not-false}
-use Rattle.std.proofs.Common.{◌≡◌, ℕ, ◌+◌, ◌-◌, ◌≤◌, false, sym, ◌∙◌, subst, ⊎_elim, arith, rules}
-use Rattle.bits.specs.Digit.{on}
+use Rattle.std.proofs.Common.{◌-◌, ◌≤◌}
 use Rattle.readingsets.specs.Choice.{Next}
-use Rattle.readingsets.specs.ChoiceLaws.{next_start, next_here, next-found, next_done}
 use Rattle.readingsets.proofs.next.Given as goal
 
 abbrev pub invariant-loop-o : goal.invariant-loop-o

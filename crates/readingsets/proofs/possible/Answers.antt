@@ -1,7 +1,6 @@
 use Rattle.readingsets.specs.ChoiceLaws.{barred_alone}
 use Rattle.problem.specs.Problem.{item}
 use Rattle.bits.specs.LogicLaws.{true_false}
-use borrow.Author.Tests.{not-true}
 use Rattle.std.proofs.Common.{rules}
 use Rattle.readingsets.proofs.possible.Goals as goal
 

@@ -1,5 +1,5 @@
 use Rattle.readingsets.specs.ChoiceLaws.{number_room}
-use Rattle.std.proofs.Common.{◌≡◌, ◌+◌, ◌-◌, ◌^◌, ◌≤◌, ⊎_elim, arith, rules}
+use Rattle.std.proofs.Common.{◌≤◌, arith, rules}
 use Rattle.readingsets.proofs.rows_alone.Goals as goal
 use Rattle.readingsets.proofs.rows_alone.Goals.{then-all-lt-NOTED, else-all-lt-NOTED}
 

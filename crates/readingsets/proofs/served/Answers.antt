@@ -1,4 +1,4 @@
-use Rattle.std.proofs.Common.{◌-◌, ◌≤◌, arith, rules}
+use Rattle.std.proofs.Common.{arith, rules}
 use Rattle.readingsets.specs.ChoiceLaws.{number_room}
 use Rattle.readingsets.specs.ServedLaws.{served_here, served_none}
 use Rattle.readingsets.proofs.served.Goals as goal

@@ -1,6 +1,4 @@
-use Rattle.std.proofs.Common.{◌-◌, ◌≤◌, arith, rules}
-use Rattle.readingsets.specs.ChoiceLaws.{number_room}
-use Rattle.readingsets.specs.ServedLaws.{served_here, served_none}
+use Rattle.std.proofs.Common.{◌-◌, ◌≤◌}
 use Rattle.readingsets.proofs.served.Given as goal
 
 abbrev pub invariant-loop-r : goal.invariant-loop-r

@@ -1,7 +1,6 @@
-use Rattle.cache.specs.Cache.{Honest}
 use Rattle.bits.specs.LogicLaws.{true_false}
 use borrow.Author.Tests.{not-true}
-use Rattle.std.proofs.Common.{◌-◌, ◌≤◌, sym, ◌∙◌, ⊎_elim, arith, rules}
+use Rattle.std.proofs.Common.{◌≤◌, sym, ◌∙◌, arith}
 use Rattle.readingsets.proofs.small_questions.Goals as goal
 use Rattle.readingsets.proofs.small_questions.Goals.{then-p-eq2, else-p-eq2}
 

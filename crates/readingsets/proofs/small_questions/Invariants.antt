@@ -1,7 +1,5 @@
 use Rattle.cache.specs.Cache.{Honest}
-use Rattle.bits.specs.LogicLaws.{true_false}
-use borrow.Author.Tests.{not-true}
-use Rattle.std.proofs.Common.{◌-◌, ◌≤◌, sym, ◌∙◌, ⊎_elim, arith, rules}
+use Rattle.std.proofs.Common.{◌-◌}
 use Rattle.readingsets.proofs.small_questions.Given as goal
 
 abbrev pub invariant-loop-size : goal.invariant-loop-size

@@ -1,4 +1,4 @@
-use Rattle.std.proofs.Common.{ℕ, ◌-◌, ◌/◌, ◌^◌, ap, rules}
+use Rattle.std.proofs.Common.{ℕ, ◌-◌, ◌/◌, ◌^◌, ap}
 use lib.Bits.{bit_and, bit_xor}
 use Rattle.readingsets.proofs.still_alike.Goals as goal
 

@@ -1,4 +1,4 @@
-use Rattle.std.proofs.Common.{ℕ, eqb, sym, subst, rules}
+use Rattle.std.proofs.Common.{ℕ, eqb, sym, subst}
 use Rattle.readingsets.specs.Choice.{Suits, disorder}
 use Rattle.readingsets.specs.ChoiceLaws.{suits_count, suits_not}
 use lib.Count.{ones}

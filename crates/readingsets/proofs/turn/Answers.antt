@@ -1,5 +1,5 @@
 use Rattle.readingsets.specs.ChoiceLaws.{turned_down, turned_up}
-use Rattle.std.proofs.Common.{arith, rules}
+use Rattle.std.proofs.Common.{arith}
 use Rattle.readingsets.proofs.turn.Goals as goal
 
 pub returns-then-down : goal.returns-then-down

@@ -1,10 +1,6 @@
-use mathlib.Core.Path.{◌≡◌, sym, ◌∙◌}
-use mathlib.Core.Bool.{true}
-use Prim.Native.Nat.{ℕ, ◌-◌, ◌≤◌, ◌<◌}
+use mathlib.Core.Path.{sym, ◌∙◌}
 use native.Mathlib.Omega.{arith}
 use borrow.Author.Count.{below_more}
-use borrow.Author.Tests.{not-true, not-false}
-use Rattle.bits.specs.Digit.{on}
 use Rattle.bits.specs.LogicLaws.{true_false, never_both}
 use borrow.Author.Rules.{rules}
 use Rattle.seeking.proofs.all_fit.Goals as goal

@@ -1,12 +1,7 @@
-use mathlib.Core.Path.{◌≡◌, sym, ◌∙◌}
+use mathlib.Core.Path.{◌≡◌}
 use mathlib.Core.Bool.{true}
 use Prim.Native.Nat.{ℕ, ◌-◌, ◌≤◌, ◌<◌}
-use native.Mathlib.Omega.{arith}
-use borrow.Author.Count.{below_more}
-use borrow.Author.Tests.{not-true, not-false}
 use Rattle.bits.specs.Digit.{on}
-use Rattle.bits.specs.LogicLaws.{true_false, never_both}
-use borrow.Author.Rules.{rules}
 use Rattle.seeking.proofs.all_fit.Given as goal
 
 abbrev pub invariant-loop-o : goal.invariant-loop-o

@@ -3,7 +3,6 @@ use Rattle.seeking.specs.Seeking.{Places}
 use mathlib.Core.Path.{refl, sym, subst}
 use Prim.Native.Nat.{ℕ}
 use native.Mathlib.Omega.{arith}
-use borrow.Author.Rules.{rules}
 use Rattle.seeking.proofs.places.Goals as goal
 
 pub returns-then-u-eq0 : goal.returns-then-u-eq0

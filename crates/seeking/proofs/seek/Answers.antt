@@ -1,11 +1,7 @@
 use Rattle.seeking.specs.SeekingLaws.{rows_start, alike-start, chosen_sought, unsure_early}
-use Rattle.seeking.specs.Seeking.{Places}
-use Rattle.cache.specs.Cache.{Honest}
 use borrow.Author.Tests.{not-true, not-false}
-use lib.ListN.{length}
 use native.Mathlib.Omega.{arith}
-use Prim.Native.Nat.{◌≤◌, ◌-◌}
-use mathlib.Core.Path.{◌≡◌, refl, sym, ◌∙◌}
+use mathlib.Core.Path.{refl, sym, ◌∙◌}
 use borrow.Author.Rules.{rules}
 use Rattle.seeking.proofs.seek.Goals as goal
 

@@ -1,6 +1,4 @@
-use borrow.Author.Tests.{not-true, not-false}
 use Rattle.seeking.specs.SeekingLaws.{sought_where}
-use borrow.Author.Rules.{rules}
 use Rattle.seeking.proofs.seek_where.Goals as goal
 
 pub returns-then-not-all_fit : goal.returns-then-not-all_fit

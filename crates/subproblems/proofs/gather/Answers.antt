@@ -1,12 +1,12 @@
 use Rattle.subproblems.specs.Gathering.{Gathered}
 use native.Mathlib.Omega.{arith}
-use Prim.Native.Nat.{ℕ, ◌+◌, ◌≤◌, ◌-◌}
-use mathlib.Core.Logic.{⊎_elim}
+use Prim.Native.Nat.{ℕ, ◌+◌}
 use mathlib.Core.Path.{refl, sym, ◌∙◌, subst}
 use borrow.Author.Rules.{rules}
 use Rattle.subproblems.specs.GatheringLaws.{gathered-start, gathered_skip, gathered_more, gathered_same}
 use Rattle.cells.specs.ListLaws.{zeros_are}
 use Rattle.subproblems.proofs.gather.Goals as goal
+use Rattle.subproblems.proofs.gather.Goals.{then-in_set, else-in_set}
 
 pub loop-o-init : goal.loop-o-init
 loop-o-init c = (omega arith, gathered-start c.args.asked c.args.rows _ _ _ refl refl refl (zeros_are 8))
@@ -37,17 +37,16 @@ overflow_add-n c = let h = c.loop-o-test.true in let f = c.loop-o.invariant.1.fe
 
 pub loop-o-preserved : goal.loop-o-preserved
 loop-o-preserved c = let h = c.loop-o-test.true in
-    let a = c.args in
-    (
+    let a = c.args in (
       omega arith,
-      ⊎_elim
-          (λ w. gathered_same a.asked a.t2 (c.loop-o.o + 1) _ _ _ _ _ _ _ _ w.6 w.3 w.4 w.5
-          (gathered_more a.asked a.t2 c.loop-o.o c.loop-o.n c.loop-o.from c.loop-o.fs c.loop-o.gs h c.loop-o.invariant.1 _ _ (sym w.0.taken ∙ c.in_set.ensures) w.1.ensures.0 w.2.ensures.0))
-          (λ w. gathered_same a.asked a.t2 (c.loop-o.o + 1) _ _ _ _ _ _ _ _ w.4 w.1 w.2 w.3
-          (gathered_skip a.asked a.t2 c.loop-o.o c.loop-o.n c.loop-o.from c.loop-o.fs c.loop-o.gs h c.loop-o.invariant.1 (sym w.0.left ∙ c.in_set.ensures)))
-          c.if-in_set.branch,
+      elim c.if-in_set.branch [
+        | then-in_set w ↦ gathered_same a.asked a.rows (c.loop-o.o + 1) _ _ _ _ _ _ _ _ w.n-is w.from-is w.fs-is w.gs-is
+            (gathered_more a.asked a.rows c.loop-o.o c.loop-o.n c.loop-o.from c.loop-o.fs c.loop-o.gs h c.loop-o.invariant.1 _ _ (sym w.if-in_set.true ∙ c.in_set.ensures) w.open_of.ensures.0 w.given_of.ensures.0)
+        | else-in_set w ↦ gathered_same a.asked a.rows (c.loop-o.o + 1) _ _ _ _ _ _ _ _ w.n-is w.from-is w.fs-is w.gs-is
+            (gathered_skip a.asked a.rows c.loop-o.o c.loop-o.n c.loop-o.from c.loop-o.fs c.loop-o.gs h c.loop-o.invariant.1 (sym w.if-in_set.false ∙ c.in_set.ensures))
+      ],
     )
 
 pub returns : goal.returns
 returns c = let a = c.args in
-    subst (λ (z : ℕ). Gathered a.asked a.t2 z c.loop-o.n c.loop-o.from c.loop-o.fs c.loop-o.gs) (let h = c.loop-o-test.false in let z = c.loop-o.invariant.0 in omega arith) c.loop-o.invariant.1
+    subst (λ (z : ℕ). Gathered a.asked a.rows z c.loop-o.n c.loop-o.from c.loop-o.fs c.loop-o.gs) (let h = c.loop-o-test.false in let z = c.loop-o.invariant.0 in omega arith) c.loop-o.invariant.1

@@ -1,12 +1,7 @@
 -- `equal`: the texts are equally long, and each turn finds one place more where they have the same byte. Assumes nothing.
-use mathlib.Core.Path.{◌≡◌, sym, ap}
+use mathlib.Core.Path.{◌≡◌}
 use Prim.Native.Nat.{ℕ, ◌-◌, ◌≤◌, ◌<◌}
-use native.Mathlib.Omega.{arith}
 use lib.ListN.{length, get_or}
-use lib.Seq.{ext_get_or}
-use borrow.Author.Count.{below_more}
-use borrow.Author.Rules.{rules}
-use Rattle.text.specs.BytesLaws.{equal_same, differ_same}
 use Rattle.text.proofs.equal.Given as goal
 
 abbrev pub invariant-loop-i : goal.invariant-loop-i

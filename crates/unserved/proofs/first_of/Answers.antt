@@ -2,15 +2,12 @@ use Rattle.cache.specs.Cache.{entry_count, entry_size}
 use Rattle.unserved.specs.SiftedLaws.{sift_start, sift_other, sift_served, sift_fewer, sift_found, sift_end}
 use Rattle.unserved.specs.QuestionLaws.{stand_fits, stand_lacking}
 use Rattle.unserved.specs.Asking.{FitFrom}
-use borrow.Author.Tests.{not-true, not-false}
 use lib.Pow.{pow_pos}
 use lib.ListN.{length}
-use mathlib.Core.Logic.{⊎_elim}
 use mathlib.Core.List.{List}
 use mathlib.Core.Path.{◌≡◌, sym, ◌∙◌, subst}
 use Prim.Native.Nat.{ℕ, ◌+◌, ◌*◌, ◌^◌, ◌<◌}
 use native.Mathlib.Omega.{arith}
-use borrow.Author.Rules.{rules}
 use Rattle.unserved.proofs.first_of.Goals as goal
 use Rattle.unserved.proofs.first_of.Goals.{then-l-k+then-kept-k+else-not-served, then-l-k+else-kept-k, else-l-k}
 
@@ -60,25 +57,25 @@ loop-r-preserved c = let a = c.args in
     let few = c.loop-r.invariant.0 in
     let P : List ℕ → Type 0 = λ mem. FitFrom a.cl.now a.budgets a.v a.m a.limit a.k c.loop-r.r × (length mem ≡ entry_count * entry_size) in
     let R : P c.if-l-k.mem = elim c.if-l-k.branch [
-        then-l-k+then-kept-k+else-not-served w ↦
+      | then-l-k+then-kept-k+else-not-served w ↦
           (let d = w.kept_of-kept in subst P (sym w.mem-is) (
-          sift_served a.cl.now a.budgets a.v a.m a.limit a.k c.loop-r.r c.of_rank-s.result few c.of_rank-s.ensures c.loop-r.invariant.1
-              (stand_fits a.cl.now a.budgets a.v a.m a.limit c.of_rank-s.result d.result.labels d.result.budgets d.result.outputs w.served.result d.ensures w.served.ensures.0
-              w.if-not-served.false),
-          w.served.ensures.1,
-        ))
+            sift_served a.cl.now a.budgets a.v a.m a.limit a.k c.loop-r.r c.of_rank-s.result few c.of_rank-s.ensures c.loop-r.invariant.1
+                (stand_fits a.cl.now a.budgets a.v a.m a.limit c.of_rank-s.result d.result.labels d.result.budgets d.result.outputs w.served.result d.ensures w.served.ensures.0
+                w.if-not-served.false),
+            w.served.ensures.1,
+          ))
       | then-l-k+else-kept-k w ↦
           (let d = w.kept_of-kept in subst P (sym w.mem-is) (
-          sift_fewer a.cl.now a.budgets a.v a.m a.limit a.k c.loop-r.r c.of_rank-s.result few c.of_rank-s.ensures c.loop-r.invariant.1
-              d.result.labels d.result.budgets d.result.outputs d.ensures w.if-kept-k.false p.5,
-          c.loop-r.invariant.2,
-        ))
+            sift_fewer a.cl.now a.budgets a.v a.m a.limit a.k c.loop-r.r c.of_rank-s.result few c.of_rank-s.ensures c.loop-r.invariant.1
+                d.result.labels d.result.budgets d.result.outputs d.ensures w.if-kept-k.false p.5,
+            c.loop-r.invariant.2,
+          ))
       | else-l-k w ↦
           subst P (sym w.mem-is) (
-          sift_other a.cl.now a.budgets a.v a.m a.limit a.k c.loop-r.r c.of_rank-s.result few c.of_rank-s.ensures c.loop-r.invariant.1
-              (λ e. w.if-l-k.false (n ∙ e)),
-          c.loop-r.invariant.2,
-        )
+            sift_other a.cl.now a.budgets a.v a.m a.limit a.k c.loop-r.r c.of_rank-s.result few c.of_rank-s.ensures c.loop-r.invariant.1
+                (λ e. w.if-l-k.false (n ∙ e)),
+            c.loop-r.invariant.2,
+          )
     ] in
     (omega arith, subst (FitFrom a.cl.now a.budgets a.v a.m a.limit a.k) (omega arith) R.0, R.1)
 

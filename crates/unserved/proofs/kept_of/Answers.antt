@@ -1,7 +1,6 @@
 use Rattle.dominance.specs.DominanceLaws.{taken_classes}
 use Rattle.unserved.specs.QuestionLaws.{kept_stand}
 use Rattle.unserved.specs.MemberLaws.{lists_indices, lists_most, of_members}
-use borrow.Author.Rules.{rules}
 use Rattle.unserved.proofs.kept_of.Goals as goal
 
 pub members-l-requires : goal.members-l-requires

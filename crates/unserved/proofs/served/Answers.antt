@@ -2,7 +2,6 @@ use native.Mathlib.Omega.{arith}
 use mathlib.Core.Logic.{inl}
 use mathlib.Core.Path.{refl, sym, ◌∙◌}
 use Rattle.unserved.specs.QuestionLaws.{sought_decided}
-use borrow.Author.Rules.{rules}
 use Rattle.unserved.proofs.served.Goals as goal
 
 pub clear-requires : goal.clear-requires

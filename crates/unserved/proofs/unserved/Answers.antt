@@ -1,11 +1,6 @@
-use Rattle.cache.specs.Cache.{entry_count, entry_size}
 use Rattle.unserved.specs.AnsweredLaws.{below_start, below_more, answer_served, answer_found, answer-all}
 use Rattle.unserved.specs.QuestionLaws.{stand_fits, stand_lacking}
-use Rattle.unserved.specs.Asking.{FitBelow}
-use lib.ListN.{length}
-use mathlib.Core.Path.{◌≡◌, refl}
-use Prim.Native.Nat.{◌*◌, ◌-◌}
-use borrow.Author.Rules.{rules}
+use mathlib.Core.Path.{refl}
 use Rattle.unserved.proofs.unserved.Goals as goal
 
 pub first_outputs-all-requires : goal.first_outputs-all-requires
