@@ -15,7 +15,8 @@ use Rattle.sheet.specs.Examine.{Design}
 use Rattle.network.specs.Network.{Network, Node}
 use Rattle.network.specs.Printer.{print_count}
 use Rattle.network.specs.Reader.{read_lut}
-use Rattle.network.specs.Examine.{Place, at_luts, at_node, at_count, at_end_lem, over, misspelled, next, with_lut, with_node, after_node, ask_node, lut_step, ask_lut, ask_line, bad_line, network, ask_lines}
+use Rattle.network.specs.Examine.{Place, at_luts, at_node, at_count, at_end_lem, over, misspelled, next, with_lut, with_node, after_node, ask_node}
+use Rattle.network.specs.Examine.{lut_step, ask_lut, ask_line, bad_line, network, ask_lines}
 use Rattle.network.specs.Parts.{node_read, last_lines}
 
 pub bad_network : {n : ℕ} {w : Network} → bad_line n ≡ network w → ⊥

@@ -4,9 +4,6 @@ use Rattle.comparing.specs.Answer.{checked_of}
 use Rattle.checker.specs.CheckLaws.{sheet_right, answer_of_sheet}
 use Rattle.checker.proofs.check.Goals as goal
 
-pub check_of-requires : goal.check_of-requires
-check_of-requires c = c.examine.ensures.examination
-
 pub returns : goal.returns
 returns c = let a = c.args in
     answer_of_sheet a.sheet.now a.network.now (checked_of c.check_of.result)

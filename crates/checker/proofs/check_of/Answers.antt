@@ -4,9 +4,6 @@ use Rattle.comparing.specs.Answer.{checked_of}
 use Rattle.checker.specs.CheckLaws.{answer_refused, some_drawing, answer_compared}
 use Rattle.checker.proofs.check_of.Goals as goal
 
-pub examine_pair-b-requires : goal.examine_pair-b-requires
-examine_pair-b-requires c = c.requires
-
 pub returns-then-not-b : goal.returns-then-not-b
 returns-then-not-b c = λ x h g.
     answer_refused c.args.network.now c.examine_pair-b.result x (c.examine_pair-b.ensures x h g) (not-true _ c.if-not-b.true)

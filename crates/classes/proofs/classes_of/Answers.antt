@@ -4,14 +4,8 @@ use Rattle.classes.proofs.Outputs.{outlined_none, outlined_more, outlined_all, f
 use Rattle.classes.proofs.Outputs.{vertex_fits, free_fits, vertex_part_lem, free_part_lem, few_part, parts_inside}
 use Rattle.classes.proofs.classes_of.Goals as goal
 
-pub shape_of-shape-requires : goal.shape_of-shape-requires
-shape_of-shape-requires c = c.requires
-
 pub loop-o-init : goal.loop-o-init
 loop-o-init c = outlined_none c.shape_of-shape.ensures _
-
-pub bounds-k-o : goal.bounds-k-o
-bounds-k-o c = omega (arith, c.loop-o-test.true, c.requires.few_outputs)
 
 pub slice_bounds-vertex-end : goal.slice_bounds-vertex-end
 slice_bounds-vertex-end c = vertex_fits c.shape_of-shape.ensures
@@ -38,18 +32,6 @@ with_output-keys-requires c = (
 pub width-requires : goal.width-requires
 width-requires c = few_classes c.shape_of-shape.ensures c.requires.few_outputs c.loop-o.invariant c.loop-o-test.true
     c.local_classes-l.result c.local_classes-l.ensures
-
-pub bounds-widths-o : goal.bounds-widths-o
-bounds-widths-o c = omega (arith, c.loop-o-test.true, c.requires.few_outputs)
-
-pub bounds-locals-o : goal.bounds-locals-o
-bounds-locals-o c = omega (arith, c.loop-o-test.true, c.requires.few_outputs)
-
-pub overflow_add-o : goal.overflow_add-o
-overflow_add-o c = omega (arith, c.loop-o-test.true, c.requires.few_outputs)
-
-pub loop-o-smaller : goal.loop-o-smaller
-loop-o-smaller c = (let a = c.loop-o-test.true in omega arith)
 
 pub loop-o-preserved : goal.loop-o-preserved
 loop-o-preserved c = outlined_more c.shape_of-shape.ensures c.requires.few_outputs c.loop-o.invariant c.loop-o-test.true

@@ -1,21 +1,8 @@
-use native.Mathlib.Omega.{arith}
 use Rattle.classes.proofs.Comparing.{agreeing_none, agreeing_more, agreeing_all, differing, read_differ, read_agree}
 use Rattle.classes.proofs.equal.Goals as goal
 
 pub loop-f-init : goal.loop-f-init
 loop-f-init c = agreeing_none
-
-pub overflow_add-a : goal.overflow_add-a
-overflow_add-a c = omega (arith, c.requires.0.each c.args.x.0 c.loop-f.f c.requires.1 c.loop-f-test.true)
-
-pub row-requires : goal.row-requires
-row-requires c = (c.requires.0.each c.args.x.0 c.loop-f.f c.requires.1 c.loop-f-test.true)
-
-pub overflow_add-b : goal.overflow_add-b
-overflow_add-b c = omega (arith, c.requires.0.each c.args.y.0 c.loop-f.f c.requires.2 c.loop-f-test.true)
-
-pub row-requires-in-loop-f : goal.row-requires-in-loop-f
-row-requires-in-loop-f c = (c.requires.0.each c.args.y.0 c.loop-f.f c.requires.2 c.loop-f-test.true)
 
 pub returns-then-row : goal.returns-then-row
 returns-then-row c = differing c.loop-f.invariant c.loop-f-test.true

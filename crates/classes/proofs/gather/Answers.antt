@@ -12,12 +12,6 @@ pub overflow_mul-r : goal.overflow_mul-r
 overflow_mul-r c = omega
     (arith, gather_small c.args.digits.now c.args.z c.loop-i.i c.requires.0, c.loop-i.invariant.1)
 
-pub overflow_cast-digits : goal.overflow_cast-digits
-overflow_cast-digits c = omega (arith, c.requires.1.each c.loop-i.i)
-
-pub has-requires : goal.has-requires
-has-requires c = c.requires.1.each c.loop-i.i
-
 pub overflow_add-r : goal.overflow_add-r
 overflow_add-r c = let small = gather_small c.args.digits.now c.args.z c.loop-i.i c.requires.0 in
     omega (arith, small, c.loop-i.invariant.1, c.bit.ensures, bit_le c.has.result)

@@ -11,9 +11,6 @@ use Rattle.classes.proofs.local_classes.Goals.{then-y-x, else-y-x}
 pub loop-x-init : goal.loop-x-init
 loop-x-init c = (search rules, numbered_none (search rules))
 
-pub first_equal-first-requires : goal.first_equal-first-requires
-first_equal-first-requires c = (c.requires.0, c.loop-x-test.true)
-
 pub overflow_add-count : goal.overflow_add-count
 overflow_add-count c = omega (arith, numbered_few c.loop-x.invariant.1, c.loop-x-test.true, c.requires.1)
 

@@ -19,12 +19,6 @@ digits-list-requires c = let e : length (take c.args.k.bounds c.args.k.bound) â‰
     (omega (arith, c.requires.few_bound, bound-sized c.args.k c.well_formed.0)) in
     (c.requires.few_inputs, omega (arith, c.requires.few_bound))
 
-pub power-vertices-requires : goal.power-vertices-requires
-power-vertices-requires c = omega (arith, c.requires.few_bound)
-
-pub slice_bounds-list-end : goal.slice_bounds-list-end
-slice_bounds-list-end c = omega (arith, c.requires.few_inputs, c.digits-list.ensures.size)
-
 pub slice_bounds-fill-end-2 : goal.slice_bounds-fill-end-2
 slice_bounds-fill-end-2 c = sym (length-take-le _ _ (omega (arith, c.requires.few_inputs, c.digits-list.ensures.size)))
 
@@ -33,9 +27,6 @@ fill-requires c = let p = small_part c.digits-list.result c.args.k.inputs c.digi
     c.requires.few_inputs c.digits-list.ensures.size in
     (search rules, search rules, p.0, p.1)
 
-pub slice_bounds-list-end-2 : goal.slice_bounds-list-end-2
-slice_bounds-list-end-2 c = omega (arith, c.requires.few_inputs, c.digits-list.ensures.size)
-
 pub slice_bounds-fill-end-4 : goal.slice_bounds-fill-end-4
 slice_bounds-fill-end-4 c = sym (length-take-le _ _ (omega (arith, c.requires.few_inputs, c.digits-list.ensures.size)))
 
@@ -43,12 +34,6 @@ pub fill-requires-2 : goal.fill-requires-2
 fill-requires-2 c = let p = small_part c.digits-list.result c.args.k.inputs c.digits-list.ensures.small
     c.requires.few_inputs c.digits-list.ensures.size in
     (search rules, few_power c.args.k.bounds _ c.power-vertices.ensures c.requires.few_bound, p.0, p.1)
-
-pub overflow_sub-n : goal.overflow_sub-n
-overflow_sub-n c = c.requires.bound_inputs
-
-pub power-requires : goal.power-requires
-power-requires c = omega (arith, c.requires.few_inputs)
 
 pub returns : goal.returns
 returns c = shaped c.args.k c.digits-list.result _ c.requires c.digits-list.ensures c.power-vertices.ensures

@@ -17,12 +17,6 @@ overflow_mul-c c = let few = c.requires.0 in
     let same = c.loop-i.invariant.1 in
     omega (arith, code_small c.args.t.now c.args.lutat c.args.mask c.args.x.0 c.loop-i.i (omega arith))
 
-pub overflow_add-p : goal.overflow_add-p
-overflow_add-p c = omega (arith, c.requires.1 c.loop-i.i c.loop-i-test.true)
-
-pub bounds-t-p : goal.bounds-t-p
-bounds-t-p c = c.requires.1 c.loop-i.i c.loop-i-test.true
-
 pub overflow_add-c : goal.overflow_add-c
 overflow_add-c c = let few = c.requires.0 in
     let turn = c.loop-i-test.true in

@@ -8,26 +8,8 @@ use Rattle.comparing.proofs.RowLaws.{rows_more, ended_differs}
 use Rattle.comparing.proofs.compare.Goals as goal
 use Rattle.comparing.proofs.compare.Goals.{Left-outputs, else-outputs-test, then-outputs-test+then-loop-r-test+then-differs}
 
-pub power-rows-requires : goal.power-rows-requires
-power-rows-requires c = omega (arith, c.requires.drawing.holds.inputs_few)
-
 pub outputs-init : goal.outputs-init
 outputs-init c = agreed_none
-
-pub offset_bounds-k-o : goal.offset_bounds-k-o
-offset_bounds-k-o c = omega (arith, c.requires.drawing.holds.outputs_few, c.outputs-test.true)
-
-pub bounds-k-o : goal.bounds-k-o
-bounds-k-o c = omega (arith, c.requires.drawing.holds.outputs_few, c.outputs-test.true)
-
-pub bounds-reads-o : goal.bounds-reads-o
-bounds-reads-o c = omega (arith, c.requires.drawing.holds.outputs_few, c.outputs-test.true)
-
-pub offset_bounds-nodeat-o : goal.offset_bounds-nodeat-o
-offset_bounds-nodeat-o c = omega (arith, c.requires.drawing.holds.outputs_few, c.outputs-test.true)
-
-pub bounds-nodeat-o : goal.bounds-nodeat-o
-bounds-nodeat-o c = omega (arith, c.requires.drawing.holds.outputs_few, c.outputs-test.true)
 
 pub in_rows-digits-requires : goal.in_rows-digits-requires
 in_rows-digits-requires c = some_ready c.requires c.outputs.o c.outputs-test.true
@@ -46,10 +28,6 @@ loop-r-preserved c = rows_more c.outputs.o c.loop-r.r c.power-rows.result
     (table_at c.args.k.tables c.outputs.o) c.in_rows-digits.result
     c.outputs-test.true c.loop-r-test.true c.power-rows.ensures (rows_few c.requires c.power-rows.result c.power-rows.ensures)
     refl c.in_rows-digits.ensures c.loop-r.invariant (sym c.differs.ensures ∙ c.if-differs.false)
-
-pub overflow_add-o : goal.overflow_add-o
-overflow_add-o c = let pre = c.requires in
-    omega (arith, pre.drawing.holds.outputs_few, c.outputs-test.true)
 
 pub outputs-preserved : goal.outputs-preserved
 outputs-preserved c = agreed_more c.outputs.o c.loop-r.r c.power-rows.result c.outputs.invariant

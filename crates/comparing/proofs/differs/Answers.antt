@@ -11,9 +11,6 @@ unequal true false = refl
 unequal false true = refl
 unequal false false = refl
 
-pub row-requires : goal.row-requires
-row-requires c = c.requires
-
 pub returns : goal.returns
 returns c = let digit = one_at c.args.digits.now c.args.r in
     unequal c.row.result digit ∙ ap (λ (b : Bool). xorb b digit) c.row.ensures

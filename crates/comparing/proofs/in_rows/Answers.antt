@@ -22,9 +22,6 @@ put_vertex-requires c = (
   vertex_room c.requires c.loop-x.x c.code-c.result c.loop-x-test.true c.code-c.ensures,
 )
 
-pub overflow_add-x : goal.overflow_add-x
-overflow_add-x c = omega (arith, c.requires.few_vertices, c.loop-x-test.true)
-
 pub loop-x-preserved : goal.loop-x-preserved
 loop-x-preserved c = let l = c.loop-x-test.true in
     (omega arith, filled_more c.loop-x.x c.code-c.result c.loop-x.invariant.1 c.code-c.ensures c.put_vertex.ensures)

@@ -1,23 +1,15 @@
 -- `ask_line`: each place has its line. Assumes nothing.
 use mathlib.Core.Bool.{Bool}
 use mathlib.Core.Path.{ap, ◌∙◌, subst}
-use native.Mathlib.Omega.{arith}
 use Rattle.netsheet.specs.declared.Place.{Place}
 use Rattle.netsheet.specs.Reading.{moved, PlaceFits}
 use Rattle.netsheet.specs.AskLaws.{safe_moved, network_line_lem, luts_line, node_line, count_line, end_line_lem, over_line}
 use Rattle.netsheet.proofs.ask_line.Goals as goal
 
-pub ask_lut-requires : goal.ask_lut-requires
-ask_lut-requires c = let pre = c.requires in
-    (pre.0, pre.1.few, pre.2)
-
 pub ask_node-requires : goal.ask_node-requires
 ask_node-requires c = let pre = c.requires in
     let o : PlaceFits (Place.Node c.in-Node.o) = subst (λ (x : Place). PlaceFits x) c.in-Node.is pre.1.fits in
     (pre.0, pre.1.few, o, pre.2)
-
-pub is_count-requires : goal.is_count-requires
-is_count-requires c = omega (arith, c.requires.1.few)
 
 pub returns-in-Network : goal.returns-in-Network
 returns-in-Network c = let a = c.args in

@@ -7,9 +7,6 @@ use Rattle.netsheet.proofs.Arrays.{lutat_sized}
 use Rattle.netsheet.specs.AskLaws.{safe_lut, lut_few, lut_bad, lut_good}
 use Rattle.netsheet.proofs.ask_lut.Goals as goal
 
-pub lut_line-r-requires : goal.lut_line-r-requires
-lut_line-r-requires c = c.requires.0
-
 pub overflow_add-at : goal.overflow_add-at
 overflow_add-at c = let line = rw c.in-At.is at c.lut_line-r.ensures in
     record { fits = omega (arith, c.requires.2, line.stands.inside) }
@@ -18,10 +15,6 @@ pub with_lut-requires : goal.with_lut-requires
 with_lut-requires c = let a = c.args in
     let line = rw c.in-At.is at c.lut_line-r.ensures in
     lut_few (map name_of (take a.k.bounds a.k.bound)) a.s.luts a.l.now line
-
-pub ask_node-requires : goal.ask_node-requires
-ask_node-requires c = let pre = c.requires in
-    (pre.0, pre.1, omega arith, pre.2)
 
 pub returns-in-At : goal.returns-in-At
 returns-in-At c = let good = c.well_formed in

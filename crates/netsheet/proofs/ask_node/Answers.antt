@@ -7,12 +7,6 @@ use Rattle.netsheet.specs.declared.Place.{Place}
 use Rattle.netsheet.specs.AskLaws.{safe_moved, safe_node, node_bad, node_good}
 use Rattle.netsheet.proofs.ask_node.Goals as goal
 
-pub offset_bounds-outs-o : goal.offset_bounds-outs-o
-offset_bounds-outs-o c = record { fits = omega (arith, c.requires.2) }
-
-pub bounds-outs-o : goal.bounds-outs-o
-bounds-outs-o c = omega (arith, c.requires.2)
-
 pub slice_bounds-free-end : goal.slice_bounds-free-end
 slice_bounds-free-end c = let good = c.well_formed in
     omega (arith, c.requires.0.few_free, free-sized c.args.k good.1.1.0)
@@ -33,9 +27,6 @@ read_node-r-requires c = let good = c.well_formed in
 pub overflow_add-at : goal.overflow_add-at
 overflow_add-at c = let line = rw c.in-At.is at c.read_node-r.ensures in
     record { fits = omega (arith, c.requires.3, line.stands.stands.inside) }
-
-pub with_node-requires : goal.with_node-requires
-with_node-requires c = c.requires.2
 
 pub returns-in-At : goal.returns-in-At
 returns-in-At c = let a = c.args in

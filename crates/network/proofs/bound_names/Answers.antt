@@ -7,9 +7,6 @@ use Rattle.network.proofs.bound_names.Goals as goal
 pub loop-i-init : goal.loop-i-init
 loop-i-init c = (growing_none c.no_names-r.ensures.0, c.no_names-r.ensures.1)
 
-pub pushed-r-requires : goal.pushed-r-requires
-pushed-r-requires c = omega (arith, c.requires)
-
 pub loop-i-preserved : goal.loop-i-preserved
 loop-i-preserved c = (growing_more c.loop-i.invariant.0 c.loop-i-test.true (omega arith) c.pushed-r.ensures.0 (ap name_of c.input_name.ensures), omega arith)
 

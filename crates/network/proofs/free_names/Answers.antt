@@ -21,9 +21,6 @@ slice_bounds-find-end c = let args = c.args in
     let pre = c.requires in
     sym (length-take-le args.bs.count args.bs.list (omega (arith, pre.1, list_sized args.bs good.1.1.0)))
 
-pub pushed-r-requires : goal.pushed-r-requires
-pushed-r-requires c = omega (arith, c.loop-i.invariant.few, c.requires.0)
-
 pub loop-i-preserved : goal.loop-i-preserved
 loop-i-preserved c = let args = c.args in
     let pre = c.requires in

@@ -2,15 +2,11 @@
 use mathlib.Core.List.{List}
 use mathlib.Core.Path.{subst}
 use Prim.Native.Nat.{ℕ}
-use native.Mathlib.Omega.{arith}
 use lib.ListN.{drop}
 use Rattle.text.specs.Bytes.{eat}
 use Rattle.cursor.specs.Item.{MovedIs}
 use Rattle.network.specs.HeadLaws.{lut_first, lut_later}
 use Rattle.network.proofs.lut_at.Goals as goal
-
-pub overflow_add-w : goal.overflow_add-w
-overflow_add-w c = omega (arith, c.requires.1)
 
 pub returns-then-first : goal.returns-then-first
 returns-then-first c = let args = c.args in

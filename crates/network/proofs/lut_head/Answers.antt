@@ -1,12 +1,8 @@
 -- `lut_head`: each part where the one before ends. Assumes nothing.
 use mathlib.Core.List.{map}
-use native.Mathlib.Omega.{arith}
 use Rattle.names.specs.Pack.{name_of}
 use Rattle.network.specs.HeadLaws.{lut_no_word, lut_no_number, lut-no-list, lut_list}
 use Rattle.network.proofs.lut_head.Goals as goal
-
-pub text-m-requires : goal.text-m-requires
-text-m-requires c = omega (arith, c.start.ensures)
 
 pub returns-in_default : goal.returns-in_default
 returns-in_default c = let a = c.args in

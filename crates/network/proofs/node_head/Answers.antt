@@ -1,11 +1,7 @@
 -- `node_head`: each part where the one before ends. Assumes nothing.
-use native.Mathlib.Omega.{arith}
 use Rattle.names.specs.Pack.{name_of}
 use Rattle.network.specs.HeadLaws.{node_no_word, node_no_name, node_list}
 use Rattle.network.proofs.node_head.Goals as goal
-
-pub text-m-requires : goal.text-m-requires
-text-m-requires c = omega (arith, c.start.ensures)
 
 pub returns-in_default : goal.returns-in_default
 returns-in_default c = let a = c.args in

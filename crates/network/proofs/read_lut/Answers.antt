@@ -6,9 +6,6 @@ use Rattle.names.specs.Pack.{name_of}
 use Rattle.network.specs.LineReadLaws.{lut_no_head, lut_digits}
 use Rattle.network.proofs.read_lut.Goals as goal
 
-pub lut_head-m-requires : goal.lut_head-m-requires
-lut_head-m-requires c = c.requires.1
-
 pub returns-in_default : goal.returns-in_default
 returns-in_default c = let a = c.args in
     let head = rw c.in_default.is at c.lut_head-m.ensures in

@@ -8,25 +8,10 @@ pub loop-i-init : goal.loop-i-init
 loop-i-init c = let a = c.args in
     gathered_none a.s.now a.u a.c.at c.requires.0
 
-pub lut_at-m-requires : goal.lut_at-m-requires
-lut_at-m-requires c = (c.loop-i.invariant.inside, omega (arith, c.requires.1))
-
-pub overflow_shl-mask : goal.overflow_shl-mask
-overflow_shl-mask c = omega (arith, c.requires.1)
-
 pub overflow_add-mask : goal.overflow_add-mask
 overflow_add-mask c = let pre = c.requires in
     let h = c.loop-i-test.true in
     record { fits = omega (arith, shifted_byte c.loop-i.i (omega (arith, pre.1)), mask_fits c.loop-i.i c.loop-i.mask (omega (arith, pre.1)) c.loop-i.invariant.small) }
-
-pub overflow_add-count : goal.overflow_add-count
-overflow_add-count c = record { fits = omega (arith, c.loop-i.invariant.few, c.requires.1) }
-
-pub overflow_add-i : goal.overflow_add-i
-overflow_add-i c = omega (arith, c.requires.1)
-
-pub loop-i-smaller : goal.loop-i-smaller
-loop-i-smaller c = omega arith
 
 pub loop-i-preserved : goal.loop-i-preserved
 loop-i-preserved c = let below = c.requires.1 in
