@@ -49,7 +49,8 @@ renamed g t c = bit_or (bit_and c (2 ^ 8 - 1 - g)) (bit_and t g)
 
 module _ (g : ℕ) (low : g < 64) where
   renamed-on : (t c i : ℕ) → i < 8 → on (renamed g t c) i ≡ orb (andb (on c i) (not (on g i))) (andb (on t i) (on g i))
-  renamed-on t c i l = on_or (bit_and c (2 ^ 8 - 1 - g)) (bit_and t g) i ∙ ap₂ orb (on_and c (2 ^ 8 - 1 - g) i ∙ ap (λ (b : Bool). andb (on c i) b) (on_complement 8 g i (omega arith) l)) (on_and t g i)
+  renamed-on t c i l = on_or (bit_and c (2 ^ 8 - 1 - g)) (bit_and t g) i
+      ∙ ap₂ orb (on_and c (2 ^ 8 - 1 - g) i ∙ ap (λ (b : Bool). andb (on c i) b) (on_complement 8 g i (omega arith) l)) (on_and t g i)
 
   renamed_in : (t c i : ℕ) → i < 6 → on g i ≡ true → on (renamed g t c) i ≡ on t i
   renamed_in t c i l e = renamed-on t c i (omega arith) ∙ ap (λ (b : Bool). orb (andb (on c i) (not b)) (andb (on t i) b)) e ∙ ap₂ orb (and_false (on c i)) (and_true (on t i))
@@ -89,7 +90,8 @@ module _ (g : ℕ) (low : g < 64) where
   swap_there a b c d m h u e = agree_and 6 m (swap a b c) (swap a b d) h (λ i l t. digit i l t (on g i) refl u)
     where
       digit : (i : ℕ) → i < 6 → on m i ≡ true → (t : Bool) → on g i ≡ t → Uniform m g → on (swap a b c) i ≡ on (swap a b d) i
-      digit i l t false w u = renamed_out (other (bit_and a g) (bit_and b g) (bit_and c g)) c i l w ∙ and_agree 6 m c d e i l t ∙ sym (renamed_out (other (bit_and a g) (bit_and b g) (bit_and d g)) d i l w)
+      digit i l t false w u = renamed_out (other (bit_and a g) (bit_and b g) (bit_and c g)) c i l w ∙ and_agree 6 m c d e i l t
+          ∙ sym (renamed_out (other (bit_and a g) (bit_and b g) (bit_and d g)) d i l w)
       digit i l t true w (inr z) = absurd (never_both (on_and m g i ∙ ap₂ andb t w) (ap (λ (n : ℕ). on n i) z ∙ on_zero i))
       digit i l t true w (inl z) = renamed_in (other (bit_and a g) (bit_and b g) (bit_and c g)) c i l w ∙ ap (λ (n : ℕ). on (other (bit_and a g) (bit_and b g) n) i) same ∙ sym
           (renamed_in (other (bit_and a g) (bit_and b g) (bit_and d g)) d i l w)

@@ -62,7 +62,8 @@ module _ (cl rows : List ℕ) (sh v j : ℕ) (ms ps caps spots : List ℕ) (shor
       go (no d) = absurd (k.tells q x y i a b (t, d) (agree_and 6 (item rows q) (f x) (f y) (short q i) digit))
 
   -- the same block of o is the same in what both read
-  block_same : (o q x y : ℕ) → o < j → q < j → (o ≡ q → ⊥) → bit_and (shared_code sh f x) (item ms o) ≡ bit_and (shared_code sh f y) (item ms o) → bit_and (f x) (common o q) ≡ bit_and (f y) (common o q)
+  block_same : (o q x y : ℕ) → o < j → q < j → (o ≡ q → ⊥) → bit_and (shared_code sh f x) (item ms o) ≡ bit_and (shared_code sh f y) (item ms o)
+      → bit_and (f x) (common o q) ≡ bit_and (f y) (common o q)
   block_same o q x y h i ne e = agree_and 6 (common o q) (f x) (f y) (let z = short q i in let w = and_le_l (item rows q) (item rows o) in omega arith) (λ d l m.
       let a : on (item rows q) d ≡ true = and_left _ _ (sym (on_and (item rows q) (item rows o) d) ∙ m) in
       let b : on (item rows o) d ≡ true = and_right (on (item rows q) d) _ (sym (on_and (item rows q) (item rows o) d) ∙ m) in

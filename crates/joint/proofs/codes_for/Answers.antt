@@ -36,6 +36,7 @@ returns c = let args = c.args in
     let pre = c.requires in
     record {
       sure = λ e. decided_merged args.cl.now args.v args.j c.merge-m.result.count args.rows _ _ c.relabel-labels.result _ _ pre.0 pre.1 pre.2 args.kn args.val
-          c.drawn-known.result c.drawn-digits.result c.merge-m.ensures c.relabel-labels.ensures c.drawn-known.ensures c.drawn-digits.ensures c.expand-codes.ensures c.codes_for-c.result.ok (c.codes_for-c.ensures.sure e);
+          c.drawn-known.result c.drawn-digits.result c.merge-m.ensures c.relabel-labels.ensures c.drawn-known.ensures c.drawn-digits.ensures c.expand-codes.ensures
+          c.codes_for-c.result.ok (c.codes_for-c.ensures.sure e);
       never = c.codes_for-c.ensures.never;
     }
