@@ -1,7 +1,7 @@
 -- Why a cache loses no answer: it says "no codes" only of what was found to have none, in the rows that it holds, and a larger
 -- set of outputs has none either. What is written over an entry replaces what it said; the other entries stay. Entries whose
 -- rows don't read cell 0 stay true whatever is known of that cell, and the others are taken out. Assumes nothing.
-use Rattle.std.specs.Prelude.{◌≡◌, ℕ, suc, ◌+◌, ◌-◌, ◌*◌, ◌/◌, ◌%◌, ◌^◌, ◌<◌, Bool, true, false, not, List, length, set, ◌==◌, ◌≢◌, bit_and, bit_or, nat_eq, slice_set, refl}
+use Rattle.std.specs.Prelude.{◌≡◌, ℕ, suc, ◌+◌, ◌-◌, ◌*◌, ◌/◌, ◌%◌, ◌^◌, ◌<◌, Bool, true, false, not, List, length, ◌==◌, ◌≢◌, bit_and, bit_or, nat_eq, slice_set, refl}
 use Rattle.std.proofs.Common.{sym, ap, ◌∙◌, subst, ⊎_elim, arith, length-set, get_or-set_same, get_or-set_other}
 use Rattle.std.proofs.Math.Decide.{ℕ_discrete, dec_lt}
 use Rattle.bits.specs.LogicLaws.{and_both, never_both}

@@ -1,6 +1,7 @@
 // A cache of subproblems answered, and the sets of outputs for which it is asked. What it says was found to have no codes has
 // none; that something has codes, or may have, is used to leave a search out, and nothing rests on it. It rests on subproblems.
 #![tactic(auto)]
+
 ghost use Rattle.std.specs.Prelude.{◌≡◌, ℕ, ◌+◌, ◌*◌, ◌<◌, ◌≤◌, true, false, List, length};
 ghost use Rattle.limits.specs.Limits.{search_outputs, max_vertices};
 ghost use Rattle.bits.specs.Digit.{on};
@@ -192,6 +193,7 @@ fn tell(cl: &[u8], given: &[u16], mem: &mut [u16], q: Query, asked: u8) -> Reply
 }
 
 // Whether a is a set of some of the outputs of among, those of with among them.
+#[tactic(auto, using(crate::specs::CacheLaws::within_of))]
 fn between(a: u8, with: u8, among: u8) -> bool
     ensures { result ≡ true → (o : ℕ) → on a o ≡ true → on among o ≡ true }
 {

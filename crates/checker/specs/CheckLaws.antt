@@ -1,6 +1,6 @@
 -- Check and its examination, one law for each way out of the code. Assumes nothing.
-use Rattle.std.specs.Prelude.{◌≡◌, refl, true, false, List, ℕ, ◌≤◌, ◌<◌, length}
-use Rattle.std.proofs.Common.{sym, ap, ap₂, ◌∙◌, subst, arith}
+use Rattle.std.specs.Prelude.{◌≡◌, refl, true, false, List, ℕ, ◌≤◌, length}
+use Rattle.std.proofs.Common.{sym, ap, ap₂, ◌∙◌, subst}
 use Rattle.bits.specs.LogicLaws.{true_false}
 use Rattle.sheet.specs.Examine as sheets
 use Rattle.sheet.specs.Examine.{Design, valid}
@@ -12,7 +12,6 @@ use Rattle.design.specs.TableLaws.{refused-here, valid_here}
 use Rattle.design.specs.declared.Examined.{Examined}
 use Rattle.classes.specs.ProperLaws.{proper_of}
 use Rattle.classes.specs.Proper.{Proper}
-use Rattle.classes.specs.Width.{budget}
 use Rattle.classes.specs.Answer.{Counts, ClassesAre}
 use Rattle.classes.specs.ShapeLaws.{proper_counts}
 use Rattle.classes.specs.declared.Classes.{Classes}
@@ -20,17 +19,17 @@ use Rattle.network.specs.Network.{Network}
 use Rattle.network.specs.Examine.{Answer, bad_line, network, read_network}
 use Rattle.network.specs.Check.{Checked, refused_by, Pair, refused_pair, pair, examine_pair, compare_pair, check_of, check}
 use Rattle.network.specs.Check.{compared}
-use Rattle.network.specs.CheckLaws.{check-sheet, pair_refused, pair_bad_line, pair_offending, drawn_pair}
+use Rattle.network.specs.CheckLaws.{check-sheet, pair_refused, pair_bad_line}
 use Rattle.netsheet.specs.Answer.{NetworkIs, ReadAs}
 use Rattle.netsheet.specs.Named.{Ranged}
 use Rattle.netsheet.specs.NamedLaws.{holds_ranged}
 use Rattle.netsheet.specs.declared.NetworkSheet.{NetworkSheet}
 use Rattle.checker.specs.Beside.{RefusedPair, BesideIs}
-use Rattle.checker.specs.Limits.{Small, LimitsAre, Judged}
+use Rattle.checker.specs.Limits.{Small}
 use Rattle.comparing.specs.Drawing.{places_of, Drawing, SomeDrawing}
 use Rattle.checker.specs.declared.Beside.{Beside}
 
-pair_is : (t : List ℕ) (r : Beside) (p q : Pair) → p ≡ q → BesideIs t q r → BesideIs t p r
+pub pair_is : (t : List ℕ) (r : Beside) (p q : Pair) → p ≡ q → BesideIs t q r → BesideIs t p r
 pair_is t r p q e h = subst (λ (y : Pair). BesideIs t y r) (sym e) h
 
 -- ======== the examination
@@ -72,7 +71,7 @@ module _ {x : sheets.Examined} {k : Sheet} (g : Designed x k) where
   pub designed_counts : Counts k
   designed_counts = proper_counts g.design k g.holds g.proper
 
-  examined_as : (t : List ℕ) → examine_pair x t ≡ examine_pair (valid g.design) t
+  pub examined_as : (t : List ℕ) → examine_pair x t ≡ examine_pair (valid g.design) t
   examined_as t = ap (λ (y : sheets.Examined). examine_pair y t) g.is_valid
 
   -- ---- question 10
@@ -120,7 +119,7 @@ module _ {x : sheets.Examined} {k : Sheet} (g : Designed x k) where
 
   module _ {t : List ℕ} {n : NetworkSheet} (w : Networked t n) (c : Classes)
       (known : (d : Design) → Holds d k → Proper d → ClassesAre d c) where
-    classes_are : ClassesAre g.design c
+    pub classes_are : ClassesAre g.design c
     classes_are = known g.design g.holds g.proper
 
     -- ---- question 11
@@ -132,35 +131,8 @@ module _ {x : sheets.Examined} {k : Sheet} (g : Designed x k) where
           few_outputs = g.holds.outputs_few;
         }
 
-    limits_are : LimitsAre g.design w.said k.limit n.luts k.outputs n.reads c.widths
-    unfolding budget
-    limits_are =
-        let a = g.holds.outputs_counted in
-        let b = w.is_read.nodes-counted in
-        record {
-          limit_is = g.holds.limit_is;
-          luts-counted = w.is_read.held.counted;
-          nodes-counted = omega arith;
-          reading = λ o l. (w.is_read.held.nodes_stand o (omega arith)).reading;
-          wide = λ o l. (classes_are.widths o (omega arith)).is;
-        }
-
-    abbrev JudgedBy : ℕ → Type 0
-    JudgedBy l =
-        (d : Design) (v : Network) → LimitsAre d v k.limit n.luts k.outputs n.reads c.widths → Judged d v l
-
-    pub refused_limits : (r : Beside) (l : ℕ)
-        → JudgedBy l
-        → 0 < l
-        → RefusedPair 11 l r
-        → BesideIs t (examine_pair x t) r
-    refused_limits r l j h =
-        pair_is t r (examine_pair x t) (refused_pair 11 l)
-        (examined_as t
-        ∙ pair_offending t g.design w.said l w.is-network ((j g.design w.said limits_are).at_line h))
-
     -- ---- the pair
-    drawing_here : Drawing g.design w.said t k (places_of n) c.shape
+    pub drawing_here : Drawing g.design w.said t k (places_of n) c.shape
     drawing_here =
         record {
           holds = g.holds;
@@ -168,17 +140,6 @@ module _ {x : sheets.Examined} {k : Sheet} (g : Designed x k) where
           placed = record { nodes-counted = w.is_read.nodes-counted; held = w.is_read.held };
           shaped = classes_are.shaped;
         }
-
-    pub passed_pair : (r : Beside) (l : ℕ)
-        → JudgedBy l
-        → l ≤ 0
-        → r ≡ record { ok = true; number = 0; line = 0; sheet = k; network = n; shape = c.shape }
-        → BesideIs t (examine_pair x t) r
-    passed_pair r l j h e =
-        pair_is t r (examine_pair x t) (pair g.design w.said)
-        (drawn_pair t x g.design w.said g.is_valid
-        (record { is_read = w.is-network; passes = (j g.design w.said limits_are).at_none (omega arith) }))
-        (rw e (record { all_ok = refl; drawing = drawing_here }))
 
 -- ======== Check
 module _ (t : List ℕ) (b : Beside) where

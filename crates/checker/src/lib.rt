@@ -1,6 +1,7 @@
 // Check: a design and a network sheet in, "same", "differs" or a refusal out. Rests on design, netsheet and classes for what the
 // sheets say, and on comparing for the comparison.
 #![tactic(auto)]
+
 ghost use Rattle.std.specs.Prelude.{◌≡◌, ◌≤◌, length};
 ghost use Rattle.limits.specs.Limits.{max_cells};
 ghost use Rattle.sheet.specs.Examine as sheets;

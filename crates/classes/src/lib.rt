@@ -1,6 +1,7 @@
 // Columns, classes and widths of a design: vertices are the rows of the bound inputs, and two of them are in one class
 // when their columns are equal. Rests on sheet for what a design says, and on rows for a table's value on a row.
 #![tactic(auto)]
+
 ghost use Rattle.std.specs.Prelude.{◌≡◌, ◌≤◌, ◌<◌, length};
 ghost use Rattle.limits.specs.Limits.{max_inputs, max_bound, max_vertices, max_free_rows};
 ghost use Rattle.bits.specs.Logic as logic;

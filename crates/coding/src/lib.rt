@@ -3,6 +3,7 @@
 // says that the answer is right: codes that tell the classes apart, or no solution goes on from what was given. The order of
 // vertices and codes is free.
 #![tactic(auto)]
+
 ghost use Rattle.std.specs.Prelude.{◌≡◌, ℕ, ◌+◌, ◌*◌, ◌<◌, ◌≤◌, true, false, List, length, ◌≢◌};
 ghost use Rattle.limits.specs.Limits.{search_outputs, max_vertices, label_count, block_count, max_codes};
 ghost use Rattle.problem.specs.Problem.{no_vertex, Labels, Blocks, Plan, Kept, Hopeless, Knows, Told, item};

@@ -1,8 +1,7 @@
 -- The comparison, output by output and row by row: what the code knows after some of them is that these agree, and so what
 -- it says at the end is the definition's answer. Assumes nothing.
-use Rattle.std.specs.Prelude.{◌≡◌, true, false, List, ℕ, ◌+◌, ◌^◌, ◌≤◌, ◌<◌, length, get_or}
-use Rattle.std.proofs.Common.{sym, ap, ap₂, ◌∙◌, arith, below_more, pow_mono}
-use Rattle.bits.specs.Logic.{xorb}
+use Rattle.std.specs.Prelude.{◌≡◌, List, ℕ, ◌+◌, ◌^◌, ◌≤◌, ◌<◌, length, get_or}
+use Rattle.std.proofs.Common.{sym, ap, arith, below_more, pow_mono}
 use Rattle.limits.specs.Limits.{max_inputs, max_rows}
 use Rattle.rows.specs.Words.{row_on}
 use Rattle.sheet.specs.Examine.{Design}
@@ -15,11 +14,10 @@ use Rattle.network.specs.Value.{network_on}
 use Rattle.network.specs.Check.{same, differs}
 use Rattle.network.specs.Answers.{LowestDifference}
 use Rattle.network.specs.Check.{compared}
-use Rattle.network.specs.CompareLaws.{xor_none, xor_some, same-compared, differs_compared}
-use Rattle.comparing.specs.Code.{one_at}
-use Rattle.comparing.specs.Filling.{Ready, Filled}
+use Rattle.network.specs.CompareLaws.{same-compared, differs_compared}
+use Rattle.comparing.specs.Filling.{Ready}
 use Rattle.comparing.specs.Drawing.{Places, Drawing, SomeDrawing}
-use Rattle.comparing.specs.DrawingLaws.{drawing_ready, filled_right}
+use Rattle.comparing.specs.DrawingLaws.{drawing_ready}
 
 -- ---- what the code knows
 -- the first o outputs agree on every row
@@ -53,52 +51,12 @@ module _ {t : List ℕ} {k : Sheet} {n : Places} {sh : Shape} where
   rows_none o = record { right = λ d w h q l. absurd (omega arith) }
 
   -- the values of an output on a row, as the code reads them
-  design-value : {d : Design} {w : Network} → Drawing d w t k n sh → (o r : ℕ) → o < k.outputs → r < max_rows
+  pub design-value : {d : Design} {w : Network} → Drawing d w t k n sh → (o r : ℕ) → o < k.outputs → r < max_rows
       → row_on (table_at k.tables o) r ≡ output_on d o r
   design-value h o r l m = (h.holds.tabled o l).each r m
 
-  output_is : {d : Design} {w : Network} → Drawing d w t k n sh → (o : ℕ) → o < k.outputs → o < length d.outputs
+  pub output_is : {d : Design} {w : Network} → Drawing d w t k n sh → (o : ℕ) → o < k.outputs → o < length d.outputs
   output_is h o l = omega (arith, h.holds.outputs_counted)
-
-  module _ (o r rows : ℕ) (words list : List ℕ) (l : o < k.outputs) (below : r < rows) (count : rows ≡ 2 ^ k.inputs)
-      (few : rows ≤ max_rows) (table : words ≡ table_at k.tables o)
-      (filled : Filled t n.lutat (get_or n.reads o 0) n.luts (get_or n.nodeat o 0) sh sh.vertices list) where
-    row_below : {d : Design} {w : Network} → Drawing d w t k n sh → r < 2 ^ length d.inputs
-    row_below {d} h =
-        let e : 2 ^ k.inputs ≡ 2 ^ length d.inputs = ap (λ (i : ℕ). 2 ^ i) h.holds.inputs_counted in
-        omega arith
-
-    told : {d : Design} {w : Network} → Drawing d w t k n sh
-        → xorb (row_on words r) (one_at list r) ≡ xorb (output_on d o r) (network_on d w o r)
-    told h =
-        ap₂ xorb
-        (ap (λ (x : List ℕ). row_on x r) table ∙ design-value h o r l (omega arith))
-        (filled_right h o list (output_is h o l) filled r (row_below h))
-
-    pub rows_more : AgreedRows t k n sh o r → xorb (row_on words r) (one_at list r) ≡ false → AgreedRows t k n sh o (r + 1)
-    rows_more s e =
-        record {
-          right = λ d w h.
-              below_more (λ (q : ℕ). network_on d w o q ≡ output_on d o q) r (s.right d w h)
-              (xor_none (output_on d o r) (network_on d w o r) (sym (told h) ∙ e));
-        }
-
-    pub ended_differs : Agreed t k n sh o
-        → AgreedRows t k n sh o r
-        → xorb (row_on words r) (one_at list r) ≡ true
-        → Ended t k n sh o r
-    ended_differs a s e =
-        record {
-          agreed = a;
-          differing = λ _ d w h.
-              record {
-                is_output = output_is h o l;
-                is_row = row_below h;
-                apart = xor_some (output_on d o r) (network_on d w o r) (sym (told h) ∙ e);
-                rows_below = s.right d w h;
-                outputs_below = a.right d w h;
-              };
-        }
 
   -- an output whose every row agrees
   pub agreed_more : (o r rows : ℕ)

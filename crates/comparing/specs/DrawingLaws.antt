@@ -25,7 +25,7 @@ use Rattle.serving.specs.Compose.{row-append}
 use Rattle.serving.specs.TheoremA.{parts_of}
 use Rattle.comparing.specs.Code.{is_one, one_at, code_at}
 use Rattle.network.specs.NumbersLaws.{map-numbers}
-use Rattle.comparing.specs.Filling.{row_at, place_at, Ready, Filled}
+use Rattle.comparing.specs.Filling.{row_at, Ready, Filled}
 use Rattle.comparing.specs.Drawing.{Places, Drawing}
 
 -- ---- digits that stand in a text
@@ -109,7 +109,7 @@ module _ {d : Design} {w : Network} {t : List ℕ} {k : Sheet} {n : Places} {sh 
 
   -- ---- the digits are the network's values
   value_is : (o x y : ℕ) → o < length d.outputs → x < sh.vertices → y < sh.frees
-      → one_at t (place_at t n.lutat (get_or n.reads o 0) n.luts (get_or n.nodeat o 0) sh x y) ≡ network_on d w o (row_at sh x y)
+      → one_at t (get_or n.nodeat o 0 + code_at t n.lutat (get_or n.reads o 0) x n.luts * sh.frees + y) ≡ network_on d w o (row_at sh x y)
   value_is o x y l a b =
       let r = h.placed in
       let here : o < length w.nodes = omega (arith, r.nodes-counted) in

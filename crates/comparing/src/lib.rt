@@ -1,6 +1,7 @@
 // The comparison of a design with a network that passed questions 10 and 11: the network's digits are set in row order beside the
 // design's tables and compared row by row. Rests on netsheet for where the digits stand, and on classes for the rows of a vertex.
 #![tactic(auto)]
+
 ghost use Rattle.std.specs.Prelude.{◌≡◌, ℕ, ◌+◌, ◌≤◌, ◌<◌, length, get_or};
 ghost use Rattle.bits.specs.Logic.{xorb};
 ghost use Rattle.limits.specs.Limits.{max_cells, max_vertices, max_rows};

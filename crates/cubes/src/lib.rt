@@ -1,6 +1,7 @@
 // Cubes of a PLA text: whether a line is a cube, and the rows that a cube's literals cover, on a whole truth table at once.
 // Rests on rows for tables; what a cube says, and the formula that says the same, stand in specs/.
 #![tactic(auto)]
+
 ghost use Rattle.std.specs.Prelude.{◌≡◌, ◌&&◌, List, map, ℕ};
 ghost use Rattle.bits.specs.Digit.{on};
 ghost use Rattle.rows.specs.Words.{Rowwise, row_on};

@@ -1,6 +1,7 @@
 // A place in a text: each method reads the item at the place, and answers with it and with the cursor that stands after it.
 // Rests on text and names.
 #![tactic(auto)]
+
 ghost use Rattle.std.specs.Prelude.{◌≡◌, true, [], ◌∷◌, ◌+◌, ◌-◌, ◌≤◌, ◌<◌, leb, length, take, drop, set};
 ghost use Rattle.limits.specs.Limits.{max_inputs, max_pla_digits};
 ghost use Rattle.text.specs.Bytes.{eat};

@@ -11,7 +11,7 @@ use Rattle.bits.specs.LogicLaws.{true_false}
 use Rattle.bits.specs.Values.{values_upto}
 use Rattle.bits.specs.ValuesLaws.{values_length, values_at, values_same}
 use Rattle.order.specs.Order.{then, list_order, table_order, tables_order}
-use Rattle.order.specs.OrderLaws.{table_total}
+use Rattle.order.proofs.TotalLaws.{table_total}
 use Rattle.cells.specs.Core.{Cell, ZeroFirst}
 use Rattle.cells.specs.Free.{retabled}
 use Rattle.cells.specs.Written.{tables_of}

@@ -7,7 +7,7 @@ use Rattle.std.proofs.Math.Decide.{dec_lt}
 use Rattle.std.proofs.lemmas.List.Edits.{sets}
 use Rattle.limits.specs.Limits.{max_classes}
 use Rattle.order.specs.Order.{before}
-use Rattle.order.specs.OrderLaws.{before_self}
+use Rattle.order.proofs.TotalLaws.{before_self}
 use Rattle.sheet.specs.Examine.{Design, refused, valid, examine}
 use Rattle.sheet.specs.WellFormed.{WellFormed}
 use Rattle.sheet.specs.ExaminationLaws.{valid_well_formed}

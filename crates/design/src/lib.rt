@@ -1,6 +1,7 @@
 // The design sheet as a whole: the examination by questions 1 to 5, line by line, and Table. Rests on sheet for what a
 // line is asked, and on rows for tables.
 #![tactic(auto)]
+
 ghost use Rattle.std.specs.Prelude.{◌≡◌};
 ghost use Rattle.sheet.specs.Examine as spec;
 ghost use Rattle.sheet.specs.Known.{Holds, place_of};

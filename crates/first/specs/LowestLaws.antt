@@ -6,7 +6,8 @@ use Rattle.std.proofs.Common.{sym, ◌∙◌, subst, add-one, arith}
 use Rattle.bits.specs.LogicLaws.{true_false}
 use Rattle.bits.specs.Digit.{on}
 use Rattle.bits.specs.DigitLaws.{on_zero}
-use Rattle.order.specs.LeastTablesLaws.{tables_none, own_zero, tables_same, tables_zero, tables_one, tables_next}
+use Rattle.order.specs.LeastTablesLaws.{tables_none, own_zero, tables_same, tables_next}
+use Rattle.order.proofs.LeastSteps.{tables_zero, tables_one}
 use Rattle.order.specs.LeastTables.{UptoTables}
 use Rattle.problem.specs.Problem.{item}
 use Rattle.cache.specs.Cache.{Honest}

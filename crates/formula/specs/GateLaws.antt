@@ -49,11 +49,11 @@ combine_snoc and_gate vs x = every_snoc vs x
 combine_snoc or_gate vs x = some_snoc vs x
 combine_snoc xor_gate vs x = odd_snoc vs x
 
-two_none : (g : Gate) (x : Bool) → two g (combine g []) x ≡ x
-unfolding combine
-two_none and_gate x = refl
-two_none or_gate x = refl
-two_none xor_gate x = refl
-
 pub combine_one : (g : Gate) (x : Bool) → combine g (x ∷ []) ≡ x
-combine_one g x = combine_snoc g [] x ∙ two_none g x
+unfolding combine
+combine_one and_gate true = refl
+combine_one and_gate false = refl
+combine_one or_gate true = refl
+combine_one or_gate false = refl
+combine_one xor_gate true = refl
+combine_one xor_gate false = refl

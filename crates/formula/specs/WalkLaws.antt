@@ -1,7 +1,7 @@
 -- The loop over the operands of a gate keeps what is known after each operand, and at the closing bracket the gate comes to what
 -- the definitions say: a broken operand breaks the gate, and otherwise depth, names and values are those of all operands so far.
 -- Assumes nothing.
-use Rattle.std.specs.Prelude.{◌≡◌, refl, Bool, true, false, not, ◌&&◌, List, [], ◌∷◌, ◌++◌, ℕ, suc, ◌≤◌, ◌<◌, min, max, length, drop}
+use Rattle.std.specs.Prelude.{◌≡◌, refl, Bool, true, false, not, ◌&&◌, List, [], ◌∷◌, ℕ, suc, ◌≤◌, ◌<◌, min, max, length, drop}
 use Rattle.std.proofs.Common.{sym, ap, ap₂, ◌∙◌, subst, arith}
 use Rattle.bits.specs.Logic.{andb, pick}
 use Rattle.bits.specs.LogicLaws.{true_false}
@@ -10,22 +10,20 @@ use Rattle.text.specs.Bytes.{Read, found, bad, after, eat, close_bracket, space}
 use Rattle.text.specs.EatLaws.{bad_found, found-rest}
 use Rattle.names.specs.Name.{Name}
 use Rattle.rows.specs.Words.{Rowwise}
-use Rattle.rows.specs.WordLaws.{rowwise_same, rowwise_one, rowwise_two}
+use Rattle.rows.specs.WordLaws.{rowwise_same, rowwise_one}
 use Rattle.cursor.specs.Opening.{Gate}
 use Rattle.cursor.specs.Item.{At, MovedIs}
 use Rattle.cursor.specs.declared.Cursor.{Cursor}
 use Rattle.cursor.specs.declared.Moved.{Moved}
-use Rattle.formula.specs.Tree.{Formula, negation, gate, Operands, none, more, depth, depths, knows, knows_all}
-use Rattle.formula.specs.Reader.{read_formula, read_operands, close_gate, close_not}
-use Rattle.formula.specs.Value.{value, values, on_row, combine}
-use Rattle.formula.specs.Gates.{two}
+use Rattle.formula.specs.Tree.{Formula, negation, gate, Operands, none, depth, depths, knows, knows_all}
+use Rattle.formula.specs.Reader.{read_operands, close_gate, close_not}
+use Rattle.formula.specs.Value.{value, on_row}
 use Rattle.formula.specs.Onto.{onto}
-use Rattle.formula.specs.GateLaws.{combine_snoc, combine_one}
-use Rattle.formula.specs.ValueLaws.{onto_snoc, values_snoc, depths_snoc, knows_snoc}
-use Rattle.formula.specs.Part.{Good, PartIs, read_so_far, Unread, ClosedBy, Closed, Negated, Joined, deepened, gate_on}
+use Rattle.formula.specs.GateLaws.{combine_one}
+use Rattle.formula.specs.Part.{PartIs, read_so_far, Unread, ClosedBy, Closed, Negated, Joined, deepened, gate_on}
 use Rattle.formula.specs.Skim.{spelling}
-use Rattle.formula.specs.Walk.{before, non_empty, Going, Walk, broken, going, WalkOf, then}
-use Rattle.formula.specs.TurnLaws.{operand_after, no_operand_after}
+use Rattle.formula.specs.Walk.{before, Going, broken, going, WalkOf, then}
+use Rattle.formula.specs.TurnLaws.{no_operand_after}
 use Rattle.formula.specs.declared.Part.{Part}
 
 -- ---- what was read so far
@@ -38,11 +36,6 @@ so_far_good s p e = rw e refl
 
 so_far_bad : (s : List ℕ) (p : Part) → p.ok ≡ false → read_so_far s p ≡ bad
 so_far_bad s p e = rw e refl
-
--- ---- operands put before others
-before_snoc : (fs : List Formula) (f : Formula) (r : Read Operands) → before fs (after r (λ os t. found (more f os) t)) ≡ before (fs ++ (f ∷ [])) r
-before_snoc fs f (found os t) = ap (λ (x : Operands). found x t) (sym (onto_snoc fs f os))
-before_snoc fs f bad = refl
 
 -- ---- the loop
 pub walk_start : (k : ℕ) (s : List ℕ) (ns : List Name) (g : Gate) (q : Read Formula) (p : Part) → PartIs k s ns q p
@@ -66,77 +59,11 @@ walk_start k s ns g (found e u) p h =
     and_one false = refl
 walk_start k s ns g bad p h = h
 
--- ---- one operand more
--- the text after e goes on with a space and an operand at v
-step_read : (fs : List Formula) (u t v : List ℕ) → read_operands u ≡ before fs (read_operands t) → found tt v ≡ eat (space ∷ []) t
-    → read_operands u ≡ before fs (after (read_formula v) (λ f t. after (read_operands t) (λ os w. found (more f os) w)))
-step_read fs u t v e n = e ∙ ap (before fs) (operand_after t v n)
-
-those : (a b c m : ℕ) → max a (max b c) < m → max a b < m
-those a b c m l = omega arith
-
-last : (a b c m : ℕ) → max a (max b c) < m → c < m
-last a b c m l = omega arith
-
-min-max : (a b m : ℕ) → max (min a m) (min b m) ≡ min (max a b) m
-min-max a b m = omega arith
-
-max_assoc : (a b c : ℕ) → max (max a b) c ≡ max a (max b c)
-max_assoc a b c = omega arith
-
-joined_going : (k : ℕ) (s : List ℕ) (ns : List Name) (g : Gate) (e : Formula) (u : List ℕ) (fs : List Formula) (p q r : Part) (f : Formula)
-    (t v : List ℕ) → Going k s ns g e u fs p → found tt v ≡ eat (space ∷ []) (drop p.next.at s) → read_formula v ≡ found f t
-    → Good k s ns f t q → Joined g p q r → Going k s ns g e u (fs ++ (f ∷ [])) r
-joined_going k s ns g e u fs p q r f t v w n x h j =
-    let d : depths (onto (fs ++ (f ∷ [])) none) ≡ max (depths (onto fs none)) (depth f) = depths_snoc fs f in
-    record {
-      good = j.good ∙ h.good;
-      here =
-          step_read fs u (drop p.next.at s) v w.here n
-          ∙ ap (λ (y : Read Formula). before fs (after y (λ f t. after (read_operands t) (λ os w. found (more f os) w)))) x
-          ∙ before_snoc fs f (read_operands t)
-          ∙ ap (λ (l : List ℕ). before (fs ++ (f ∷ [])) (read_operands l)) (sym h.rest ∙ ap (λ k. drop k.at s) (sym j.moved));
-      deep =
-          j.deep ∙ ap₂ max w.deep h.deep
-          ∙ min-max (max (depth e) (depths (onto fs none))) (depth f) k
-          ∙ ap (λ (m : ℕ). min m k) (max_assoc (depth e) (depths (onto fs none)) (depth f) ∙ ap (max (depth e)) (sym d));
-      named =
-          λ l.
-          let m = subst (λ (x : ℕ). max (depth e) x < k) d l in
-          j.named ∙ ap₂ andb (w.named (those (depth e) (depths (onto fs none)) (depth f) k m)) (h.names (last (depth e) (depths (onto fs none)) (depth f) k m))
-          ∙ and_assoc (knows ns e) (knows_all ns (onto fs none)) (knows ns f)
-          ∙ ap (andb (knows ns e)) (sym (knows_snoc ns fs f));
-      rows =
-          λ l.
-          let m = subst (λ (x : ℕ). max (depth e) x < k) d l in
-          rowwise_same
-          (rowwise_two (two g) j.each (w.rows (those (depth e) (depths (onto fs none)) (depth f) k m)) (h.rows (last (depth e) (depths (onto fs none)) (depth f) k m)))
-          (λ i _. sym (combine_snoc g (value (on_row ns i) e ∷ values (on_row ns i) (onto fs none)) (value (on_row ns i) f))
-          ∙ ap (λ (vs : List Bool). combine g (value (on_row ns i) e ∷ vs)) (sym (values_snoc (on_row ns i) fs f)));
-    }
-  where
-    and_assoc : (a b c : Bool) → andb (andb a b) c ≡ andb a (andb b c)
-    and_assoc true b c = refl
-    and_assoc false b c = refl
-
-non_empty_snoc : (fs : List Formula) (f : Formula) → true ≡ non_empty (fs ++ (f ∷ []))
-non_empty_snoc [] f = refl
-non_empty_snoc (x ∷ fs) f = refl
-
-walk_on : (k : ℕ) (s : List ℕ) (ns : List Name) (g : Gate) (e : Formula) (u : List ℕ) (fs : List Formula) (p q r : Part) (v : List ℕ)
-    (x : Read Formula) → Going k s ns g e u fs p → found tt v ≡ eat (space ∷ []) (drop p.next.at s) → read_formula v ≡ x
-    → PartIs k s ns x q → Joined g p q r → Walk k s ns g e u r true
-walk_on k s ns g e u fs p q r v (found f t) w n x h j =
-    going (fs ++ (f ∷ [])) (non_empty_snoc fs f) (joined_going k s ns g e u fs p q r f t v w n x h j)
-walk_on k s ns g e u fs p q r v bad w n x h j =
-    broken (j.good ∙ h)
-    (step_read fs u (drop p.next.at s) v w.here n
-    ∙ ap (λ (y : Read Formula). before fs (after y (λ f t. after (read_operands t) (λ os w. found (more f os) w)))) x)
-
-then_good : (s : List ℕ) (p : Part) (b : ℕ) → p.ok ≡ true → then s p b ≡ eat (b ∷ []) (drop p.next.at s)
+-- ---- a byte after what was read
+pub then_good : (s : List ℕ) (p : Part) (b : ℕ) → p.ok ≡ true → then s p b ≡ eat (b ∷ []) (drop p.next.at s)
 then_good s p b e = ap (λ (x : Read (Unit {0})). after x (λ _ t. eat (b ∷ []) t)) (so_far_good s p e)
 
-then_bad : (s : List ℕ) (p : Part) (b : ℕ) → p.ok ≡ false → then s p b ≡ bad
+pub then_bad : (s : List ℕ) (p : Part) (b : ℕ) → p.ok ≡ false → then s p b ≡ bad
 then_bad s p b e = ap (λ (x : Read (Unit {0})). after x (λ _ t. eat (b ∷ []) t)) (so_far_bad s p e)
 
 pub followed_by : (s : List ℕ) (p : Part) (b : ℕ) (m : Moved) → p.ok ≡ true → MovedIs s m (eat (b ∷ []) (drop p.next.at s))
@@ -145,14 +72,6 @@ followed_by s p b m e h = subst (λ (x : Read (Unit {0})). MovedIs s m x) (sym (
 
 pub followed_by_nothing : (s : List ℕ) (p : Part) (b : ℕ) → p.ok ≡ false → bad ≡ then s p b
 followed_by_nothing s p b e = sym (then_bad s p b e)
-
-pub walk_step : (k : ℕ) (s : List ℕ) (ns : List Name) (g : Gate) (y : Read Formula) (p q r : Part) (enough : Bool) (v : List ℕ)
-    → WalkOf k s ns g y p enough → found tt v ≡ then s p space → PartIs k s ns (read_formula v) q → Joined g p q r
-    → WalkOf k s ns g y r true
-walk_step k s ns g (found e u) p q r enough v (broken b x) n h j = absurd (bad_found (sym (n ∙ then_bad s p space b)))
-walk_step k s ns g (found e u) p q r enough v (going fs _ w) n h j =
-    walk_on k s ns g e u fs p q r v (read_formula v) w (n ∙ then_good s p space w.good) refl h j
-walk_step k s ns g bad p q r enough v w n h j = absurd (bad_found (sym (n ∙ then_bad s p space w)))
 
 -- ---- past the closing bracket
 -- the part p just before the closing bracket of f: the values and names are f's, and the depth lacks f's own bracket

@@ -2,6 +2,7 @@
 // its names are inputs, and its value on every row. Of a formula that is nested too deeply only that and its spelling
 // are told. Rests on cursor for what stands at a place, and on rows for tables.
 #![tactic(auto)]
+
 ghost use Rattle.std.specs.Prelude.{◌≡◌, [], ◌∷◌, map, true, false, ℕ, suc, ◌≤◌, max, length, drop};
 ghost use Rattle.bits.specs.Logic.{andb};
 ghost use Rattle.limits.specs.Limits.{max_depth};

@@ -20,4 +20,5 @@ pub record Keeps (own meet has wants need k : ℕ) : Type 0 where
 -- a code of a vertex in whose part no place is left, by the set of these parts
 abbrev pub Stays : List ℕ → List ℕ → ℕ → ℕ → List ℕ → List ℕ → List ℕ → List ℕ → ℕ → ℕ → Type 0
 Stays cl base o tight own meet owns wants y k =
-    on tight (part_of cl o y) ≡ true → Keeps (item own (label_at cl o y)) (item meet (label_at cl o y)) (item owns (label_at cl o y)) (item wants (label_at cl o y)) (label_at base o (label_at cl o y)) k
+    on tight (part_of cl o y) ≡ true
+    → Keeps (item own (label_at cl o y)) (item meet (label_at cl o y)) (item owns (label_at cl o y)) (item wants (label_at cl o y)) (label_at base o (label_at cl o y)) k

@@ -1,7 +1,7 @@
 -- One vertex for each joint class: vertices with equal labels for every output in question, and with the same known of cell 0,
 -- are merged; the classes have the labels of their first vertices, and each vertex takes the code of its class. Assumes
 -- nothing.
-use Rattle.std.specs.Prelude.{◌≡◌, List, ℕ, ◌-◌, ◌*◌, ◌/◌, ◌%◌, ◌≤◌, ◌<◌, length, get_or}
+use Rattle.std.specs.Prelude.{◌≡◌, List, ℕ, ◌*◌, ◌/◌, ◌%◌, ◌≤◌, ◌<◌, length, get_or}
 use Rattle.limits.specs.Limits.{max_vertices, label_count}
 use Rattle.limits.specs.declared.Vertex.{Vertex}
 use Rattle.bits.specs.Filled.{Filled}

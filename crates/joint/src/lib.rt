@@ -3,6 +3,7 @@
 // and joint classes are numbers of two types; the crates below search for codes of plain numbers, whatever these stand for,
 // and `codes_for` is where joint classes become such numbers and their codes come back.
 #![tactic(auto)]
+
 ghost use Rattle.std.specs.Prelude.{◌≡◌, true, false, ℕ, ◌+◌, ◌*◌, ◌<◌, ◌≤◌};
 ghost use Rattle.limits.specs.Limits.{search_outputs, max_vertices, label_count};
 ghost use Rattle.problem.specs.Problem.{Labels};

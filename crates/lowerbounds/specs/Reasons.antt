@@ -11,7 +11,8 @@ use Rattle.problem.specs.Problem.{label_at, part_of, item}
 
 -- g classes of one part of q occur in class l of o
 abbrev pub Kinds : List ℕ → ℕ → ℕ → ℕ → ℕ → ℕ → Type 0
-Kinds cl v o l q g = (p : ℕ) × (ys : List ℕ) × All (λ (x : ℕ). (x < v) × (label_at cl o x ≡ l) × (part_of cl q x ≡ p)) ys × Pairs (λ (x y : ℕ). label_at cl q x ≡ label_at cl q y → ⊥) ys × (length ys ≡ g)
+Kinds cl v o l q g = (p : ℕ) × (ys : List ℕ) × All (λ (x : ℕ). (x < v) × (label_at cl o x ≡ l) × (part_of cl q x ≡ p)) ys
+    × Pairs (λ (x y : ℕ). label_at cl q x ≡ label_at cl q y → ⊥) ys × (length ys ≡ g)
 
 -- 2 to the number of cells that q reads and o does not
 abbrev pub apart : List ℕ → ℕ → ℕ → ℕ

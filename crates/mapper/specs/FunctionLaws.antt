@@ -3,7 +3,7 @@
 use Rattle.std.specs.Prelude.{◌≡◌, refl, List, ℕ, length}
 use Rattle.std.proofs.Common.{sym, ap, ap₂, ◌∙◌, arith}
 use Rattle.std.proofs.lemmas.List.Edits.{sets}
-use Rattle.order.specs.OrderLaws.{before_neither}
+use Rattle.order.proofs.TotalLaws.{before_neither}
 use Rattle.sheet.specs.Examine.{Design, Examined, refused, valid, examine}
 use Rattle.network.specs.Network.{Network}
 use Rattle.network.specs.Printer.{print_network}

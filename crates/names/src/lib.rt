@@ -1,6 +1,7 @@
 // Names on a slice of bytes, and names as numbers: a name has at most 8 bytes, so a u64 holds it. Names are compared in
 // `same_name` only, with case ignored. Rests on text.
 #![tactic(auto)]
+
 ghost use Rattle.std.specs.Prelude.{◌≡◌, ◌+◌, ◌-◌, ◌≤◌, length, take, drop};
 ghost use Rattle.limits.specs.Limits.{max_name};
 ghost use Rattle.names.specs.Case as letters;

@@ -13,7 +13,6 @@ use Rattle.names.specs.Name.{Name}
 use Rattle.names.specs.Pack.{name_of}
 use Rattle.sheet.specs.Lines.{end_line}
 use Rattle.sheet.specs.Examine.{Design, output_names}
-use Rattle.classes.specs.Columns.{free}
 use Rattle.network.specs.Network.{Network, Node}
 use Rattle.network.specs.Printer.{network_line, print_count}
 use Rattle.network.specs.Reader.{read_lut, read_node}

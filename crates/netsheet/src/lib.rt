@@ -1,6 +1,7 @@
 // The network sheet as a whole, read beside a design: question 10, line by line. Tables stay in the sheet's bytes, and
 // the answer holds their places. Rests on network for what a line says.
 #![tactic(auto)]
+
 ghost use Rattle.std.specs.Prelude.{◌≡◌, List, map, ℕ, ◌+◌, ◌≤◌, ◌<◌, ◌^◌, length, take};
 ghost use Rattle.limits.specs.Limits.{max_outputs, max_cells, max_network};
 ghost use Rattle.names.specs.Pack.{name_of};

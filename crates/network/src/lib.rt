@@ -1,6 +1,7 @@
 // The names that the lines of a network sheet list, and its lines, each read beside a design: a lut line, a node line and the
 // count line. Digits are not copied: a line's answer is the place where they stand. Rests on cursor for the items of a line.
 #![tactic(auto)]
+
 ghost use Rattle.std.specs.Prelude.{◌≡◌, true, [], ◌∷◌, ◌++◌, map, ℕ, ◌+◌, ◌≤◌, ◌<◌, ◌^◌, length, get_or, take, drop};
 ghost use Rattle.limits.specs.Limits.{max_inputs, max_bound, max_cells};
 ghost use Rattle.text.specs.Bytes.{eat, same, whole};

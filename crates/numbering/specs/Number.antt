@@ -16,7 +16,8 @@ module _ (cl codes : List ℕ) (o mask : ℕ) where
 
   -- n vertices before b in x's block, of classes that differ from each other and from x's
   abbrev pub Fellows : ℕ → ℕ → ℕ → Type 0
-  Fellows b x n = (ws : List ℕ) × All (λ (w : ℕ). (w < b) × (key w ≡ key x) × (label_at cl o w ≡ label_at cl o x → ⊥)) ws × Pairs (λ (a b : ℕ). label_at cl o a ≡ label_at cl o b → ⊥) ws × (length ws ≡ n)
+  Fellows b x n = (ws : List ℕ) × All (λ (w : ℕ). (w < b) × (key w ≡ key x) × (label_at cl o w ≡ label_at cl o x → ⊥)) ws
+      × Pairs (λ (a b : ℕ). label_at cl o a ≡ label_at cl o b → ⊥) ws × (length ws ≡ n)
 
 -- the first x vertices are numbered
 pub record Numbered (cl codes : List ℕ) (o mask x : ℕ) (nums : List ℕ) : Type 0 where

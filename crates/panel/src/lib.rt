@@ -3,6 +3,7 @@
 // the cubes say. Rests on platext for the PLA text, on cubes for the rows of a cube, and on sheet and design for what a sheet is
 // asked.
 #![tactic(auto)]
+
 ghost use Rattle.std.specs.Prelude.{◌≡◌, true, List, ℕ, ◌+◌, ◌≤◌, length};
 ghost use Rattle.std.proofs.Math.Option.{some};
 ghost use Rattle.limits.specs.Limits.{max_outputs};

@@ -9,7 +9,8 @@ use Rattle.bits.specs.FilledLaws.{each_more}
 use Rattle.bits.specs.Filled.{Filled}
 use Rattle.order.specs.Total.{NotLess}
 use Rattle.order.specs.Order.{is_less, table_order}
-use Rattle.order.specs.OrderLaws.{above_not_less, table_total}
+use Rattle.order.specs.OrderLaws.{above_not_less}
+use Rattle.order.proofs.TotalLaws.{table_total}
 use Rattle.problem.specs.Problem.{item}
 use Rattle.picking.specs.Best.{Suits, set_order, Best, FirstRows}
 use Rattle.picking.specs.SoonerLaws.{set_self, empty-last}

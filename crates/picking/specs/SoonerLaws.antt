@@ -9,7 +9,8 @@ use Rattle.bits.specs.Values.{values_upto}
 use Rattle.bits.specs.ValuesLaws.{values_first, values_same, same_values}
 use Rattle.order.specs.Total.{NotLess}
 use Rattle.order.specs.Order.{then, list_order, is_less, bit_order, table_order}
-use Rattle.order.specs.OrderLaws.{not_less_eq, then_not_less, neither_less, bit_total, table_total}
+use Rattle.order.specs.OrderLaws.{not_less_eq, then_not_less, neither_less, bit_total}
+use Rattle.order.proofs.TotalLaws.{table_total}
 use Rattle.order.specs.LeastLaws.{zero-low}
 use Rattle.picking.specs.Best.{set_order}
 

@@ -2,6 +2,7 @@
 // and their number are kept. Rests on cubes for a cube's line, on cursor for the items of the other lines, and on sheet for
 // lines of names.
 #![tactic(auto)]
+
 ghost use Rattle.std.specs.Prelude.{◌≡◌, false, [], ◌∷◌, ◌+◌, ◌≤◌, ◌<◌, length, drop};
 ghost use Rattle.limits.specs.Limits.{max_pla, max_pla_digits};
 ghost use Rattle.text.specs.Bytes.{eat, after, whole, space};

@@ -1,7 +1,7 @@
 -- Groups are found one after another: a set of shared cells becomes a group where each output is seen to read it whole or not
 -- at all, and where none of its cells is in a group before. A group that is missed costs time and no answer. At the start
 -- vertex 0 has code 0, so of each group value 0 is in use. Assumes nothing.
-use Rattle.std.specs.Prelude.{◌≡◌, refl, Bool, true, false, List, [], ◌∷◌, ◌⊎◌, ℕ, zero, suc, ◌+◌, ◌-◌, ◌≤◌, ◌<◌, eqb, set}
+use Rattle.std.specs.Prelude.{◌≡◌, refl, Bool, true, false, List, [], ◌∷◌, ℕ, zero, suc, ◌+◌, ◌≤◌, ◌<◌, eqb, set}
 use Rattle.std.proofs.Common.{sym, ap, ap₂, ◌∙◌, subst, inr, ⊎_elim, arith, length-set, get_or-set_same, get_or-set_other, eq-eqb}
 use Rattle.std.proofs.Math.Decide.{ℕ_discrete}
 use Rattle.std.specs.Int.Bits.{bit_and, bit_or}

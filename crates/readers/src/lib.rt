@@ -2,6 +2,7 @@
 // groups, and the search for codes is started with code 0 at vertex 0. Digits of cell 0 may be known. The answer is right: codes
 // that tell the classes apart and have the known digits, or there are none with code 0 at vertex 0.
 #![tactic(auto)]
+
 ghost use Rattle.std.specs.Prelude.{◌≡◌, true, false, ℕ, ◌<◌, ◌≤◌};
 ghost use Rattle.limits.specs.Limits.{search_outputs, max_vertices, max_codes, max_cells};
 ghost use Rattle.bits.specs.Digit.{on};

@@ -70,33 +70,35 @@ part_print_most s d =
 
 -- ---- the sheet
 module _ (t : List ℕ) (d : Design) (s : ℕ) (w : Writes t d) where
-  only_outs_printed : only_outs s (length d.outputs) t ≡ print_design (with_bound (part s d) w.written)
-  unfolding only_outs print_design part
-  only_outs_printed =
+  kept_printed : ended_lines (kept s (length d.outputs) (lines t)) ≡ print_design (with_bound (part s d) w.written)
+  unfolding print_design part
+  kept_printed =
       ap (λ (ls : List (List ℕ)). ended_lines (kept s (length d.outputs) ls))
       (ap lines w.is_print ∙ print_lines d w.written w.well_formed w.same-bound)
       ∙ ap ended_lines (part-lines s (with_bound d w.written))
 
-  only_outs_fits : length (only_outs s (length d.outputs) t) ≤ max_sheet
+  kept_fits : length (print_design (with_bound (part s d) w.written)) ≤ max_sheet
   unfolding part
-  only_outs_fits =
+  kept_fits =
       let all = with_bound d w.written in
       let whole : length (print_design all) ≤ max_sheet = subst (λ (u : List ℕ). length u ≤ max_sheet) w.is_print w.fits in
       let most : length (print_design (part s all)) ≤ length (print_design all) = part_print_most s all in
-      subst (λ (u : List ℕ). length u ≤ max_sheet) (sym only_outs_printed) (omega arith)
+      omega arith
 
-  only_outs_written : SomeOf (length d.outputs) s → Writes (only_outs s (length d.outputs) t) (part s d)
-  only_outs_written p =
+  part_written : SomeOf (length d.outputs) s → (u : List ℕ) → u ≡ print_design (with_bound (part s d) w.written) → Writes u (part s d)
+  part_written p u e =
       record {
         well_formed = part_well_formed s d w.well_formed p;
         written = w.written;
         same-bound = ap (λ (ns : List Name). same_names ns w.written) (part-bound s d) ∙ w.same-bound;
-        is_print = only_outs_printed;
-        fits = only_outs_fits;
+        is_print = e;
+        fits = subst (λ (v : List ℕ). length v ≤ max_sheet) (sym e) kept_fits;
       }
 
 module _ (t : List ℕ) (d : Design) (e : examine t ≡ valid d) (s : ℕ) where
   pub only_outs_valid : SomeOf (length d.outputs) s → examine (only_outs s (length d.outputs) t) ≡ valid (part s d)
+  unfolding only_outs
   only_outs_valid p =
-      design_read_of_print (only_outs s (length d.outputs) t) (part s d)
-      (only_outs_written t d s (design_print_of_read t d e) p)
+      let w : Writes t d = design_print_of_read t d e in
+      let sheet = only_outs s (length d.outputs) t in
+      design_read_of_print sheet (part s d) (part_written t d s w p sheet (kept_printed t d s w))

@@ -8,19 +8,21 @@ use Rattle.names.specs.Spelled.{same_names}
 use Rattle.names.specs.SameNamesLaws.{same_names_self, same_names_back, same_names_through}
 use Rattle.sheet.specs.Examine.{Design, valid, examine, with_bound}
 use Rattle.sheet.specs.WellFormed.{WellFormed}
-use Rattle.sheet.specs.Printer.{print_design}
+use Rattle.sheet.specs.Printer.{design_lines, print_design}
 use Rattle.sheet.specs.Written.{Writes}
 use Rattle.sheet.specs.AskedLaws.{valid_is}
-use Rattle.sheet.specs.DesignReadLaws.{design_print_of_read}
-use Rattle.sheet.specs.DesignPrintLaws.{design_read_of_print}
+use Rattle.sheet.specs.DesignReadLaws.{writes_of_read}
+use Rattle.sheet.specs.DesignPrintLaws.{read_of_writes}
 
 pub design_spelled : (s : List ℕ) (d : Design) → (examine s ≡ valid d) ↔ Writes s d
-design_spelled s d = (design_print_of_read s d, design_read_of_print s d)
+unfolding print_design design_lines
+design_spelled s d = (writes_of_read (λ e. refl) s d, read_of_writes (λ e. refl) s d)
 
 -- the print of a well_formed design is valid, and says that design
 pub printed_valid : (d : Design) → WellFormed d → length (print_design d) ≤ max_sheet → examine (print_design d) ≡ valid d
+unfolding print_design design_lines
 printed_valid d w h =
-    design_read_of_print (print_design d) d
+    read_of_writes (λ e. refl) (print_design d) d
     (record { well_formed = w; written = d.bound; same-bound = same_names_self d.bound; is_print = refl; fits = h })
 
 -- the sheets s and t are prints of d that differ in how they spell the bound names alone
@@ -33,9 +35,10 @@ pub record SpelledApart (s t : List ℕ) (d : Design) : Type 0 where
 
 -- two sheets that say the same differ in that alone, and two designs that are written alike are alike
 pub one-sheet : (s t : List ℕ) (d : Design) → examine s ≡ valid d → examine t ≡ valid d → SpelledApart s t d
+unfolding print_design design_lines
 one-sheet s t d e f =
-    let v = design_print_of_read s d e in
-    let w = design_print_of_read t d f in
+    let v = writes_of_read (λ e. refl) s d e in
+    let w = writes_of_read (λ e. refl) t d f in
     record {
       first = v.written;
       second = w.written;
@@ -46,4 +49,5 @@ one-sheet s t d e f =
     }
 
 pub one-design : (s : List ℕ) (d e : Design) → Writes s d → Writes s e → d ≡ e
-one-design s d e f g = valid_is (sym (design_read_of_print s d f) ∙ design_read_of_print s e g)
+unfolding print_design design_lines
+one-design s d e f g = valid_is (sym (read_of_writes (λ e. refl) s d f) ∙ read_of_writes (λ e. refl) s e g)

@@ -10,7 +10,7 @@ use Rattle.bits.specs.LogicLaws.{and_both}
 use Rattle.limits.specs.Limits.{max_inputs, max_bound, max_limit, max_outputs, max_depth, max_sheet}
 use Rattle.text.specs.Bytes.{same}
 use Rattle.text.specs.BytesLaws.{same_self}
-use Rattle.text.specs.Line.{lines}
+use Rattle.text.specs.Line.{lines, ended_lines}
 use Rattle.text.specs.EndedLaws.{lines_of_ended, ended_some}
 use Rattle.names.specs.Name.{Name, among, distinct, all_among}
 use Rattle.names.specs.Spelled.{same_names, spelled_by}
@@ -27,6 +27,7 @@ use Rattle.sheet.specs.Examine.{within, ask_in, ask_bound, ask_limit, ask_out, a
 use Rattle.sheet.specs.WellFormed.{RightInputs, RightBound, RightOutput, RightOutputs, WellFormed, output_at}
 use Rattle.sheet.specs.Printer.{design_lines, print_design}
 use Rattle.sheet.specs.Written.{Writes}
+use Rattle.sheet.specs.DesignReadLaws.{all_lines, PrintsLines}
 use Rattle.sheet.specs.Visible.{visible, all_visible}
 use Rattle.sheet.specs.VisibleLaws.{in_visible, bound-visible, limit_visible, out_visible}
 use Rattle.sheet.specs.PlainLaws.{all_visible_unbroken, ended-plain}
@@ -142,8 +143,8 @@ outs_read (o ∷ os) e n r h =
 lines_read : (d : Design) (ks : List Name)
     → WellFormed d
     → same_names d.bound ks ≡ true
-    → ask_lines at_design nothing 1 (design_lines (with_bound d ks)) ≡ valid d
-unfolding ask_line design_lines
+    → ask_lines at_design nothing 1 (all_lines (with_bound d ks)) ≡ valid d
+unfolding ask_line
 lines_read d ks w s =
     let ins = with_inputs nothing d.inputs in
     let bounds = with_bound ins d.bound in
@@ -171,8 +172,8 @@ outs_visible ns (o ∷ os) h =
     (outs_visible ns os (λ i l. h (suc i) (omega arith)))
 
 module _ (d : Design) (ks : List Name) (w : WellFormed d) (e : same_names d.bound ks ≡ true) where
-  lines-visible : all_visible (design_lines (with_bound d ks)) ≡ true
-  unfolding all_visible design_lines visible
+  lines-visible : all_visible (all_lines (with_bound d ks)) ≡ true
+  unfolding all_visible visible
   lines-visible =
       let outs = map print_out d.outputs ++ (end_line ∷ []) in
       and_both (visible (print_in d.inputs)) (visible (print_bound ks) && (visible (print_limit d.limit) && all_visible outs))
@@ -183,30 +184,38 @@ module _ (d : Design) (ks : List Name) (w : WellFormed d) (e : same_names d.boun
       (limit_visible d.limit)
       (outs_visible d.inputs d.outputs w.outputs_right.each)))
 
-  pub print_lines : lines (print_design (with_bound d ks)) ≡ design_lines (with_bound d ks)
-  unfolding print_design
-  print_lines = lines_of_ended (design_lines (with_bound d ks)) (all_visible_unbroken (design_lines (with_bound d ks)) lines-visible)
+  ended_all : lines (ended_lines (all_lines (with_bound d ks))) ≡ all_lines (with_bound d ks)
+  ended_all = lines_of_ended (all_lines (with_bound d ks)) (all_visible_unbroken (all_lines (with_bound d ks)) lines-visible)
 
-  module _ (h : length (print_design (with_bound d ks)) ≤ max_sheet) where
-    print_sized : sized (print_design (with_bound d ks)) ≡ true
-    unfolding sized print_design design_lines
+  pub print_lines : lines (print_design (with_bound d ks)) ≡ design_lines (with_bound d ks)
+  unfolding print_design design_lines
+  print_lines = ended_all
+
+  module _ (h : length (ended_lines (all_lines (with_bound d ks))) ≤ max_sheet) where
+    print_sized : sized (ended_lines (all_lines (with_bound d ks))) ≡ true
+    unfolding sized
     print_sized =
-        let s = print_design (with_bound d ks) in
+        let s = ended_lines (all_lines (with_bound d ks)) in
         and_both (within 1 max_sheet (length s)) (plain_lines s)
         (within_yes 1 max_sheet (length s) (ended_some design_line _) h)
         (ended-plain design_line _ lines-visible)
 
-    print_valid : examine (print_design (with_bound d ks)) ≡ valid d
+    print_valid : examine (ended_lines (all_lines (with_bound d ks))) ≡ valid d
     unfolding examine
     print_valid =
-        let s = print_design (with_bound d ks) in
+        let s = ended_lines (all_lines (with_bound d ks)) in
         ap (λ (b : Bool). pick b (ask_lines at_design nothing 1 (lines s)) (refused 1 0)) print_sized
-        ∙ ap (ask_lines at_design nothing 1) print_lines
+        ∙ ap (ask_lines at_design nothing 1) ended_all
         ∙ lines_read d ks w e
 
 -- ---- the sheet
-pub design_read_of_print : (s : List ℕ) (d : Design) → Writes s d → examine s ≡ valid d
-design_read_of_print s d w =
-    ap examine w.is_print
+pub read_of_writes : PrintsLines → (s : List ℕ) (d : Design) → Writes s d → examine s ≡ valid d
+read_of_writes p s d w =
+    let as_lines : s ≡ ended_lines (all_lines (with_bound d w.written)) = w.is_print ∙ p (with_bound d w.written) in
+    ap examine as_lines
     ∙ print_valid d w.written w.well_formed w.same-bound
-    (subst (λ (t : List ℕ). length t ≤ max_sheet) w.is_print w.fits)
+    (subst (λ (t : List ℕ). length t ≤ max_sheet) as_lines w.fits)
+
+pub design_read_of_print : (s : List ℕ) (d : Design) → Writes s d → examine s ≡ valid d
+unfolding print_design design_lines
+design_read_of_print s d w = read_of_writes (λ e. refl) s d w

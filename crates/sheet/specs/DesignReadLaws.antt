@@ -41,6 +41,13 @@ bound_lines d = print_bound d.bound ∷ limit_lines d
 abbrev in_lines : Design → List (List ℕ)
 in_lines d = print_in d.inputs ∷ bound_lines d
 
+abbrev pub all_lines : Design → List (List ℕ)
+all_lines d = design_line ∷ in_lines d
+
+-- a print is all these lines, each with its end; the laws below take it as a premise, and each law about prints shows it itself
+abbrev pub PrintsLines : Type 0
+PrintsLines = (d : Design) → print_design d ≡ ended_lines (all_lines d)
+
 abbrev first_then : List ℕ → List (List ℕ) → List (List ℕ)
 first_then l ls = l ∷ ls
 
@@ -208,15 +215,15 @@ unfolding ask_line ask_lines
 in_said [] e d n first h = absurd (refused_valid h)
 in_said (l ∷ ls) e d n first h = in_by e d n l ls first (read_in l) refl h
 
-lines-said : (ls : List (List ℕ)) (d : Design) → ask_lines at_design nothing 1 ls ≡ valid d → LinesSaid design_lines ls d
-unfolding ask_line ask_lines design_lines
+lines-said : (ls : List (List ℕ)) (d : Design) → ask_lines at_design nothing 1 ls ≡ valid d → LinesSaid all_lines ls d
+unfolding ask_line ask_lines
 lines-said [] d h = absurd (refused_valid h)
 lines-said (l ∷ ls) d h = go (same l design_line) refl h
   where
     go : (b : Bool)
         → same l design_line ≡ b
         → follow (pick b (next at_in nothing) (no_to 2)) 1 (later 1 ls) ≡ valid d
-        → LinesSaid design_lines (l ∷ ls) d
+        → LinesSaid all_lines (l ∷ ls) d
     go true q h =
         let s = in_said ls nothing d 2 refl h in
         record {
@@ -231,9 +238,9 @@ sized-said : (b : Bool) (x : Examined) (d : Design) → pick b x (refused 1 0) �
 sized-said true x d h = (refl, h)
 sized-said false x d h = absurd (refused_valid h)
 
-pub design_print_of_read : (s : List ℕ) (d : Design) → examine s ≡ valid d → Writes s d
-unfolding examine sized print_design
-design_print_of_read s d h =
+pub writes_of_read : PrintsLines → (s : List ℕ) (d : Design) → examine s ≡ valid d → Writes s d
+unfolding examine sized
+writes_of_read p s d h =
     let counted = within 1 max_sheet (length s) in
     let (i, f) = sized-said (sized s) (ask_lines at_design nothing 1 (lines s)) d h in
     let ends = plain-ends s (and_right counted (plain_lines s) i) in
@@ -242,6 +249,10 @@ design_print_of_read s d h =
       well_formed = valid_well_formed s d h;
       written = said.written;
       same-bound = said.same-bound;
-      is_print = ended_of_lines s ends ∙ ap ended_lines said.lines_are;
+      is_print = ended_of_lines s ends ∙ ap ended_lines said.lines_are ∙ sym (p (with_bound d said.written));
       fits = within_high 1 max_sheet (length s) (and_left counted (plain_lines s) i);
     }
+
+pub design_print_of_read : (s : List ℕ) (d : Design) → examine s ≡ valid d → Writes s d
+unfolding print_design design_lines
+design_print_of_read s d h = writes_of_read (λ e. refl) s d h

@@ -1,6 +1,7 @@
 // The lines of a design sheet: each line asked questions 2 to 5 with what is known so far. Rests on cursor for the items
 // of a line, and on formula for the formulas and their tables.
 #![tactic(auto)]
+
 ghost use Rattle.std.specs.Prelude.{◌≡◌, true, false, List, map, ℕ, ◌≤◌, ◌<◌, length, drop};
 ghost use Rattle.std.proofs.Math.Option.{Option};
 ghost use Rattle.limits.specs.Limits.{max_inputs, max_bound, max_outputs};

@@ -2,6 +2,7 @@
 // into one order of the open cells, so that subproblems that differ in that order alone are one, and it is asked on what the
 // given tables leave of the conflicts. It rests on relation, joint and sorting.
 #![tactic(auto)]
+
 ghost use Rattle.std.specs.Prelude.{◌≡◌, true, false, ℕ, ◌<◌, ◌≤◌, ◌/◌, ◌^◌, length};
 ghost use Rattle.limits.specs.Limits.{search_outputs, max_vertices, max_codes, max_cells};
 ghost use Rattle.problem.specs.Problem.{item};
@@ -77,6 +78,7 @@ fn columns(rows: [u16; SEARCH_OUTPUTS], asked: u8, known: bool) -> [u64; SEARCH_
 
 // The order in which the open cells stand in the subproblem about the set asked; where cell 0 is to keep its place and does not,
 // they stay as they are.
+#[tactic(auto, using(sorting::specs::OrderLaws::order_plain))]
 fn order(rows: [u16; SEARCH_OUTPUTS], asked: u8, known: bool) -> [u8; SEARCH_OUTPUTS]
     ensures { Order result max_cells × (known ≡ true → item result 0 ≡ 0) }
 {

@@ -10,23 +10,23 @@ use Rattle.subsets.specs.Subset.{Earlier}
 abbrev SameBelow : ℕ → ℕ → ℕ → Type 0
 SameBelow s t k = (o : ℕ) → o < k → on s o ≡ on t o
 
-compared : (s t k : ℕ) → SameBelow s t k ⊎ (Earlier s t ⊎ Earlier t s)
-compared s t zero = inl (λ o h. absurd (omega arith))
-compared s t (suc k) = go (compared s t k)
-  where
-    at : SameBelow s t k → (a : Bool) → on s k ≡ a → (b : Bool) → on t k ≡ b → SameBelow s t (suc k) ⊎ (Earlier s t ⊎ Earlier t s)
-    at h true e true f = inl (λ o l. below_more (λ (o : ℕ). on s o ≡ on t o) k h (e ∙ sym f) o (omega (arith, l)))
-    at h false e false f = inl (λ o l. below_more (λ (o : ℕ). on s o ≡ on t o) k h (e ∙ sym f) o (omega (arith, l)))
-    at h true e false f = inr (inl (record { place = k; in_first = e; not_in_second = f; same_below = h }))
-    at h false e true f = inr (inr (record { place = k; in_first = f; not_in_second = e; same_below = λ o l. sym (h o l) }))
-
-    go : SameBelow s t k ⊎ (Earlier s t ⊎ Earlier t s) → SameBelow s t (suc k) ⊎ (Earlier s t ⊎ Earlier t s)
-    go (inl h) = at h (on s k) refl (on t k) refl
-    go (inr e) = inr e
-
 pub same_or_earlier : (m s t : ℕ) → s < 2 ^ m → t < 2 ^ m → (s ≡ t) ⊎ (Earlier s t ⊎ Earlier t s)
-same_or_earlier m s t a b = go (compared s t m)
+same_or_earlier m s t a b = go (compared m)
   where
+    compared : (k : ℕ) → SameBelow s t k ⊎ (Earlier s t ⊎ Earlier t s)
+    compared zero = inl (λ o h. absurd (omega arith))
+    compared (suc k) = go (compared k)
+      where
+        at : SameBelow s t k → (a : Bool) → on s k ≡ a → (b : Bool) → on t k ≡ b → SameBelow s t (suc k) ⊎ (Earlier s t ⊎ Earlier t s)
+        at h true e true f = inl (λ o l. below_more (λ (o : ℕ). on s o ≡ on t o) k h (e ∙ sym f) o (omega (arith, l)))
+        at h false e false f = inl (λ o l. below_more (λ (o : ℕ). on s o ≡ on t o) k h (e ∙ sym f) o (omega (arith, l)))
+        at h true e false f = inr (inl (record { place = k; in_first = e; not_in_second = f; same_below = h }))
+        at h false e true f = inr (inr (record { place = k; in_first = f; not_in_second = e; same_below = λ o l. sym (h o l) }))
+
+        go : SameBelow s t k ⊎ (Earlier s t ⊎ Earlier t s) → SameBelow s t (suc k) ⊎ (Earlier s t ⊎ Earlier t s)
+        go (inl h) = at h (on s k) refl (on t k) refl
+        go (inr e) = inr e
+
     all_same : SameBelow s t m → (o : ℕ) → on s o ≡ on t o
     all_same h o =
         elim (dec_lt o m) as (λ _. on s o ≡ on t o) [

@@ -1,6 +1,6 @@
 -- The members of a set of outputs in order: each is in the set and below the number of outputs, they rise, every output of the set
 -- is one of them, and the selected elements of a list stand at their places. The set of all outputs selects all. Assumes nothing.
-use Rattle.std.specs.Prelude.{◌≡◌, refl, ◌⊎◌, true, false, List, [], ◌∷◌, map, ℕ, zero, suc, ◌+◌, ◌-◌, ◌^◌, ◌≤◌, ◌<◌, length, get_or}
+use Rattle.std.specs.Prelude.{◌≡◌, refl, true, false, List, [], ◌∷◌, map, ℕ, zero, suc, ◌+◌, ◌-◌, ◌^◌, ◌≤◌, ◌<◌, length, get_or}
 use Rattle.std.proofs.Common.{ap, ◌∙◌, ⊎_elim, arith, pow_pos, pow_mono}
 use Rattle.std.proofs.Math.Decide.{dec_lt}
 use Rattle.bits.specs.Digit.{on}

@@ -1,6 +1,7 @@
 // Sets of outputs as numbers: output o is in the set whose digit o is 1. Their members in order, how many they have, and the order
 // in which sets are asked about. Rests on limits and bits.
 #![tactic(auto)]
+
 ghost use Rattle.std.specs.Prelude.{◌≡◌, ◌≤◌};
 ghost use Rattle.limits.specs.Limits.{search_outputs};
 ghost use Rattle.subsets.specs.Rank.{rank};

@@ -135,13 +135,22 @@ impl<'a> Writer<'a> {
     }
 }
 
+// The writer of all lines of a plan, from the buffer's start.
+fn written<'a>(buf: &'a mut [u8], p: Plan) -> Writer<'a>
+    requires { Fit p }
+    ensures same_borrow { result.out.ghost_name ≡ buf.entry.ghost_name }
+    ensures written { Written sheet_room buf.old result.out.now 0 result.at (all_lines p) }
+{
+    let start = Writer { out: buf, at: 0 };
+    start.head(EDITION).luts(p).nodes(p).last(p.tables)
+}
+
 // All lines of a plan, from the buffer's start. Its parameters hold no writer, so whoever calls it needs none.
 fn put_sheet(buf: &mut [u8], p: Plan) -> usize
     requires { Fit p }
     ensures { Written sheet_room buf.old buf.new 0 result (all_lines p) }
 {
-    let start = Writer { out: buf, at: 0 };
-    let end = start.head(EDITION).luts(p).nodes(p).last(p.tables);
+    let end = written(buf, p);
     end.at
 }
 

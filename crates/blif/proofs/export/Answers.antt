@@ -6,9 +6,9 @@ use Rattle.blif.specs.AnswerLaws.{answer_of_sheet}
 use Rattle.blif.proofs.export.Goals as goal
 
 pub export_of-requires : goal.export_of-requires
-export_of-requires c = c.examine.ensures.1
+export_of-requires c = c.examine.ensures.examination
 
 pub returns : goal.returns
 returns c = let args = c.args in
     let s = args.sheet.now in
-    answer_of_sheet s args.network.now args.buffer.now _ (c.export_of.ensures (sheets.examine s) c.examine.ensures.0 (sheet_right s))
+    answer_of_sheet s args.network.now args.buffer.now _ (c.export_of.ensures (sheets.examine s) c.examine.ensures.examined_is (sheet_right s))

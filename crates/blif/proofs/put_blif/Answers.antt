@@ -11,7 +11,7 @@ pub put_luts-q-requires : goal.put_luts-q-requires
 put_luts-q-requires c = let pre = c.requires in
     let p = pre.passed in
     let b = c.bound_names-bs.ensures.1 in
-    let bound = p.drawing.holds.bound-few in
+    let bound = p.drawing.holds.bound_few in
     (omega (arith, c.put_head-p.ensures.place, c.put_head-p.ensures.short), omega (arith, b, bound), luts_ready _ _ _ _ _ p _ b)
 
 pub put_nodes-r-requires : goal.put_nodes-r-requires
@@ -21,8 +21,8 @@ put_nodes-r-requires c = let pre = c.requires in
     let bound = bound-shown _ _ _ _ _ p c.bound_names-bs.ensures.0 in
     let free = free-shown _ _ _ _ _ p bound c.free_names-fs.ensures.0 in (
       omega (arith, c.put_head-p.ensures.place, c.put_head-p.ensures.short, c.put_luts-q.ensures.place, c.put_luts-q.ensures.short),
-      h.outputs-few,
-      omega (arith, c.free_names-fs.ensures.1, h.inputs-few),
+      h.outputs_few,
+      omega (arith, c.free_names-fs.ensures.1, h.inputs_few),
       nodes_ready _ _ _ _ _ p _ (ap length free),
     )
 

@@ -13,11 +13,9 @@ use Rattle.blif.proofs.put_lut.Goals as goal
 
 pub returns : goal.returns
 returns c = let args = c.args in
-    let good = c.well-formed in
-    let pre = c.requires in
     let bs = args.bs in
     let f = digits_at args.t.now args.place in
-    let counted = sym (shown-counted bs good.1.1.1.0 (omega (arith, pre.1))) in
+    let counted = sym (shown-counted bs (omega arith)) in
     let text = block_text_lem (name_of c.cell_name.result) f bs.count (shown bs) counted in
     put_next c.put_text-p.ensures (put_then c.put_listed-q.ensures (put_then c.put_item-r.ensures (put_then c.put_byte-s.ensures c.put_rows.ensures)))
     (text ∙ ap (λ (n : Name). block_text (shown bs) n f) c.cell_name.ensures) (omega arith)

@@ -16,12 +16,10 @@ use Rattle.blif.proofs.Arrays.{shown-counted}
 use Rattle.blif.proofs.put_node.Goals as goal
 
 pub put_rows-requires : goal.put_rows-requires
-put_rows-requires c = let earlier = (goal.at.put_rows-requires c).After-put_listed-arg-1 in
-    let args = c.args in
-    let good = c.well-formed in
+put_rows-requires c = let args = c.args in
     let pre = c.requires in
     let fs = args.fs in
-    let free = shown-counted fs good.1.1.1.0 (omega (arith, pre.2)) in
+    let free = shown-counted fs (omega arith) in
     let inputs = ap₂ (λ (a b : ℕ). a + b) c.count.ensures (sym free) in
     let few = pre.3.narrow in (
       omega (
@@ -42,14 +40,11 @@ put_rows-requires c = let earlier = (goal.at.put_rows-requires c).After-put_list
     )
 
 pub returns : goal.returns
-returns c = let earlier = (goal.at.returns c).After-slice_known-4-1 in
-    let args = c.args in
-    let good = c.well-formed in
-    let pre = c.requires in
+returns c = let args = c.args in
     let fs = args.fs in
     let is = numbers_of args.luts args.mask in
     let f = digits_at args.t.now args.place in
-    let counted = two-counted is (shown fs) c.count.ensures (sym (shown-counted fs good.1.1.1.0 (omega (arith, pre.2)))) in
+    let counted = two-counted is (shown fs) c.count.ensures (sym (shown-counted fs (omega arith))) in
     let text = block_text_two (name_of args.name) f _ (map cell_name is) (shown fs) counted in
     put_next c.put_text-p.ensures
     (put_then c.put_cells-q.ensures (put_then c.put_listed-r.ensures (put_then c.put_item-s.ensures (put_then c.put_byte-v.ensures c.put_rows.ensures))))

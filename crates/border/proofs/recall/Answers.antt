@@ -11,8 +11,8 @@ returns-then-same_tables c = let a = c.args in
     let same-given = c.same_tables.ensures in
     let in-given = c.if-same_tables.true in
     let v = c.if-past-vertices.true in
-    let k = a.t1.kn in
-    let d = a.t1.val in
+    let k = a.past.kn in
+    let d = a.past.val in
     λ kn val. honest_same _ _ _ _ kn val _ _ _ (same-classes in-classes) (same-given in-given) v (kept _ _ k d kn val _ (first_free k d p.2) p.3)
 
 pub returns : goal.returns

@@ -1,6 +1,5 @@
 use Rattle.cache.specs.CacheLaws.{less_heads, honest_empty}
-use Rattle.cache.specs.Cache.{head_at}
-use Rattle.std.proofs.Common.{◌≡◌, ℕ, ◌-◌, ◌<◌, ◌≤◌, length, refl, ◌∙◌, arith, length-set, rules}
+use Rattle.std.proofs.Common.{refl, ◌∙◌, arith, length-set}
 use Rattle.cache.proofs.clear.Goals as goal
 
 pub loop-i-init : goal.loop-i-init

@@ -1,6 +1,5 @@
-use Rattle.cache.specs.CacheLaws.{less_heads, honest_empty}
 use Rattle.cache.specs.Cache.{head_at}
-use Rattle.std.proofs.Common.{◌≡◌, ℕ, ◌-◌, ◌<◌, ◌≤◌, length, refl, ◌∙◌, arith, length-set, rules}
+use Rattle.std.proofs.Common.{◌≡◌, ℕ, ◌-◌, ◌<◌, ◌≤◌, length}
 use Rattle.cache.proofs.clear.Given as goal
 
 abbrev pub invariant-loop-i : goal.invariant-loop-i

@@ -1,6 +1,5 @@
-use Rattle.cache.specs.CacheLaws.{honest_less}
 use Rattle.cache.specs.Cache.{Honest}
-use Rattle.std.proofs.Common.{◌≡◌, ℕ, ◌-◌, ◌≤◌, List, length, sym, refl, ap, ◌∙◌, subst, ⊎_elim, arith, length-set, rules}
+use Rattle.std.proofs.Common.{◌≡◌, ℕ, ◌-◌, ◌≤◌, List, length}
 use Rattle.cache.proofs.forget.Given as goal
 
 abbrev pub invariant-loop-i : goal.invariant-loop-i

@@ -1,5 +1,5 @@
 use Rattle.bits.specs.LogicLaws.{true_false}
-use Rattle.std.proofs.Common.{sym, refl, ◌∙◌, rules}
+use Rattle.std.proofs.Common.{sym, refl, ◌∙◌}
 use Rattle.cache.proofs.head.Goals as goal
 
 pub returns-then-ok : goal.returns-then-ok

@@ -2,7 +2,7 @@ use Rattle.cache.specs.Cache.{row_at}
 use Rattle.problem.specs.Problem.{item}
 use Rattle.bits.specs.LogicLaws.{true_false}
 use Rattle.bits.specs.CountLaws.{less_or_equal}
-use Rattle.std.proofs.Common.{◌≡◌, ℕ, suc, ◌+◌, ◌-◌, ◌*◌, ◌<◌, ◌≤◌, sym, ap, ◌∙◌, subst, ⊎_elim, arith, rules}
+use Rattle.std.proofs.Common.{◌≡◌, ℕ, suc, ◌+◌, ◌*◌, sym, ap, ◌∙◌, subst, ⊎_elim, arith}
 use Rattle.cache.proofs.holds.Goals as goal
 
 pub returns-then-mem-i : goal.returns-then-mem-i
@@ -16,8 +16,7 @@ returns-then-mem-i-2 c = λ e. absurd (true_false (sym e))
 
 pub loop-o-preserved : goal.loop-o-preserved
 loop-o-preserved c = let h = c.loop-o-test.true in
-    let a = c.args in
-    (
+    let a = c.args in (
       omega arith,
       λ q b. ⊎_elim (c.loop-o.invariant.1 q)
           (λ p. subst (λ (q : ℕ). row_at a.mem.now a.i q ≡ item a.rows q) (sym p)

@@ -1,8 +1,6 @@
 use Rattle.cache.specs.Cache.{row_at}
 use Rattle.problem.specs.Problem.{item}
-use Rattle.bits.specs.LogicLaws.{true_false}
-use Rattle.bits.specs.CountLaws.{less_or_equal}
-use Rattle.std.proofs.Common.{◌≡◌, ℕ, suc, ◌+◌, ◌-◌, ◌*◌, ◌<◌, ◌≤◌, sym, ap, ◌∙◌, subst, ⊎_elim, arith, rules}
+use Rattle.std.proofs.Common.{◌≡◌, ℕ, ◌-◌, ◌<◌, ◌≤◌}
 use Rattle.cache.proofs.holds.Given as goal
 
 abbrev pub invariant-loop-o : goal.invariant-loop-o

@@ -1,5 +1,5 @@
 use Rattle.cache.specs.CacheLaws.{honest_found}
-use Rattle.std.proofs.Common.{refl, ◌∙◌, rules}
+use Rattle.std.proofs.Common.{refl, ◌∙◌}
 use Rattle.cache.proofs.is_bad.Goals as goal
 
 pub holds-requires : goal.holds-requires

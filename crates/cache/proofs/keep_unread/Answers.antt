@@ -1,5 +1,5 @@
 use Rattle.cache.specs.CacheLaws.{unread_start, unread_same, unread_less, honest_unread}
-use Rattle.std.proofs.Common.{◌≡◌, ℕ, ◌+◌, ◌-◌, ◌≤◌, List, length, sym, ◌∙◌, subst, arith, rules}
+use Rattle.std.proofs.Common.{ℕ, ◌+◌, List, sym, ◌∙◌, subst, arith, rules}
 use Rattle.cache.specs.Cache.{Unread}
 use Rattle.cache.proofs.keep_unread.Goals as goal
 use Rattle.cache.proofs.keep_unread.Goals.{then-reads_cell_0, else-reads_cell_0}
@@ -20,8 +20,8 @@ loop-i-preserved c = let h = c.loop-i-test.true in
       omega arith,
       c.loop-i.invariant.1,
       elim c.if-reads_cell_0.branch [
-        then-reads_cell_0 w ↦ subst P (sym w.mem-is) (unread_less old c.loop-i.i c.loop-i.mem c.loop-i.invariant.2 c.loop-i.invariant.1 h)
-      | else-reads_cell_0 w ↦ subst P (sym w.mem-is)
+        | then-reads_cell_0 w ↦ subst P (sym w.mem-is) (unread_less old c.loop-i.i c.loop-i.mem c.loop-i.invariant.2 c.loop-i.invariant.1 h)
+        | else-reads_cell_0 w ↦ subst P (sym w.mem-is)
             (unread_same old c.loop-i.i c.loop-i.mem c.loop-i.invariant.2 (c.reads_cell_0.ensures w.if-reads_cell_0.false))
       ],
     )

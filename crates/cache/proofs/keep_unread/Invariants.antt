@@ -1,5 +1,4 @@
-use Rattle.cache.specs.CacheLaws.{unread_start, unread_same, unread_less, honest_unread}
-use Rattle.std.proofs.Common.{◌≡◌, ℕ, ◌+◌, ◌-◌, ◌≤◌, List, length, sym, ◌∙◌, subst, ⊎_elim, arith, rules}
+use Rattle.std.proofs.Common.{◌≡◌, ◌-◌, ◌≤◌, length}
 use Rattle.cache.specs.Cache.{Unread}
 use Rattle.cache.proofs.keep_unread.Given as goal
 

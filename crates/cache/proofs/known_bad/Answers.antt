@@ -1,7 +1,7 @@
 use Rattle.cache.specs.CacheLaws.{barred_among}
 use Rattle.problem.specs.Problem.{item}
 use Rattle.bits.specs.LogicLaws.{true_false}
-use Rattle.std.proofs.Common.{◌-◌, ◌≤◌, sym, arith, rules}
+use Rattle.std.proofs.Common.{sym, arith}
 use Rattle.cache.proofs.known_bad.Goals as goal
 
 pub overflow_cast-a : goal.overflow_cast-a

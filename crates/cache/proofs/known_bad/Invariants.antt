@@ -1,7 +1,4 @@
-use Rattle.cache.specs.CacheLaws.{barred_among}
-use Rattle.problem.specs.Problem.{item}
-use Rattle.bits.specs.LogicLaws.{true_false}
-use Rattle.std.proofs.Common.{◌-◌, ◌≤◌, sym, arith, rules}
+use Rattle.std.proofs.Common.{◌-◌, ◌≤◌}
 use Rattle.cache.proofs.known_bad.Given as goal
 
 abbrev pub invariant-loop-a : goal.invariant-loop-a

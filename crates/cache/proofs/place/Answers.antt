@@ -1,4 +1,4 @@
-use Rattle.std.proofs.Common.{◌-◌, ◌<◌, ◌≤◌, arith, rules}
+use Rattle.std.proofs.Common.{arith}
 use Rattle.cache.proofs.place.Goals as goal
 
 pub loop-o-preserved : goal.loop-o-preserved

@@ -1,6 +1,6 @@
 use Rattle.cache.specs.CacheLaws.{joined-start, joined_more, joined_all}
 use Rattle.problem.specs.Problem.{item}
-use Rattle.std.proofs.Common.{◌≡◌, ℕ, suc, ◌+◌, ◌-◌, ◌*◌, ◌≤◌, ap, subst, arith, rules}
+use Rattle.std.proofs.Common.{◌≡◌, ℕ, suc, ◌+◌, ◌*◌, ap, subst, arith}
 use Rattle.cache.specs.Cache.{Joined}
 use Rattle.cache.proofs.reads_cell_0.Goals as goal
 
@@ -9,8 +9,7 @@ loop-o-init c = (omega arith, joined-start c.args.mem.now c.args.i)
 
 pub loop-o-preserved : goal.loop-o-preserved
 loop-o-preserved c = let h = c.loop-o-test.true in
-    let a = c.args in
-    (
+    let a = c.args in (
       omega arith,
       joined_more a.mem.now a.i c.loop-o.o c.loop-o.all _ (ap (item a.mem.now) (let z : a.i * 9 + (c.loop-o.o + 1) ≡ a.i * 9 + suc c.loop-o.o = omega arith in z)) c.loop-o.invariant.1,
     )

@@ -1,6 +1,4 @@
-use Rattle.cache.specs.CacheLaws.{joined-start, joined_more, joined_all}
-use Rattle.problem.specs.Problem.{item}
-use Rattle.std.proofs.Common.{◌≡◌, ℕ, suc, ◌+◌, ◌-◌, ◌*◌, ◌≤◌, ap, subst, arith, rules}
+use Rattle.std.proofs.Common.{◌-◌, ◌≤◌}
 use Rattle.cache.specs.Cache.{Joined}
 use Rattle.cache.proofs.reads_cell_0.Given as goal
 

@@ -1,9 +1,7 @@
 use Rattle.cache.specs.CacheLaws.{barred_among}
-use Rattle.cache.specs.Cache.{Honest}
 use Rattle.problem.specs.Problem.{item}
 use Rattle.bits.specs.LogicLaws.{true_false}
-use borrow.Author.Tests.{not-true}
-use Rattle.std.proofs.Common.{ℕ, ◌-◌, ◌≤◌, List, sym, ◌∙◌, subst, arith, rules}
+use Rattle.std.proofs.Common.{◌≡◌, false, sym, ◌∙◌, arith, rules}
 use Rattle.cache.proofs.settle.Goals as goal
 
 pub loop-a-init : goal.loop-a-init
@@ -26,7 +24,7 @@ pub returns-then-not-t : goal.returns-then-not-t
 returns-then-not-t c = let a = c.args in
     let i = c.loop-a.a in
     let b = c.between.ensures c.if-between.true in
-    let n = not-true _ c.if-not-t.true in
+    let n : c.tell-t.result.ok ≡ false = search rules in
     (c.tell-t.ensures.0, λ e. barred_among a.cl.now a.given.now a.q.kn a.q.val a.q.vertices i a.among (item a.q.rows) b (c.tell-t.ensures.1 n))
 
 pub overflow_add-a : goal.overflow_add-a

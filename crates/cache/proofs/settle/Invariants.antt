@@ -1,9 +1,5 @@
-use Rattle.cache.specs.CacheLaws.{barred_among}
 use Rattle.cache.specs.Cache.{Honest}
-use Rattle.problem.specs.Problem.{item}
-use Rattle.bits.specs.LogicLaws.{true_false}
-use borrow.Author.Tests.{not-true}
-use Rattle.std.proofs.Common.{ℕ, ◌-◌, ◌≤◌, List, sym, ◌∙◌, subst, ⊎_elim, arith, rules}
+use Rattle.std.proofs.Common.{◌-◌, ◌≤◌}
 use Rattle.cache.proofs.settle.Given as goal
 
 abbrev pub invariant-loop-a : goal.invariant-loop-a

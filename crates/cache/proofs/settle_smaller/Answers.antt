@@ -1,7 +1,6 @@
-use Rattle.cache.specs.Cache.{Honest}
 use Rattle.bits.specs.LogicLaws.{true_false}
 use borrow.Author.Tests.{not-true}
-use Rattle.std.proofs.Common.{◌-◌, sym, ◌∙◌, rules}
+use Rattle.std.proofs.Common.{sym, ◌∙◌}
 use Rattle.cache.proofs.settle_smaller.Goals as goal
 
 pub loop-i-init : goal.loop-i-init

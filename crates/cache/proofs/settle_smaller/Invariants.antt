@@ -1,7 +1,5 @@
 use Rattle.cache.specs.Cache.{Honest}
-use Rattle.bits.specs.LogicLaws.{true_false}
-use borrow.Author.Tests.{not-true}
-use Rattle.std.proofs.Common.{◌-◌, sym, ◌∙◌, rules}
+use Rattle.std.proofs.Common.{◌-◌}
 use Rattle.cache.proofs.settle_smaller.Given as goal
 
 abbrev pub invariant-loop-i : goal.invariant-loop-i

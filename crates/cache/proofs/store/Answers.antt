@@ -1,5 +1,5 @@
 use Rattle.cache.specs.CacheLaws.{written_start, written_more, honest_written}
-use Rattle.std.proofs.Common.{◌≡◌, ℕ, suc, ◌+◌, ◌-◌, ◌*◌, ◌≤◌, refl, ◌∙◌, subst, arith, length-set, rules}
+use Rattle.std.proofs.Common.{◌≡◌, ℕ, suc, ◌+◌, ◌*◌, refl, ◌∙◌, subst, arith, length-set, rules}
 use Rattle.cache.specs.Cache.{Written}
 use Rattle.cache.proofs.store.Goals as goal
 
@@ -23,8 +23,7 @@ bounds-mem-i c = let h = c.loop-o-test.true in let i = c.place-i.ensures in let 
 
 pub loop-o-preserved : goal.loop-o-preserved
 loop-o-preserved c = let h = c.loop-o-test.true in
-    let a = c.args in
-    (
+    let a = c.args in (
       omega arith,
       written_more a.mem.now c.place-i.result a.rows c.loop-o.o c.loop-o.mem c.requires c.place-i.ensures h c.loop-o.invariant.1 _ _
           (let z : c.place-i.result * 9 + (c.loop-o.o + 1) ≡ c.place-i.result * 9 + suc c.loop-o.o = omega arith in z) refl,

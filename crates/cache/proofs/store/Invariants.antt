@@ -1,5 +1,4 @@
-use Rattle.cache.specs.CacheLaws.{written_start, written_more, honest_written}
-use Rattle.std.proofs.Common.{◌≡◌, ℕ, suc, ◌+◌, ◌-◌, ◌*◌, ◌≤◌, refl, ◌∙◌, subst, arith, length-set, rules}
+use Rattle.std.proofs.Common.{◌-◌, ◌≤◌}
 use Rattle.cache.specs.Cache.{Written}
 use Rattle.cache.proofs.store.Given as goal
 

@@ -2,7 +2,7 @@ use Rattle.problem.specs.Problem.{item}
 use Rattle.subproblems.specs.SubproblemLaws.{settled_barred}
 use Rattle.subproblems.specs.Subproblem.{Barred}
 use Rattle.bits.specs.LogicLaws.{true_false}
-use Rattle.std.proofs.Common.{◌≡◌, false, sym, ◌∙◌, rules, eqb-true}
+use Rattle.std.proofs.Common.{◌≡◌, false, sym, ◌∙◌, eqb-true}
 use borrow.Author.Tests.{not-false}
 use Rattle.cache.proofs.tell.Goals as goal
 use Rattle.cache.proofs.tell.Goals.{then-a, else-a}
@@ -35,11 +35,10 @@ returns c =
     let a = c.args in
     let p = a.q in
     let bad : c.if-a.ok ≡ false → Barred a.cl.now a.given.now p.kn p.val p.vertices a.asked (item c.question-asks.result) = λ e. elim c.if-a.branch [
-      then-a w ↦ absurd (true_false (sym w.ok-is ∙ e))
-    | else-a w ↦ settled_barred a.cl.now a.given.now p.kn p.val p.vertices a.asked (item c.question-asks.result) c.ask-a.result.ok c.ask-a.result.codes
+      | then-a w ↦ absurd (true_false (sym w.ok-is ∙ e))
+      | else-a w ↦ settled_barred a.cl.now a.given.now p.kn p.val p.vertices a.asked (item c.question-asks.result) c.ask-a.result.ok c.ask-a.result.codes
           (c.ask-a.ensures.sure w.if-a.false) (sym w.ok-is ∙ e)
-    ] in
-    (
+    ] in (
       c.store.ensures a.cl.now a.given.now p.kn p.val p.vertices bad c.requires.3,
       λ e. c.question-asks.ensures.barred a.cl.now a.given.now p.kn p.val p.vertices (λ n. eqb-true p.kn 0 (not-false _ n)) (bad e),
     )

@@ -2,7 +2,6 @@
 use Rattle.sheet.specs.Examine as sheets
 use Rattle.comparing.specs.Answer.{checked_of}
 use Rattle.checker.specs.CheckLaws.{sheet_right, answer_of_sheet}
-use borrow.Author.Rules.{rules}
 use Rattle.checker.proofs.check.Goals as goal
 
 pub check_of-requires : goal.check_of-requires

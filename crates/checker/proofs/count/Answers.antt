@@ -1,10 +1,9 @@
 use mathlib.Core.Path.{◌≡◌, sym, ap, ◌∙◌}
-use Prim.Native.Nat.{ℕ, ◌≤◌, ◌-◌}
+use Prim.Native.Nat.{ℕ}
 use native.Mathlib.Omega.{arith}
 use lib.ListN.{length}
 use Rattle.network.specs.Numbers.{numbers_of}
 use Rattle.network.specs.NumbersLaws.{count_none, count-hit, count_miss, count_most}
-use borrow.Author.Rules.{rules}
 use Rattle.checker.proofs.count.Goals as goal
 use Rattle.checker.proofs.count.Goals.{then-has, else-has}
 
@@ -21,7 +20,7 @@ loop-i-preserved c = let mask = c.args.mask in
     let told = c.has.ensures in
     let turn = c.loop-i-test.true in
     elim c.if-has.branch [
-        then-has w ↦ (omega arith, w.n-is ∙ count-hit c.loop-i.i mask c.loop-i.n c.loop-i.invariant.1 (sym told ∙ w.if-has.true))
+      | then-has w ↦ (omega arith, w.n-is ∙ count-hit c.loop-i.i mask c.loop-i.n c.loop-i.invariant.1 (sym told ∙ w.if-has.true))
       | else-has w ↦ (omega arith, w.n-is ∙ count_miss c.loop-i.i mask c.loop-i.n c.loop-i.invariant.1 (sym told ∙ w.if-has.false))
     ]
 

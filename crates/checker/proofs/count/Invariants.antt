@@ -1,12 +1,8 @@
 -- `count`: each turn asks for one number. Assumes nothing.
-use mathlib.Core.Path.{◌≡◌, sym, ap, ◌∙◌}
-use mathlib.Core.Logic.{⊎_elim}
-use Prim.Native.Nat.{ℕ, ◌≤◌, ◌-◌}
-use native.Mathlib.Omega.{arith}
+use mathlib.Core.Path.{◌≡◌}
+use Prim.Native.Nat.{◌≤◌, ◌-◌}
 use lib.ListN.{length}
 use Rattle.network.specs.Numbers.{numbers_of}
-use Rattle.network.specs.NumbersLaws.{count_none, count-hit, count_miss, count_most}
-use borrow.Author.Rules.{rules}
 use Rattle.checker.proofs.count.Given as goal
 
 abbrev pub invariant-loop-i : goal.invariant-loop-i

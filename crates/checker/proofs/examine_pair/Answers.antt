@@ -3,8 +3,8 @@ use mathlib.Core.Path.{refl}
 use borrow.Author.Tests.{not-true, not-false}
 use Rattle.sheet.specs.Examine as sheets
 use Rattle.design.specs.Answer.{ExaminedIs, Right}
-use Rattle.checker.specs.CheckLaws.{refused-design, Designed, designed, designed_ranged, designed_counts, refused_line, Networked, networked, small, refused_limits, passed_pair}
-use borrow.Author.Rules.{rules}
+use Rattle.checker.specs.CheckLaws.{refused-design, Designed, designed, designed_ranged, designed_counts, refused_line, Networked, networked, small}
+use Rattle.checker.proofs.PassedLaws.{refused_limits, passed_pair}
 use Rattle.checker.proofs.examine_pair.Goals as goal
 use Rattle.checker.proofs.examine_pair.Goals.{Else-not-e, Else-not-n}
 

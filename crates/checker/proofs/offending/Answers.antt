@@ -1,7 +1,5 @@
-use Prim.Native.Nat.{◌≤◌, ◌-◌}
 use native.Mathlib.Omega.{arith}
-use Rattle.checker.specs.LimitsLaws.{luts_judged, node_judged, none_judged, Kept, kept_more}
-use borrow.Author.Rules.{rules}
+use Rattle.checker.proofs.LimitsLaws.{luts_judged, node_judged, none_judged, kept_more}
 use Rattle.checker.proofs.offending.Goals as goal
 
 pub overflow_add-result : goal.overflow_add-result

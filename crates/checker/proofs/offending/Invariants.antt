@@ -1,8 +1,6 @@
 -- `offending`: each turn asks one output. Assumes nothing.
 use Prim.Native.Nat.{◌≤◌, ◌-◌}
-use native.Mathlib.Omega.{arith}
-use Rattle.checker.specs.LimitsLaws.{luts_judged, node_judged, none_judged, Kept, kept_more}
-use borrow.Author.Rules.{rules}
+use Rattle.checker.proofs.LimitsLaws.{Kept}
 use Rattle.checker.proofs.offending.Given as goal
 
 abbrev pub invariant-loop-o : goal.invariant-loop-o

@@ -1,8 +1,6 @@
 use mathlib.Core.Path.{sym}
-use Prim.Native.Nat.{◌-◌}
 use native.Mathlib.Omega.{arith}
-use borrow.Author.Rules.{rules}
-use Rattle.classes.proofs.Outputs.{Outlined, outlined_none, outlined_more, outlined_all, few_classes, output_keyable, keys_fit, keys_part}
+use Rattle.classes.proofs.Outputs.{outlined_none, outlined_more, outlined_all, few_classes, output_keyable, keys_fit, keys_part}
 use Rattle.classes.proofs.Outputs.{vertex_fits, free_fits, vertex_part_lem, free_part_lem, few_part, parts_inside}
 use Rattle.classes.proofs.classes_of.Goals as goal
 
@@ -32,10 +30,10 @@ local_classes-l-requires c = (parts_inside c.shape_of-shape.ensures, few_part c.
 
 pub with_output-keys-requires : goal.with_output-keys-requires
 with_output-keys-requires c = (
-      c.shape_of-shape.ensures.few_vertices,
-      output_keyable c.shape_of-shape.ensures c.requires.few_outputs c.loop-o.invariant c.loop-o-test.true
-          c.local_classes-l.result c.local_classes-l.ensures,
-    )
+  c.shape_of-shape.ensures.few_vertices,
+  output_keyable c.shape_of-shape.ensures c.requires.few_outputs c.loop-o.invariant c.loop-o-test.true
+      c.local_classes-l.result c.local_classes-l.ensures,
+)
 
 pub width-requires : goal.width-requires
 width-requires c = few_classes c.shape_of-shape.ensures c.requires.few_outputs c.loop-o.invariant c.loop-o-test.true

@@ -1,6 +1,6 @@
 use borrow.Author.Rules.{rules}
 use Rattle.limits.specs.Limits.{max_inputs}
-use Rattle.classes.proofs.Placing.{Placed, small-zeros, placed_none, placed_bound, placed_free, placed_all}
+use Rattle.classes.proofs.Placing.{small-zeros, placed_none, placed_bound, placed_free, placed_all}
 use Rattle.classes.proofs.digits.Goals as goal
 
 pub loop-i-init : goal.loop-i-init

@@ -1,9 +1,5 @@
-use Prim.Native.Nat.{◌-◌}
 use native.Mathlib.Omega.{arith}
-use borrow.Author.Rules.{rules}
-use lib.ListN.{length}
-use Rattle.classes.proofs.Comparing.{Agreeing, agreeing_none, agreeing_more, agreeing_all, differing, read_differ, read_agree}
-use Rattle.classes.specs.Seen.{seen}
+use Rattle.classes.proofs.Comparing.{agreeing_none, agreeing_more, agreeing_all, differing, read_differ, read_agree}
 use Rattle.classes.proofs.equal.Goals as goal
 
 pub loop-f-init : goal.loop-f-init

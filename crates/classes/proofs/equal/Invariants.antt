@@ -1,9 +1,7 @@
 -- `equal`: each turn compares one free row, and the first difference decides. Assumes nothing.
 use Prim.Native.Nat.{◌-◌}
-use native.Mathlib.Omega.{arith}
-use borrow.Author.Rules.{rules}
 use lib.ListN.{length}
-use Rattle.classes.proofs.Comparing.{Agreeing, agreeing_none, agreeing_more, agreeing_all, differing, read_differ, read_agree}
+use Rattle.classes.proofs.Comparing.{Agreeing}
 use Rattle.classes.specs.Seen.{seen}
 use Rattle.classes.proofs.equal.Given as goal
 

@@ -1,12 +1,8 @@
 use mathlib.Core.Path.{refl}
-use Prim.Native.Nat.{ℕ, ◌≤◌, ◌-◌, ◌*◌}
+use Prim.Native.Nat.{◌≤◌}
 use native.Mathlib.Omega.{arith}
-use borrow.Author.Rules.{rules}
-use lib.ListN.{length}
 use Rattle.limits.specs.Limits.{max_free_rows}
-use Rattle.bits.specs.Filled.{Filled}
 use Rattle.bits.specs.FilledLaws.{filled_none, filled_more}
-use Rattle.classes.specs.Seen.{gathered}
 use Rattle.classes.proofs.Rows.{product_small}
 use Rattle.classes.proofs.fill.Goals as goal
 

@@ -1,14 +1,8 @@
 -- `fill`: each turn stores one row. Assumes nothing.
-use mathlib.Core.Path.{refl}
-use Prim.Native.Nat.{ℕ, ◌≤◌, ◌-◌, ◌*◌}
-use native.Mathlib.Omega.{arith}
-use borrow.Author.Rules.{rules}
+use Prim.Native.Nat.{ℕ, ◌-◌, ◌*◌}
 use lib.ListN.{length}
-use Rattle.limits.specs.Limits.{max_free_rows}
 use Rattle.bits.specs.Filled.{Filled}
-use Rattle.bits.specs.FilledLaws.{filled_none, filled_more}
 use Rattle.classes.specs.Seen.{gathered}
-use Rattle.classes.proofs.Rows.{product_small}
 use Rattle.classes.proofs.fill.Given as goal
 
 abbrev pub invariant-loop-i : goal.invariant-loop-i

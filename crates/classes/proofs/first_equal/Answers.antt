@@ -1,9 +1,6 @@
 use mathlib.Core.Path.{sym, ◌∙◌}
-use Prim.Native.Nat.{◌-◌}
 use native.Mathlib.Omega.{arith}
-use borrow.Author.Rules.{rules}
-use Rattle.classes.proofs.Search.{Unlike, unlike_none, unlike_more, like-found, like_itself}
-use Rattle.classes.specs.Seen.{alike_seen}
+use Rattle.classes.proofs.Search.{unlike_none, unlike_more, like-found, like_itself}
 use Rattle.classes.proofs.first_equal.Goals as goal
 
 pub loop-y-init : goal.loop-y-init

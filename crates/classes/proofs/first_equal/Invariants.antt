@@ -1,9 +1,6 @@
 -- `first_equal`: each turn passes one vertex with another column. Assumes nothing.
-use mathlib.Core.Path.{sym, ◌∙◌}
 use Prim.Native.Nat.{◌-◌}
-use native.Mathlib.Omega.{arith}
-use borrow.Author.Rules.{rules}
-use Rattle.classes.proofs.Search.{Unlike, unlike_none, unlike_more, like-found, like_itself}
+use Rattle.classes.proofs.Search.{Unlike}
 use Rattle.classes.specs.Seen.{alike_seen}
 use Rattle.classes.proofs.first_equal.Given as goal
 

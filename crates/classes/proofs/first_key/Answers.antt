@@ -1,8 +1,5 @@
-use Prim.Native.Nat.{◌-◌}
-use borrow.Author.Rules.{rules}
 use borrow.Author.Tests.{eq-eqb, ne_eqb}
-use Rattle.classes.proofs.Search.{Unlike, unlike_none, unlike_more, like-found, like_itself}
-use Rattle.classes.specs.Seen.{same_key}
+use Rattle.classes.proofs.Search.{unlike_none, unlike_more, like-found, like_itself}
 use Rattle.classes.proofs.first_key.Goals as goal
 
 pub loop-y-init : goal.loop-y-init

@@ -1,12 +1,8 @@
-use mathlib.Core.Path.{◌≡◌, ◌∙◌}
-use Prim.Native.Nat.{◌≤◌, ◌-◌}
+use mathlib.Core.Path.{◌∙◌}
 use native.Mathlib.Omega.{arith}
 use borrow.Author.Rules.{rules}
-use lib.ListN.{length, take}
-use Rattle.bits.specs.Logic.{bit}
 use Rattle.bits.specs.LogicLaws.{bit_le}
 use Rattle.classes.proofs.Rows.{gather_none, gather_more, gather_all, gather_small}
-use Rattle.classes.specs.Seen.{gathered}
 use Rattle.classes.proofs.gather.Goals as goal
 
 pub loop-i-init : goal.loop-i-init
@@ -28,10 +24,10 @@ overflow_add-r c = let small = gather_small c.args.digits.now c.args.z c.loop-i.
 
 pub loop-i-preserved : goal.loop-i-preserved
 loop-i-preserved c = (
-      search rules,
-      gather_more c.args.digits.now c.args.z c.loop-i.i c.loop-i.r c.bit.result
-          c.has.result c.loop-i-test.true c.loop-i.invariant.1 c.has.ensures c.bit.ensures,
-    )
+  search rules,
+  gather_more c.args.digits.now c.args.z c.loop-i.i c.loop-i.r c.bit.result
+      c.has.result c.loop-i-test.true c.loop-i.invariant.1 c.has.ensures c.bit.ensures,
+)
 
 pub returns : goal.returns
 returns c = c.loop-i.invariant.1 ∙ gather_all c.args.digits.now c.args.z c.loop-i.i c.loop-i-test.false

@@ -1,12 +1,7 @@
 -- `gather`: each turn adds one input to the row, by doubling. Assumes nothing.
-use mathlib.Core.Path.{◌≡◌, ◌∙◌}
+use mathlib.Core.Path.{◌≡◌}
 use Prim.Native.Nat.{◌≤◌, ◌-◌}
-use native.Mathlib.Omega.{arith}
-use borrow.Author.Rules.{rules}
 use lib.ListN.{length, take}
-use Rattle.bits.specs.Logic.{bit}
-use Rattle.bits.specs.LogicLaws.{bit_le}
-use Rattle.classes.proofs.Rows.{gather_none, gather_more, gather_all, gather_small}
 use Rattle.classes.specs.Seen.{gathered}
 use Rattle.classes.proofs.gather.Given as goal
 

@@ -1,12 +1,8 @@
 use mathlib.Core.Path.{refl}
-use Prim.Native.Nat.{◌≤◌, ◌-◌}
 use native.Mathlib.Omega.{arith}
 use borrow.Author.Rules.{rules}
-use lib.ListN.{length}
-use Rattle.classes.proofs.Numbering.{Numbered, numbered_none, numbered_old, numbered_new, numbered_few, numbered_all}
+use Rattle.classes.proofs.Numbering.{numbered_none, numbered_old, numbered_new, numbered_few, numbered_all}
 use Rattle.classes.specs.ClassLaws.{same_key_lem}
-use Rattle.classes.specs.Seen.{same_key}
-use Rattle.classes.specs.declared.GlobalClass.{GlobalClass}
 use Rattle.classes.proofs.global_classes.Goals as goal
 use Rattle.classes.proofs.global_classes.Goals.{then-y-x, else-y-x}
 
@@ -22,7 +18,7 @@ loop-x-preserved c = let l = c.loop-x-test.true in
     let equivalence = same_key_lem c.args.keys.now in (
       omega arith,
       elim c.if-y-x.branch [
-          then-y-x w ↦ numbered_old equivalence c.loop-x.invariant.1 (omega arith) w.if-y-x.true c.first_key-first.ensures w.classes-is w.count-is
+        | then-y-x w ↦ numbered_old equivalence c.loop-x.invariant.1 (omega arith) w.if-y-x.true c.first_key-first.ensures w.classes-is w.count-is
         | else-y-x w ↦ numbered_new c.loop-x.invariant.1 (omega arith) w.if-y-x.false c.first_key-first.ensures w.classes-is refl w.count-is
       ],
     )

@@ -1,12 +1,10 @@
 use mathlib.Core.Path.{refl}
-use Prim.Native.Nat.{◌≤◌, ◌-◌}
 use native.Mathlib.Omega.{arith}
 use borrow.Author.Rules.{rules}
 use lib.ListN.{length}
-use Rattle.classes.proofs.Numbering.{Numbered, numbered_none, numbered_old, numbered_new, numbered_few, numbered_all}
+use Rattle.classes.proofs.Numbering.{numbered_none, numbered_old, numbered_new, numbered_few, numbered_all}
 use Rattle.classes.specs.ColumnLaws.{same-column}
-use Rattle.classes.specs.Seen.{seen, alike_seen}
-use Rattle.classes.specs.declared.LocalClass.{LocalClass}
+use Rattle.classes.specs.Seen.{seen}
 use Rattle.classes.proofs.local_classes.Goals as goal
 use Rattle.classes.proofs.local_classes.Goals.{then-y-x, else-y-x}
 
@@ -26,7 +24,7 @@ loop-x-preserved c = let l = c.loop-x-test.true in
     let equivalence = same-column columns (length c.args.free.now) in (
       omega arith,
       elim c.if-y-x.branch [
-          then-y-x w ↦ numbered_old equivalence c.loop-x.invariant.1 (omega arith) w.if-y-x.true c.first_equal-first.ensures w.classes-is w.count-is
+        | then-y-x w ↦ numbered_old equivalence c.loop-x.invariant.1 (omega arith) w.if-y-x.true c.first_equal-first.ensures w.classes-is w.count-is
         | else-y-x w ↦ numbered_new c.loop-x.invariant.1 (omega arith) w.if-y-x.false c.first_equal-first.ensures w.classes-is refl w.count-is
       ],
     )

@@ -1,7 +1,5 @@
-use Prim.Native.Nat.{◌-◌}
 use native.Mathlib.Omega.{arith}
-use borrow.Author.Rules.{rules}
-use Rattle.classes.proofs.Powers.{Doubling, doubling_none, doubling_more, doubled, doubling_small}
+use Rattle.classes.proofs.Powers.{doubling_none, doubling_more, doubled, doubling_small}
 use Rattle.classes.proofs.width.Goals as goal
 
 pub loop-most-init : goal.loop-most-init

@@ -1,8 +1,6 @@
 -- `width`: each turn doubles. Assumes nothing.
 use Prim.Native.Nat.{◌-◌}
-use native.Mathlib.Omega.{arith}
-use borrow.Author.Rules.{rules}
-use Rattle.classes.proofs.Powers.{Doubling, doubling_none, doubling_more, doubled, doubling_small}
+use Rattle.classes.proofs.Powers.{Doubling}
 use Rattle.classes.proofs.width.Given as goal
 
 abbrev pub invariant-loop-most : goal.invariant-loop-most

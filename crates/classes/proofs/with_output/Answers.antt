@@ -1,9 +1,7 @@
 use mathlib.Core.Path.{refl}
-use Prim.Native.Nat.{◌-◌}
 use native.Mathlib.Omega.{arith}
 use borrow.Author.Rules.{rules}
-use Rattle.classes.proofs.Keys.{Joining, joining_none, joining_more, joining_all, key-small}
-use Rattle.classes.specs.Answer.{local_at}
+use Rattle.classes.proofs.Keys.{joining_none, joining_more, joining_all, key-small}
 use Rattle.classes.proofs.with_output.Goals as goal
 
 pub loop-x-init : goal.loop-x-init

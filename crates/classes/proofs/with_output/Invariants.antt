@@ -1,9 +1,6 @@
 -- `with_output`: each turn joins one vertex's class to its key. Assumes nothing.
-use mathlib.Core.Path.{refl}
 use Prim.Native.Nat.{◌-◌}
-use native.Mathlib.Omega.{arith}
-use borrow.Author.Rules.{rules}
-use Rattle.classes.proofs.Keys.{Joining, joining_none, joining_more, joining_all, key-small}
+use Rattle.classes.proofs.Keys.{Joining}
 use Rattle.classes.specs.Answer.{local_at}
 use Rattle.classes.proofs.with_output.Given as goal
 

@@ -1,5 +1,4 @@
-use Rattle.std.proofs.Common.{◌≡◌, length, sym, refl, ◌∙◌, arith, set, rules}
-use Rattle.bits.specs.LogicLaws.{true_false}
+use Rattle.std.proofs.Common.{refl, arith, set, rules}
 use Rattle.holding.specs.SearchLaws.{uncoded_less, told_lost}
 use Rattle.holding.specs.NarrowLaws.{kept-start}
 use Rattle.coding.specs.TriedLaws.{covers_more, trying_start, trying_more, trying_end}

@@ -1,6 +1,5 @@
-use Rattle.std.proofs.Common.{◌≡◌, ℕ, ◌-◌, ◌≤◌, List, subst, arith, rules}
-use Rattle.problem.specs.Problem.{Blocks}
-use Rattle.coding.specs.Values.{Groups, Marks, Over, Canon}
+use Rattle.std.proofs.Common.{◌≡◌, ℕ, subst, arith}
+use Rattle.coding.specs.Values.{Canon}
 use Rattle.coding.specs.ValuesLaws.{canon_start, canon_more}
 use Rattle.coding.proofs.allowed.Goals as goal
 

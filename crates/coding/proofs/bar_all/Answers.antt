@@ -1,5 +1,5 @@
-use Rattle.std.proofs.Common.{◌≡◌, ℕ, ◌+◌, ◌-◌, ◌*◌, ◌<◌, ◌≤◌, List, length, sym, ap, ◌∙◌, subst, arith, rules}
-use Rattle.problem.specs.Problem.{part_of, Kept, Blocks}
+use Rattle.std.proofs.Common.{◌+◌, ◌*◌, length, sym, ap, ◌∙◌, subst, arith}
+use Rattle.problem.specs.Problem.{part_of, Kept}
 use Rattle.holding.specs.FullLaws.{settled_full}
 use Rattle.holding.specs.NarrowLaws.{kept-start, kept_more}
 use Rattle.coding.proofs.bar_all.Goals as goal
@@ -27,17 +27,16 @@ loop-o-preserved c =
     let a = c.args in
     let p = a.p in
     let pre = c.requires in
-    let h = c.loop-o-test.true in
-    (
+    let h = c.loop-o-test.true in (
       omega arith,
       elim c.if-caps-o.branch [ then-caps-o w ↦ ap length w.dom-is ∙ w.shut.ensures.long | else-caps-o w ↦ ap length w.dom-is ∙ c.loop-o.invariant.1 ],
       λ base ms spots b. elim c.if-caps-o.branch [
-        then-caps-o w ↦ subst (Kept a.cl.now base ms p.caps spots p.vertices p.outputs a.codes.now a.dom.now) (sym w.dom-is)
+        | then-caps-o w ↦ subst (Kept a.cl.now base ms p.caps spots p.vertices p.outputs a.codes.now a.dom.now) (sym w.dom-is)
             (kept_more a.cl.now base ms p.caps spots p.vertices p.outputs a.codes.now a.dom.now c.loop-o.dom _ (c.loop-o.invariant.2 base ms spots b)
             (settled_full a.cl.now base ms p.caps spots p.vertices p.outputs c.loop-o.o (part_of a.cl.now c.loop-o.o a.x) a.codes.now c.loop-o.dom h
             (λ y i. let m = pre.2 in let n = pre.3 in pre.0.low (c.loop-o.o * 32 + y) (omega arith))
             a.c _ c.crowd-k.result.seen c.crowd-k.result.count (b.each c.loop-o.o a.c h pre.4) c.crowd-k.ensures w.if-caps-o.true _ w.shut.ensures))
-      | else-caps-o w ↦ subst (Kept a.cl.now base ms p.caps spots p.vertices p.outputs a.codes.now a.dom.now) (sym w.dom-is) (c.loop-o.invariant.2 base ms spots b)
+        | else-caps-o w ↦ subst (Kept a.cl.now base ms p.caps spots p.vertices p.outputs a.codes.now a.dom.now) (sym w.dom-is) (c.loop-o.invariant.2 base ms spots b)
       ],
     )
 

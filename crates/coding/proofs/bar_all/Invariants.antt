@@ -1,7 +1,5 @@
-use Rattle.std.proofs.Common.{◌≡◌, ℕ, ◌+◌, ◌-◌, ◌*◌, ◌<◌, ◌≤◌, List, length, sym, ap, ◌∙◌, subst, ⊎_elim, arith, rules}
-use Rattle.problem.specs.Problem.{part_of, Kept, Blocks}
-use Rattle.holding.specs.FullLaws.{settled_full}
-use Rattle.holding.specs.NarrowLaws.{kept-start, kept_more}
+use Rattle.std.proofs.Common.{◌≡◌, ℕ, ◌-◌, ◌≤◌, List, length}
+use Rattle.problem.specs.Problem.{Kept, Blocks}
 use Rattle.coding.proofs.bar_all.Given as goal
 
 abbrev pub invariant-loop-o : goal.invariant-loop-o

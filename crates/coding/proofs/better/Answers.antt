@@ -1,5 +1,4 @@
 use Rattle.bits.specs.LogicLaws.{true_false}
-use Rattle.std.proofs.Common.{◌-◌}
 use Rattle.coding.proofs.better.Goals as goal
 
 pub returns-then-best-eq-NO_VERTEX : goal.returns-then-best-eq-NO_VERTEX

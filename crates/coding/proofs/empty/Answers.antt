@@ -1,5 +1,5 @@
 use Rattle.bits.specs.LogicLaws.{true_false}
-use Rattle.std.proofs.Common.{◌-◌, ◌≤◌, sym, rules}
+use Rattle.std.proofs.Common.{sym, rules}
 use Rattle.coding.proofs.empty.Goals as goal
 
 pub offset_bounds-dom-y : goal.offset_bounds-dom-y

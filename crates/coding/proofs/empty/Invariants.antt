@@ -1,5 +1,4 @@
-use Rattle.bits.specs.LogicLaws.{true_false}
-use Rattle.std.proofs.Common.{◌-◌, ◌≤◌, sym, rules}
+use Rattle.std.proofs.Common.{◌-◌, ◌≤◌}
 use Rattle.coding.proofs.empty.Given as goal
 
 abbrev pub invariant-loop-y : goal.invariant-loop-y

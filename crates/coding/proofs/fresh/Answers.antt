@@ -1,4 +1,4 @@
-use Rattle.std.proofs.Common.{refl, rules}
+use Rattle.std.proofs.Common.{refl}
 use Rattle.problem.specs.Problem.{item}
 use Rattle.coding.specs.ValuesLaws.{fresh-some, fresh_none}
 use Rattle.coding.proofs.fresh.Goals as goal

@@ -1,5 +1,4 @@
-use Rattle.std.proofs.Common.{◌≡◌, ℕ, ◌-◌, ◌≤◌, List, subst, arith, rules}
-use Rattle.problem.specs.Problem.{Blocks}
+use Rattle.std.proofs.Common.{◌≡◌, ℕ, subst, arith, rules}
 use Rattle.coding.specs.Values.{Marked}
 use Rattle.coding.specs.ValuesLaws.{marked_start, marked_more}
 use Rattle.coding.proofs.mark.Goals as goal

@@ -1,7 +1,6 @@
-use Rattle.std.proofs.Common.{◌≡◌, ℕ, ◌-◌, ◌≤◌, List, subst, arith, rules}
+use Rattle.std.proofs.Common.{ℕ, ◌-◌, ◌≤◌, List}
 use Rattle.problem.specs.Problem.{Blocks}
 use Rattle.coding.specs.Values.{Marked}
-use Rattle.coding.specs.ValuesLaws.{marked_start, marked_more}
 use Rattle.coding.proofs.mark.Given as goal
 
 abbrev pub invariant-loop-k : goal.invariant-loop-k

@@ -1,6 +1,6 @@
 use Rattle.holding.specs.Search.{Seeking}
-use Rattle.std.proofs.Common.{ℕ, ◌-◌, ◌≤◌, subst, ⊎_elim, arith, rules}
-use Rattle.holding.specs.SearchLaws.{seeking_start, seeking_coded, seeking_better, seeking_worse}
+use Rattle.std.proofs.Common.{ℕ, subst, arith}
+use Rattle.holding.specs.SearchLaws.{seeking_start}
 use Rattle.coding.proofs.pick.Goals as goal
 
 pub loop-y-init : goal.loop-y-init

@@ -1,6 +1,5 @@
 use Rattle.holding.specs.Search.{Seeking}
-use Rattle.std.proofs.Common.{ℕ, ◌-◌, ◌≤◌, subst, ⊎_elim, arith, rules}
-use Rattle.holding.specs.SearchLaws.{seeking_start, seeking_coded, seeking_better, seeking_worse}
+use Rattle.std.proofs.Common.{◌-◌, ◌≤◌}
 use Rattle.coding.proofs.pick.Given as goal
 
 abbrev pub invariant-loop-y : goal.invariant-loop-y

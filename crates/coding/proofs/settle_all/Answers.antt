@@ -1,6 +1,5 @@
-use Rattle.std.proofs.Common.{◌≡◌, ◌-◌, ◌≤◌, length, sym, ◌∙◌, arith, rules}
-use Rattle.problem.specs.Problem.{Kept}
-use borrow.Author.Tests.{not-true, not-false}
+use Rattle.std.proofs.Common.{sym, ◌∙◌, arith}
+use borrow.Author.Tests.{not-false}
 use Rattle.holding.specs.SearchLaws.{empty_hopeless}
 use Rattle.holding.specs.NarrowLaws.{kept-start, kept_more, hopeless_before}
 use Rattle.coding.proofs.settle_all.Goals as goal
@@ -47,7 +46,7 @@ returns-then-not-settle c = let a = c.args in
       kept_more a.cl.now a.base.now p.ms p.caps p.spots p.vertices p.outputs a.codes.now a.dom.now c.loop-o.dom _ k s.0,
       s.1,
       λ q kn val. before kn val
-          (s.2 (not-true _ c.if-not-settle.true-raw) kn val),
+          (s.2 c.if-not-settle.true kn val),
     )
 
 pub loop-o-preserved : goal.loop-o-preserved

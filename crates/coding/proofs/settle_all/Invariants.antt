@@ -1,12 +1,9 @@
-use Rattle.std.proofs.Common.{◌≡◌, ◌-◌, ◌≤◌, length, sym, ◌∙◌, arith, rules}
+use Rattle.std.proofs.Common.{◌≡◌, ◌-◌, ◌≤◌, length}
 use Rattle.problem.specs.Problem.{Kept}
-use borrow.Author.Tests.{not-true, not-false}
-use Rattle.holding.specs.SearchLaws.{empty_hopeless}
-use Rattle.holding.specs.NarrowLaws.{kept-start, kept_more, hopeless_before}
 use Rattle.coding.proofs.settle_all.Given as goal
 
 abbrev pub invariant-loop-o : goal.invariant-loop-o
-invariant-loop-o l =     (l.o ≤ l.p.outputs) × (length l.dom ≡ 32) × Kept l.cl l.base l.p.ms l.p.caps l.p.spots l.p.vertices l.p.outputs l.codes l.initial.dom l.dom
+invariant-loop-o l = (l.o ≤ l.p.outputs) × (length l.dom ≡ 32) × Kept l.cl l.base l.p.ms l.p.caps l.p.spots l.p.vertices l.p.outputs l.codes l.initial.dom l.dom
 
 abbrev pub decreases-loop-o : goal.decreases-loop-o
 decreases-loop-o l = l.p.outputs - l.o

@@ -1,4 +1,3 @@
-use Rattle.std.proofs.Common.{rules}
 use Rattle.coding.proofs.spent.Goals as goal
 
 pub returns-else-limit-eq-NO_LIMIT : goal.returns-else-limit-eq-NO_LIMIT

@@ -1,10 +1,9 @@
 use mathlib.Core.Path.{◌≡◌, sym, ap, ◌∙◌}
-use Prim.Native.Nat.{◌+◌, ◌≤◌, ◌-◌}
+use Prim.Native.Nat.{◌+◌}
 use native.Mathlib.Omega.{arith}
 use lib.ListN.{get_or}
 use Rattle.comparing.specs.Code.{one_at, code_at}
 use Rattle.comparing.specs.CodeLaws.{code_none, code_with, code_without, code_small}
-use borrow.Author.Rules.{rules}
 use Rattle.bits.specs.LogicLaws.{bit_le}
 use Rattle.comparing.proofs.code.Goals as goal
 use Rattle.comparing.proofs.code.Goals.{then-has, else-has}
@@ -41,17 +40,17 @@ loop-i-preserved c = let told = c.has.ensures in
     let turn = c.loop-i-test.true in
     let a = c.args in
     elim c.if-has.branch [
-        then-has w ↦ (
-          omega arith,
-          w.c-is
-              ∙ code_with a.t.now a.lutat a.mask a.x.0 c.loop-i.i c.loop-i.c w.one.result c.loop-i.invariant.1
-              (sym told ∙ w.if-has.true) w.one.ensures,
-        )
+      | then-has w ↦ (
+        omega arith,
+        w.c-is
+            ∙ code_with a.t.now a.lutat a.mask a.x.0 c.loop-i.i c.loop-i.c w.one.result c.loop-i.invariant.1
+            (sym told ∙ w.if-has.true) w.one.ensures,
+      )
       | else-has w ↦ (
-          omega arith,
-          w.c-is
-              ∙ code_without a.t.now a.lutat a.mask a.x.0 c.loop-i.i c.loop-i.c c.loop-i.invariant.1 (sym told ∙ w.if-has.false),
-        )
+        omega arith,
+        w.c-is
+            ∙ code_without a.t.now a.lutat a.mask a.x.0 c.loop-i.i c.loop-i.c c.loop-i.invariant.1 (sym told ∙ w.if-has.false),
+      )
     ]
 
 pub returns : goal.returns

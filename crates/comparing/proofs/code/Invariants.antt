@@ -1,13 +1,7 @@
 -- `code`: each turn reads one shared table. Assumes nothing.
-use mathlib.Core.Path.{◌≡◌, sym, ap, ◌∙◌}
-use mathlib.Core.Logic.{⊎_elim}
-use Prim.Native.Nat.{◌+◌, ◌≤◌, ◌-◌}
-use native.Mathlib.Omega.{arith}
-use lib.ListN.{get_or}
-use Rattle.comparing.specs.Code.{one_at, code_at}
-use Rattle.comparing.specs.CodeLaws.{code_none, code_with, code_without, code_small}
-use borrow.Author.Rules.{rules}
-use Rattle.bits.specs.LogicLaws.{bit_le}
+use mathlib.Core.Path.{◌≡◌}
+use Prim.Native.Nat.{◌≤◌, ◌-◌}
+use Rattle.comparing.specs.Code.{code_at}
 use Rattle.comparing.proofs.code.Given as goal
 
 abbrev pub invariant-loop-i : goal.invariant-loop-i

@@ -1,12 +1,10 @@
 use mathlib.Core.Path.{refl, sym, ◌∙◌}
-use Prim.Native.Nat.{◌-◌, ◌≤◌}
 use native.Mathlib.Omega.{arith}
-use Rattle.limits.specs.Limits.{max_rows}
 use Rattle.sheet.specs.Known.{table_at}
 use Rattle.comparing.specs.Drawing.{places_of}
-use Rattle.comparing.specs.CompareLaws.{Agreed, AgreedRows, Ended, rows_few, agreed_none, rows_none, rows_more, agreed_more}
-use Rattle.comparing.specs.CompareLaws.{ended_agreed, ended_differs, answer_differs, answer_same, some_ready}
-use borrow.Author.Rules.{rules}
+use Rattle.comparing.specs.CompareLaws.{Ended, rows_few, agreed_none, rows_none, agreed_more}
+use Rattle.comparing.specs.CompareLaws.{ended_agreed, answer_differs, answer_same, some_ready}
+use Rattle.comparing.proofs.RowLaws.{rows_more, ended_differs}
 use Rattle.comparing.proofs.compare.Goals as goal
 use Rattle.comparing.proofs.compare.Goals.{Left-outputs, else-outputs-test, then-outputs-test+then-loop-r-test+then-differs}
 
@@ -62,7 +60,7 @@ ended : (c : Left-outputs)
     → Ended c.args.t.now c.args.k (places_of c.args.n) c.args.shape c.outputs.o c.outputs-test.r
 ended c =
     elim c.outputs-test.branch [
-        else-outputs-test w ↦ rw w.r-is (ended_agreed c.outputs.o c.outputs.r c.outputs.invariant w.outputs-test.false)
+      | else-outputs-test w ↦ rw w.r-is (ended_agreed c.outputs.o c.outputs.r c.outputs.invariant w.outputs-test.false)
       | then-outputs-test+then-loop-r-test+then-differs w ↦
           rw w.r-is
           (ended_differs c.outputs.o w.loop-r.r c.power-rows.result

@@ -1,15 +1,7 @@
 -- `compare`: the outer loop's outputs agree on every row, the inner loop's rows agree in this output, and the loops are left
 -- at the first difference. Assumes nothing.
-use mathlib.Core.Path.{refl, sym, ◌∙◌}
-use mathlib.Core.Logic.{⊎_elim}
-use Prim.Native.Nat.{◌-◌, ◌≤◌}
-use native.Mathlib.Omega.{arith}
-use Rattle.limits.specs.Limits.{max_rows}
-use Rattle.sheet.specs.Known.{table_at}
-use Rattle.comparing.specs.Drawing.{places_of}
-use Rattle.comparing.specs.CompareLaws.{Agreed, AgreedRows, Ended, rows_few, agreed_none, rows_none, rows_more, agreed_more}
-use Rattle.comparing.specs.CompareLaws.{ended_agreed, ended_differs, answer_differs, answer_same, some_ready}
-use borrow.Author.Rules.{rules}
+use Prim.Native.Nat.{◌-◌}
+use Rattle.comparing.specs.CompareLaws.{Agreed, AgreedRows}
 use Rattle.comparing.proofs.compare.Given as goal
 
 abbrev pub invariant-loop-r : goal.invariant-loop-r

@@ -3,7 +3,6 @@ use mathlib.Core.Path.{◌≡◌, refl, ap, ◌∙◌}
 use mathlib.Core.Bool.{Bool, beq, true, false, not}
 use Rattle.bits.specs.Logic.{xorb}
 use Rattle.comparing.specs.Code.{one_at}
-use borrow.Author.Rules.{rules}
 use Rattle.comparing.proofs.differs.Goals as goal
 
 unequal : (a b : Bool) → not (beq a b) ≡ xorb a b

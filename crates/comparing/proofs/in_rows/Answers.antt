@@ -1,6 +1,4 @@
-use Prim.Native.Nat.{◌≤◌, ◌-◌}
 use native.Mathlib.Omega.{arith}
-use Rattle.comparing.specs.Filling.{Filled}
 use Rattle.comparing.specs.FillingLaws.{filled_none, filled_more, filled_all, code_ready, vertex_room}
 use borrow.Author.Rules.{rules}
 use Rattle.comparing.proofs.in_rows.Goals as goal
@@ -19,10 +17,10 @@ overflow_add-at c = omega (arith, (vertex_room c.requires c.loop-x.x c.code-c.re
 
 pub put_vertex-requires : goal.put_vertex-requires
 put_vertex-requires c = (
-      c.loop-x.invariant.1.size,
-      omega (arith, c.requires.few_vertices, c.loop-x-test.true),
-      vertex_room c.requires c.loop-x.x c.code-c.result c.loop-x-test.true c.code-c.ensures,
-    )
+  c.loop-x.invariant.1.size,
+  omega (arith, c.requires.few_vertices, c.loop-x-test.true),
+  vertex_room c.requires c.loop-x.x c.code-c.result c.loop-x-test.true c.code-c.ensures,
+)
 
 pub overflow_add-x : goal.overflow_add-x
 overflow_add-x c = omega (arith, c.requires.few_vertices, c.loop-x-test.true)

@@ -1,10 +1,6 @@
-use Prim.Native.Nat.{◌≤◌, ◌-◌}
 use native.Mathlib.Omega.{arith}
 use mathlib.Core.Path.{sym, ◌∙◌}
-use lib.ListN.{get_or}
-use Rattle.comparing.specs.Filling.{Room, Put}
 use Rattle.comparing.specs.FillingLaws.{put_none, put_more, put_all}
-use borrow.Author.Rules.{rules}
 use Rattle.comparing.proofs.put_vertex.Goals as goal
 
 pub offset_bounds-vertex-v : goal.offset_bounds-vertex-v

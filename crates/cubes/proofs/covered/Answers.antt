@@ -1,8 +1,4 @@
-use Prim.Native.Nat.{◌-◌}
-use native.Mathlib.Omega.{arith}
-use lib.ListN.{length}
-use Rattle.cubes.specs.RowsLaws.{Narrowed, narrowed_none, narrowed_more, narrowed_all}
-use borrow.Author.Rules.{rules}
+use Rattle.cubes.specs.RowsLaws.{narrowed_none, narrowed_more, narrowed_all}
 use Rattle.cubes.proofs.covered.Goals as goal
 
 pub loop-i-init : goal.loop-i-init

@@ -1,9 +1,7 @@
 -- `covered`: one literal after another. Assumes nothing.
 use Prim.Native.Nat.{◌-◌}
-use native.Mathlib.Omega.{arith}
 use lib.ListN.{length}
-use Rattle.cubes.specs.RowsLaws.{Narrowed, narrowed_none, narrowed_more, narrowed_all}
-use borrow.Author.Rules.{rules}
+use Rattle.cubes.specs.RowsLaws.{Narrowed}
 use Rattle.cubes.proofs.covered.Given as goal
 
 abbrev pub invariant-loop-i : goal.invariant-loop-i

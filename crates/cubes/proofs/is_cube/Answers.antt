@@ -1,9 +1,6 @@
 use mathlib.Core.Path.{sym, ◌∙◌}
-use Prim.Native.Nat.{◌-◌}
 use native.Mathlib.Omega.{arith}
-use borrow.Author.Tests.{not-true, not-false}
-use Rattle.cubes.specs.SpelledLaws.{too_short, other_length, no_literal, Literals, literals_more, literals_all, by_space}
-use borrow.Author.Rules.{rules}
+use Rattle.cubes.specs.SpelledLaws.{too_short, other_length, no_literal, literals_more, literals_all, by_space}
 use Rattle.cubes.proofs.is_cube.Goals as goal
 
 pub returns-then-l-i : goal.returns-then-l-i

@@ -2,7 +2,6 @@
 use mathlib.Core.Path.{sym, refl}
 use native.Mathlib.Omega.{arith}
 use lib.Seq.{set_out}
-use borrow.Author.Rules.{rules}
 use Rattle.cursor.proofs.keep.Goals as goal
 
 pub returns-then-count-lt-MAX_INPUTS : goal.returns-then-count-lt-MAX_INPUTS

@@ -1,11 +1,7 @@
 use mathlib.Core.Path.{sym, ◌∙◌}
-use Prim.Native.Nat.{◌-◌}
 use native.Mathlib.Omega.{arith}
-use lib.ListN.{length}
 use borrow.Author.Tests.{not-true, not-false}
-use borrow.Author.Rules.{rules}
 use Rattle.cursor.specs.ReadNumberLaws.{numerals_none, numerals_more}
-use Rattle.cursor.specs.NumeralsEnd.{Numerals}
 use Rattle.cursor.proofs.numerals_end.Goals as goal
 
 pub loop-e-init : goal.loop-e-init

@@ -1,11 +1,6 @@
 -- `numerals_end`: every byte passed is a digit, and the byte where it stops is none. Assumes nothing.
-use mathlib.Core.Path.{sym, ◌∙◌}
 use Prim.Native.Nat.{◌-◌}
-use native.Mathlib.Omega.{arith}
 use lib.ListN.{length}
-use borrow.Author.Tests.{not-true, not-false}
-use borrow.Author.Rules.{rules}
-use Rattle.cursor.specs.ReadNumberLaws.{numerals_none, numerals_more}
 use Rattle.cursor.specs.NumeralsEnd.{Numerals}
 use Rattle.cursor.proofs.numerals_end.Given as goal
 

@@ -1,6 +1,5 @@
 -- `operator_word`: a word of more than 8 bytes is no operator, and another is what its number holds. Assumes nothing.
 use native.Mathlib.Omega.{arith}
-use borrow.Author.Rules.{rules}
 use Rattle.cursor.specs.OpenedLaws.{long_no_operator}
 use Rattle.cursor.specs.NamedLaws.{word-length, operator-held}
 use Rattle.cursor.proofs.operator_word.Goals as goal

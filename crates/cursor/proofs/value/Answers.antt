@@ -1,7 +1,6 @@
-use Prim.Native.Nat.{◌-◌}
 use native.Mathlib.Omega.{arith}
 use Rattle.limits.specs.Limits.{max_pla_digits}
-use Rattle.cursor.specs.ReadNumberLaws.{Valued, valued_none, valued_small, valued_more, valued_all}
+use Rattle.cursor.specs.ReadNumberLaws.{valued_none, valued_small, valued_more, valued_all}
 use Rattle.cursor.proofs.value.Goals as goal
 
 pub loop-i-init : goal.loop-i-init

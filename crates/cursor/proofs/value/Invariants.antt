@@ -1,8 +1,6 @@
 -- `value`: the digits passed have the value n, and five digits stay small. Assumes nothing.
 use Prim.Native.Nat.{◌-◌}
-use native.Mathlib.Omega.{arith}
-use Rattle.limits.specs.Limits.{max_pla_digits}
-use Rattle.cursor.specs.ReadNumberLaws.{Valued, valued_none, valued_small, valued_more, valued_all}
+use Rattle.cursor.specs.ReadNumberLaws.{Valued}
 use Rattle.cursor.proofs.value.Given as goal
 
 abbrev pub invariant-loop-i : goal.invariant-loop-i

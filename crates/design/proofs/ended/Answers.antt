@@ -1,7 +1,6 @@
 use Rattle.design.specs.ExamineLaws.{at_place}
 use Rattle.sheet.specs.declared.Place.TheVariants.{Design, In, Bound, Limit, Out, Over}
 use mathlib.Core.Path.{refl}
-use borrow.Author.Rules.{rules}
 use Rattle.design.proofs.ended.Goals as goal
 
 pub returns-in-Over : goal.returns-in-Over

@@ -1,17 +1,14 @@
-use Rattle.design.specs.ExamineLaws.{examined, Along, along_start, along_end, line_refused, line_passed, not-sized}
+use Rattle.design.specs.ExamineLaws.{examined, along_start, along_end, line_refused, line_passed, not-sized}
 use borrow.Author.Tests.{not-true, not-false}
-use lib.ListN.{length}
-use Prim.Native.Nat.{◌-◌}
 use Rattle.std.proofs.Common.{false, sym, refl, ◌∙◌}
 use native.Mathlib.Omega.{arith}
-use borrow.Author.Rules.{rules}
 use Rattle.design.proofs.examine.Goals as goal
 
 pub returns-then-not-sized : goal.returns-then-not-sized
 returns-then-not-sized c = let s = c.args.s.now in
     let e =
-        examined s (record { ok = false; number = 1; line = 0; sheet = c.blank-k.result })
-        (not-sized s _ (sym c.if-not-sized.true ∙ c.sized.ensures) (record { not_ok = refl; number = refl; line = refl })) in
+    examined s (record { ok = false; number = 1; line = 0; sheet = c.blank-k.result })
+    (not-sized s _ (sym c.if-not-sized.true ∙ c.sized.ensures) (record { not_ok = refl; number = refl; line = refl })) in
     record { examined_is = e.0; examination = e.1 }
 
 pub loop-at-init : goal.loop-at-init
@@ -36,10 +33,10 @@ ask_line-a-requires c = (c.loop-at.invariant.holds.inputs_few, c.loop-at.invaria
 pub returns-then-not-a : goal.returns-then-not-a
 returns-then-not-a c = let s = c.args.s.now in
     let e =
-        examined s (record { ok = false; number = c.ask_line-a.result.number; line = c.loop-at.n; sheet = c.loop-at.k })
-        (line_refused s c.loop-at.p c.loop-at.k c.loop-at.at c.loop-at.n c.line_end-e.result c.ask_line-a.result c.loop-at.invariant
-        c.loop-at-test.true c.line_end-e.ensures (c.ask_line-a.ensures c.loop-at.invariant.known c.loop-at.invariant.holds c.loop-at.invariant.fitting)
-        (not-true _ c.if-not-a.true) _ (record { not_ok = refl; number = refl; line = refl })) in
+    examined s (record { ok = false; number = c.ask_line-a.result.number; line = c.loop-at.n; sheet = c.loop-at.k })
+    (line_refused s c.loop-at.p c.loop-at.k c.loop-at.at c.loop-at.n c.line_end-e.result c.ask_line-a.result c.loop-at.invariant
+    c.loop-at-test.true c.line_end-e.ensures (c.ask_line-a.ensures c.loop-at.invariant.known c.loop-at.invariant.holds c.loop-at.invariant.fitting)
+    (not-true _ c.if-not-a.true) _ (record { not_ok = refl; number = refl; line = refl })) in
     record { examined_is = e.0; examination = e.1 }
 
 pub overflow_add-at : goal.overflow_add-at
@@ -60,7 +57,7 @@ loop-at-preserved c = let args = c.args in
 pub returns : goal.returns
 returns c = let s = c.args.s.now in
     let e =
-        examined s c.ended.result
-        (along_end s c.loop-at.p c.loop-at.k c.loop-at.at c.loop-at.n c.ended.result c.loop-at.invariant c.loop-at-test.false
-        (c.ended.ensures c.loop-at.invariant.known c.loop-at.invariant.holds)) in
+    examined s c.ended.result
+    (along_end s c.loop-at.p c.loop-at.k c.loop-at.at c.loop-at.n c.ended.result c.loop-at.invariant c.loop-at-test.false
+    (c.ended.ensures c.loop-at.invariant.known c.loop-at.invariant.holds)) in
     record { examined_is = e.0; examination = e.1 }

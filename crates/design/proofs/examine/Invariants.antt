@@ -1,11 +1,7 @@
 -- `examine`: the lines so far are asked as the whole sheet is, line after line. Assumes nothing.
-use Rattle.design.specs.ExamineLaws.{examined, Along, along_start, along_end, line_refused, line_passed, not-sized}
-use borrow.Author.Tests.{not-true, not-false}
+use Rattle.design.specs.ExamineLaws.{Along}
 use lib.ListN.{length}
 use Prim.Native.Nat.{◌-◌}
-use mathlib.Core.Path.{sym, refl, ◌∙◌}
-use native.Mathlib.Omega.{arith}
-use borrow.Author.Rules.{rules}
 use Rattle.design.proofs.examine.Given as goal
 
 abbrev pub invariant-loop-at : goal.invariant-loop-at

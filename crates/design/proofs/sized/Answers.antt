@@ -1,11 +1,6 @@
 use Rattle.design.specs.SizeLaws.{sized-empty, sized_long, sized-rest, walk_on, walk_stopped, walk_last}
-use Rattle.sheet.specs.Examine.{plain_lines}
-use borrow.Author.Tests.{not-true, not-false}
-use lib.ListN.{drop}
-use Prim.Native.Nat.{◌≤◌, ◌-◌}
-use mathlib.Core.Path.{◌≡◌, sym, refl, ◌∙◌}
+use mathlib.Core.Path.{sym, refl, ◌∙◌}
 use native.Mathlib.Omega.{arith}
-use borrow.Author.Rules.{rules}
 use Rattle.design.proofs.sized.Goals as goal
 
 pub returns-then-n-lt1 : goal.returns-then-n-lt1

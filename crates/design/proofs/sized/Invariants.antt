@@ -1,11 +1,7 @@
-use Rattle.design.specs.SizeLaws.{sized-empty, sized_long, sized-rest, walk_on, walk_stopped, walk_last}
 use Rattle.sheet.specs.Examine.{plain_lines}
-use borrow.Author.Tests.{not-true, not-false}
 use lib.ListN.{drop}
 use Prim.Native.Nat.{◌≤◌, ◌-◌}
-use mathlib.Core.Path.{◌≡◌, sym, refl, ◌∙◌}
-use native.Mathlib.Omega.{arith}
-use borrow.Author.Rules.{rules}
+use mathlib.Core.Path.{◌≡◌}
 use Rattle.design.proofs.sized.Given as goal
 
 abbrev pub invariant-loop-i : goal.invariant-loop-i

@@ -1,7 +1,6 @@
 -- `table`: Table on what the sheet's examination answers. Assumes nothing.
 use Rattle.sheet.specs.Examine as spec
 use Rattle.design.specs.TableLaws.{table_of_sheet}
-use borrow.Author.Rules.{rules}
 use Rattle.design.proofs.table.Goals as goal
 
 pub table_of-requires : goal.table_of-requires

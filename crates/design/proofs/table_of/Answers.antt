@@ -32,8 +32,7 @@ bounds-k-output c =
 
 pub put_digits-requires : goal.put_digits-requires
 put_digits-requires c =
-    let found = valid_here c.requires.found c.args.e c.requires.is (not-false _ c.if-not-e.false) in
-    (
+    let found = valid_here c.requires.found c.args.e c.requires.is (not-false _ c.if-not-e.false) in (
       rows_few c.requires.found c.args.output c.args.buffer.now c.args.e.sheet found c.power-n.result c.power-n.ensures,
       c.if-buffer-n.false,
     )

@@ -6,8 +6,9 @@ use Rattle.formula.specs.Reader.{read_formula}
 use Rattle.formula.specs.Part.{read_so_far}
 use Rattle.formula.specs.TurnLaws.{byte_falls, formula_left}
 use Rattle.formula.specs.Walk.{WalkOf}
-use Rattle.formula.specs.WalkLaws.{part_read, walk_start, walk_step, walk_closed, walk_short, unread_is, joined_read}
+use Rattle.formula.specs.WalkLaws.{part_read, walk_start, walk_closed, walk_short, unread_is, joined_read}
 use Rattle.formula.specs.OpenedLaws.{opened_falls, name_is, digit_is, not_is, gate_is, nothing_is}
+use Rattle.formula.proofs.WalkStep.{walk_step}
 use Rattle.formula.proofs.+nested_operands.Goals as goal
 
 -- ---- nested
@@ -93,11 +94,12 @@ operands-loop-next-preserved t c =
     let f = c.nested-one.result in
     let j = c.joined-sum.result in
     let e = joined_read a.s.now (gate_of a.g) i.sum f j c.joined-sum.ensures in
-    let r = e ∙ part_read a.left a.s.now (map name_of a.inputs.now) (read_formula u) f c.nested-one.ensures in
-    (omega (arith, i.invariant.0, formula_left u (read_so_far a.s.now j) r, byte_falls _ (read_so_far a.s.now i.sum) u c.in-To.ensures.is),
+    let r = e ∙ part_read a.left a.s.now (map name_of a.inputs.now) (read_formula u) f c.nested-one.ensures in (
+      omega (arith, i.invariant.0, formula_left u (read_so_far a.s.now j) r, byte_falls _ (read_so_far a.s.now i.sum) u c.in-To.ensures.is),
       λ q x.
-      walk_step a.left a.s.now (map name_of a.inputs.now) (gate_of a.g) q i.sum f j i.enough u
-      (i.invariant.1 q x) c.in-To.ensures.is c.nested-one.ensures c.joined-sum.ensures)
+          walk_step a.left a.s.now (map name_of a.inputs.now) (gate_of a.g) q i.sum f j i.enough u
+          (i.invariant.1 q x) c.in-To.ensures.is c.nested-one.ensures c.joined-sum.ensures,
+    )
 
 pub operands-returns-then-enough : goal.operands-returns-then-enough
 operands-returns-then-enough t c =

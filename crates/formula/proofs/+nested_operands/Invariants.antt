@@ -20,7 +20,7 @@ abbrev pub invariant-operands-loop-next : goal.invariant-operands-loop-next
 invariant-operands-loop-next l =
     (left (read_so_far l.s l.sum) ≤ left (read_so_far l.s l.fn.first))
     × ((q : Read Formula) → PartIs l.left l.s (map name_of l.inputs) q l.fn.first
-      → WalkOf l.left l.s (map name_of l.inputs) (gate_of l.g) q l.sum l.enough)
+    → WalkOf l.left l.s (map name_of l.inputs) (gate_of l.g) q l.sum l.enough)
 
 abbrev pub decreases-operands-loop-next : goal.decreases-operands-loop-next
 decreases-operands-loop-next l = left (read_so_far l.s l.sum)

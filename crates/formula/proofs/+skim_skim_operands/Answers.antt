@@ -63,9 +63,10 @@ skim_operands-loop-next-preserved t c =
     let i = c.loop-next in
     let u = from s c.in-To.next in
     let m = c.skim-past.result in
-    let e = skimmed_is s m (spelling (read_formula u)) c.skim-past.ensures in
-    (omega (arith, i.invariant.0, formula_left u (skimmed_so_far s m) e, byte_falls _ (skimmed_so_far s i.past) u c.in-To.ensures.is),
-      i.invariant.1 ∙ ending_more i.enough (skimmed_so_far s i.past) u c.in-To.ensures.is ∙ ap (ending true) (sym e))
+    let e = skimmed_is s m (spelling (read_formula u)) c.skim-past.ensures in (
+      omega (arith, i.invariant.0, formula_left u (skimmed_so_far s m) e, byte_falls _ (skimmed_so_far s i.past) u c.in-To.ensures.is),
+      i.invariant.1 ∙ ending_more i.enough (skimmed_so_far s i.past) u c.in-To.ensures.is ∙ ap (ending true) (sym e),
+    )
 
 pub skim_operands-returns-then-enough : goal.skim_operands-returns-then-enough
 skim_operands-returns-then-enough t c =

@@ -5,7 +5,6 @@ use Rattle.cursor.specs.Item.{gate_of}
 use Rattle.rows.specs.Words.{Rowwise, row_on}
 use mathlib.Core.Path.{sym, subst}
 use Prim.Native.Nat.{ℕ}
-use borrow.Author.Rules.{rules}
 use Rattle.formula.proofs.combined.Goals as goal
 
 pub returns-in-And : goal.returns-in-And

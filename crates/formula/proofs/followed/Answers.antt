@@ -1,5 +1,4 @@
 -- `followed`: a byte is read where something was read before it. Assumes nothing.
-use borrow.Author.Rules.{rules}
 use Rattle.formula.specs.WalkLaws.{followed_by, followed_by_nothing}
 use Rattle.formula.proofs.followed.Goals as goal
 

@@ -3,7 +3,6 @@ use Rattle.formula.specs.LookupLaws.{found_inside, found-row, found_among, nowhe
 use Rattle.rows.specs.WordLaws.{rowwise_same}
 use mathlib.Core.Path.{sym, refl}
 use native.Mathlib.Omega.{arith}
-use borrow.Author.Rules.{rules}
 use Rattle.formula.proofs.input.Goals as goal
 
 pub overflow_sub-inputs : goal.overflow_sub-inputs

@@ -1,6 +1,5 @@
 -- `unread`: only the place after the formula is kept. Assumes nothing.
 use mathlib.Core.Path.{refl}
-use borrow.Author.Rules.{rules}
 use Rattle.formula.proofs.unread.Goals as goal
 
 pub returns-in-To : goal.returns-in-To

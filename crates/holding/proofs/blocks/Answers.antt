@@ -3,13 +3,9 @@ use mathlib.Core.List.{List}
 use Prim.Native.Nat.{ℕ, ◌+◌}
 use native.Mathlib.Omega.{arith}
 use Rattle.holding.specs.Blocks.{Table}
-use borrow.Author.Rules.{rules}
 use Rattle.holding.specs.BlocksLaws.{table_more, entry_again}
 use Rattle.holding.proofs.blocks.Goals as goal
 use Rattle.holding.proofs.blocks.Goals.{then-first-c, else-first-c}
-
-pub overflow_mul-end : goal.overflow_mul-end
-overflow_mul-end c = let h = c.requires in search rules
 
 pub loop-i-init : goal.loop-i-init
 loop-i-init c = (omega arith, refl, record { long = refl; filled = λ k h. absurd (omega arith) })

@@ -1,5 +1,4 @@
 use native.Mathlib.Omega.{arith}
-use borrow.Author.Rules.{rules}
 use Rattle.holding.specs.ReachLaws.{tight_one}
 use Rattle.holding.specs.WantsLaws.{tight_end}
 use Rattle.holding.proofs.busiest.Goals as goal
@@ -24,9 +23,6 @@ returns-then-one_part c = let a = c.args in
 
 pub totals-ts-requires : goal.totals-ts-requires
 totals-ts-requires c = let p = c.requires in (p.0, p.1, p.2, p.5)
-
-pub overflow_cast-q : goal.overflow_cast-q
-overflow_cast-q c = let l = c.largest-q.ensures in search rules
 
 pub lacks-b-requires : goal.lacks-b-requires
 lacks-b-requires c = c.requires

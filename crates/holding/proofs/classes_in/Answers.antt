@@ -2,7 +2,6 @@ use mathlib.Core.Path.{sym, ◌∙◌, subst}
 use Prim.Native.Nat.{ℕ, ◌+◌, ◌*◌}
 use native.Mathlib.Omega.{arith}
 use Rattle.holding.specs.Full.{Crowd}
-use borrow.Author.Rules.{rules}
 use Rattle.holding.specs.FullLaws.{crowd_start, crowd_same, crowd_more}
 use Rattle.holding.proofs.classes_in.Goals as goal
 use Rattle.holding.proofs.classes_in.Goals.{then-inside+then-not-in_set, then-inside+else-not-in_set, else-inside}
@@ -12,12 +11,6 @@ strangers-seen-requires c = (c.requires.0, c.requires.2)
 
 pub loop-y-init : goal.loop-y-init
 loop-y-init c = let a = c.args in (omega arith, crowd_start a.cl.now a.codes.now a.o a.p a.b c.strangers-seen.result c.strangers-seen.ensures.rest)
-
-pub bounds-codes-y : goal.bounds-codes-y
-bounds-codes-y c = let h = c.loop-y-test.true in
-    let z = c.requires.1 in
-    let n = c.requires.3 in
-    search rules
 
 pub label-l-requires : goal.label-l-requires
 label-l-requires c = let h = c.loop-y-test.true in
@@ -44,12 +37,6 @@ with-seen-requires c = let h = c.loop-y-test.true in
     let l = p.0.low (a.o * 32 + c.loop-y.y) (omega arith) in
     let e = c.label-l.ensures in
     omega arith
-
-pub overflow_add-count : goal.overflow_add-count
-overflow_add-count c = let h = c.loop-y-test.true in
-    let v = c.requires.1 in
-    let z = c.loop-y.invariant.1.few in
-    search rules
 
 pub loop-y-preserved : goal.loop-y-preserved
 loop-y-preserved c = let h = c.loop-y-test.true in

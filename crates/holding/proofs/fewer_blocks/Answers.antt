@@ -3,7 +3,6 @@ use Rattle.holding.specs.ReachLaws.{left-start, left_more, left_end}
 use borrow.Author.Tests.{ltb-true}
 use native.Mathlib.Omega.{arith}
 use mathlib.Core.Path.{sym}
-use borrow.Author.Rules.{rules}
 use Rattle.holding.proofs.fewer_blocks.Goals as goal
 
 pub loop-rest-init : goal.loop-rest-init
@@ -15,29 +14,8 @@ returns-then-n-k c = λ e. absurd (true_false (sym e))
 pub lowest-c-requires : goal.lowest-c-requires
 lowest-c-requires c = c.loop-rest-test.true
 
-pub overflow_mul-b : goal.overflow_mul-b
-overflow_mul-b c = let z = c.requires.1 in search rules
-
-pub overflow_add-b : goal.overflow_add-b
-overflow_add-b c = let z = c.requires.1 in let l = c.lowest-c.ensures.0 in search rules
-
-pub offset_bounds-bs-o : goal.offset_bounds-bs-o
-offset_bounds-bs-o c = let z = c.requires.1 in
-    let l = c.lowest-c.ensures.0 in
-    let e = c.requires.0 in
-    search rules
-
-pub bounds-bs-o : goal.bounds-bs-o
-bounds-bs-o c = let z = c.requires.1 in
-    let l = c.lowest-c.ensures.0 in
-    let e = c.requires.0 in
-    search rules
-
 pub without-requires : goal.without-requires
 without-requires c = c.lowest-c.ensures.0
-
-pub overflow_add-k : goal.overflow_add-k
-overflow_add-k c = let h = c.if-n-k.false in search rules
 
 pub loop-rest-smaller : goal.loop-rest-smaller
 loop-rest-smaller c = let a = c.minus-rest.ensures.less in let b = c.without.ensures.less c.lowest-c.ensures.1 in omega arith
@@ -45,7 +23,8 @@ loop-rest-smaller c = let a = c.minus-rest.ensures.less in let b = c.without.ens
 pub loop-rest-preserved : goal.loop-rest-preserved
 loop-rest-preserved c = λ mask b.
     let d = c.args.d in
-    left_more mask d c.loop-rest.rest c.loop-rest.k c.lowest-c.result _ c.without.result c.minus-rest.result (b c.lowest-c.result c.lowest-c.ensures.0) c.without.ensures c.minus-rest.ensures (c.loop-rest.invariant mask b)
+    left_more mask d c.loop-rest.rest c.loop-rest.k c.lowest-c.result _ c.without.result c.minus-rest.result
+    (b c.lowest-c.result c.lowest-c.ensures.0) c.without.ensures c.minus-rest.ensures (c.loop-rest.invariant mask b)
 
 pub returns : goal.returns
 returns c = λ e mask b.

@@ -4,7 +4,6 @@ use lib.ListN.{get_or}
 use native.Mathlib.Omega.{arith}
 use Prim.Native.Nat.{ℕ, ◌<◌, ◌+◌, ◌*◌}
 use mathlib.Core.Path.{◌≡◌, sym, ◌∙◌, subst}
-use borrow.Author.Rules.{rules}
 use Rattle.holding.specs.HeldLaws.{held_start, at_skip, at_old, at_new}
 use Rattle.holding.proofs.held.Goals as goal
 use Rattle.holding.proofs.held.Goals.{then-c-lt-NO_CODE+then-not-in_set, then-c-lt-NO_CODE+else-not-in_set, else-c-lt-NO_CODE}
@@ -13,13 +12,6 @@ pub loop-y-init : goal.loop-y-init
 loop-y-init c = let args = c.args in
     let pre = c.requires in
     (omega arith, λ mask b. held_start args.cl.now args.codes.now args.o mask _ _ pre.6 pre.7 pre.8 pre.9)
-
-pub bounds-codes-y : goal.bounds-codes-y
-bounds-codes-y c = let pre = c.requires in
-    let d = c.loop-y-test.true in
-    let few = pre.2 in
-    let long = pre.5 in
-    search rules
 
 pub label-l-requires : goal.label-l-requires
 label-l-requires c = let pre = c.requires in
@@ -32,35 +24,6 @@ label-l-requires c = let pre = c.requires in
 
 pub in_set-requires : goal.in_set-requires
 in_set-requires c = c.if-c-lt-NO_CODE.true
-
-pub overflow_mul-own : goal.overflow_mul-own
-overflow_mul-own c = let pre = c.requires in
-    let outs = pre.3 in
-    let o = pre.4 in
-    search rules
-
-pub overflow_add-own : goal.overflow_add-own
-overflow_add-own c = let pre = c.requires in
-    let outs = pre.3 in
-    let o = pre.4 in
-    let code = c.if-c-lt-NO_CODE.true in
-    search rules
-
-pub offset_bounds-bs-o : goal.offset_bounds-bs-o
-offset_bounds-bs-o c = let pre = c.requires in
-    let outs = pre.3 in
-    let o = pre.4 in
-    let code = c.if-c-lt-NO_CODE.true in
-    let long = pre.1.long in
-    search rules
-
-pub bounds-bs-o : goal.bounds-bs-o
-bounds-bs-o c = let pre = c.requires in
-    let outs = pre.3 in
-    let o = pre.4 in
-    let code = c.if-c-lt-NO_CODE.true in
-    let long = pre.1.long in
-    search rules
 
 pub loop-y-preserved : goal.loop-y-preserved
 loop-y-preserved c = let pre = c.requires in

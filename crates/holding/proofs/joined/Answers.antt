@@ -17,21 +17,12 @@ step-low i h = let e = step_is i h in let l = pow-lt {i = i} {j = 6} h in omega 
 pub without_cell-low-requires : goal.without_cell-low-requires
 without_cell-low-requires c = c.requires
 
-pub overflow_shl-step : goal.overflow_shl-step
-overflow_shl-step c = let h = c.requires in search rules
-
-pub overflow_cast-result : goal.overflow_cast-result
-overflow_cast-result c = let h = step-low c.args.i c.requires in search rules
-
-pub overflow_shl-result : goal.overflow_shl-result
-overflow_shl-result c = let h = step-low c.args.i c.requires in search rules
-
-pub overflow_cast-result-2 : goal.overflow_cast-result-2
-overflow_cast-result-2 c = let h = step-low c.args.i c.requires in search rules
+pub returns : goal.returns
+returns c = let args = c.args in
+    joined_of args.d args.i _ c.without_cell-low.result (step_is args.i c.requires) c.without_cell-low.ensures
 
 pub overflow_shr-result : goal.overflow_shr-result
 overflow_shr-result c = let h = step-low c.args.i c.requires in search rules
 
-pub returns : goal.returns
-returns c = let args = c.args in
-    joined_of args.d args.i _ c.without_cell-low.result (step_is args.i c.requires) c.without_cell-low.ensures
+pub overflow_shl-result : goal.overflow_shl-result
+overflow_shl-result c = let h = step-low c.args.i c.requires in search rules

@@ -1,16 +1,9 @@
 use Rattle.bits.specs.DigitLaws.{on-ones}
 use Rattle.holding.specs.BlocksLaws.{on_either}
-use borrow.Author.Rules.{rules}
 use Rattle.holding.proofs.keep.Goals as goal
 
 pub returns-then-need-has : goal.returns-then-need-has
 returns-then-need-has c = λ k l s. s.held c.if-wants-has.true c.if-need-has.true
-
-pub overflow_add-has : goal.overflow_add-has
-overflow_add-has c = let z = c.requires in search rules
-
-pub overflow_add-has-then-wants-has-2 : goal.overflow_add-has-then-wants-has-2
-overflow_add-has-then-wants-has-2 c = let z = c.requires in search rules
 
 pub returns-then-need-has-2 : goal.returns-then-need-has-2
 returns-then-need-has-2 c = λ k l s. on_either c.args.own c.args.meet k (s.near c.if-wants-has-2.true c.if-need-has-2.true)

@@ -3,7 +3,6 @@ use lib.ListN.{get_or}
 use native.Mathlib.Omega.{arith}
 use Prim.Native.Nat.{ℕ, max}
 use mathlib.Core.Path.{refl, ap, ◌∙◌, subst}
-use borrow.Author.Rules.{rules}
 use Rattle.holding.specs.ReachLaws.{lacks_start, lacks_more}
 use Rattle.holding.proofs.lacks.Goals as goal
 
@@ -13,44 +12,16 @@ loop-l-init c = let a = c.args in (omega arith, lacks_start a.cl.now a.owns.now 
 pub class_part-q-requires : goal.class_part-q-requires
 class_part-q-requires c = (c.requires.0, c.requires.2, c.loop-l-test.true)
 
-pub bounds-wants-l : goal.bounds-wants-l
-bounds-wants-l c = let n = c.requires.5 in search rules
-
 pub label-requires : goal.label-requires
 label-requires c = let z = c.requires.1 in
     (omega arith, c.requires.2, c.loop-l-test.true)
-
-pub bounds-owns-l : goal.bounds-owns-l
-bounds-owns-l c = let n = c.requires.4 in search rules
-
-pub overflow_sub-n : goal.overflow_sub-n
-overflow_sub-n c = let e = c.larger-n.ensures.0 in
-    let h = c.requires.3 c.loop-l.l c.loop-l-test.true in
-    search rules
-
-pub overflow_cast-total : goal.overflow_cast-total
-overflow_cast-total c = let n = c.counted-t.ensures.1 in search rules
-
-pub overflow_add-total : goal.overflow_add-total
-overflow_add-total c = let n = c.counted-t.ensures.1 in
-    let h = c.loop-l-test.true in
-    let z = c.loop-l.invariant.1.low in
-    record { fits = omega arith }
-
-pub overflow_cast-news : goal.overflow_cast-news
-overflow_cast-news c = let n = c.counted-s.ensures.1 in search rules
-
-pub overflow_add-news : goal.overflow_add-news
-overflow_add-news c = let n = c.counted-s.ensures.1 in
-    let h = c.loop-l-test.true in
-    let z = c.loop-l.invariant.1.few in
-    record { fits = omega arith }
 
 pub loop-l-preserved : goal.loop-l-preserved
 loop-l-preserved c = let a = c.args in
     let h = c.loop-l-test.true in (
       omega arith,
-      lacks_more a.cl.now a.owns.now a.wants.now a.base.now a.o a.p c.loop-l.l c.class_part-q.result c.larger-n.result c.loop-l.total c.loop-l.news _ _ c.counted-t.result c.counted-s.result c.class_part-q.ensures.0
+      lacks_more a.cl.now a.owns.now a.wants.now a.base.now a.o a.p c.loop-l.l c.class_part-q.result c.larger-n.result
+          c.loop-l.total c.loop-l.news _ _ c.counted-t.result c.counted-s.result c.class_part-q.ensures.0
           (c.larger-n.ensures.0 ∙ ap (max (get_or a.wants.now c.loop-l.l 0)) c.label.ensures) c.counted-t.ensures.0 c.counted-t.ensures.1 c.counted-s.ensures.0
           c.counted-s.ensures.1 refl refl c.loop-l.invariant.1,
     )

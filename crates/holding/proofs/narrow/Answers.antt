@@ -2,7 +2,6 @@ use Rattle.holding.specs.Narrow.{Narrowed, Stays}
 use native.Mathlib.Omega.{arith}
 use Prim.Native.Nat.{ℕ}
 use mathlib.Core.Path.{sym, ◌∙◌, subst}
-use borrow.Author.Rules.{rules}
 use Rattle.holding.specs.NarrowLaws.{narrowed_start, narrowed_same, keep_more}
 use Rattle.holding.proofs.narrow.Goals as goal
 use Rattle.holding.proofs.narrow.Goals.{then-codes-y-ge-NO_CODE+then-in_set, then-codes-y-ge-NO_CODE+else-in_set, else-codes-y-ge-NO_CODE}
@@ -13,12 +12,6 @@ loop-y-init c = let a = c.args in (
   narrowed_start (Stays a.cl.now a.base.now a.t.number a.tight a.own.now a.meet.now a.n.owns a.n.wants) a.dom.now
       c.requires.8,
 )
-
-pub bounds-codes-y : goal.bounds-codes-y
-bounds-codes-y c = let h = c.loop-y-test.true in
-    let z = c.requires.2 in
-    let n = c.requires.7 in
-    search rules
 
 pub label-l-requires : goal.label-l-requires
 label-l-requires c = let h = c.loop-y-test.true in

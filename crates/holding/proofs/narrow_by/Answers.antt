@@ -4,20 +4,7 @@ use Rattle.bits.specs.LogicLaws.{true_false}
 use Rattle.holding.specs.ReachLaws.{settled_no_room}
 use Rattle.holding.specs.NarrowLaws.{settled_tight, kept-start}
 use Rattle.holding.specs.WantsLaws.{wanted_held}
-use borrow.Author.Rules.{rules}
 use Rattle.holding.proofs.narrow_by.Goals as goal
-
-pub bounds-spots-o : goal.bounds-spots-o
-bounds-spots-o c = let pre = c.requires in
-    let outs = pre.4 in
-    let o = pre.5 in
-    search rules
-
-pub bounds-caps-o : goal.bounds-caps-o
-bounds-caps-o c = let pre = c.requires in
-    let outs = pre.4 in
-    let o = pre.5 in
-    search rules
 
 pub busiest-b-requires : goal.busiest-b-requires
 busiest-b-requires c = let pre = c.requires in

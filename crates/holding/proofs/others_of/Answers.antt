@@ -1,12 +1,8 @@
 use native.Mathlib.Omega.{arith}
-use borrow.Author.Rules.{rules}
 use Rattle.holding.proofs.others_of.Goals as goal
 
 pub loop-p-init : goal.loop-p-init
 loop-p-init c = tt
-
-pub bounds-ts-p : goal.bounds-ts-p
-bounds-ts-p c = let n = c.requires in search rules
 
 pub with-r-requires : goal.with-r-requires
 with-r-requires c = let h = c.loop-p-test.true in omega arith

@@ -5,7 +5,6 @@ use Rattle.holding.specs.Reach.{Reached}
 use native.Mathlib.Omega.{arith}
 use Prim.Native.Nat.{ℕ, ◌≤◌}
 use mathlib.Core.Path.{◌≡◌, subst}
-use borrow.Author.Rules.{rules}
 use Rattle.holding.specs.ReachLaws.{reached_start, reached_same, reached_more}
 use Rattle.holding.proofs.reach.Goals as goal
 use Rattle.holding.proofs.reach.Goals.{then-codes-y-ge-NO_CODE+then-lacking, then-codes-y-ge-NO_CODE+else-lacking, else-codes-y-ge-NO_CODE}
@@ -13,12 +12,6 @@ use Rattle.holding.proofs.reach.Goals.{then-codes-y-ge-NO_CODE+then-lacking, the
 pub loop-y-init : goal.loop-y-init
 loop-y-init c = let a = c.args in
     (omega arith, reached_start a.cl.now a.base.now a.n.owns a.n.wants a.codes.now a.dom.now a.own.now a.t.number a.p)
-
-pub bounds-codes-y : goal.bounds-codes-y
-bounds-codes-y c = let h = c.loop-y-test.true in
-    let z = c.requires.2 in
-    let n = c.requires.6 in
-    search rules
 
 pub label-l-requires : goal.label-l-requires
 label-l-requires c = let h = c.loop-y-test.true in

@@ -1,6 +1,5 @@
 use native.Mathlib.Omega.{arith}
 use mathlib.Core.Path.{refl, sym, ◌∙◌}
-use borrow.Author.Rules.{rules}
 use Rattle.holding.specs.BlocksLaws.{all_ones}
 use Rattle.cells.specs.ListLaws.{zeros_are}
 use Rattle.holding.proofs.settle.Goals as goal
@@ -8,12 +7,6 @@ use Rattle.holding.proofs.settle.Goals as goal
 pub held-requires : goal.held-requires
 held-requires c = let pre = c.requires in
     (pre.0, pre.2, pre.3, pre.4, pre.5, pre.6, refl, refl, λ l h. zeros_are 32 l, λ l h. zeros_are 32 l)
-
-pub bounds-ms-o : goal.bounds-ms-o
-bounds-ms-o c = let pre = c.requires in
-    let outs = pre.4 in
-    let o = pre.5 in
-    search rules
 
 pub slice_bounds-wanted-end : goal.slice_bounds-wanted-end
 slice_bounds-wanted-end c = sym c.held.ensures.own_long

@@ -3,7 +3,6 @@ use Prim.Native.Nat.{ℕ, ◌+◌, ◌*◌}
 use native.Mathlib.Omega.{arith}
 use Rattle.holding.specs.Full.{Free}
 use Rattle.holding.specs.Narrow.{Narrowed}
-use borrow.Author.Rules.{rules}
 use Rattle.holding.specs.FullLaws.{shut_more}
 use Rattle.holding.specs.NarrowLaws.{narrowed_start, narrowed_same}
 use Rattle.holding.proofs.shut.Goals as goal
@@ -12,12 +11,6 @@ use Rattle.holding.proofs.shut.Goals.{then-codes-y-ge-NO_CODE+then-not-in_set, t
 pub loop-y-init : goal.loop-y-init
 loop-y-init c = let a = c.args in
     (omega arith, narrowed_start (Free a.cl.now a.o a.seen a.b) a.dom.now c.requires.4)
-
-pub bounds-codes-y : goal.bounds-codes-y
-bounds-codes-y c = let h = c.loop-y-test.true in
-    let z = c.requires.1 in
-    let n = c.requires.3 in
-    search rules
 
 pub label-l-requires : goal.label-l-requires
 label-l-requires c = let h = c.loop-y-test.true in
@@ -33,30 +26,6 @@ in_set-requires c = let h = c.loop-y-test.true in
     let l = p.0.low (c.args.o * 32 + c.loop-y.y) (omega arith) in
     let e = c.label-l.ensures in
     omega arith
-
-pub offset_bounds-dom-y : goal.offset_bounds-dom-y
-offset_bounds-dom-y c = let n = c.loop-y.invariant.1.long in
-    let h = c.loop-y-test.true in
-    let z = c.requires.1 in
-    search rules
-
-pub bounds-dom-y : goal.bounds-dom-y
-bounds-dom-y c = let n = c.loop-y.invariant.1.long in
-    let h = c.loop-y-test.true in
-    let z = c.requires.1 in
-    search rules
-
-pub offset_bounds-dom-y-then-not-in_set : goal.offset_bounds-dom-y-then-not-in_set
-offset_bounds-dom-y-then-not-in_set c = let n = c.loop-y.invariant.1.long in
-    let h = c.loop-y-test.true in
-    let z = c.requires.1 in
-    search rules
-
-pub bounds-dom-y-then-not-in_set : goal.bounds-dom-y-then-not-in_set
-bounds-dom-y-then-not-in_set c = let n = c.loop-y.invariant.1.long in
-    let h = c.loop-y-test.true in
-    let z = c.requires.1 in
-    search rules
 
 pub loop-y-preserved : goal.loop-y-preserved
 loop-y-preserved c = let a = c.args in

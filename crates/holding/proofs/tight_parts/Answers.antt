@@ -2,16 +2,12 @@ use Rattle.holding.specs.Wants.{TightBelow}
 use native.Mathlib.Omega.{arith}
 use Prim.Native.Nat.{ℕ}
 use mathlib.Core.Path.{subst}
-use borrow.Author.Rules.{rules}
 use Rattle.holding.specs.WantsLaws.{tight_start, tight_same, tight_more}
 use Rattle.holding.proofs.tight_parts.Goals as goal
 use Rattle.holding.proofs.tight_parts.Goals.{then-ts-p, else-ts-p}
 
 pub loop-p-init : goal.loop-p-init
 loop-p-init c = (omega arith, tight_start c.args.ts.now c.args.spot)
-
-pub bounds-ts-p : goal.bounds-ts-p
-bounds-ts-p c = let n = c.requires in search rules
 
 pub with-r-requires : goal.with-r-requires
 with-r-requires c = let h = c.loop-p-test.true in omega arith

@@ -3,7 +3,6 @@ use Prim.Native.Nat.{ℕ, max}
 use native.Mathlib.Omega.{arith}
 use lib.ListN.{get_or}
 use Rattle.holding.specs.Wants.{Totals}
-use borrow.Author.Rules.{rules}
 use Rattle.holding.specs.WantsLaws.{totals_start, totals_more}
 use Rattle.cells.specs.ListLaws.{zeros_are}
 use Rattle.holding.proofs.totals.Goals as goal
@@ -14,20 +13,8 @@ loop-l-init c = let a = c.args in (omega arith, totals_start a.cl.now a.owns.now
 pub class_part-p-requires : goal.class_part-p-requires
 class_part-p-requires c = (c.requires.0, c.requires.2, c.loop-l-test.true)
 
-pub bounds-owns-l : goal.bounds-owns-l
-bounds-owns-l c = let n = c.requires.3 in search rules
-
 pub label-requires : goal.label-requires
 label-requires c = let z = c.requires.1 in (omega arith, c.requires.2, c.loop-l-test.true)
-
-pub overflow_cast-n : goal.overflow_cast-n
-overflow_cast-n c = let z = c.larger-n.ensures.1 in search rules
-
-pub overflow_add-t : goal.overflow_add-t
-overflow_add-t c = let low = c.loop-l.invariant.1.low c.class_part-p.result c.class_part-p.ensures.1 in
-    let h = c.loop-l-test.true in
-    let need = c.larger-n.ensures.1 in
-    record { fits = omega arith }
 
 pub loop-l-preserved : goal.loop-l-preserved
 loop-l-preserved c = let a = c.args in

@@ -1,11 +1,5 @@
 use Rattle.joint.specs.Merge.{SameLabels}
-use borrow.Author.Tests.{eqb-true}
-use Rattle.bits.specs.LogicLaws.{true_false}
-use Rattle.joint.specs.MergeLaws.{alike_more}
-use native.Mathlib.Omega.{arith}
 use Prim.Native.Nat.{◌≤◌, ◌-◌}
-use mathlib.Core.Path.{sym, ◌∙◌}
-use borrow.Author.Rules.{rules}
 use Rattle.joint.proofs.alike.Given as goal
 
 abbrev pub invariant-loop-o : goal.invariant-loop-o

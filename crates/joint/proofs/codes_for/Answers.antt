@@ -1,5 +1,4 @@
 use native.Mathlib.Omega.{arith}
-use Prim.Native.Nat.{◌-◌}
 use mathlib.Core.Path.{sym}
 use Rattle.joint.specs.MergeLaws.{picked_labels, decided_merged}
 use Rattle.joint.proofs.codes_for.Goals as goal

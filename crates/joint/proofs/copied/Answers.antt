@@ -1,5 +1,5 @@
 use mathlib.Core.Path.{refl, subst}
-use Prim.Native.Nat.{ℕ, ◌≤◌, ◌-◌}
+use Prim.Native.Nat.{ℕ}
 use native.Mathlib.Omega.{arith}
 use Rattle.joint.specs.Merge.{Copied}
 use borrow.Author.Rules.{rules}

@@ -1,9 +1,5 @@
-use mathlib.Core.Path.{refl, subst}
-use Prim.Native.Nat.{ℕ, ◌≤◌, ◌-◌}
-use native.Mathlib.Omega.{arith}
+use Prim.Native.Nat.{◌≤◌, ◌-◌}
 use Rattle.joint.specs.Merge.{Copied}
-use borrow.Author.Rules.{rules}
-use Rattle.bits.specs.FilledLaws.{filled_none, filled_more}
 use Rattle.joint.proofs.copied.Given as goal
 
 abbrev pub invariant-loop-i : goal.invariant-loop-i

@@ -1,5 +1,5 @@
 use mathlib.Core.Path.{◌≡◌, sym, ◌∙◌, subst}
-use Prim.Native.Nat.{ℕ, ◌≤◌, ◌-◌}
+use Prim.Native.Nat.{ℕ}
 use native.Mathlib.Omega.{arith}
 use Rattle.joint.specs.Digits.{Drawn}
 use borrow.Author.Rules.{rules}
@@ -45,8 +45,8 @@ loop-i-preserved c = let a = c.args in
     let d = sym c.in_set.ensures in (
       omega arith,
       elim c.if-in_set.branch [
-        then-in_set w ↦ drawn_in a.s a.first c.loop-i.i c.loop-i.r _ _ (d ∙ w.if-in_set.true) w.with-r.ensures w.r-is c.loop-i.invariant.1
-      | else-in_set w ↦ drawn_out a.s a.first c.loop-i.i c.loop-i.r _ (d ∙ w.if-in_set.false) w.r-is c.loop-i.invariant.1
+        | then-in_set w ↦ drawn_in a.s a.first c.loop-i.i c.loop-i.r _ _ (d ∙ w.if-in_set.true) w.with-r.ensures w.r-is c.loop-i.invariant.1
+        | else-in_set w ↦ drawn_out a.s a.first c.loop-i.i c.loop-i.r _ (d ∙ w.if-in_set.false) w.r-is c.loop-i.invariant.1
       ],
     )
 

@@ -1,9 +1,5 @@
-use mathlib.Core.Path.{refl, subst}
-use Prim.Native.Nat.{ℕ, ◌≤◌, ◌-◌}
-use native.Mathlib.Omega.{arith}
+use Prim.Native.Nat.{◌≤◌, ◌-◌}
 use Rattle.joint.specs.Merge.{Spread}
-use borrow.Author.Rules.{rules}
-use Rattle.bits.specs.FilledLaws.{filled_none, filled_more}
 use Rattle.joint.proofs.expand.Given as goal
 
 abbrev pub invariant-loop-x : goal.invariant-loop-x

@@ -1,5 +1,5 @@
 use mathlib.Core.Path.{refl, subst}
-use Prim.Native.Nat.{ℕ, ◌≤◌, ◌-◌}
+use Prim.Native.Nat.{ℕ}
 use native.Mathlib.Omega.{arith}
 use Rattle.limits.specs.Limits.{max_vertices}
 use Rattle.joint.specs.MergeLaws.{vertices_zero, merged_start, at_new, at_old}
@@ -53,10 +53,10 @@ loop-x-preserved c = let h = c.loop-x-test.true in
     let p = c.requires.1 in (
       omega arith,
       elim c.if-q-n.branch [
-        then-q-n w ↦ at_new c.args.cl.now c.args.j c.args.kn c.args.val c.loop-x.x c.loop-x.n c.loop-x.first _ c.loop-x.place _
-          c.class_of-q.result (omega arith) c.loop-x.invariant.1 w.if-q-n.true w.first-is w.n-is
-      | else-q-n w ↦ at_old c.args.cl.now c.args.j c.args.kn c.args.val c.loop-x.x c.loop-x.n c.loop-x.first _ c.loop-x.place _
-          c.class_of-q.result (omega arith) c.loop-x.invariant.1 c.class_of-q.ensures w.if-q-n.false w.first-is w.n-is
+        | then-q-n w ↦ at_new c.args.cl.now c.args.j c.args.kn c.args.val c.loop-x.x c.loop-x.n c.loop-x.first _ c.loop-x.place _
+            c.class_of-q.result (omega arith) c.loop-x.invariant.1 w.if-q-n.true w.first-is w.n-is
+        | else-q-n w ↦ at_old c.args.cl.now c.args.j c.args.kn c.args.val c.loop-x.x c.loop-x.n c.loop-x.first _ c.loop-x.place _
+            c.class_of-q.result (omega arith) c.loop-x.invariant.1 c.class_of-q.ensures w.if-q-n.false w.first-is w.n-is
       ],
     )
 

@@ -1,5 +1,5 @@
-use mathlib.Core.Path.{◌≡◌, refl, subst}
-use Prim.Native.Nat.{ℕ, ◌≤◌, ◌-◌, ◌*◌, ◌%◌}
+use mathlib.Core.Path.{refl, subst}
+use Prim.Native.Nat.{ℕ, ◌%◌}
 use native.Mathlib.Omega.{arith}
 use Rattle.limits.specs.Limits.{max_vertices}
 use Rattle.joint.specs.MergeLaws.{picked_start, picked_more}

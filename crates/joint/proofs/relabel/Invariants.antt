@@ -1,10 +1,7 @@
-use mathlib.Core.Path.{◌≡◌, refl, subst}
-use Prim.Native.Nat.{ℕ, ◌≤◌, ◌-◌, ◌*◌, ◌%◌}
-use native.Mathlib.Omega.{arith}
+use mathlib.Core.Path.{◌≡◌}
+use Prim.Native.Nat.{◌≤◌, ◌-◌, ◌*◌}
 use Rattle.limits.specs.Limits.{max_vertices}
-use Rattle.joint.specs.MergeLaws.{picked_start, picked_more}
 use Rattle.joint.specs.Merge.{Picked}
-use borrow.Author.Rules.{rules}
 use Rattle.joint.proofs.relabel.Given as goal
 
 abbrev pub invariant-loop-i : goal.invariant-loop-i

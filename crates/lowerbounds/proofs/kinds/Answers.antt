@@ -52,13 +52,6 @@ part-p-requires c = let pre = c.requires in
     let few = pre.1 in
     (pre.0, pre.3, omega arith)
 
-pub overflow_add-n : goal.overflow_add-n
-overflow_add-n c = let pre = c.requires in
-    let h = c.loop-x-test.true in
-    let low = low-label pre.0 pre.2 pre.1 h c.label-l.ensures in
-    let small = (c.loop-x.invariant.1.found c.label-l.result c.part-p.result low c.part-p.ensures.1).few in
-    record { fits = omega arith }
-
 pub loop-x-preserved : goal.loop-x-preserved
 loop-x-preserved c = let a = c.args in
     let pre = c.requires in

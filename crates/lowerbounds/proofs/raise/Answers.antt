@@ -2,7 +2,6 @@ use mathlib.Core.Path.{◌≡◌, sym, ap, subst}
 use mathlib.Core.List.{List}
 use Prim.Native.Nat.{ℕ, ◌+◌, ◌-◌, ◌/◌, ◌^◌}
 use native.Mathlib.Omega.{arith}
-use borrow.Author.Rules.{rules}
 use Rattle.problem.specs.Problem.{item}
 use Rattle.lowerbounds.specs.Reasons.{Raised}
 use Rattle.lowerbounds.specs.RaisingLaws.{raised_start, raised_kept, raised_more}
@@ -14,33 +13,6 @@ power-p-requires c = c.requires.2
 
 pub loop-l-init : goal.loop-l-init
 loop-l-init c = let a = c.args in (omega arith, raised_start a.o a.d a.kinds a.base.now)
-
-pub overflow_mul-i : goal.overflow_mul-i
-overflow_mul-i c = let small = c.requires.1 in search rules
-
-pub overflow_add-i : goal.overflow_add-i
-overflow_add-i c = let small = c.requires.1 in let h = c.loop-l-test.true in search rules
-
-pub overflow_add-b : goal.overflow_add-b
-overflow_add-b c = let h = c.loop-l-test.true in
-    let few = c.requires.3 c.loop-l.l h in
-    let power = c.power-p.ensures in
-    let room = power.2 in
-    record { fits = omega arith }
-
-pub overflow_sub-b : goal.overflow_sub-b
-overflow_sub-b c = let some = c.power-p.ensures.1 in search rules
-
-pub overflow_shr-b : goal.overflow_shr-b
-overflow_shr-b c = let low = c.requires.2 in search rules
-
-pub bounds-base-i : goal.bounds-base-i
-bounds-base-i c = let pre = c.requires in
-    let long = pre.0 in
-    let small = pre.1 in
-    let h = c.loop-l-test.true in
-    let same = c.loop-l.invariant.1.long in
-    search rules
 
 pub loop-l-preserved : goal.loop-l-preserved
 loop-l-preserved c = let a = c.args in

@@ -2,7 +2,6 @@ use mathlib.Core.Path.{sym, ap, ◌∙◌, subst}
 use mathlib.Core.List.{List}
 use Prim.Native.Nat.{ℕ, ◌*◌, ◌^◌}
 use native.Mathlib.Omega.{arith}
-use borrow.Author.Rules.{rules}
 use Rattle.lowerbounds.specs.Reasons.{Based}
 use Rattle.lowerbounds.specs.RaisingLaws.{raised_based}
 use Rattle.lowerbounds.proofs.raise_all.Goals as goal
@@ -10,16 +9,6 @@ use Rattle.lowerbounds.proofs.raise_all.Goals.{then-q-o, else-q-o+else-j-eq1}
 
 pub loop-q-init : goal.loop-q-init
 loop-q-init c = (omega arith, c.requires.4)
-
-pub bounds-rows-q : goal.bounds-rows-q
-bounds-rows-q c = let h = c.loop-q-test.true in
-    let few = c.requires.2 in
-    search rules
-
-pub bounds-rows-o : goal.bounds-rows-o
-bounds-rows-o c = let few = c.requires.2 in
-    let one = c.requires.3 in
-    search rules
 
 pub kinds-requires : goal.kinds-requires
 kinds-requires c = let pre = c.requires in

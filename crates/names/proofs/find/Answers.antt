@@ -1,8 +1,5 @@
 use mathlib.Core.Path.{sym, ◌∙◌}
-use Prim.Native.Nat.{◌-◌}
-use lib.ListN.{length}
-use borrow.Author.Rules.{rules}
-use Rattle.names.proofs.Lookup.{Missed, missed_none, missed_more, found_at, found_nowhere}
+use Rattle.names.proofs.Lookup.{missed_none, missed_more, found_at, found_nowhere}
 use Rattle.names.proofs.find.Goals as goal
 
 pub loop-i-init : goal.loop-i-init

@@ -1,5 +1,4 @@
 -- `is_operator_word`: the four numbers hold the operator words. Assumes nothing.
-use borrow.Author.Rules.{rules}
 use Rattle.names.proofs.Operators.{operator-found, operator_nowhere}
 use Rattle.names.proofs.is_operator_word.Goals as goal
 

@@ -1,7 +1,6 @@
 -- `lower`: the capitals are a range of bytes; those below it and above it stay. Assumes nothing.
 use mathlib.Core.Path.{sym}
 use native.Mathlib.Omega.{arith}
-use borrow.Author.Rules.{rules}
 use Rattle.names.specs.ByteLaws.{is_capital, below_capitals, above_capitals}
 use Rattle.names.specs.CaseLaws.{lower-capital, lower_other}
 use Rattle.names.proofs.lower.Goals as goal

@@ -1,7 +1,6 @@
 use Prim.Native.Nat.{◌-◌}
 use native.Mathlib.Omega.{arith}
-use borrow.Author.Rules.{rules}
-use Rattle.names.proofs.Packs.{Packed, packed_none, packed_more, packed_room, packed_all}
+use Rattle.names.proofs.Packs.{packed_none, packed_more, packed_room, packed_all}
 use Rattle.names.proofs.packed.Goals as goal
 
 pub loop-i-init : goal.loop-i-init
@@ -15,10 +14,10 @@ overflow_cast-v c = omega (arith, c.type_inv.s (c.loop-i.i - 1))
 
 pub overflow_add-v : goal.overflow_add-v
 overflow_add-v c = omega (
-      arith,
-      packed_room c.loop-i.invariant c.loop-i-test.true c.requires.1,
-      c.type_inv.s (c.loop-i.i - 1),
-    )
+  arith,
+  packed_room c.loop-i.invariant c.loop-i-test.true c.requires.1,
+  c.type_inv.s (c.loop-i.i - 1),
+)
 
 pub loop-i-preserved : goal.loop-i-preserved
 loop-i-preserved c = packed_more c.loop-i.invariant c.loop-i-test.true c.requires.2

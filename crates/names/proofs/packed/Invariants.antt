@@ -1,8 +1,6 @@
 -- `packed`: each turn puts the byte before under those passed. Assumes nothing.
 use Prim.Native.Nat.{◌-◌}
-use native.Mathlib.Omega.{arith}
-use borrow.Author.Rules.{rules}
-use Rattle.names.proofs.Packs.{Packed, packed_none, packed_more, packed_room, packed_all}
+use Rattle.names.proofs.Packs.{Packed}
 use Rattle.names.proofs.packed.Given as goal
 
 abbrev pub invariant-loop-i : goal.invariant-loop-i

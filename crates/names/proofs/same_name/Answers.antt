@@ -1,6 +1,5 @@
 use mathlib.Core.Path.{sym, ◌∙◌}
-use borrow.Author.Rules.{rules}
-use Rattle.names.proofs.Matches.{Matched, matched_none, matched-more, second-ends, bytes-differ, first_ended}
+use Rattle.names.proofs.Matches.{matched_none, matched-more, second-ends, bytes-differ, first_ended}
 use Rattle.names.proofs.same_name.Goals as goal
 
 pub loop-x-init : goal.loop-x-init

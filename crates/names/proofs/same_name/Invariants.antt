@@ -1,7 +1,5 @@
 -- `same_name`: each turn passes one byte of each name, the same but for its case. Assumes nothing.
-use mathlib.Core.Path.{sym, ◌∙◌}
-use borrow.Author.Rules.{rules}
-use Rattle.names.proofs.Matches.{Matched, matched_none, matched-more, second-ends, bytes-differ, first_ended}
+use Rattle.names.proofs.Matches.{Matched}
 use Rattle.names.proofs.same_name.Given as goal
 
 abbrev pub invariant-loop-x : goal.invariant-loop-x

@@ -1,9 +1,6 @@
 use mathlib.Core.Path.{sym, ◌∙◌}
-use Prim.Native.Nat.{◌-◌}
-use lib.ListN.{length}
-use borrow.Author.Rules.{rules}
 use borrow.Author.Tests.{not-true, not-false}
-use Rattle.names.proofs.Words.{Passed, passed_none, passed_more, passed_stop, passed_all}
+use Rattle.names.proofs.Words.{passed_none, passed_more, passed_stop, passed_all}
 use Rattle.names.proofs.word_end.Goals as goal
 
 pub loop-e-init : goal.loop-e-init

@@ -2,7 +2,6 @@
 use mathlib.Core.Path.{refl}
 use Prim.Native.Nat.{◌+◌}
 use borrow.Author.Tests.{lt-ltb, le-ltb}
-use borrow.Author.Rules.{rules}
 use Rattle.netsheet.proofs.after_node.Goals as goal
 
 pub returns-then-o-outputs : goal.returns-then-o-outputs

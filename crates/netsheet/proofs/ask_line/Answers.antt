@@ -2,7 +2,6 @@
 use mathlib.Core.Bool.{Bool}
 use mathlib.Core.Path.{ap, ◌∙◌, subst}
 use native.Mathlib.Omega.{arith}
-use borrow.Author.Rules.{rules}
 use Rattle.netsheet.specs.declared.Place.{Place}
 use Rattle.netsheet.specs.Reading.{moved, PlaceFits}
 use Rattle.netsheet.specs.AskLaws.{safe_moved, network_line_lem, luts_line, node_line, count_line, end_line_lem, over_line}
@@ -29,16 +28,16 @@ returns-in-Network c = let a = c.args in
 
 pub returns-in-Luts : goal.returns-in-Luts
 returns-in-Luts c = let a = c.args in (
-      c.ask_lut.ensures.0,
-      λ t d w q n kn some-outputs. luts_line a.l.now t d w a.s c.ask_lut.result kn c.in-Luts.is
-          (λ none_yet. c.ask_lut.ensures.1 t d w q n kn.held none_yet some-outputs),
-    )
+  c.ask_lut.ensures.0,
+  λ t d w q n kn some-outputs. luts_line a.l.now t d w a.s c.ask_lut.result kn c.in-Luts.is
+      (λ none_yet. c.ask_lut.ensures.1 t d w q n kn.held none_yet some-outputs),
+)
 
 pub returns-in-Node : goal.returns-in-Node
 returns-in-Node c = let a = c.args in (
-      c.ask_node.ensures.0,
-      λ t d w q n kn some-outputs. node_line a.l.now t d w a.s c.ask_node.result kn c.in-Node.o c.in-Node.is (λ here below. c.ask_node.ensures.1 t d w q n kn.held here below),
-    )
+  c.ask_node.ensures.0,
+  λ t d w q n kn some-outputs. node_line a.l.now t d w a.s c.ask_node.result kn c.in-Node.o c.in-Node.is (λ here below. c.ask_node.ensures.1 t d w q n kn.held here below),
+)
 
 pub returns-in-Count : goal.returns-in-Count
 returns-in-Count c = let a = c.args in
@@ -56,6 +55,6 @@ returns-in-End c = let a = c.args in
 
 pub returns-in-Over : goal.returns-in-Over
 returns-in-Over c = let a = c.args in (
-      safe_moved a.s c.onward-in-Over.result _ Place.Over c.onward-in-Over.ensures c.requires.1.few tt,
-      λ t d w q n kn some-outputs. over_line a.l.now t d w a.s c.onward-in-Over.result kn c.in-Over.is Place.Over c.onward-in-Over.ensures,
-    )
+  safe_moved a.s c.onward-in-Over.result _ Place.Over c.onward-in-Over.ensures c.requires.1.few tt,
+  λ t d w q n kn some-outputs. over_line a.l.now t d w a.s c.onward-in-Over.result kn c.in-Over.is Place.Over c.onward-in-Over.ensures,
+)

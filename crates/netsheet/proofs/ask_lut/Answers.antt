@@ -2,7 +2,6 @@
 use mathlib.Core.List.{map}
 use native.Mathlib.Omega.{arith}
 use lib.ListN.{take}
-use borrow.Author.Rules.{rules}
 use Rattle.names.specs.Pack.{name_of}
 use Rattle.netsheet.proofs.Arrays.{lutat_sized}
 use Rattle.netsheet.specs.AskLaws.{safe_lut, lut_few, lut_bad, lut_good}

@@ -2,7 +2,6 @@
 use mathlib.Core.Path.{sym}
 use native.Mathlib.Omega.{arith}
 use lib.Seq.{length-take-le}
-use borrow.Author.Rules.{rules}
 use Rattle.netsheet.proofs.Arrays.{free-sized, reads_sized, nodeat_sized}
 use Rattle.netsheet.specs.declared.Place.{Place}
 use Rattle.netsheet.specs.AskLaws.{safe_moved, safe_node, node_bad, node_good}

@@ -1,9 +1,6 @@
-use Prim.Native.Nat.{◌-◌}
 use native.Mathlib.Omega.{arith}
-use lib.ListN.{length}
 use borrow.Author.Tests.{not-true, not-false}
-use borrow.Author.Rules.{rules}
-use Rattle.netsheet.specs.WalkLaws.{Walk, walk_start, walk_room, walk_open, walk-bad, walk_more, walk_end, refused_at, no_bytes, many_bytes}
+use Rattle.netsheet.specs.WalkLaws.{walk_start, walk_room, walk_open, walk-bad, walk_more, walk_end, refused_at, no_bytes, many_bytes}
 use Rattle.netsheet.proofs.read_network.Goals as goal
 
 pub returns-then-t-lt1 : goal.returns-then-t-lt1

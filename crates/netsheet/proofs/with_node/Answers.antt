@@ -1,6 +1,5 @@
 -- `with_node`: the mask and the place are stored for the output. Assumes nothing.
 use mathlib.Core.Path.{refl}
-use borrow.Author.Rules.{rules}
 use Rattle.netsheet.proofs.with_node.Goals as goal
 
 pub returns : goal.returns

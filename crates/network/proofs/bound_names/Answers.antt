@@ -1,11 +1,7 @@
-use mathlib.Core.List.{[]}
-use mathlib.Core.Path.{◌≡◌, ap}
-use Prim.Native.Nat.{ℕ, ◌-◌}
+use mathlib.Core.Path.{ap}
 use native.Mathlib.Omega.{arith}
-use borrow.Author.Rules.{rules}
 use Rattle.names.specs.Pack.{name_of}
-use Rattle.network.specs.ShownLaws.{Growing, growing_none, growing_more, growing_all}
-use Rattle.network.specs.Shown.{shown, item}
+use Rattle.network.specs.ShownLaws.{growing_none, growing_more, growing_all}
 use Rattle.network.proofs.bound_names.Goals as goal
 
 pub loop-i-init : goal.loop-i-init

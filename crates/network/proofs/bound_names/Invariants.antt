@@ -1,11 +1,9 @@
 -- `bound_names`: each turn adds the name at one place more. Assumes nothing.
 use mathlib.Core.List.{[]}
-use mathlib.Core.Path.{◌≡◌, ap}
+use mathlib.Core.Path.{◌≡◌}
 use Prim.Native.Nat.{ℕ, ◌-◌}
-use native.Mathlib.Omega.{arith}
-use borrow.Author.Rules.{rules}
 use Rattle.names.specs.Pack.{name_of}
-use Rattle.network.specs.ShownLaws.{Growing, growing_none, growing_more, growing_all}
+use Rattle.network.specs.ShownLaws.{Growing}
 use Rattle.network.specs.Shown.{shown, item}
 use Rattle.network.proofs.bound_names.Given as goal
 

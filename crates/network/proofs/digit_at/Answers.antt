@@ -1,6 +1,5 @@
 -- `digit_at`: 0, or else 1. Assumes nothing.
 use lib.ListN.{drop}
-use borrow.Author.Rules.{rules}
 use Rattle.network.specs.TablesLaws.{digit_zero, digit_one}
 use Rattle.network.proofs.digit_at.Goals as goal
 

@@ -1,6 +1,5 @@
 use native.Mathlib.Omega.{arith}
-use borrow.Author.Rules.{rules}
-use Rattle.network.specs.TablesLaws.{Skipping, skipping_none, skipping_missing, skipping_more, skipping_all}
+use Rattle.network.specs.TablesLaws.{skipping_none, skipping_missing, skipping_more, skipping_all}
 use Rattle.network.proofs.digits_at.Goals as goal
 
 pub loop-left-init : goal.loop-left-init

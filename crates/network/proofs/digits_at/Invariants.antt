@@ -1,7 +1,5 @@
 -- `digits_at`: the digits are read one after the other. Assumes nothing.
-use native.Mathlib.Omega.{arith}
-use borrow.Author.Rules.{rules}
-use Rattle.network.specs.TablesLaws.{Skipping, skipping_none, skipping_missing, skipping_more, skipping_all}
+use Rattle.network.specs.TablesLaws.{Skipping}
 use Rattle.network.proofs.digits_at.Given as goal
 
 abbrev pub invariant-loop-left : goal.invariant-loop-left

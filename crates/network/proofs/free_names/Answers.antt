@@ -1,15 +1,9 @@
-use mathlib.Core.Path.{sym, ap, subst, ◌∙◌}
-use mathlib.Core.List.{map}
-use mathlib.Core.Logic.{⊎_elim}
-use Prim.Native.Nat.{◌≤◌, ◌-◌, ◌+◌}
+use mathlib.Core.Path.{sym}
+use Prim.Native.Nat.{◌≤◌}
 use native.Mathlib.Omega.{arith}
 use lib.Seq.{length-take-le}
 use lib.ListN.{length, take}
-use borrow.Author.Rules.{rules}
-use Rattle.names.specs.Pack.{name_of}
-use Rattle.network.specs.declared.Names.{Names}
-use Rattle.network.specs.FreeNameLaws.{Freeing, freeing_none, freeing_bound, freeing_free, freeing_all}
-use Rattle.network.specs.Shown.{shown}
+use Rattle.network.specs.FreeNameLaws.{freeing_none, freeing_bound, freeing_free, freeing_all}
 use Rattle.network.proofs.Arrays.{list_sized}
 use Rattle.network.proofs.free_names.Goals as goal
 use Rattle.network.proofs.free_names.Goals.{in-At, in-Nowhere}
@@ -36,7 +30,7 @@ loop-i-preserved c = let args = c.args in
     let few : args.n ≤ length args.names = omega (arith, pre.0) in
     let vs = take args.bs.count args.bs.list in
     elim c.match-p.branch [
-        in-At w ↦ rw w.r-is (freeing_bound vs c.loop-i.invariant c.loop-i-test.true few c.find-p.ensures w.in-At.is)
+      | in-At w ↦ rw w.r-is (freeing_bound vs c.loop-i.invariant c.loop-i-test.true few c.find-p.ensures w.in-At.is)
       | in-Nowhere w ↦ rw w.r-is (freeing_free vs c.loop-i.invariant c.loop-i-test.true few c.find-p.ensures w.in-Nowhere.is w.pushed-r.ensures.0 w.pushed-r.ensures.1)
     ]
 

@@ -1,17 +1,10 @@
 -- `free_names`: each turn looks one name up among those left out, and adds it where it is none of them. Assumes nothing.
-use mathlib.Core.Path.{sym, ap, subst, ◌∙◌}
 use mathlib.Core.List.{map}
-use mathlib.Core.Logic.{⊎_elim}
-use Prim.Native.Nat.{◌≤◌, ◌-◌, ◌+◌}
-use native.Mathlib.Omega.{arith}
-use lib.Seq.{length-take-le}
-use lib.ListN.{length, take}
-use borrow.Author.Rules.{rules}
+use Prim.Native.Nat.{◌-◌}
+use lib.ListN.{take}
 use Rattle.names.specs.Pack.{name_of}
-use Rattle.network.specs.declared.Names.{Names}
-use Rattle.network.specs.FreeNameLaws.{Freeing, freeing_none, freeing_bound, freeing_free, freeing_all}
+use Rattle.network.specs.FreeNameLaws.{Freeing}
 use Rattle.network.specs.Shown.{shown}
-use Rattle.network.proofs.Arrays.{list_sized}
 use Rattle.network.proofs.free_names.Given as goal
 
 abbrev pub invariant-loop-i : goal.invariant-loop-i

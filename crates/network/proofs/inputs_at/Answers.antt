@@ -1,7 +1,6 @@
 -- `inputs_at`: the items, the closing bracket and a space. Assumes nothing.
 use mathlib.Core.List.{map}
 use lib.ListN.{drop}
-use borrow.Author.Rules.{rules}
 use Rattle.names.specs.Pack.{name_of}
 use Rattle.network.specs.HeadLaws.{inputs_no_names, inputs_end}
 use Rattle.network.proofs.inputs_at.Goals as goal

@@ -1,7 +1,6 @@
 -- `is_count`: the bytes are those that are printed. Assumes nothing.
 use mathlib.Core.Path.{ap, ◌∙◌}
 use native.Mathlib.Omega.{arith}
-use borrow.Author.Rules.{rules}
 use Rattle.text.specs.Bytes.{same}
 use Rattle.network.specs.HeadLaws.{count-bytes}
 use Rattle.network.proofs.is_count.Goals as goal

@@ -1,7 +1,6 @@
 -- `led_name`: the space, where the name is not the first item, and the name. Assumes nothing.
 use mathlib.Core.List.{[], ◌∷◌}
 use lib.ListN.{drop}
-use borrow.Author.Rules.{rules}
 use Rattle.text.specs.Bytes.{eat, space}
 use Rattle.names.specs.Pack.{name_of}
 use Rattle.network.specs.Given.{read_given}

@@ -4,7 +4,6 @@ use mathlib.Core.Path.{subst}
 use Prim.Native.Nat.{ℕ}
 use native.Mathlib.Omega.{arith}
 use lib.ListN.{drop}
-use borrow.Author.Rules.{rules}
 use Rattle.text.specs.Bytes.{eat}
 use Rattle.cursor.specs.Item.{MovedIs}
 use Rattle.network.specs.HeadLaws.{lut_first, lut_later}

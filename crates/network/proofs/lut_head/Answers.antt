@@ -1,7 +1,6 @@
 -- `lut_head`: each part where the one before ends. Assumes nothing.
 use mathlib.Core.List.{map}
 use native.Mathlib.Omega.{arith}
-use borrow.Author.Rules.{rules}
 use Rattle.names.specs.Pack.{name_of}
 use Rattle.network.specs.HeadLaws.{lut_no_word, lut_no_number, lut-no-list, lut_list}
 use Rattle.network.proofs.lut_head.Goals as goal

@@ -1,7 +1,6 @@
 -- `name_at`: the name that is read is compared with the one that is given. Assumes nothing.
 use mathlib.Core.Path.{sym, ◌∙◌}
 use lib.ListN.{drop}
-use borrow.Author.Rules.{rules}
 use Rattle.names.specs.Pack.{name_of}
 use Rattle.network.specs.ListedLaws.{given_no_name, given_same, given_other}
 use Rattle.network.proofs.name_at.Goals as goal

@@ -1,9 +1,6 @@
 use mathlib.Core.Path.{refl}
-use Prim.Native.Nat.{◌-◌}
 use native.Mathlib.Omega.{arith}
-use lib.ListN.{length}
-use borrow.Author.Rules.{rules}
-use Rattle.network.specs.ListedLaws.{Listed, listed_none, listed_missing, listed_more, listed_all}
+use Rattle.network.specs.ListedLaws.{listed_none, listed_missing, listed_more, listed_all}
 use Rattle.network.proofs.names_at.Goals as goal
 
 pub loop-i-init : goal.loop-i-init

@@ -1,6 +1,5 @@
 -- `node_head`: each part where the one before ends. Assumes nothing.
 use native.Mathlib.Omega.{arith}
-use borrow.Author.Rules.{rules}
 use Rattle.names.specs.Pack.{name_of}
 use Rattle.network.specs.HeadLaws.{node_no_word, node_no_name, node_list}
 use Rattle.network.proofs.node_head.Goals as goal

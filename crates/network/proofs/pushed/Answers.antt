@@ -1,7 +1,6 @@
 -- `pushed`: a store past the names that are there. Assumes nothing.
 use mathlib.Core.Path.{refl}
 use native.Mathlib.Omega.{arith}
-use borrow.Author.Rules.{rules}
 use Rattle.network.specs.ShownLaws.{named_more}
 use Rattle.network.proofs.Arrays.{list_sized}
 use Rattle.network.proofs.pushed.Goals as goal

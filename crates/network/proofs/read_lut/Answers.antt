@@ -2,7 +2,6 @@
 use mathlib.Core.List.{map}
 use mathlib.Core.Path.{sym}
 use lib.ListN.{length, length-map}
-use borrow.Author.Rules.{rules}
 use Rattle.names.specs.Pack.{name_of}
 use Rattle.network.specs.LineReadLaws.{lut_no_head, lut_digits}
 use Rattle.network.proofs.read_lut.Goals as goal

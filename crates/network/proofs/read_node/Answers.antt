@@ -3,7 +3,6 @@ use mathlib.Core.List.{map}
 use mathlib.Core.Path.{sym}
 use native.Mathlib.Omega.{arith}
 use lib.ListN.{length, length-map}
-use borrow.Author.Rules.{rules}
 use Rattle.names.specs.Pack.{name_of}
 use Rattle.network.specs.LineReadLaws.{node_no_head, node_no_inputs, node-no-digits, node_digits}
 use Rattle.network.proofs.read_node.Goals as goal

@@ -1,9 +1,6 @@
-use mathlib.Core.Logic.{⊎_elim}
-use Prim.Native.Nat.{◌-◌}
 use native.Mathlib.Omega.{arith}
-use borrow.Author.Rules.{rules}
 use Rattle.network.specs.NumbersLaws.{shifted_byte, mask_fits}
-use Rattle.network.specs.GatherLaws.{Gathered, gathered_none, gathered_with, gathered-without, gathered_all}
+use Rattle.network.specs.GatherLaws.{gathered_none, gathered_with, gathered-without, gathered_all}
 use Rattle.network.proofs.reads_at.Goals as goal
 use Rattle.network.proofs.reads_at.Goals.{in-To, in-Bad}
 
@@ -35,7 +32,7 @@ pub loop-i-preserved : goal.loop-i-preserved
 loop-i-preserved c = let below = c.requires.1 in
     let turn = c.loop-i-test.true in
     elim c.match-m.branch [
-        in-To w ↦
+      | in-To w ↦
           let there = rw w.in-To.is at c.lut_at-m.ensures in
           rw (w.next-is, w.mask-is, w.count-is, shifted_byte c.loop-i.i (omega arith)) (gathered_with c.loop-i.invariant turn there)
       | in-Bad w ↦

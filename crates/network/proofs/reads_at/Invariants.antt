@@ -1,10 +1,6 @@
 -- `reads_at`: each number is looked for in turn. Assumes nothing.
-use mathlib.Core.Logic.{⊎_elim}
 use Prim.Native.Nat.{◌-◌}
-use native.Mathlib.Omega.{arith}
-use borrow.Author.Rules.{rules}
-use Rattle.network.specs.NumbersLaws.{shifted_byte, mask_fits}
-use Rattle.network.specs.GatherLaws.{Gathered, gathered_none, gathered_with, gathered-without, gathered_all}
+use Rattle.network.specs.GatherLaws.{Gathered}
 use Rattle.network.proofs.reads_at.Given as goal
 
 abbrev pub invariant-loop-i : goal.invariant-loop-i

@@ -1,6 +1,5 @@
 -- `table_at`: the digits, the bracket, and nothing after it. Assumes nothing.
 use mathlib.Core.Path.{sym, ◌∙◌}
-use borrow.Author.Rules.{rules}
 use Rattle.network.specs.TablesLaws.{no_digits, no_bracket, more_left, table-read}
 use Rattle.network.proofs.table_at.Goals as goal
 

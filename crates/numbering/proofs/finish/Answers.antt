@@ -7,17 +7,8 @@ pub loop-o-init : goal.loop-o-init
 loop-o-init c = let a = c.args in
     (omega arith, finished_start a.cl.now a.p.ms a.p.ps a.p.vertices a.codes (search rules))
 
-pub bounds-ms-o : goal.bounds-ms-o
-bounds-ms-o c = let h = c.loop-o-test.true in let z = c.requires.1 in search rules
-
 pub numbers-nums-requires : goal.numbers-nums-requires
 numbers-nums-requires c = let h = c.loop-o-test.true in let q = c.requires in let z = q.1 in (q.0, omega arith, q.2)
-
-pub bounds-caps-o : goal.bounds-caps-o
-bounds-caps-o c = let h = c.loop-o-test.true in let z = c.requires.1 in search rules
-
-pub bounds-ps-o : goal.bounds-ps-o
-bounds-ps-o c = let h = c.loop-o-test.true in let z = c.requires.1 in search rules
 
 pub write-w-requires : goal.write-w-requires
 write-w-requires c = c.requires.2

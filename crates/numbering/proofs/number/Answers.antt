@@ -1,7 +1,6 @@
 use native.Mathlib.Omega.{arith}
 use Prim.Native.Nat.{ℕ}
 use mathlib.Core.Path.{refl, sym, ap, ◌∙◌}
-use borrow.Author.Rules.{rules}
 use Rattle.numbering.specs.NumberLaws.{both_same, passed_start, number_old, at_miss, at_low, at_high, number_new}
 use Rattle.numbering.proofs.number.Goals as goal
 use Rattle.numbering.proofs.number.Goals.{then-together+else-l-class+then-next-n, then-together+else-l-class+else-next-n, else-together}
@@ -14,9 +13,6 @@ part-own-requires c = (c.requires.0, c.requires.1, c.requires.2)
 
 pub loop-y-init : goal.loop-y-init
 loop-y-init c = let a = c.args in (omega arith, refl, c.label-class.ensures, passed_start a.cl.now a.codes a.o a.mask a.x a.nums, c.part-own.ensures.0)
-
-pub bounds-codes-y : goal.bounds-codes-y
-bounds-codes-y c = let z = c.requires.2 in search rules
 
 pub together-requires : goal.together-requires
 together-requires c = let pre = c.requires in
@@ -37,13 +33,6 @@ returns-then-l-class c = let args = c.args in
     let t = c.together.ensures.0 c.if-together.true in
     number_old args.cl.now args.codes args.o args.mask args.x args.nums c.loop-y.y c.loop-y-test.true (both_same (t.0 ∙ c.loop-y.invariant.4) (t.1 ∙ c.loop-y.invariant.1))
     (sym c.label-l.ensures ∙ c.if-l-class.true ∙ c.loop-y.invariant.2) pre.3
-
-pub overflow_add-next : goal.overflow_add-next
-overflow_add-next c = let pre = c.requires in
-    let w = c.loop-y-test.true in
-    let z = pre.3.low c.loop-y.y w in
-    let h = pre.2 in
-    omega arith
 
 pub loop-y-preserved : goal.loop-y-preserved
 loop-y-preserved c = let args = c.args in

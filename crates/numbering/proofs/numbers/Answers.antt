@@ -2,7 +2,6 @@ use Rattle.numbering.specs.Number.{Numbered}
 use native.Mathlib.Omega.{arith}
 use Prim.Native.Nat.{ℕ}
 use mathlib.Core.Path.{◌≡◌, refl, subst}
-use borrow.Author.Rules.{rules}
 use Rattle.numbering.specs.NumberLaws.{numbered_more, numbered-start}
 use Rattle.numbering.proofs.numbers.Goals as goal
 
@@ -14,9 +13,6 @@ number-requires c = let pre = c.requires in
     let h = c.loop-x-test.true in
     let few = pre.2 in
     (pre.0, pre.1, omega arith, c.loop-x.invariant.1)
-
-pub bounds-nums-x : goal.bounds-nums-x
-bounds-nums-x c = let h = c.loop-x-test.true in let z = c.requires.2 in search rules
 
 pub loop-x-preserved : goal.loop-x-preserved
 loop-x-preserved c = let a = c.args in

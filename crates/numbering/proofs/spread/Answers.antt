@@ -10,9 +10,6 @@ loop-i-init c = (omega arith, spreading_start c.args.n c.args.p)
 pub in_set-requires-then-in_set : goal.in_set-requires-then-in_set
 in_set-requires-then-in_set c = let z = c.loop-i.invariant.1.low in let w = c.loop-i-test.true in omega arith
 
-pub overflow_add-k : goal.overflow_add-k
-overflow_add-k c = let z = c.loop-i.invariant.1.low in let w = c.loop-i-test.true in omega arith
-
 pub loop-i-preserved : goal.loop-i-preserved
 loop-i-preserved c = let args = c.args in
     let h = c.loop-i-test.true in (

@@ -12,12 +12,6 @@ loop-x-init c = (omega arith, wrote-start c.args.nums c.args.p c.args.cap c.args
 pub returns-then-cap-n : goal.returns-then-cap-n
 returns-then-cap-n c = (c.loop-x.x, c.loop-x-test.true, c.if-cap-n.true)
 
-pub bounds-r-x : goal.bounds-r-x
-bounds-r-x c = let h = c.loop-x-test.true in let z = c.requires in search rules
-
-pub bounds-r-x-in-loop-x : goal.bounds-r-x-in-loop-x
-bounds-r-x-in-loop-x c = let h = c.loop-x-test.true in let z = c.requires in search rules
-
 pub loop-x-preserved : goal.loop-x-preserved
 loop-x-preserved c = let a = c.args in
     let h = c.loop-x-test.true in

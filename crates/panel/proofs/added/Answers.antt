@@ -1,11 +1,9 @@
 use mathlib.Core.Path.{sym, subst}
 use mathlib.Core.List.{List}
-use Prim.Native.Nat.{◌+◌, ◌-◌}
+use Prim.Native.Nat.{◌+◌}
 use native.Mathlib.Omega.{arith}
-use lib.ListN.{length}
 use Rattle.sheet.specs.declared.Rows.{Rows}
 use Rattle.panel.specs.AddLaws.{AddedUpTo, added_none, added_unmarked, added_marked, added_all}
-use borrow.Author.Rules.{rules}
 use Rattle.panel.proofs.added.Goals as goal
 use Rattle.panel.proofs.added.Goals.{then-marks-o-eq49, else-marks-o-eq49}
 
@@ -32,7 +30,7 @@ loop-o-preserved c = let pre = c.requires in
     let inside = c.loop-o-test.true in
     let Next : List Rows → Type 0 = AddedUpTo a.tables a.rows a.marks.now (o + 1) in
     elim c.if-marks-o-eq49.branch [
-        then-marks-o-eq49 w ↦
+      | then-marks-o-eq49 w ↦
           subst Next (sym w.next-is) (added_marked _ _ _ _ _ so_far inside _ pre w.if-marks-o-eq49.true w.either.ensures)
       | else-marks-o-eq49 w ↦ subst Next (sym w.next-is) (added_unmarked _ _ _ _ _ so_far inside w.if-marks-o-eq49.false)
     ]

@@ -2,7 +2,6 @@
 use borrow.Author.Tests.{not-true, not-false}
 use Rattle.sheet.specs.Examine.{at_bound, ask_line}
 use Rattle.panel.specs.AskLaws.{step_held, bound-refused, limit_refused, board_passed}
-use borrow.Author.Rules.{rules}
 use Rattle.panel.proofs.ask_board.Goals as goal
 
 pub ask_line-a-requires : goal.ask_line-a-requires

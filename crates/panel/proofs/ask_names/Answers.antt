@@ -4,7 +4,6 @@ use mathlib.Core.Option.{some}
 use borrow.Author.Tests.{not-true, not-false}
 use Rattle.sheet.specs.Examine.{nothing}
 use Rattle.panel.specs.AskLaws.{design_of, inputs_passed, inputs_refused, names_ready, names_asked}
-use borrow.Author.Rules.{rules}
 use Rattle.panel.proofs.ask_names.Goals as goal
 
 pub returns-then-not-a : goal.returns-then-not-a

@@ -1,9 +1,6 @@
 use mathlib.Core.Path.{sym, ◌∙◌}
-use Prim.Native.Nat.{◌-◌}
 use native.Mathlib.Omega.{arith}
-use borrow.Author.Tests.{not-true, not-false}
-use Rattle.panel.specs.OutputsLaws.{OutputsPassed, ready_few, outputs_start, outputs_held, outputs_room, outputs_more, outputs_stopped, outputs_all}
-use borrow.Author.Rules.{rules}
+use Rattle.panel.specs.OutputsLaws.{ready_few, outputs_start, outputs_held, outputs_room, outputs_more, outputs_stopped, outputs_all}
 use Rattle.panel.proofs.ask_outputs.Goals as goal
 
 pub loop-o-init : goal.loop-o-init

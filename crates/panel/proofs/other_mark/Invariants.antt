@@ -1,12 +1,6 @@
 -- `other_mark`: the marks of one cube after another. Assumes nothing.
-use mathlib.Core.Path.{refl, sym, ◌∙◌}
-use Prim.Native.Nat.{◌+◌, ◌-◌, ◌<◌}
-use native.Mathlib.Omega.{arith}
-use lib.ListN.{length}
-use borrow.Author.Tests.{not-true, not-false}
-use Rattle.panel.specs.PassLaws.{cube_there}
-use Rattle.panel.specs.MarkLaws.{MarksFrom, marks_start, mark_found, marks_more, marks_none}
-use borrow.Author.Rules.{rules}
+use Prim.Native.Nat.{◌-◌}
+use Rattle.panel.specs.MarkLaws.{MarksFrom}
 use Rattle.panel.proofs.other_mark.Given as goal
 
 abbrev pub invariant-loop-k : goal.invariant-loop-k

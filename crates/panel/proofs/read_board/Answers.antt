@@ -1,12 +1,9 @@
 -- `read_board`: the size, and then line after line. Assumes nothing.
-use mathlib.Core.Path.{◌≡◌, refl, sym, ◌∙◌}
-use mathlib.Core.Bool.{true}
+use mathlib.Core.Path.{refl, sym, ◌∙◌}
 use lib.Seq.{length-take-le}
 use borrow.Author.Tests.{not-true, not-false}
 use Rattle.sheet.specs.Lines.{read_bound}
-use Rattle.sheet.specs.Examine.{sized}
 use Rattle.panel.specs.BoardLaws.{board_not_sized, no_bound, no_second, no-limit, third-line, board-right}
-use borrow.Author.Rules.{rules}
 use Rattle.panel.proofs.read_board.Goals as goal
 
 pub returns-then-not-sized : goal.returns-then-not-sized

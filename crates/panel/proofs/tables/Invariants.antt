@@ -1,11 +1,6 @@
 -- `tables`: the rows of one cube after another. Assumes nothing.
-use mathlib.Core.Path.{refl}
-use Prim.Native.Nat.{◌+◌, ◌-◌, ◌<◌}
-use native.Mathlib.Omega.{arith}
-use lib.ListN.{length, drop}
-use Rattle.panel.specs.PassLaws.{cube_there}
-use Rattle.panel.specs.TableLaws.{TablesFrom, read_cubes, outputs_counted, part_few, tables_start, tables_more, tables_all}
-use borrow.Author.Rules.{rules}
+use Prim.Native.Nat.{◌-◌}
+use Rattle.panel.specs.TableLaws.{TablesFrom}
 use Rattle.panel.proofs.tables.Given as goal
 
 abbrev pub invariant-loop-k : goal.invariant-loop-k

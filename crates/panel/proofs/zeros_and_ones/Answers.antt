@@ -1,10 +1,6 @@
 use mathlib.Core.Path.{refl}
-use mathlib.Core.Logic.{⊎_elim}
-use Prim.Native.Nat.{◌-◌}
 use native.Mathlib.Omega.{arith}
-use lib.ListN.{length}
-use borrow.Author.Tests.{eqb-true, eqb-false, not-true, not-false}
-use Rattle.panel.specs.MarkLaws.{MarksPassed, byte_zero, byte_one, byte_other, bytes_all}
+use Rattle.panel.specs.MarkLaws.{byte_zero, byte_one, byte_other, bytes_all}
 use Rattle.panel.proofs.zeros_and_ones.Goals as goal
 use Rattle.panel.proofs.zeros_and_ones.Goals.{else-m-i-ne48-via-then-m-i-ne48+else-m-i-ne49, else-m-i-ne48-via-else-m-i-ne48}
 
@@ -18,7 +14,7 @@ pub loop-i-preserved : goal.loop-i-preserved
 loop-i-preserved c = let passed = c.loop-i.invariant in
     let inside = c.loop-i-test.true in
     elim c.else-m-i-ne48.branch [
-        else-m-i-ne48-via-then-m-i-ne48+else-m-i-ne49 w ↦ byte_one _ _ passed inside w.if-m-i-ne49.false
+      | else-m-i-ne48-via-then-m-i-ne48+else-m-i-ne49 w ↦ byte_one _ _ passed inside w.if-m-i-ne49.false
       | else-m-i-ne48-via-else-m-i-ne48 w ↦ byte_zero _ _ passed inside w.if-m-i-ne48.false
     ]
 

@@ -3,7 +3,6 @@ use mathlib.Core.Path.{refl}
 use native.Mathlib.Omega.{arith}
 use borrow.Author.Tests.{not-true, not-false}
 use Rattle.platext.specs.LineReadLaws.{count_no_line, count-unread, count-too-low, count-passed}
-use borrow.Author.Rules.{rules}
 use Rattle.platext.proofs.count_line.Goals as goal
 
 pub returns-then-not-l : goal.returns-then-not-l

@@ -3,11 +3,8 @@ use mathlib.Core.Path.{refl, sym, ◌∙◌}
 use native.Mathlib.Omega.{arith}
 use lib.ListN.{length}
 use borrow.Author.Tests.{leb-true, leb-false}
-use Rattle.text.specs.Bytes.{eat}
-use Rattle.cursor.specs.Item.{MovedIs}
 use Rattle.cursor.specs.MovedLaws.{moved-start, moved_to}
 use Rattle.platext.specs.CountLaws.{no_count_word, no_number, whole-count, longer-count}
-use borrow.Author.Rules.{rules}
 use Rattle.platext.proofs.count_of.Goals as goal
 
 pub text-m-requires : goal.text-m-requires

@@ -3,7 +3,6 @@ use mathlib.Core.Path.{refl}
 use native.Mathlib.Omega.{arith}
 use borrow.Author.Tests.{not-true, not-false}
 use Rattle.platext.specs.LineReadLaws.{names_no_line, names_line_lem}
-use borrow.Author.Rules.{rules}
 use Rattle.platext.proofs.named_line.Goals as goal
 
 pub returns-then-not-l : goal.returns-then-not-l

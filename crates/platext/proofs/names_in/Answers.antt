@@ -6,7 +6,6 @@ use borrow.Author.Tests.{leb-true, leb-false}
 use Rattle.cursor.specs.MovedLaws.{moved-start}
 use Rattle.sheet.specs.LineLaws.{no_word, word-found, whole-line, longer-line}
 use Rattle.platext.specs.Lines.{names_of, read_named}
-use borrow.Author.Rules.{rules}
 use Rattle.platext.proofs.names_in.Goals as goal
 
 pub text-m-requires : goal.text-m-requires

@@ -1,9 +1,6 @@
 use mathlib.Core.Path.{refl}
 use mathlib.Core.Bool.{true}
-use Prim.Native.Nat.{◌-◌}
-use native.Mathlib.Omega.{arith}
-use Rattle.platext.specs.GatheringLaws.{Gathering, gathering_none, gathering_more, gathering_bad, gathering_all}
-use borrow.Author.Rules.{rules}
+use Rattle.platext.specs.GatheringLaws.{gathering_none, gathering_more, gathering_bad, gathering_all}
 use Rattle.platext.proofs.names_of.Goals as goal
 
 pub loop-count-init : goal.loop-count-init

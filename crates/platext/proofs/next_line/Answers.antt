@@ -1,6 +1,5 @@
 -- `next_line`: where the line ends, and whether in a 0x0A. Assumes nothing.
 use mathlib.Core.Path.{refl}
-use native.Mathlib.Omega.{arith}
 use Rattle.platext.specs.LinePassLaws.{nothing_left, next-found}
 use Rattle.platext.proofs.next_line.Goals as goal
 

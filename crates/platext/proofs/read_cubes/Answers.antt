@@ -1,10 +1,7 @@
 use mathlib.Core.Path.{refl, sym, ◌∙◌}
-use Prim.Native.Nat.{◌-◌}
 use native.Mathlib.Omega.{arith}
-use lib.ListN.{length}
 use borrow.Author.Tests.{not-true, not-false}
-use Rattle.platext.specs.CubesLaws.{Cubes, cubes_none, no_line_here, no-cube-here, one-more-cube, last-here}
-use borrow.Author.Rules.{rules}
+use Rattle.platext.specs.CubesLaws.{cubes_none, no_line_here, no-cube-here, one-more-cube, last-here}
 use Rattle.platext.proofs.read_cubes.Goals as goal
 
 pub loop-at-init : goal.loop-at-init

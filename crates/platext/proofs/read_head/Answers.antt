@@ -2,7 +2,6 @@
 use mathlib.Core.Path.{refl}
 use borrow.Author.Tests.{not-true, not-false}
 use Rattle.platext.specs.HeadLaws.{head_bad, no_inputs, no_outputs, no-input-names, no-output-names, no-count, head-right}
-use borrow.Author.Rules.{rules}
 use Rattle.platext.proofs.read_head.Goals as goal
 
 pub returns-then-not-i : goal.returns-then-not-i

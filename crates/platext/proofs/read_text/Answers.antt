@@ -2,7 +2,6 @@
 use mathlib.Core.Path.{refl}
 use borrow.Author.Tests.{not-true, not-false}
 use Rattle.platext.specs.SizeLaws.{head_fits, no_bytes, many_bytes, bad_head, bad-cubes, right-text}
-use borrow.Author.Rules.{rules}
 use Rattle.platext.proofs.read_text.Goals as goal
 
 pub returns-then-s-lt1 : goal.returns-then-s-lt1

@@ -1,7 +1,6 @@
 -- `spaced_name`: the space, and then the name. Assumes nothing.
 use Rattle.cursor.specs.MovedLaws.{moved_to}
 use Rattle.platext.specs.GatheringLaws.{spaced_there, no_space}
-use borrow.Author.Rules.{rules}
 use Rattle.platext.proofs.spaced_name.Goals as goal
 
 pub name-requires : goal.name-requires

@@ -1,12 +1,8 @@
-use mathlib.Core.Path.{◌≡◌, refl, sym, ◌∙◌}
+use mathlib.Core.Path.{◌≡◌}
 use mathlib.Core.Bool.{false}
-use mathlib.Core.Logic.{inl, inr}
 use Prim.Native.Nat.{ℕ, ◌<◌, ◌≤◌, ◌-◌}
-use native.Mathlib.Omega.{arith}
 use Rattle.bits.specs.Digit.{on}
-use Rattle.readers.specs.KnownLaws.{unread_more}
 use Rattle.problem.specs.Problem.{item}
-use borrow.Author.Rules.{rules}
 use Rattle.readers.proofs.asked.Given as goal
 
 abbrev pub invariant-loop-o : goal.invariant-loop-o

@@ -1,4 +1,3 @@
-use borrow.Author.Rules.{rules}
 use Rattle.readers.specs.MasksLaws.{start_of_lem}
 use Rattle.readers.proofs.begin.Goals as goal
 

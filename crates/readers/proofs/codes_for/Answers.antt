@@ -1,7 +1,6 @@
 use mathlib.Core.Path.{refl, subst}
 use Prim.Native.Nat.{ℕ}
 use Rattle.readers.specs.Masks.{Decided}
-use borrow.Author.Rules.{rules}
 use Rattle.readers.specs.KnownLaws.{decided_contrary, decided_asked, decided_written}
 use Rattle.readers.proofs.codes_for.Goals as goal
 

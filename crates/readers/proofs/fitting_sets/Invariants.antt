@@ -1,10 +1,5 @@
-use mathlib.Core.Path.{◌≡◌, refl, subst}
-use Prim.Native.Nat.{ℕ, ◌≤◌, ◌-◌}
-use native.Mathlib.Omega.{arith}
+use Prim.Native.Nat.{◌≤◌, ◌-◌}
 use Rattle.readers.specs.Known.{Fitted}
-use borrow.Author.Rules.{rules}
-use Rattle.holding.specs.BlocksLaws.{all_ones}
-use Rattle.readers.specs.KnownLaws.{fitted_any, fitted_more}
 use Rattle.readers.proofs.fitting_sets.Given as goal
 
 abbrev pub invariant-loop-x : goal.invariant-loop-x

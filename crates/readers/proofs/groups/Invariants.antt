@@ -1,10 +1,5 @@
-use mathlib.Core.Path.{refl}
 use Prim.Native.Nat.{◌≤◌, ◌-◌}
-use native.Mathlib.Omega.{arith}
-use mathlib.Core.Logic.{⊎_elim}
 use Rattle.readers.specs.Groups.{Grouping}
-use borrow.Author.Rules.{rules}
-use Rattle.readers.specs.GroupsLaws.{grouping_start, grouping_same, grouping_more}
 use Rattle.readers.proofs.groups.Given as goal
 
 abbrev pub invariant-loop-i : goal.invariant-loop-i

@@ -1,6 +1,6 @@
 use Rattle.readers.specs.Masks.{Planned}
 use native.Mathlib.Omega.{arith}
-use Prim.Native.Nat.{ℕ, ◌≤◌, ◌-◌, ◌^◌}
+use Prim.Native.Nat.{ℕ, ◌^◌}
 use mathlib.Core.Path.{refl, ap, ◌∙◌, subst}
 use borrow.Author.Rules.{rules}
 use Rattle.readers.specs.MasksLaws.{planned_start, planned_more}
@@ -33,8 +33,7 @@ bounds-spots-o c = let h = c.loop-o-test.true in let z = c.requires in search ru
 pub loop-o-preserved : goal.loop-o-preserved
 loop-o-preserved c = let a = c.args in
     let z = c.requires in
-    let h = c.loop-o-test.true in
-    (
+    let h = c.loop-o-test.true in (
       omega arith,
       planned_more a.rows a.sh c.loop-o.o c.loop-o.ms c.loop-o.ps c.loop-o.caps c.loop-o.spots _ _ c.power-a.result c.power-b.result (omega arith) refl refl
           (c.power-a.ensures.0 ∙ ap (λ (z : ℕ). 2 ^ z) c.size.ensures.0)

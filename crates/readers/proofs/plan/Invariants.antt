@@ -1,9 +1,5 @@
 use Rattle.readers.specs.Masks.{Planned}
-use native.Mathlib.Omega.{arith}
-use Prim.Native.Nat.{ℕ, ◌≤◌, ◌-◌, ◌^◌}
-use mathlib.Core.Path.{refl, ap, ◌∙◌, subst}
-use borrow.Author.Rules.{rules}
-use Rattle.readers.specs.MasksLaws.{planned_start, planned_more}
+use Prim.Native.Nat.{◌≤◌, ◌-◌}
 use Rattle.readers.proofs.plan.Given as goal
 
 abbrev pub invariant-loop-o : goal.invariant-loop-o

@@ -1,10 +1,8 @@
-use Prim.Native.Nat.{◌≤◌, ◌-◌}
 use native.Mathlib.Omega.{arith}
 use Rattle.bits.specs.LogicLaws.{true_false}
 use Rattle.readers.specs.NeedsLaws.{bounds_of}
 use Rattle.readers.specs.AnswerLaws.{decided_crowded}
-use mir.Syntax.{w8, w64}
-use borrow.Author.Rules.{rules, elem_fits_field}
+use borrow.Author.Rules.{rules}
 use Rattle.readers.proofs.possible.Goals as goal
 
 pub shared-sh-requires : goal.shared-sh-requires

@@ -1,6 +1,4 @@
-use native.Mathlib.Omega.{arith}
 use Prim.Native.Nat.{◌≤◌, ◌-◌}
-use borrow.Author.Rules.{rules}
 use Rattle.readers.proofs.read_by.Given as goal
 
 abbrev pub invariant-loop-o : goal.invariant-loop-o

@@ -4,7 +4,6 @@ use mathlib.Core.List.{List}
 use Prim.Native.Nat.{ℕ, ◌≤◌}
 use native.Mathlib.Omega.{arith}
 use Rattle.cells.specs.Lists.{zeros}
-use borrow.Author.Tests.{not-true}
 use Rattle.readers.specs.Known.{Public, Zero}
 use Rattle.readers.specs.Masks.{Short, Common, Planned, Decided}
 use Rattle.readers.specs.AnswerLaws.{decided_of, decided_lost}
@@ -91,7 +90,7 @@ returns-then-not-settle_all c = let a = c.args in
           p.kn p.val k.public c.begin-b.result.codes c.begin-b.result.dom c.begin-b.result.dom c.begin-b.result.codes c.begin-b.ensures
           (start-covers a.cl.now c.bases-base.result _ _ _ p.vertices p.outputs p.kn p.val c.begin-b.result.codes c.begin-b.result.dom c.begin-b.result.dom
           k.vertices c.begin-b.ensures (kept-start a.cl.now c.bases-base.result _ _ _ p.vertices p.outputs c.begin-b.result.codes c.begin-b.result.dom))
-          (c.settle_all.ensures.2 (not-true _ c.if-not-settle_all.true-raw) p.kn p.val));
+          (c.settle_all.ensures.2 c.if-not-settle_all.true p.kn p.val));
       never = λ u. refl;
     }
 
@@ -157,8 +156,7 @@ find-requires c = let a = c.args in
     let p = c.plan-p.result in
     let e = c.plan-p.ensures in
     let k = planned-known a.rows c.searched-sh.result p.ms p.ps p.caps p.spots a.v a.j a.kn a.val p.vertices p.outputs p.kn p.val
-    pre.1 pre.2 pre.3 pre.4 c.searched-sh.ensures e in
-    (
+    pre.1 pre.2 pre.3 pre.4 c.searched-sh.ensures e in (
       pre.0,
       c.bases-base.ensures.long,
       blocks_of _ _ p.outputs c.blocks-bs.ensures,

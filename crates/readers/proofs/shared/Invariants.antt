@@ -1,8 +1,5 @@
 use Rattle.readers.specs.Masks.{Seen}
-use native.Mathlib.Omega.{arith}
 use Prim.Native.Nat.{◌≤◌, ◌-◌}
-use borrow.Author.Rules.{rules}
-use Rattle.readers.specs.MasksLaws.{seen_start, seen_more, seen_all}
 use Rattle.readers.proofs.shared.Given as goal
 
 abbrev pub invariant-loop-o : goal.invariant-loop-o

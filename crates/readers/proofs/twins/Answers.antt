@@ -1,5 +1,3 @@
-use Prim.Native.Nat.{◌≤◌, ◌-◌}
-use borrow.Author.Rules.{rules}
 use Rattle.readers.proofs.twins.Goals as goal
 
 pub read_by-own-requires : goal.read_by-own-requires

@@ -1,10 +1,5 @@
-use Rattle.coding.specs.Exchange.{Uniform}
-use Rattle.problem.specs.Problem.{item}
 use Rattle.bits.specs.LogicLaws.{true_false}
-use Rattle.readers.specs.GroupsLaws.{uniform_more}
 use native.Mathlib.Omega.{arith}
-use Prim.Native.Nat.{ℕ, ◌<◌, ◌≤◌, ◌-◌}
-use mathlib.Core.Logic.{◌⊎◌, inl, inr, ⊎_elim}
 use mathlib.Core.Path.{sym}
 use borrow.Author.Rules.{rules}
 use Rattle.readers.proofs.uniform.Goals as goal

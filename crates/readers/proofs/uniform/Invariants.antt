@@ -1,12 +1,6 @@
 use Rattle.coding.specs.Exchange.{Uniform}
 use Rattle.problem.specs.Problem.{item}
-use Rattle.bits.specs.LogicLaws.{true_false}
-use Rattle.readers.specs.GroupsLaws.{uniform_more}
-use native.Mathlib.Omega.{arith}
 use Prim.Native.Nat.{ℕ, ◌<◌, ◌≤◌, ◌-◌}
-use mathlib.Core.Logic.{◌⊎◌, inl, inr, ⊎_elim}
-use mathlib.Core.Path.{sym}
-use borrow.Author.Rules.{rules}
 use Rattle.readers.proofs.uniform.Given as goal
 
 abbrev pub invariant-loop-o : goal.invariant-loop-o

@@ -1,6 +1,5 @@
 use mathlib.Core.Path.{sym}
 use Rattle.bits.specs.LogicLaws.{true_false}
-use borrow.Author.Rules.{rules}
 use Rattle.readers.proofs.useful.Goals as goal
 
 pub returns-then-g-done-ne0 : goal.returns-then-g-done-ne0

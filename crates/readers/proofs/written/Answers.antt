@@ -1,5 +1,5 @@
 use mathlib.Core.Path.{◌≡◌, subst}
-use Prim.Native.Nat.{ℕ, ◌≤◌, ◌-◌}
+use Prim.Native.Nat.{ℕ}
 use native.Mathlib.Omega.{arith}
 use Rattle.readers.specs.Known.{Wrote}
 use borrow.Author.Rules.{rules}
@@ -30,8 +30,7 @@ bounds-r-x-in-loop-x c = let few = c.requires in let h = c.loop-x-test.true in s
 pub loop-x-preserved : goal.loop-x-preserved
 loop-x-preserved c = let a = c.args in
     let few = c.requires in
-    let h = c.loop-x-test.true in
-    (
+    let h = c.loop-x-test.true in (
       omega arith,
       wrote_more a.kn a.val a.codes c.loop-x.x c.loop-x.r c.with_digit.result c.in_set-known.result c.in_set-d.result (omega arith)
           c.in_set-known.ensures c.in_set-d.ensures c.with_digit.ensures c.loop-x.invariant.1,

@@ -1,9 +1,5 @@
-use mathlib.Core.Path.{◌≡◌, subst}
-use Prim.Native.Nat.{ℕ, ◌≤◌, ◌-◌}
-use native.Mathlib.Omega.{arith}
+use Prim.Native.Nat.{◌≤◌, ◌-◌}
 use Rattle.readers.specs.Known.{Wrote}
-use borrow.Author.Rules.{rules}
-use Rattle.readers.specs.KnownLaws.{wrote-start, wrote_more}
 use Rattle.readers.proofs.written.Given as goal
 
 abbrev pub invariant-loop-x : goal.invariant-loop-x

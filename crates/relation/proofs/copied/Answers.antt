@@ -6,20 +6,10 @@ use Rattle.bits.specs.FilledLaws.{filled_none}
 use Rattle.relation.specs.RefiningLaws.{copied_more}
 use Rattle.cells.specs.ListLaws.{zeros_are}
 use Rattle.relation.specs.Refining.{Copied}
-use borrow.Author.Rules.{rules}
 use Rattle.relation.proofs.copied.Goals as goal
-
-pub overflow_mul-end : goal.overflow_mul-end
-overflow_mul-end c = let z = c.requires.2 in search rules
 
 pub loop-k-init : goal.loop-k-init
 loop-k-init c = (omega arith, refl, record { filled = filled_none _ _ refl; rest = λ l h. zeros_are (2 * label_count) l })
-
-pub bounds-from-k : goal.bounds-from-k
-bounds-from-k c = let h = c.loop-k-test.true in
-    let e = c.loop-k.invariant.1 in
-    let few = c.requires.2 in
-    search rules
 
 pub label-requires : goal.label-requires
 label-requires c = let p = c.requires in
@@ -28,18 +18,6 @@ label-requires c = let p = c.requires in
     let few = p.2 in
     let long = p.0.long in
     (omega arith, p.1 (c.loop-k.k / max_vertices) (omega arith), omega arith)
-
-pub bounds-r-k : goal.bounds-r-k
-bounds-r-k c = let h = c.loop-k-test.true in
-    let e = c.loop-k.invariant.1 in
-    let few = c.requires.2 in
-    search rules
-
-pub overflow_add-k : goal.overflow_add-k
-overflow_add-k c = let h = c.loop-k-test.true in
-    let e = c.loop-k.invariant.1 in
-    let few = c.requires.2 in
-    search rules
 
 pub loop-k-preserved : goal.loop-k-preserved
 loop-k-preserved c = let h = c.loop-k-test.true in

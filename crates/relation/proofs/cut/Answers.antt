@@ -3,7 +3,6 @@ use Prim.Native.Nat.{ℕ, ◌+◌}
 use mathlib.Core.List.{List}
 use mathlib.Core.Path.{sym, subst}
 use Rattle.relation.specs.Refining.{Cutting}
-use borrow.Author.Rules.{rules}
 use Rattle.relation.specs.RefiningLaws.{cutting_start, cutting_none, cutting_more, cutting_leaves}
 use Rattle.relation.proofs.cut.Goals as goal
 use Rattle.relation.proofs.cut.Goals.{then-g-ne0, else-g-ne0}
@@ -15,15 +14,6 @@ pub loop-i-init : goal.loop-i-init
 loop-i-init c = let a = c.args in
     let p = c.requires in
     (omega arith, cutting_start a.cl.now a.given.now a.from a.gs a.n a.v p.3 p.4 c.copied-r.result p.0 p.2 c.copied-r.ensures)
-
-pub offset_bounds-gs-i : goal.offset_bounds-gs-i
-offset_bounds-gs-i c = let z = c.requires.3 in search rules
-
-pub bounds-gs-i : goal.bounds-gs-i
-bounds-gs-i c = let z = c.requires.3 in search rules
-
-pub bounds-from-i : goal.bounds-from-i
-bounds-from-i c = let z = c.requires.3 in search rules
 
 pub refine-refined-requires : goal.refine-refined-requires
 refine-refined-requires c = let p = c.requires in

@@ -2,18 +2,11 @@ use native.Mathlib.Omega.{arith}
 use mathlib.Core.Path.{refl, sym, ap, ◌∙◌}
 use mathlib.Core.Logic.{⊎_elim}
 use Rattle.problem.specs.Problem.{item}
-use borrow.Author.Rules.{rules}
 use Rattle.bits.specs.CountLaws.{less_or_equal}
 use Rattle.relation.proofs.first.Goals as goal
 
 pub loop-y-init : goal.loop-y-init
 loop-y-init c = (omega arith, refl, λ z h. absurd (omega arith))
-
-pub offset_bounds-keys-y : goal.offset_bounds-keys-y
-offset_bounds-keys-y c = let z = c.requires in search rules
-
-pub bounds-keys-y : goal.bounds-keys-y
-bounds-keys-y c = let z = c.requires in search rules
 
 pub returns-then-keys-y : goal.returns-then-keys-y
 returns-then-keys-y c = record { under = c.loop-y.invariant.0; same = c.if-keys-y.true ∙ c.loop-y.invariant.1; none = c.loop-y.invariant.2 }

@@ -3,7 +3,6 @@ use mathlib.Core.Path.{sym, subst}
 use Rattle.bits.specs.LogicLaws.{true_false}
 use Rattle.relation.specs.Relation.{Inside}
 use Rattle.relation.specs.RelationLaws.{inside_start, inside_more}
-use borrow.Author.Tests.{not-false}
 use Rattle.relation.proofs.inside.Goals as goal
 
 pub loop-x-init : goal.loop-x-init
@@ -23,7 +22,7 @@ returns-then-not-inside_at c = λ e. absurd (true_false (sym e))
 pub loop-x-preserved : goal.loop-x-preserved
 loop-x-preserved c = let a = c.args in
     let h = c.loop-x-test.true in
-    (omega arith, inside_more a.cl.now a.o a.q c.loop-x.x (c.inside_at.ensures (not-false _ c.if-not-inside_at.false-raw)) c.loop-x.invariant.1)
+    (omega arith, inside_more a.cl.now a.o a.q c.loop-x.x (c.inside_at.ensures c.if-not-inside_at.false) c.loop-x.invariant.1)
 
 pub returns : goal.returns
 returns c = let a = c.args in

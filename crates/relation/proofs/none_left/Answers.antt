@@ -3,7 +3,6 @@ use mathlib.Core.Path.{sym, subst}
 use Rattle.bits.specs.LogicLaws.{true_false}
 use Rattle.relation.specs.Relation.{NoneLeft}
 use Rattle.relation.specs.RelationLaws.{none_left_start, none_left_more}
-use borrow.Author.Tests.{not-false, not-true}
 use Rattle.relation.proofs.none_left.Goals as goal
 
 pub loop-x-init : goal.loop-x-init
@@ -15,13 +14,13 @@ told-requires c = let q = c.requires in let z = q.3 in let h = c.loop-x-test.tru
 pub returns-then-not-told : goal.returns-then-not-told
 returns-then-not-told c = let h = c.loop-x-test.true in (
   λ e. absurd (true_false (sym e)),
-  λ e s. c.told.ensures.1 (not-true _ c.if-not-told.true-raw) (λ y k. s.none c.loop-x.x y h (omega arith)),
+  λ e s. c.told.ensures.1 c.if-not-told.true (λ y k. s.none c.loop-x.x y h (omega arith)),
 )
 
 pub loop-x-preserved : goal.loop-x-preserved
 loop-x-preserved c = let a = c.args in
     let h = c.loop-x-test.true in
-    (omega arith, none_left_more a.cl.now a.given.now a.g a.o c.loop-x.x (c.told.ensures.0 (not-false _ c.if-not-told.false-raw)) c.loop-x.invariant.1)
+    (omega arith, none_left_more a.cl.now a.given.now a.g a.o c.loop-x.x (c.told.ensures.0 c.if-not-told.false) c.loop-x.invariant.1)
 
 pub returns : goal.returns
 returns c = let a = c.args in

@@ -2,7 +2,6 @@ use native.Mathlib.Omega.{arith}
 use Prim.Native.Nat.{ℕ, ◌<◌}
 use mathlib.Core.Path.{refl, subst}
 use Rattle.relation.specs.Refining.{Numbers}
-use borrow.Author.Rules.{rules}
 use Rattle.relation.specs.RefiningLaws.{numbering_start, numbering_old, numbering_new}
 use Rattle.relation.proofs.numbers.Goals as goal
 use Rattle.relation.proofs.numbers.Goals.{then-y-x, else-y-x}
@@ -12,18 +11,6 @@ loop-x-init c = (omega arith, numbering_start c.args.keys _ refl)
 
 pub first-y-requires : goal.first-y-requires
 first-y-requires c = let h = c.loop-x-test.true in let z = c.requires in omega arith
-
-pub bounds-r-y : goal.bounds-r-y
-bounds-r-y c = let z = c.requires in search rules
-
-pub overflow_add-next : goal.overflow_add-next
-overflow_add-next c = let z = c.loop-x.invariant.1.few in
-    let h = c.loop-x-test.true in
-    let few = c.requires in
-    omega arith
-
-pub bounds-r-x : goal.bounds-r-x
-bounds-r-x c = let z = c.requires in search rules
 
 pub loop-x-preserved : goal.loop-x-preserved
 loop-x-preserved c = let h = c.loop-x-test.true in

@@ -6,21 +6,11 @@ use Rattle.bits.specs.LogicLaws.{true_false}
 use Rattle.bits.specs.CountLaws.{less_or_equal}
 use Rattle.relation.specs.Relation.{Left}
 use Rattle.relation.specs.RelationLaws.{different_conflict, equal_not_left}
-use borrow.Author.Rules.{rules}
 use Rattle.relation.proofs.told.Goals as goal
 use Rattle.relation.proofs.told.Goals.{then-given-y+else-label, else-given-y}
 
 pub loop-y-init : goal.loop-y-init
 loop-y-init c = (omega arith, refl, c.label-label.ensures, λ z h. absurd (omega arith))
-
-pub offset_bounds-given-y : goal.offset_bounds-given-y
-offset_bounds-given-y c = let z = c.requires.3 in search rules
-
-pub bounds-given-y : goal.bounds-given-y
-bounds-given-y c = let z = c.requires.3 in search rules
-
-pub label-requires : goal.label-requires
-label-requires c = let z = c.requires.3 in search rules
 
 pub returns-then-label : goal.returns-then-label
 returns-then-label c = let a = c.args in

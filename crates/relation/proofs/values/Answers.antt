@@ -1,23 +1,10 @@
 use native.Mathlib.Omega.{arith}
 use mathlib.Core.Path.{refl}
-use borrow.Author.Rules.{rules}
 use Rattle.bits.specs.FilledLaws.{filled_none, filled_more, filled_fewer}
 use Rattle.relation.proofs.values.Goals as goal
 
 pub loop-x-init : goal.loop-x-init
 loop-x-init c = filled_none _ _ refl
-
-pub offset_bounds-given-x : goal.offset_bounds-given-x
-offset_bounds-given-x c = let z = c.requires.1 in search rules
-
-pub bounds-given-x : goal.bounds-given-x
-bounds-given-x c = let z = c.requires.1 in search rules
-
-pub offset_bounds-r-x : goal.offset_bounds-r-x
-offset_bounds-r-x c = let z = c.requires.1 in search rules
-
-pub bounds-r-x : goal.bounds-r-x
-bounds-r-x c = let z = c.requires.1 in search rules
 
 pub loop-x-preserved : goal.loop-x-preserved
 loop-x-preserved c = let few = c.requires.1 in

@@ -2,12 +2,7 @@
 use Rattle.std.proofs.Common.{arith}
 use Rattle.std.proofs.lemmas.Grind.{common_steps}
 use borrow.Author.Tests.{not-true, not-false}
-use Rattle.names.specs.Name.{Name}
-use Rattle.sheet.specs.Lines.{read_bound}
-use Rattle.sheet.specs.Examine.{Design, ask_bound}
-use Rattle.sheet.specs.Known.{kept_names, first_no, StepIs}
-use Rattle.sheet.specs.declared.Asked.{Asked}
-use Rattle.sheet.specs.BoundLaws.{after_four, bound_asks, bound-reads, bound_unknown, bound-onward}
+use Rattle.sheet.specs.BoundLaws.{bound_asks, bound-reads, bound_unknown, bound-onward}
 use Rattle.sheet.specs.ListLaws.{counted_few, list_refused, list_good}
 use Rattle.sheet.proofs.Lists.{list_sized}
 use Rattle.sheet.proofs.ask_bound.Goals as goal

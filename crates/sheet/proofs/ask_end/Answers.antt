@@ -1,5 +1,4 @@
 -- `ask_end`: question 3, by the count of the outputs. Assumes nothing.
-use borrow.Author.Rules.{rules}
 use Rattle.sheet.specs.AskOutLaws.{end_too_early, end_passes}
 use Rattle.sheet.proofs.ask_end.Goals as goal
 

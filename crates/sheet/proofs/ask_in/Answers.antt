@@ -1,5 +1,4 @@
 -- `ask_in`: the names of the line, asked. Assumes nothing.
-use borrow.Author.Rules.{rules}
 use Rattle.sheet.specs.InLaws.{in_reads}
 use Rattle.sheet.proofs.ask_in.Goals as goal
 

@@ -1,5 +1,4 @@
 -- `ask_limit`: the line's number, by questions 2 and 3. Assumes nothing.
-use borrow.Author.Rules.{rules}
 use Rattle.sheet.specs.LimitLaws.{limit_misspelled, limit_too_large, limit_passes}
 use Rattle.sheet.specs.Lines.{read_limit}
 use Rattle.sheet.proofs.ask_limit.Goals as goal

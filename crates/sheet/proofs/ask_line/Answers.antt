@@ -1,6 +1,5 @@
 -- `ask_line`: each place has its line. Assumes nothing.
 use mathlib.Core.Path.{sym, ◌∙◌}
-use borrow.Author.Rules.{rules}
 use Rattle.sheet.specs.AskLineLaws.{line_design, line_no_design, line_in, line_bound, line_limit, line_end, line_out, line_over}
 use Rattle.sheet.proofs.ask_line.Goals as goal
 

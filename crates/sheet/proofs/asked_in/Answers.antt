@@ -1,5 +1,4 @@
 -- `asked_in`: the first question with the answer "no", or the design with the inputs. Assumes nothing.
-use borrow.Author.Rules.{rules}
 use Rattle.sheet.specs.InLaws.{in_asks, in_onward}
 use Rattle.sheet.specs.ListLaws.{counted_few, list_refused, list_good}
 use Rattle.sheet.proofs.asked_in.Goals as goal

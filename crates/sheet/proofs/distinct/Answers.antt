@@ -1,7 +1,4 @@
-use Prim.Native.Nat.{◌-◌}
-use lib.ListN.{length}
-use borrow.Author.Rules.{rules}
-use Rattle.sheet.specs.DistinctLaws.{Passed, passed_none, stands_twice, passed_more, passed_all}
+use Rattle.sheet.specs.DistinctLaws.{passed_none, stands_twice, passed_more, passed_all}
 use Rattle.sheet.proofs.distinct.Goals as goal
 
 pub loop-i-init : goal.loop-i-init

@@ -1,8 +1,7 @@
 -- `distinct`: each turn passes one name that does not stand again. Assumes nothing.
 use Prim.Native.Nat.{◌-◌}
 use lib.ListN.{length}
-use borrow.Author.Rules.{rules}
-use Rattle.sheet.specs.DistinctLaws.{Passed, passed_none, stands_twice, passed_more, passed_all}
+use Rattle.sheet.specs.DistinctLaws.{Passed}
 use Rattle.sheet.proofs.distinct.Given as goal
 
 abbrev pub invariant-loop-i : goal.invariant-loop-i

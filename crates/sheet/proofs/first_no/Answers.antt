@@ -1,7 +1,6 @@
 -- `first_no`: each return rewrites with the tests before it. Assumes nothing.
 use Rattle.std.proofs.Common.{sym, ◌∙◌}
 use borrow.Author.Tests.{not-true, not-false}
-use Rattle.sheet.specs.AskedLaws.{within_high}
 use Rattle.sheet.specs.ListLaws.{no_to_two, no_to_three, no_to_four, no_to_none}
 use Rattle.sheet.proofs.first_no.Goals as goal
 

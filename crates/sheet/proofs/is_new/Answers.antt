@@ -1,10 +1,5 @@
 -- `is_new`: the name is looked up among the inputs and among the outputs. Assumes nothing.
-use mathlib.Core.Path.{sym}
-use native.Mathlib.Omega.{arith}
-use lib.Seq.{length-take-le}
-use borrow.Author.Rules.{rules}
 use Rattle.sheet.specs.NewNameLaws.{old_input, old_output, new_output}
-use Rattle.sheet.proofs.Arrays.{names_sized, outs_sized}
 use Rattle.sheet.proofs.is_new.Goals as goal
 
 pub returns-in_default : goal.returns-in_default

@@ -1,7 +1,6 @@
 -- `limit_line`: the head of the line, the number and the bracket, each where the one before ends. Assumes nothing.
 use mathlib.Core.Path.{sym, ◌∙◌}
 use native.Mathlib.Omega.{arith}
-use borrow.Author.Rules.{rules}
 use Rattle.text.specs.Bytes.{bytes, eat}
 use Rattle.cursor.specs.MovedLaws.{moved-start, moved_to, moved_nowhere}
 use Rattle.sheet.specs.LimitLaws.{limit_no_head, limit_no_number, limit_closed, limit_unclosed}

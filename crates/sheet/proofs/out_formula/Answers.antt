@@ -4,7 +4,6 @@ use mathlib.Core.Path.{sym, ◌∙◌}
 use native.Mathlib.Omega.{arith}
 use lib.ListN.{drop}
 use borrow.Author.Tests.{not-true, not-false}
-use borrow.Author.Rules.{rules}
 use Rattle.names.specs.Pack.{name_of}
 use Rattle.sheet.specs.OutLineLaws.{out-no-formula, out-unclosed, out-closed}
 use Rattle.sheet.proofs.out_formula.Goals as goal

@@ -1,7 +1,6 @@
 -- `out_line`: the head of the line, the name and the space, each where the one before ends. Assumes nothing.
 use mathlib.Core.List.{[], ◌∷◌, map}
 use native.Mathlib.Omega.{arith}
-use borrow.Author.Rules.{rules}
 use Rattle.text.specs.Bytes.{bytes, eat, space}
 use Rattle.names.specs.Pack.{name_of}
 use Rattle.cursor.specs.Item.{from}

@@ -1,9 +1,6 @@
 use mathlib.Core.Path.{refl}
 use mathlib.Core.List.{[], ◌∷◌}
-use Prim.Native.Nat.{◌-◌}
-use lib.ListN.{length}
-use borrow.Author.Rules.{rules}
-use Rattle.sheet.specs.PlaceLaws.{Placed, placed_none, place_missing, placed_more, placed_all}
+use Rattle.sheet.specs.PlaceLaws.{placed_none, place_missing, placed_more, placed_all}
 use Rattle.sheet.proofs.placed.Goals as goal
 
 pub loop-i-init : goal.loop-i-init

@@ -1,10 +1,7 @@
 -- `placed`: each turn puts the place of one name into the list. Assumes nothing.
-use mathlib.Core.Path.{refl}
-use mathlib.Core.List.{[], ◌∷◌}
 use Prim.Native.Nat.{◌-◌}
 use lib.ListN.{length}
-use borrow.Author.Rules.{rules}
-use Rattle.sheet.specs.PlaceLaws.{Placed, placed_none, place_missing, placed_more, placed_all}
+use Rattle.sheet.specs.PlaceLaws.{Placed}
 use Rattle.sheet.proofs.placed.Given as goal
 
 abbrev pub invariant-loop-i : goal.invariant-loop-i

@@ -1,5 +1,4 @@
 -- `with_output`: the name and the table are stored after the others. Assumes nothing.
-use borrow.Author.Rules.{rules}
 use Rattle.sheet.specs.OutputLaws.{output-added}
 use Rattle.sheet.proofs.Arrays.{tables_sized, outs_sized}
 use Rattle.sheet.proofs.with_output.Goals as goal

@@ -1,4 +1,3 @@
-use borrow.Author.Rules.{rules}
 use Rattle.subproblems.specs.GatheringLaws.{gathered_short, settled_of}
 use Rattle.subproblems.proofs.ask.Goals as goal
 

@@ -1,6 +1,6 @@
 use Rattle.subproblems.specs.Gathering.{Gathered}
 use native.Mathlib.Omega.{arith}
-use Prim.Native.Nat.{ℕ, ◌+◌, ◌≤◌, ◌-◌}
+use Prim.Native.Nat.{ℕ, ◌+◌}
 use mathlib.Core.Path.{refl, sym, ◌∙◌, subst}
 use borrow.Author.Rules.{rules}
 use Rattle.subproblems.specs.GatheringLaws.{gathered-start, gathered_skip, gathered_more, gathered_same}
@@ -37,14 +37,13 @@ overflow_add-n c = let h = c.loop-o-test.true in let f = c.loop-o.invariant.1.fe
 
 pub loop-o-preserved : goal.loop-o-preserved
 loop-o-preserved c = let h = c.loop-o-test.true in
-    let a = c.args in
-    (
+    let a = c.args in (
       omega arith,
       elim c.if-in_set.branch [
-        then-in_set w ↦ gathered_same a.asked a.rows (c.loop-o.o + 1) _ _ _ _ _ _ _ _ w.n-is w.from-is w.fs-is w.gs-is
-                      (gathered_more a.asked a.rows c.loop-o.o c.loop-o.n c.loop-o.from c.loop-o.fs c.loop-o.gs h c.loop-o.invariant.1 _ _ (sym w.if-in_set.true ∙ c.in_set.ensures) w.open_of.ensures.0 w.given_of.ensures.0)
-      | else-in_set w ↦ gathered_same a.asked a.rows (c.loop-o.o + 1) _ _ _ _ _ _ _ _ w.n-is w.from-is w.fs-is w.gs-is
-                      (gathered_skip a.asked a.rows c.loop-o.o c.loop-o.n c.loop-o.from c.loop-o.fs c.loop-o.gs h c.loop-o.invariant.1 (sym w.if-in_set.false ∙ c.in_set.ensures))
+        | then-in_set w ↦ gathered_same a.asked a.rows (c.loop-o.o + 1) _ _ _ _ _ _ _ _ w.n-is w.from-is w.fs-is w.gs-is
+            (gathered_more a.asked a.rows c.loop-o.o c.loop-o.n c.loop-o.from c.loop-o.fs c.loop-o.gs h c.loop-o.invariant.1 _ _ (sym w.if-in_set.true ∙ c.in_set.ensures) w.open_of.ensures.0 w.given_of.ensures.0)
+        | else-in_set w ↦ gathered_same a.asked a.rows (c.loop-o.o + 1) _ _ _ _ _ _ _ _ w.n-is w.from-is w.fs-is w.gs-is
+            (gathered_skip a.asked a.rows c.loop-o.o c.loop-o.n c.loop-o.from c.loop-o.fs c.loop-o.gs h c.loop-o.invariant.1 (sym w.if-in_set.false ∙ c.in_set.ensures))
       ],
     )
 

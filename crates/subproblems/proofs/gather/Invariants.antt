@@ -1,11 +1,5 @@
 use Rattle.subproblems.specs.Gathering.{Gathered}
-use native.Mathlib.Omega.{arith}
-use Prim.Native.Nat.{ℕ, ◌+◌, ◌≤◌, ◌-◌}
-use mathlib.Core.Logic.{⊎_elim}
-use mathlib.Core.Path.{refl, sym, ◌∙◌, subst}
-use borrow.Author.Rules.{rules}
-use Rattle.subproblems.specs.GatheringLaws.{gathered-start, gathered_skip, gathered_more, gathered_same}
-use Rattle.cells.specs.ListLaws.{zeros_are}
+use Prim.Native.Nat.{◌≤◌, ◌-◌}
 use Rattle.subproblems.proofs.gather.Given as goal
 
 abbrev pub invariant-loop-o : goal.invariant-loop-o

@@ -1,8 +1,7 @@
 use Rattle.subproblems.specs.Gathering.{Moved}
 use mathlib.Core.Path.{sym, ◌∙◌, subst}
-use Prim.Native.Nat.{ℕ, ◌≤◌, ◌-◌}
+use Prim.Native.Nat.{ℕ}
 use native.Mathlib.Omega.{arith}
-use borrow.Author.Rules.{rules}
 use Rattle.subproblems.specs.GatheringLaws.{moved-start, moved_off, moved_on, moved-low}
 use Rattle.subproblems.proofs.moved.Goals as goal
 use Rattle.subproblems.proofs.moved.Goals.{then-in_set, else-in_set}
@@ -22,8 +21,8 @@ loop-i-preserved c = let h = c.loop-i-test.true in
     let e = c.in_set.ensures in (
       omega arith,
       elim c.if-in_set.branch [
-        then-in_set w ↦ moved_on a.f a.perm c.loop-i.i c.loop-i.r w.power-r.result _ (sym w.if-in_set.true ∙ e) w.power-r.ensures.0 w.r-is c.loop-i.invariant.1
-      | else-in_set w ↦ moved_off a.f a.perm c.loop-i.i c.loop-i.r _ (sym w.if-in_set.false ∙ e) w.r-is c.loop-i.invariant.1
+        | then-in_set w ↦ moved_on a.f a.perm c.loop-i.i c.loop-i.r w.power-r.result _ (sym w.if-in_set.true ∙ e) w.power-r.ensures.0 w.r-is c.loop-i.invariant.1
+        | else-in_set w ↦ moved_off a.f a.perm c.loop-i.i c.loop-i.r _ (sym w.if-in_set.false ∙ e) w.r-is c.loop-i.invariant.1
       ],
     )
 

@@ -1,10 +1,5 @@
 use Rattle.subproblems.specs.Gathering.{Moved}
-use mathlib.Core.Path.{sym, ◌∙◌, subst}
-use mathlib.Core.Logic.{⊎_elim}
-use Prim.Native.Nat.{ℕ, ◌≤◌, ◌-◌}
-use native.Mathlib.Omega.{arith}
-use borrow.Author.Rules.{rules}
-use Rattle.subproblems.specs.GatheringLaws.{moved-start, moved_off, moved_on, moved-low}
+use Prim.Native.Nat.{◌≤◌, ◌-◌}
 use Rattle.subproblems.proofs.moved.Given as goal
 
 abbrev pub invariant-loop-i : goal.invariant-loop-i

@@ -1,5 +1,4 @@
 use mathlib.Core.Bool.{false}
-use borrow.Author.Rules.{rules}
 use Rattle.subproblems.specs.GatheringLaws.{gathered_short, settled_of}
 use Rattle.subproblems.proofs.possible.Goals as goal
 

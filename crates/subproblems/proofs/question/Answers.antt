@@ -1,8 +1,7 @@
 use Rattle.subproblems.specs.Gathering.{Moved, Turned}
 use native.Mathlib.Omega.{arith}
-use Prim.Native.Nat.{ℕ, ◌+◌, ◌*◌, ◌≤◌, ◌-◌}
+use Prim.Native.Nat.{ℕ, ◌+◌, ◌*◌}
 use mathlib.Core.Path.{refl, sym, ap, ◌∙◌, subst}
-use borrow.Author.Rules.{rules}
 use Rattle.subproblems.specs.GatheringLaws.{turned-start, turned_skip, turned_more, same_of}
 use Rattle.subproblems.proofs.question.Goals as goal
 use Rattle.subproblems.proofs.question.Goals.{then-in_set, else-in_set}
@@ -27,14 +26,13 @@ overflow_add-r c = let h = c.given_of.ensures.1 in let f = c.moved-f.ensures.0 i
 
 pub loop-o-preserved : goal.loop-o-preserved
 loop-o-preserved c = let h = c.loop-o-test.true in
-    let a = c.args in
-    (
+    let a = c.args in (
       omega arith,
       elim c.if-in_set.branch [
-        then-in_set w ↦ turned_more a.asked a.rows c.order-perm.result c.loop-o.o c.loop-o.r h c.loop-o.invariant.1 w.moved-f.result _ _ w.moved-f.ensures.0
-          (subst (λ (z : ℕ). Moved z c.order-perm.result 6 w.moved-f.result) w.open_of.ensures.0 w.moved-f.ensures.1)
-          (ap (λ (z : ℕ). z * 64 + w.moved-f.result) w.given_of.ensures.0) w.r-is
-      | else-in_set w ↦ turned_skip a.asked a.rows c.order-perm.result c.loop-o.o c.loop-o.r h c.loop-o.invariant.1 _ (sym w.if-in_set.false ∙ c.in_set.ensures) w.r-is
+        | then-in_set w ↦ turned_more a.asked a.rows c.order-perm.result c.loop-o.o c.loop-o.r h c.loop-o.invariant.1 w.moved-f.result _ _ w.moved-f.ensures.0
+            (subst (λ (z : ℕ). Moved z c.order-perm.result 6 w.moved-f.result) w.open_of.ensures.0 w.moved-f.ensures.1)
+            (ap (λ (z : ℕ). z * 64 + w.moved-f.result) w.given_of.ensures.0) w.r-is
+        | else-in_set w ↦ turned_skip a.asked a.rows c.order-perm.result c.loop-o.o c.loop-o.r h c.loop-o.invariant.1 _ (sym w.if-in_set.false ∙ c.in_set.ensures) w.r-is
       ],
     )
 

@@ -1,10 +1,5 @@
-use Rattle.subproblems.specs.Gathering.{Moved, Turned}
-use native.Mathlib.Omega.{arith}
-use Prim.Native.Nat.{ℕ, ◌+◌, ◌*◌, ◌≤◌, ◌-◌}
-use mathlib.Core.Logic.{⊎_elim}
-use mathlib.Core.Path.{refl, sym, ap, ◌∙◌, subst}
-use borrow.Author.Rules.{rules}
-use Rattle.subproblems.specs.GatheringLaws.{turned-start, turned_skip, turned_more, same_of}
+use Rattle.subproblems.specs.Gathering.{Turned}
+use Prim.Native.Nat.{◌≤◌, ◌-◌}
 use Rattle.subproblems.proofs.question.Given as goal
 
 abbrev pub invariant-loop-o : goal.invariant-loop-o

@@ -1,6 +1,4 @@
 use Prim.Native.Nat.{◌≤◌, ◌-◌}
-use native.Mathlib.Omega.{arith}
-use borrow.Author.Rules.{rules}
 use Rattle.subproblems.proofs.readers.Given as goal
 
 abbrev pub invariant-loop-o : goal.invariant-loop-o

@@ -2,10 +2,9 @@ use Rattle.subsets.specs.Listed.{Lists}
 use Rattle.subsets.specs.ListedLaws.{lists_start, lists_in, lists_out}
 use mathlib.Core.Path.{◌≡◌, refl, sym, ◌∙◌, subst}
 use mathlib.Core.List.{List}
-use mathlib.Core.Logic.{⊎_elim}
-use Prim.Native.Nat.{ℕ, ◌+◌, ◌≤◌, ◌-◌}
+use Prim.Native.Nat.{ℕ, ◌+◌, ◌≤◌}
 use native.Mathlib.Omega.{arith}
-use lib.ListN.{set, get_or-replicate}
+use lib.ListN.{get_or-replicate}
 use borrow.Author.Rules.{rules}
 use Rattle.subsets.proofs.members.Goals as goal
 use Rattle.subsets.proofs.members.Goals.{then-has, else-has}
@@ -29,14 +28,13 @@ loop-o-preserved c =
     let i = c.loop-o in
     let P : List ℕ → ℕ → Type 0 = λ from n. (n ≤ i.o + 1) × Lists (i.o + 1) a.set n from in
     let R : P c.if-has.from c.if-has.n =
-        elim c.if-has.branch [
-          then-has w ↦
-            rw (w.from-is, w.n-is) (omega arith, lists_in i.o a.set i.n i.from (omega arith) (omega arith) (sym t ∙ w.if-has.true) i.invariant.2)
-        | else-has w ↦
-            rw (w.from-is, w.n-is) (omega arith, lists_out i.o a.set i.n i.from (sym t ∙ w.if-has.false) i.invariant.2)
-        ] in
+    elim c.if-has.branch [
+      | then-has w ↦
+          rw (w.from-is, w.n-is) (omega arith, lists_in i.o a.set i.n i.from (omega arith) (omega arith) (sym t ∙ w.if-has.true) i.invariant.2)
+      | else-has w ↦
+          rw (w.from-is, w.n-is) (omega arith, lists_out i.o a.set i.n i.from (sym t ∙ w.if-has.false) i.invariant.2)
+    ] in
     (omega arith, R.0, R.1)
-
 
 pub returns : goal.returns
 returns c = let a = c.args in

@@ -1,12 +1,5 @@
 use Rattle.subsets.specs.Listed.{Lists}
-use Rattle.subsets.specs.ListedLaws.{lists_start, lists_in, lists_out}
-use mathlib.Core.Path.{◌≡◌, refl, sym, ◌∙◌, subst}
-use mathlib.Core.List.{List}
-use mathlib.Core.Logic.{⊎_elim}
-use Prim.Native.Nat.{ℕ, ◌+◌, ◌≤◌, ◌-◌}
-use native.Mathlib.Omega.{arith}
-use lib.ListN.{set, get_or-replicate}
-use borrow.Author.Rules.{rules}
+use Prim.Native.Nat.{◌≤◌, ◌-◌}
 use Rattle.subsets.proofs.members.Given as goal
 
 abbrev pub invariant-loop-o : goal.invariant-loop-o

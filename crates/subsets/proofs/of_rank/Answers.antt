@@ -1,10 +1,8 @@
 use Rattle.subsets.specs.Rank.{rank}
 use Rattle.subsets.specs.RankLaws.{rank_in, rank_out, rank_room}
 use mathlib.Core.Path.{◌≡◌, refl, sym, ap, ◌∙◌}
-use mathlib.Core.Logic.{⊎_elim}
-use Prim.Native.Nat.{ℕ, ◌+◌, ◌≤◌, ◌-◌}
+use Prim.Native.Nat.{ℕ, ◌+◌}
 use native.Mathlib.Omega.{arith}
-use borrow.Author.Rules.{rules}
 use Rattle.subsets.proofs.of_rank.Goals as goal
 use Rattle.subsets.proofs.of_rank.Goals.{then-has, else-has}
 
@@ -31,12 +29,11 @@ loop-i-preserved c =
     let t = c.has.ensures in
     let i = c.loop-i in
     let R : c.if-has.s ≡ rank (i.i + 1) a.r =
-        elim c.if-has.branch [
-          then-has w ↦ w.s-is ∙ rank_in i.i a.r i.s (sym t ∙ w.if-has.true) i.invariant.1
-        | else-has w ↦ w.s-is ∙ rank_out i.i a.r i.s (sym t ∙ w.if-has.false) i.invariant.1
-        ] in
+    elim c.if-has.branch [
+      | then-has w ↦ w.s-is ∙ rank_in i.i a.r i.s (sym t ∙ w.if-has.true) i.invariant.1
+      | else-has w ↦ w.s-is ∙ rank_out i.i a.r i.s (sym t ∙ w.if-has.false) i.invariant.1
+    ] in
     (omega arith, R)
-
 
 pub returns : goal.returns
 returns c = let a = c.args in

@@ -1,10 +1,6 @@
 use Rattle.subsets.specs.Rank.{rank}
-use Rattle.subsets.specs.RankLaws.{rank_in, rank_out, rank_room}
-use mathlib.Core.Path.{◌≡◌, refl, sym, ap, ◌∙◌}
-use mathlib.Core.Logic.{⊎_elim}
-use Prim.Native.Nat.{ℕ, ◌+◌, ◌≤◌, ◌-◌}
-use native.Mathlib.Omega.{arith}
-use borrow.Author.Rules.{rules}
+use mathlib.Core.Path.{◌≡◌}
+use Prim.Native.Nat.{◌≤◌, ◌-◌}
 use Rattle.subsets.proofs.of_rank.Given as goal
 
 abbrev pub invariant-loop-i : goal.invariant-loop-i

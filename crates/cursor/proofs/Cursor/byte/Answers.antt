@@ -1,6 +1,5 @@
 -- `Cursor::byte`: the text has ended, the byte is another, or it is the one. Assumes nothing.
 use mathlib.Core.Path.{refl}
-use borrow.Author.Rules.{rules}
 use Rattle.cursor.specs.EatingLaws.{byte_past, byte_differs, byte_same}
 use Rattle.cursor.proofs.Cursor.byte.Goals as goal
 

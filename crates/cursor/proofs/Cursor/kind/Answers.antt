@@ -1,6 +1,5 @@
 -- `Cursor::kind`: the byte at the place decides, and nothing opens past the end. Assumes nothing.
 use mathlib.Core.Path.{◌∙◌}
-use borrow.Author.Rules.{rules}
 use Rattle.cursor.specs.FirstLaws.{first_inside, first_past}
 use Rattle.cursor.proofs.Cursor.kind.Goals as goal
 

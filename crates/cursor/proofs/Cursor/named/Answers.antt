@@ -1,7 +1,6 @@
 -- `Cursor::named`: the word is too long, an operator word, or a name. Assumes nothing.
 use mathlib.Core.Path.{refl, sym, ◌∙◌}
 use native.Mathlib.Omega.{arith}
-use borrow.Author.Rules.{rules}
 use Rattle.cursor.specs.NamedLaws.{long_bad, named_there, operator_bad}
 use Rattle.cursor.proofs.Cursor.named.Goals as goal
 

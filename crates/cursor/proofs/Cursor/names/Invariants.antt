@@ -1,12 +1,7 @@
 -- `Cursor::names`: the loop keeps the names passed; its laws are those of GatheredLaws. Assumes nothing.
-use mathlib.Core.Bool.{true, false}
-use mathlib.Core.Path.{refl}
 use Prim.Native.Nat.{◌-◌}
-use native.Mathlib.Omega.{arith}
 use lib.ListN.{length}
-use borrow.Author.Rules.{rules}
-use Rattle.cursor.specs.NextName.{NameNext}
-use Rattle.cursor.specs.GatheredLaws.{Gathered, gathered_none, gathered_more, gathered_all, gathered_bad}
+use Rattle.cursor.specs.GatheredLaws.{Gathered}
 use Rattle.cursor.proofs.Cursor.names.Given as goal
 
 abbrev pub invariant-loop-v : goal.invariant-loop-v

@@ -1,7 +1,6 @@
 -- `Cursor::number`: the longest part of digits is a number or not. Assumes nothing.
 use mathlib.Core.Path.{refl, sym, ◌∙◌}
 use native.Mathlib.Omega.{arith}
-use borrow.Author.Rules.{rules}
 use Rattle.limits.specs.Limits.{max_pla_digits}
 use Rattle.cursor.specs.ReadNumberLaws.{number_short, number_there, no_number}
 use Rattle.cursor.proofs.Cursor.number.Goals as goal

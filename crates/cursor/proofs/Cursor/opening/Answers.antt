@@ -1,6 +1,5 @@
 -- `Cursor::opening`: the first byte says which kind is read. Assumes nothing.
 use mathlib.Core.Path.{sym, ◌∙◌}
-use borrow.Author.Rules.{rules}
 use Rattle.cursor.specs.OpenedLaws.{opening_other}
 use Rattle.cursor.proofs.Cursor.opening.Goals as goal
 

@@ -1,5 +1,4 @@
 -- `Cursor::opens_name`: a name there opens a formula, and no name opens none. Assumes nothing.
-use borrow.Author.Rules.{rules}
 use Rattle.cursor.specs.OpenedLaws.{name_opened, name_bad}
 use Rattle.cursor.proofs.Cursor.opens_name.Goals as goal
 

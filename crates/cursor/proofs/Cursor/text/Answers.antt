@@ -1,8 +1,6 @@
 use mathlib.Core.Path.{refl}
-use Prim.Native.Nat.{◌-◌}
 use native.Mathlib.Omega.{arith}
-use lib.ListN.{length}
-use Rattle.cursor.specs.EatingLaws.{Eating, too_short, eating_none, eating_more, eating_differs, eating_whole}
+use Rattle.cursor.specs.EatingLaws.{too_short, eating_none, eating_more, eating_differs, eating_whole}
 use Rattle.cursor.proofs.Cursor.text.Goals as goal
 
 pub overflow_sub-s : goal.overflow_sub-s

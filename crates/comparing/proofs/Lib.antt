@@ -1,0 +1,2 @@
+-- What the proofs here share.
+pub mod RowLaws
