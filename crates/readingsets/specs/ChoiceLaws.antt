@@ -3,7 +3,8 @@
 -- only rows in that order are tried. Of these, rows that no codes answer, alone or with those chosen before, are passed over:
 -- no core has them. Assumes nothing.
 use Rattle.std.specs.Prelude.{◌≡◌, ℕ, zero, suc, ◌+◌, ◌-◌, ◌*◌, ◌/◌, ◌%◌, ◌^◌, ◌<◌, ◌≤◌, min, Bool, true, false, not, ◌⊎◌, List, length, ◌==◌, ◌≢◌, bit_and, bit_or, bit_xor, nat_eq, slice_set, refl}
-use Rattle.std.proofs.Common.{sym, ap, ap₂, ◌∙◌, subst, inl, inr, ⊎_elim, arith, mod-eq_of_lt, mod-lt, div-lt_iff_lt-mul, mul_comm, mul-suc, mul-le-mul_left, length-set, pow-add, pow_mono, pow_pos, shr-shr, get_or-set_same, get_or-set_other, eqb-true}
+use Rattle.std.proofs.Common.{sym, ap, ap₂, ◌∙◌, subst, inl, inr, ⊎_elim, arith, mod-eq_of_lt, mod-lt, div-lt_iff_lt-mul}
+use Rattle.std.proofs.Common.{mul_comm, mul-suc, mul-le-mul_left, length-set, pow-add, pow_mono, pow_pos, shr-shr, get_or-set_same, get_or-set_other, eqb-true}
 use Rattle.std.proofs.Math.Decide.{ℕ_discrete, dec_lt}
 use Rattle.std.proofs.Math.Nat.{div-eq_of_lt, add-mul-div_left, add-mul-mod_self_left}
 use Rattle.std.proofs.lemmas.Nat.{and_le_r}

@@ -48,7 +48,8 @@ module _ (cl given budgets : List ℕ) (kn val v m u g n row : ℕ) (fits : RowF
     where
       tells : (o x y : ℕ) → o < 8 → on (2 ^ m - 1) o ≡ true → x < v → y < v → Left cl given (given_of (replaced n row R o)) o x y
           → bit_and (F x) (open_of (replaced n row R o)) ≡ bit_and (F y) (open_of (replaced n row R o)) → Dec (o ≡ n) → ⊥
-      tells o x y h e a b l s (yes q) = serves.none x y a b (subst (λ (o : ℕ). Left cl given (given_of row) o x y) q (subst (λ (r : ℕ). Left cl given (given_of r) o x y) (replaced_same n row R o q) l))
+      tells o x y h e a b l s (yes q) = serves.none x y a b
+          (subst (λ (o : ℕ). Left cl given (given_of row) o x y) q (subst (λ (r : ℕ). Left cl given (given_of r) o x y) (replaced_same n row R o q) l))
       tells o x y h e a b l s (no q) = c.answers.tells o x y h e a b
           (subst (λ (r : ℕ). Left cl given (given_of r) o x y) (replaced_other n row R o q) l)
           (subst (λ (r : ℕ). bit_and (F x) (open_of r) ≡ bit_and (F y) (open_of r)) (replaced_other n row R o q) s)

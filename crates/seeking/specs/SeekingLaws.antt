@@ -207,13 +207,15 @@ module _ (cl given budgets : List ℕ) (kn val v m u g : ℕ) (rows codes : List
     tells = λ o x y h a b c e. found.answers.tells o x y (omega arith) (asked o h) a b (record { conflict = c; agree = tables o x y h e }) (cells o x y h e);
   }
     where
-      tables : (o x y : ℕ) → o < m → bit_and (codes_to x) (rows_to o) ≡ bit_and (codes_to y) (rows_to o) → bit_and (item given x) (given_of (item rows o)) ≡ bit_and (item given y) (given_of (item rows o))
+      tables : (o x y : ℕ) → o < m → bit_and (codes_to x) (rows_to o) ≡ bit_and (codes_to y) (rows_to o)
+          → bit_and (item given x) (given_of (item rows o)) ≡ bit_and (item given y) (given_of (item rows o))
       tables o x y h e = agree_and g (given_of (item rows o)) (item given x) (item given y) (fit o h).tables_low (λ i l r.
           sym (on_joined_next u (item codes x) (item given x) i)
           ∙ and_agree (u + g) (rows_to o) (codes_to x) (codes_to y) e (u + i) (omega arith) (on_joined_next u (open_of (item rows o)) (given_of (item rows o)) i ∙ r)
           ∙ on_joined_next u (item codes y) (item given y) i)
 
-      cells : (o x y : ℕ) → o < m → bit_and (codes_to x) (rows_to o) ≡ bit_and (codes_to y) (rows_to o) → bit_and (item codes x) (open_of (item rows o)) ≡ bit_and (item codes y) (open_of (item rows o))
+      cells : (o x y : ℕ) → o < m → bit_and (codes_to x) (rows_to o) ≡ bit_and (codes_to y) (rows_to o)
+          → bit_and (item codes x) (open_of (item rows o)) ≡ bit_and (item codes y) (open_of (item rows o))
       cells o x y h e = agree_and u (open_of (item rows o)) (item codes x) (item codes y) (fit o h).cells_low (λ i l r.
           sym (on_joined_first u (item codes x) (item given x) i l)
           ∙ and_agree u (rows_to o) (codes_to x) (codes_to y) e i l (on_joined_first u (open_of (item rows o)) (given_of (item rows o)) i l ∙ r)

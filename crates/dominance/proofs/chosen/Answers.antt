@@ -1,12 +1,7 @@
-use mathlib.Core.Path.{refl, sym, subst}
-use mathlib.Core.List.{List}
-use Prim.Native.Nat.{ℕ, ◌+◌}
-use native.Mathlib.Omega.{arith}
-use lib.ListN.{set}
+use Rattle.std.proofs.Common.{refl, sym, subst, List, ℕ, ◌+◌, arith, set, rules}
 use Rattle.problem.specs.Problem.{item}
 use Rattle.dominance.specs.Dominance.{Choosing}
 use Rattle.dominance.specs.DominanceLaws.{choosing_start, choosing-dominated, choosing-kept, choosing_all}
-use borrow.Author.Rules.{rules}
 use Rattle.cells.specs.ListLaws.{zeros_are}
 use Rattle.dominance.proofs.chosen.Goals as goal
 use Rattle.dominance.proofs.chosen.Goals.{then-k-n, else-k-n}

@@ -1,4 +1,4 @@
-use Prim.Native.Nat.{◌≤◌, ◌-◌}
+use Rattle.std.proofs.Common.{◌≤◌, ◌-◌}
 use Rattle.dominance.specs.Dominance.{Choosing}
 use Rattle.dominance.proofs.chosen.Given as goal
 

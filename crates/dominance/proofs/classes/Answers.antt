@@ -1,5 +1,4 @@
-use Prim.Native.Nat.{◌+◌, ◌*◌}
-use native.Mathlib.Omega.{arith}
+use Rattle.std.proofs.Common.{◌+◌, ◌*◌, arith}
 use Rattle.dominance.proofs.classes.Goals as goal
 use Rattle.dominance.proofs.classes.Goals.{then-not-in_set, else-not-in_set}
 

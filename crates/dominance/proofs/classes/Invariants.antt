@@ -1,4 +1,4 @@
-use Prim.Native.Nat.{◌≤◌, ◌-◌}
+use Rattle.std.proofs.Common.{◌≤◌, ◌-◌}
 use Rattle.dominance.proofs.classes.Given as goal
 
 abbrev pub invariant-loop-x : goal.invariant-loop-x

@@ -1,6 +1,4 @@
-use mathlib.Core.Path.{sym}
-use native.Mathlib.Omega.{arith}
-use borrow.Author.Rules.{rules}
+use Rattle.std.proofs.Common.{sym, arith, rules}
 use Rattle.dominance.proofs.dominator.Goals as goal
 
 pub loop-k-init : goal.loop-k-init

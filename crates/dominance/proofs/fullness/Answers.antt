@@ -1,4 +1,4 @@
-use native.Mathlib.Omega.{arith}
+use Rattle.std.proofs.Common.{arith}
 use Rattle.dominance.proofs.fullness.Goals as goal
 use Rattle.dominance.proofs.fullness.Goals.{then-budget-lt-MOST, else-budget-lt-MOST}
 

@@ -13,4 +13,5 @@ picked-bs-requires c = c.chosen-c.ensures.indices
 pub returns : goal.returns
 returns c = let a = c.args in
     let p = c.requires in
-    chosen_stand_for a.cl.now a.budgets a.v a.m c.chosen-c.result.count c.chosen-c.result.from c.chosen-c.result.by c.labels-taken.result c.picked-bs.result p.0 p.1 c.chosen-c.ensures c.labels-taken.ensures c.picked-bs.ensures
+    let r = c.chosen-c.result in
+    chosen_stand_for a.cl.now a.budgets a.v a.m r.count r.from r.by c.labels-taken.result c.picked-bs.result p.0 p.1 c.chosen-c.ensures c.labels-taken.ensures c.picked-bs.ensures

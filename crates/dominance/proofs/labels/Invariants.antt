@@ -1,5 +1,5 @@
 use Rattle.dominance.specs.Dominance.{Taken}
-use Prim.Native.Nat.{◌≤◌, ◌-◌}
+use Rattle.std.proofs.Common.{◌≤◌, ◌-◌}
 use Rattle.dominance.proofs.labels.Given as goal
 
 abbrev pub invariant-loop-i : goal.invariant-loop-i

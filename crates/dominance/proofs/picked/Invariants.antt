@@ -1,5 +1,5 @@
 use Rattle.dominance.specs.Dominance.{Picked}
-use Prim.Native.Nat.{◌≤◌, ◌-◌}
+use Rattle.std.proofs.Common.{◌≤◌, ◌-◌}
 use Rattle.dominance.proofs.picked.Given as goal
 
 abbrev pub invariant-loop-i : goal.invariant-loop-i

@@ -1,8 +1,5 @@
 use Rattle.dominance.specs.Kept.{Placed}
-use mathlib.Core.Path.{refl, subst}
-use Prim.Native.Nat.{ℕ}
-use native.Mathlib.Omega.{arith}
-use borrow.Author.Rules.{rules}
+use Rattle.std.proofs.Common.{refl, subst, ℕ, arith, rules}
 use Rattle.bits.specs.FilledLaws.{filled_none, filled_more}
 use Rattle.dominance.proofs.placed.Goals as goal
 

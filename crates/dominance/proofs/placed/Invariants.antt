@@ -1,5 +1,5 @@
 use Rattle.dominance.specs.Kept.{Placed}
-use Prim.Native.Nat.{◌≤◌, ◌-◌}
+use Rattle.std.proofs.Common.{◌≤◌, ◌-◌}
 use Rattle.dominance.proofs.placed.Given as goal
 
 abbrev pub invariant-loop-o : goal.invariant-loop-o

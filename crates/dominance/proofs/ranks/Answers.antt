@@ -1,7 +1,4 @@
-use mathlib.Core.Path.{refl, ◌∙◌}
-use native.Mathlib.Omega.{arith}
-use lib.ListN.{length-set}
-use borrow.Author.Rules.{rules}
+use Rattle.std.proofs.Common.{refl, ◌∙◌, arith, length-set, rules}
 use Rattle.dominance.proofs.ranks.Goals as goal
 
 pub loop-o-init : goal.loop-o-init

@@ -1,7 +1,5 @@
 use Rattle.dominance.specs.KeptLaws.{kept_sought}
-use native.Mathlib.Omega.{arith}
-use mathlib.Core.Logic.{inl}
-use mathlib.Core.Path.{refl, sym, ◌∙◌}
+use Rattle.std.proofs.Common.{arith, inl, refl, sym, ◌∙◌}
 use Rattle.fewest.specs.CountLaws.{no_fewer_start, no_fewer_more, no_fewer_kept, answer_found, answer_none}
 use Rattle.fewest.proofs.fewest.Goals as goal
 
@@ -45,11 +43,12 @@ returns-then-k c = let a = c.args in
     let cl = a.cl.now in
     let h = c.loop-u-test.true in
     let t = c.if-k.true in
-    let found = kept_sought cl _ a.budgets c.kept-kept.result.labels c.kept-kept.result.budgets 0 0 a.v a.m c.kept-kept.result.outputs c.loop-u.u 0 c.kept-kept.result.by c.kept-kept.ensures
+    let k = c.kept-kept.result in
+    let found = kept_sought cl _ a.budgets k.labels k.budgets 0 0 a.v a.m k.outputs c.loop-u.u 0 k.by c.kept-kept.ensures
     c.seek-k.result.rows c.placed.result c.seek-k.result.codes c.placed.ensures c.seek-k.result.ok c.seek-k.ensures.0 in (
       answer_found cl _ a.budgets a.v a.m c.loop-u.u a.limit c.placed.result c.seek-k.result.codes c.opened-reads.result c.zero_first-zeroed.result c.seek-k.result.ok
           p.1 p.2 p.3 (omega arith) t found c.opened-reads.ensures c.zero_first-zeroed.ensures
-          (no_fewer_kept cl _ a.budgets a.v a.m c.kept-kept.result.labels c.kept-kept.result.budgets c.kept-kept.result.outputs c.kept-kept.result.by c.loop-u.u c.kept-kept.ensures c.loop-u.invariant.2),
+          (no_fewer_kept cl _ a.budgets a.v a.m k.labels k.budgets k.outputs k.by c.loop-u.u c.kept-kept.ensures c.loop-u.invariant.2),
       c.seek-k.ensures.1.long,
     )
 
@@ -72,8 +71,8 @@ pub shape_of-mem : goal.shape_of-mem
 shape_of-mem c = c.loop-u.invariant.3.long ∙ sym c.requires.4
 
 pub returns : goal.returns
-returns c = let a = c.args in (
+returns c = let a = c.args in let k = c.kept-kept.result in (
   answer_none a.cl.now _ a.budgets a.v a.m c.loop-u.u a.limit _ _ c.loop-u-test.false
-      (no_fewer_kept a.cl.now _ a.budgets a.v a.m c.kept-kept.result.labels c.kept-kept.result.budgets c.kept-kept.result.outputs c.kept-kept.result.by c.loop-u.u c.kept-kept.ensures c.loop-u.invariant.2),
+      (no_fewer_kept a.cl.now _ a.budgets a.v a.m k.labels k.budgets k.outputs k.by c.loop-u.u c.kept-kept.ensures c.loop-u.invariant.2),
   c.loop-u.invariant.3.long,
 )

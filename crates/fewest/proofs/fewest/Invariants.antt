@@ -1,8 +1,6 @@
 use Rattle.fewest.specs.Count.{NoFewer}
 use Rattle.cache.specs.Cache.{Honest}
-use lib.ListN.{length}
-use Prim.Native.Nat.{◌≤◌, ◌+◌, ◌-◌}
-use mathlib.Core.Path.{◌≡◌}
+use Rattle.std.proofs.Common.{length, ◌≤◌, ◌+◌, ◌-◌, ◌≡◌}
 use Rattle.fewest.proofs.fewest.Given as goal
 
 abbrev pub invariant-loop-u : goal.invariant-loop-u

@@ -1,4 +1,4 @@
-use mathlib.Core.Path.{refl}
+use Rattle.std.proofs.Common.{refl}
 use Rattle.bits.specs.FilledLaws.{filled_none, filled_more, filled_fewer}
 use Rattle.fewest.proofs.opened.Goals as goal
 

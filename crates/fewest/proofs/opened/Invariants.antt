@@ -1,5 +1,5 @@
 use Rattle.fewest.specs.Count.{Opened}
-use Prim.Native.Nat.{◌-◌}
+use Rattle.std.proofs.Common.{◌-◌}
 use Rattle.fewest.proofs.opened.Given as goal
 
 abbrev pub invariant-loop-o : goal.invariant-loop-o

@@ -1,7 +1,5 @@
 use Rattle.fewest.specs.Count.{Zeroed}
-use lib.ListN.{get_or}
-use Prim.Native.Nat.{◌-◌}
-use mathlib.Core.Path.{◌≡◌}
+use Rattle.std.proofs.Common.{get_or, ◌-◌, ◌≡◌}
 use Rattle.fewest.proofs.zero_first.Given as goal
 
 abbrev pub invariant-loop-x : goal.invariant-loop-x

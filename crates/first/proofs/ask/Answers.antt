@@ -1,8 +1,6 @@
 use Rattle.first.specs.AskLaws.{val_first, found_replied, none_replied}
 use borrow.Author.Tests.{not-true, not-false}
-use native.Mathlib.Omega.{arith}
-use mathlib.Core.Logic.{inr}
-use mathlib.Core.Path.{sym, ◌∙◌}
+use Rattle.std.proofs.Common.{arith, inr, sym, ◌∙◌}
 use Rattle.first.proofs.ask.Goals as goal
 
 pub keep_unread-requires : goal.keep_unread-requires

@@ -1,8 +1,6 @@
 use Rattle.first.specs.FirstLaws.{answered_none, witness_kept, answered_found}
 use borrow.Author.Tests.{not-true, not-false}
-use native.Mathlib.Omega.{arith}
-use mathlib.Core.Path.{refl}
-use Rattle.std.proofs.Common.{◌≡◌, length, rules}
+use Rattle.std.proofs.Common.{arith, refl, ◌≡◌, length, rules}
 use Rattle.first.proofs.first.Goals as goal
 
 pub fewest-core-requires : goal.fewest-core-requires
@@ -43,5 +41,6 @@ pub returns : goal.returns
 returns c = let a = c.args in
     let r = c.fewest-core.result in
     let n = c.kept-kept.result in
-    answered_found a.cl.now a.budgets n.labels n.budgets a.v a.m n.outputs n.by c.kept-kept.ensures r.count c.least_tables-t.result.codes c.first_rows-rows.result c.least_tables-t.ensures c.first_rows-rows.ensures
+    answered_found a.cl.now a.budgets n.labels n.budgets a.v a.m n.outputs n.by c.kept-kept.ensures r.count
+    c.least_tables-t.result.codes c.first_rows-rows.result c.least_tables-t.ensures c.first_rows-rows.ensures
     a.limit r.found r.rows r.codes (not-false _ c.if-not-core.false) c.fewest-core.ensures.0

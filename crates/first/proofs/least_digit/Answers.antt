@@ -1,8 +1,6 @@
 use Rattle.first.specs.LowestLaws.{lowest_same, lowest_zero, lowest_found, lowest_one, stands_found, stands_kept}
 use borrow.Author.Tests.{not-true, not-false}
-use native.Mathlib.Omega.{arith}
-use Prim.Native.Nat.{◌+◌}
-use mathlib.Core.Path.{sym, ◌∙◌}
+use Rattle.std.proofs.Common.{arith, ◌+◌, sym, ◌∙◌}
 use Rattle.first.proofs.least_digit.Goals as goal
 
 pub in_set-requires : goal.in_set-requires

@@ -1,6 +1,5 @@
 use Rattle.first.specs.LowestLaws.{lowest_same, lowest_next, stands_front, remembers_none}
-use native.Mathlib.Omega.{arith}
-use mathlib.Core.Path.{sym, ◌∙◌}
+use Rattle.std.proofs.Common.{arith, sym, ◌∙◌}
 use Rattle.first.proofs.least_table.Goals as goal
 
 pub sorted-least-requires : goal.sorted-least-requires

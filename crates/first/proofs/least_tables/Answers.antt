@@ -1,8 +1,6 @@
 use Rattle.first.specs.LowestLaws.{lowest_start}
 use Rattle.first.specs.Drawn.{Lowest}
-use native.Mathlib.Omega.{arith}
-use Prim.Native.Nat.{ℕ}
-use mathlib.Core.Path.{sym, subst, ◌∙◌}
+use Rattle.std.proofs.Common.{arith, ℕ, sym, subst, ◌∙◌}
 use Rattle.first.proofs.least_tables.Goals as goal
 
 pub loop-i-init : goal.loop-i-init

@@ -1,7 +1,5 @@
 use Rattle.first.specs.Drawn.{Lowest}
-use lib.ListN.{length}
-use Prim.Native.Nat.{◌≤◌, ◌-◌}
-use mathlib.Core.Path.{◌≡◌}
+use Rattle.std.proofs.Common.{length, ◌≤◌, ◌-◌, ◌≡◌}
 use Rattle.first.proofs.least_tables.Given as goal
 
 abbrev pub invariant-loop-i : goal.invariant-loop-i

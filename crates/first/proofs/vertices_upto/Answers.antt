@@ -1,5 +1,5 @@
 use Rattle.first.specs.UptoLaws.{power_room, upto_power}
-use native.Mathlib.Omega.{arith}
+use Rattle.std.proofs.Common.{arith}
 use Rattle.first.proofs.vertices_upto.Goals as goal
 
 pub overflow_sub-result : goal.overflow_sub-result

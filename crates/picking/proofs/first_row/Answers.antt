@@ -1,10 +1,6 @@
-use mathlib.Core.Path.{◌≡◌, sym, ◌∙◌, subst}
-use Prim.Native.Nat.{ℕ, ◌+◌, ◌^◌, ◌≤◌, ◌<◌}
-use native.Mathlib.Omega.{arith}
-use lib.Pow.{pow_mono}
+use Rattle.std.proofs.Common.{◌≡◌, sym, ◌∙◌, subst, ℕ, ◌+◌, ◌^◌, ◌≤◌, ◌<◌, arith, pow_mono, rules}
 use Rattle.picking.specs.Best.{Best}
 use Rattle.picking.specs.BestLaws.{best_start, best_unsuited, best_not_sooner, best_sooner}
-use borrow.Author.Rules.{rules}
 use Rattle.picking.proofs.first_row.Goals as goal
 use Rattle.picking.proofs.first_row.Goals.{then-sooner+then-suits, then-sooner+else-suits, else-sooner}
 

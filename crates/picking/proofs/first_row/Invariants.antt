@@ -1,4 +1,4 @@
-use Prim.Native.Nat.{◌-◌, ◌≤◌}
+use Rattle.std.proofs.Common.{◌-◌, ◌≤◌}
 use Rattle.picking.specs.Best.{Best}
 use Rattle.picking.proofs.first_row.Given as goal
 

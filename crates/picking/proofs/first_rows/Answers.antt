@@ -1,13 +1,8 @@
-use mathlib.Core.Path.{◌≡◌, refl, sym, subst}
-use mathlib.Core.List.{List}
-use Prim.Native.Nat.{ℕ}
-use native.Mathlib.Omega.{arith}
-use lib.ListN.{length}
+use Rattle.std.proofs.Common.{◌≡◌, refl, sym, subst, List, ℕ, arith, length, rules}
 use Rattle.picking.specs.Picked.{Picked}
 use Rattle.picking.specs.Best.{FirstRows}
 use Rattle.picking.specs.BestLaws.{first_rows_more}
 use Rattle.picking.specs.PickedLaws.{picked_of}
-use borrow.Author.Rules.{rules}
 use Rattle.picking.proofs.first_rows.Goals as goal
 
 pub loop-o-init : goal.loop-o-init

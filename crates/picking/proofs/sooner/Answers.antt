@@ -1,8 +1,5 @@
-use mathlib.Core.Path.{◌≡◌, sym, ap, ◌∙◌, subst}
+use Rattle.std.proofs.Common.{◌≡◌, sym, ap, ◌∙◌, subst, ⊎_elim, ℕ, arith}
 use mathlib.Core.Bool.{beq}
-use mathlib.Core.Logic.{⊎_elim}
-use Prim.Native.Nat.{ℕ}
-use native.Mathlib.Omega.{arith}
 use Rattle.bits.specs.LogicLaws.{true_false, beq_self, beq_equal}
 use Rattle.bits.specs.Digit.{on}
 use Rattle.bits.specs.CountLaws.{less_or_equal}

@@ -1,5 +1,4 @@
-use native.Mathlib.Omega.{arith}
-use mathlib.Core.Path.{sym}
+use Rattle.std.proofs.Common.{arith, sym}
 use Rattle.bits.specs.LogicLaws.{true_false}
 use Rattle.picking.proofs.suits.Goals as goal
 

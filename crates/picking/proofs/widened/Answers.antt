@@ -1,7 +1,5 @@
-use mathlib.Core.Path.{◌≡◌, refl}
-use lib.ListN.{length}
+use Rattle.std.proofs.Common.{◌≡◌, refl, length, rules}
 use Rattle.picking.specs.BestLaws.{copied_all}
-use borrow.Author.Rules.{rules}
 use Rattle.bits.specs.FilledLaws.{filled_none, filled_more, filled_fewer}
 use Rattle.picking.proofs.widened.Goals as goal
 

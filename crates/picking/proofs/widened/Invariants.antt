@@ -1,4 +1,4 @@
-use Prim.Native.Nat.{◌-◌}
+use Rattle.std.proofs.Common.{◌-◌}
 use Rattle.bits.specs.Filled.{Filled}
 use Rattle.problem.specs.Problem.{item}
 use Rattle.picking.proofs.widened.Given as goal

@@ -3,7 +3,8 @@ use Rattle.bits.specs.Digit.{on}
 use Rattle.readingsets.specs.Choice.{Next}
 use Rattle.readingsets.specs.ChoiceLaws.{next_start, next_here, next-found, next_done}
 use Rattle.readingsets.proofs.next.Goals as goal
-use Rattle.readingsets.proofs.next.Goals.{then-not-in_set+then-best-eq-NO_OUTPUT, then-not-in_set+else-best-eq-NO_OUTPUT+then-n-least, then-not-in_set+else-best-eq-NO_OUTPUT+else-n-least, else-not-in_set}
+use Rattle.readingsets.proofs.next.Goals.{then-not-in_set+then-best-eq-NO_OUTPUT, then-not-in_set+else-best-eq-NO_OUTPUT+then-n-least}
+use Rattle.readingsets.proofs.next.Goals.{then-not-in_set+else-best-eq-NO_OUTPUT+else-n-least, else-not-in_set}
 
 pub loop-o-init : goal.loop-o-init
 loop-o-init c = (omega arith, c.requires.3, next_start c.args.done)

@@ -1,8 +1,5 @@
-use mathlib.Core.Path.{sym, ◌∙◌}
-use native.Mathlib.Omega.{arith}
-use borrow.Author.Count.{below_more}
+use Rattle.std.proofs.Common.{sym, ◌∙◌, arith, below_more, rules}
 use Rattle.bits.specs.LogicLaws.{true_false, never_both}
-use borrow.Author.Rules.{rules}
 use Rattle.seeking.proofs.all_fit.Goals as goal
 
 pub loop-o-init : goal.loop-o-init

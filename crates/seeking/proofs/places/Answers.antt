@@ -1,8 +1,6 @@
 use Rattle.seeking.specs.SeekingLaws.{places_none, places_all, places_rest}
 use Rattle.seeking.specs.Seeking.{Places}
-use mathlib.Core.Path.{refl, sym, subst}
-use Prim.Native.Nat.{ℕ}
-use native.Mathlib.Omega.{arith}
+use Rattle.std.proofs.Common.{refl, sym, subst, ℕ, arith}
 use Rattle.seeking.proofs.places.Goals as goal
 
 pub returns-then-u-eq0 : goal.returns-then-u-eq0

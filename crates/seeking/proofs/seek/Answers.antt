@@ -1,8 +1,6 @@
 use Rattle.seeking.specs.SeekingLaws.{rows_start, alike-start, chosen_sought, unsure_early}
 use borrow.Author.Tests.{not-true, not-false}
-use native.Mathlib.Omega.{arith}
-use mathlib.Core.Path.{refl, sym, ◌∙◌}
-use borrow.Author.Rules.{rules}
+use Rattle.std.proofs.Common.{arith, refl, sym, ◌∙◌, rules}
 use Rattle.seeking.proofs.seek.Goals as goal
 
 pub loop-p-init : goal.loop-p-init

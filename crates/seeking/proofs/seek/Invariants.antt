@@ -1,8 +1,6 @@
 use Rattle.seeking.specs.Seeking.{Places}
 use Rattle.cache.specs.Cache.{Honest}
-use lib.ListN.{length}
-use Prim.Native.Nat.{◌≤◌, ◌-◌}
-use mathlib.Core.Path.{◌≡◌}
+use Rattle.std.proofs.Common.{length, ◌≤◌, ◌-◌, ◌≡◌}
 use Rattle.seeking.proofs.seek.Given as goal
 
 abbrev pub invariant-loop-p : goal.invariant-loop-p

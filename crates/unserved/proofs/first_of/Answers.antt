@@ -2,12 +2,7 @@ use Rattle.cache.specs.Cache.{entry_count, entry_size}
 use Rattle.unserved.specs.SiftedLaws.{sift_start, sift_other, sift_served, sift_fewer, sift_found, sift_end}
 use Rattle.unserved.specs.QuestionLaws.{stand_fits, stand_lacking}
 use Rattle.unserved.specs.Asking.{FitFrom}
-use lib.Pow.{pow_pos}
-use lib.ListN.{length}
-use mathlib.Core.List.{List}
-use mathlib.Core.Path.{◌≡◌, sym, ◌∙◌, subst}
-use Prim.Native.Nat.{ℕ, ◌+◌, ◌*◌, ◌^◌, ◌<◌}
-use native.Mathlib.Omega.{arith}
+use Rattle.std.proofs.Common.{pow_pos, length, List, ◌≡◌, sym, ◌∙◌, subst, ℕ, ◌+◌, ◌*◌, ◌^◌, ◌<◌, arith}
 use Rattle.unserved.proofs.first_of.Goals as goal
 use Rattle.unserved.proofs.first_of.Goals.{then-l-k+then-kept-k+else-not-served, then-l-k+else-kept-k, else-l-k}
 

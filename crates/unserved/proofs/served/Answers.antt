@@ -1,6 +1,4 @@
-use native.Mathlib.Omega.{arith}
-use mathlib.Core.Logic.{inl}
-use mathlib.Core.Path.{refl, sym, ◌∙◌}
+use Rattle.std.proofs.Common.{arith, inl, refl, sym, ◌∙◌}
 use Rattle.unserved.specs.QuestionLaws.{sought_decided}
 use Rattle.unserved.proofs.served.Goals as goal
 

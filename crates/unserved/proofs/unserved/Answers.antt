@@ -1,6 +1,6 @@
 use Rattle.unserved.specs.AnsweredLaws.{below_start, below_more, answer_served, answer_found, answer-all}
 use Rattle.unserved.specs.QuestionLaws.{stand_fits, stand_lacking}
-use mathlib.Core.Path.{refl}
+use Rattle.std.proofs.Common.{refl}
 use Rattle.unserved.proofs.unserved.Goals as goal
 
 pub first_outputs-all-requires : goal.first_outputs-all-requires

@@ -1,8 +1,6 @@
 use Rattle.cache.specs.Cache.{entry_count, entry_size}
 use Rattle.unserved.specs.Asking.{FitBelow}
-use lib.ListN.{length}
-use mathlib.Core.Path.{◌≡◌}
-use Prim.Native.Nat.{◌*◌, ◌-◌}
+use Rattle.std.proofs.Common.{length, ◌≡◌, ◌*◌, ◌-◌}
 use Rattle.unserved.proofs.unserved.Given as goal
 
 abbrev pub invariant-loop-k : goal.invariant-loop-k
