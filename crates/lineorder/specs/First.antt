@@ -12,7 +12,8 @@ use Rattle.network.specs.Answers.{read_count, Computes}
 use Rattle.serving.specs.Parts.{Parts}
 use Rattle.network.specs.NetworkFor.{NetworkFor, Named, node_at}
 use Rattle.order.specs.Order.{before, tables_order}
-use Rattle.order.specs.OrderLaws.{tables_total, then_not_less, before_not_less}
+use Rattle.order.specs.OrderLaws.{then_not_less, before_not_less}
+use Rattle.order.proofs.TotalLaws.{tables_total}
 use Rattle.lineorder.specs.LineOrder.{line_order}
 use Rattle.lineorder.specs.NodeOrder.{reads_order, node_not_less}
 use Rattle.lineorder.specs.NodeDigits.{Blank, digits_follow}

@@ -9,7 +9,8 @@ use Rattle.text.specs.LineLaws.{unbroken-tail}
 use Rattle.text.specs.Bytes.{newline}
 use Rattle.text.specs.Unbroken.{unbroken, all_unbroken}
 use Rattle.order.specs.Order.{then, list_order, byte_order}
-use Rattle.order.specs.OrderLaws.{compare_total, bytes_total, then_then}
+use Rattle.order.specs.OrderLaws.{compare_total, then_then}
+use Rattle.order.proofs.TotalLaws.{bytes_total}
 use Rattle.text.specs.Line.{ended_lines}
 
 -- ======== definitions

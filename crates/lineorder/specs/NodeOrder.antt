@@ -12,7 +12,8 @@ use Rattle.network.specs.Network.{Node}
 use Rattle.network.specs.Printer.{led, led_all, lut_name, print_digits, node_head, print_node}
 use Rattle.network.specs.Reads.{Rising, rising_none, rising_more}
 use Rattle.order.specs.Order.{then, list_order, byte_order}
-use Rattle.order.specs.OrderLaws.{compare_total, compare_shift, bytes_total, same-front, front_first}
+use Rattle.order.specs.OrderLaws.{compare_total, compare_shift, same-front, front_first}
+use Rattle.order.proofs.TotalLaws.{bytes_total}
 use Rattle.order.specs.OrderLaws.{then_then, then-eq, then_equal, then_not_less, lt_not_eq, gt_not_eq, not_less_eq}
 use Rattle.lineorder.specs.LineOrder.{line_order}
 

@@ -17,7 +17,8 @@ use Rattle.network.specs.Parts.{free_of, names_of, last_lines}
 use Rattle.network.specs.NetworkFor.{NetworkFor, Named, node_at}
 use Rattle.network.specs.SpellingLaws.{print_lines_spelled, lines-unbroken}
 use Rattle.order.specs.Order.{then, list_order, byte_order, bit_order, table_order, tables_order}
-use Rattle.order.specs.OrderLaws.{compare_total, bytes_total, same-front, front_first, map_order}
+use Rattle.order.specs.OrderLaws.{compare_total, same-front, front_first, map_order}
+use Rattle.order.proofs.TotalLaws.{bytes_total}
 use Rattle.order.specs.OrderLaws.{then-eq, then_not_less, not_less_eq}
 use Rattle.order.specs.Tables.{SameLengths, alike_none, alike_more}
 use Rattle.lineorder.specs.LineOrder.{line_order, line_self, lines_self, ended_order}
