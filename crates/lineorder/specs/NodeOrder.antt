@@ -2,9 +2,8 @@
 -- digits. The bytes of names decide nothing: the lines have the same names at the same places, and as the lists are of equal
 -- length, the name of a table never stands against a free name, which may be above it or below. Assumes nothing.
 use Rattle.std.specs.Prelude.{◌≡◌, refl, Bool, true, false, List, [], ◌∷◌, ◌++◌, map, length}
-use Rattle.std.proofs.Common.{sym, ap, ap₂, ◌∙◌, subst, append_assoc, arith}
+use Rattle.std.proofs.Common.{sym, ap, ap₂, ◌∙◌, append_assoc, arith}
 use Prim.Native.Nat.{ℕ, suc, ◌+◌, ◌≤◌, ◌<◌, Ordering, compare}
-use Rattle.order.specs.Total.{NotLess}
 use Rattle.text.specs.Bytes.{newline, close_bracket}
 use Rattle.text.specs.FigureLaws.{print_digit}
 use Rattle.names.specs.Name.{Name}
@@ -13,8 +12,7 @@ use Rattle.network.specs.Printer.{led, led_all, lut_name, print_digits, node_hea
 use Rattle.network.specs.Reads.{Rising, rising_none, rising_more}
 use Rattle.order.specs.Order.{then, list_order, byte_order}
 use Rattle.order.specs.OrderLaws.{compare_total, compare_shift, same-front, front_first}
-use Rattle.order.proofs.TotalLaws.{bytes_total}
-use Rattle.order.specs.OrderLaws.{then_then, then-eq, then_equal, then_not_less, lt_not_eq, gt_not_eq, not_less_eq}
+use Rattle.order.specs.OrderLaws.{then_then, then-eq, then_equal, lt_not_eq, gt_not_eq}
 use Rattle.lineorder.specs.LineOrder.{line_order}
 
 -- ======== definitions
@@ -32,7 +30,7 @@ abbrev pub line_rest : Node → List ℕ
 line_rest x = 0x20 ∷ (print_digits x.digits ++ (close_bracket ∷ newline ∷ []))
 
 -- ======== laws
-reads_equal : (is js : List ℕ) → reads_order is js ≡ Ordering.eq → is ≡ js
+pub reads_equal : (is js : List ℕ) → reads_order is js ≡ Ordering.eq → is ≡ js
 unfolding reads_order
 reads_equal [] [] e = refl
 reads_equal [] (j ∷ js) e = absurd (gt_not_eq e)
@@ -93,7 +91,7 @@ ended-node n fs x =
     (append_assoc L (close_bracket ∷ 0x20 ∷ (D ++ (close_bracket ∷ []))) (newline ∷ [])
     ∙ ap (λ (l : List ℕ). L ++ (close_bracket ∷ 0x20 ∷ l)) (append_assoc D (close_bracket ∷ []) (newline ∷ [])))
 
-node_order : (n : Name) (fs : List Name) (u : ℕ) (x y : Node)
+pub node_order : (n : Name) (fs : List Name) (u : ℕ) (x y : Node)
     → length x.reads ≡ length y.reads
     → Rising 0 u x.reads
     → Rising 0 u y.reads
@@ -107,22 +105,3 @@ node_order n fs u x y e r z a =
     (led_all true (map lut_name x.reads ++ fs) ++ (close_bracket ∷ line_rest x))
     (led_all true (map lut_name y.reads ++ fs) ++ (close_bracket ∷ line_rest y))
     ∙ list_order_lem true fs (line_rest x) (line_rest y) e r z a a
-
--- a node whose tables come no sooner, and whose digits follow from its tables, has a line that is not less
-pub node_not_less : (n : Name) (fs : List Name) (u : ℕ) (x y : Node)
-    → length x.reads ≡ length y.reads
-    → Rising 0 u x.reads
-    → Rising 0 u y.reads
-    → u ≤ 10
-    → NotLess (reads_order x.reads y.reads)
-    → (x.reads ≡ y.reads → x.digits ≡ y.digits)
-    → NotLess (line_order (print_node n fs x) (print_node n fs y))
-node_not_less n fs u x y e r z a l f =
-    subst NotLess (sym (node_order n fs u x y e r z a))
-    (then_not_less (reads_order x.reads y.reads) (byte_order (line_rest x) (line_rest y)) l
-    (λ q.
-    subst NotLess
-    (sym (ap (λ (ds : List Bool). byte_order (0x20 ∷ (print_digits ds ++ (close_bracket ∷ newline ∷ []))) (line_rest y))
-    (f (reads_equal x.reads y.reads q))
-    ∙ bytes_total.self (line_rest y)))
-    not_less_eq))

@@ -1,13 +1,13 @@
 -- Sets of shared tables as digits, one for each table in order: as text, of two sets the one comes first that has the first
 -- table in which they differ. Assumes nothing.
 use Rattle.std.specs.Prelude.{◌≡◌, refl, Bool, true, false, List, [], ◌∷◌, length}
-use Rattle.std.proofs.Common.{ap, ◌∙◌, arith}
+use Rattle.std.proofs.Common.{ap, arith}
 use Prim.Native.Nat.{ℕ, suc, ◌+◌, ◌<◌, Ordering}
 use Rattle.bits.specs.Logic.{pick}
 use Rattle.network.specs.Reads.{Rising, rising_none, rising_more}
 use Rattle.network.specs.RisingLaws.{rising_wider}
-use Rattle.order.specs.Order.{then, list_order, table_order}
-use Rattle.order.specs.OrderLaws.{compare_total, compare_less, compare_greater}
+use Rattle.order.specs.Order.{then}
+use Rattle.order.specs.OrderLaws.{compare_less, compare_greater}
 use Rattle.lineorder.specs.NodeOrder.{reads_order}
 
 -- ======== definitions
@@ -19,7 +19,7 @@ chosen i (b ∷ bs) =
     pick b (i ∷ rest) rest
 
 -- ======== laws
-chosen_rises : (i : ℕ) (bs : List Bool) → Rising i (i + length bs) (chosen i bs)
+pub chosen_rises : (i : ℕ) (bs : List Bool) → Rising i (i + length bs) (chosen i bs)
 unfolding chosen
 chosen_rises i [] = rising_none
 chosen_rises i (true ∷ bs) =
@@ -28,7 +28,7 @@ chosen_rises i (true ∷ bs) =
 chosen_rises i (false ∷ bs) =
     rising_wider i (i + suc (length bs)) (omega arith) (omega arith) (chosen_rises (suc i) bs)
 
-before_rising : {k u : ℕ} {js : List ℕ} (i : ℕ) (is : List ℕ)
+pub before_rising : {k u : ℕ} {js : List ℕ} (i : ℕ) (is : List ℕ)
     → Rising k u js
     → i < k
     → (reads_order (i ∷ is) js ≡ Ordering.lt) × (reads_order js (i ∷ is) ≡ Ordering.gt)
@@ -38,18 +38,3 @@ before_rising i is (rising_more {j = j} {js = js} a b r) h = (
   ap (λ (o : Ordering). then o (reads_order is js)) (compare_less i j (omega arith)),
   ap (λ (o : Ordering). then o (reads_order js is)) (compare_greater j i (omega arith)),
 )
-
-pub chosen_order : (i : ℕ) (bs cs : List Bool) → length bs ≡ length cs → reads_order (chosen i bs) (chosen i cs) ≡ table_order cs bs
-unfolding chosen list_order reads_order
-chosen_order i [] [] e = refl
-chosen_order i [] (c ∷ cs) e = absurd (omega (arith, e))
-chosen_order i (b ∷ bs) [] e = absurd (omega (arith, e))
-chosen_order i (true ∷ bs) (true ∷ cs) e =
-    ap (λ (o : Ordering). then o (reads_order (chosen (suc i) bs) (chosen (suc i) cs))) (compare_total.self i)
-    ∙ chosen_order (suc i) bs cs (let g : suc (length bs) ≡ suc (length cs) = e in omega arith)
-chosen_order i (true ∷ bs) (false ∷ cs) e =
-    (before_rising i (chosen (suc i) bs) (chosen_rises (suc i) cs) (omega arith)).0
-chosen_order i (false ∷ bs) (true ∷ cs) e =
-    (before_rising i (chosen (suc i) cs) (chosen_rises (suc i) bs) (omega arith)).1
-chosen_order i (false ∷ bs) (false ∷ cs) e =
-    chosen_order (suc i) bs cs (let g : suc (length bs) ≡ suc (length cs) = e in omega arith)

@@ -2,7 +2,7 @@
 -- tables that an output reads have no conflict, so the first of them gives the composition entry. Assumes nothing.
 use Rattle.std.specs.Prelude.{◌≡◌, refl, Bool, true, false, ◌⊎◌}
 use Rattle.std.proofs.Common.{sym, ◌∙◌, ⊎_elim, arith, add-zero, add-mul, add_assoc, mul_assoc, zero-mul, zero-add, pow-add, eq-eqb, eqb-true}
-use Rattle.std.proofs.Math.Path.{ap, ap₂, subst}
+use Rattle.std.proofs.Math.Path.{ap, ap₂}
 use mathlib.Core.List.{List, [], ◌∷◌, ◌++◌, map}
 use Rattle.std.proofs.Math.Option.{Option, some}
 use Prim.Native.Nat.{ℕ, zero, suc, ◌+◌, ◌*◌, ◌/◌, ◌%◌, ◌^◌, ◌≤◌, ◌<◌}
@@ -14,23 +14,17 @@ use Rattle.bits.specs.Logic.{pick, bit}
 use Rattle.bits.specs.LogicLaws.{true_false}
 use Rattle.bits.specs.Digit.{on}
 use Rattle.rows.specs.Row.{row_of, values_of}
-use Rattle.rows.specs.RowLaws.{row_lt, row_values, length_values, values_row}
-use Rattle.formula.specs.Value.{on_row}
+use Rattle.rows.specs.RowLaws.{values_row}
 use Rattle.sheet.specs.Examine.{Design}
-use Rattle.sheet.specs.Value.{output_on}
-use Rattle.classes.specs.Columns.{free, join_row, vertex_of, free_row_of, vertex_count, free_count, value_at}
-use Rattle.bits.specs.Values.{values_upto}
+use Rattle.classes.specs.Columns.{free, vertex_count, free_count, value_at}
 use Rattle.bits.specs.ValuesLaws.{values_at}
-use Rattle.network.specs.Network.{Node}
 use Rattle.network.specs.Check.{first_of}
 use Rattle.network.specs.Numbers.{numbers_of}
 use Rattle.network.specs.NumbersLaws.{map-numbers, numbers_from, numbers-from}
-use Rattle.network.specs.Value.{network_on}
 use Rattle.cells.specs.Core.{Apart, core_of, cells_from}
 use Rattle.serving.specs.NetworkCore.{node_of, ServesDesign}
 use Rattle.network.specs.Value.{lut_at}
 use Rattle.serving.specs.Parts.{Parts, Columns}
-use Rattle.serving.specs.Tells.{node_at_lem}
 use Rattle.serving.specs.Build.{code_in, entry_at, entry, node_built, luts_built, nodes_built, built}
 
 -- ---- rows of two lists of values
@@ -137,7 +131,7 @@ module _ (d : Design) (u : ℕ) (rows codes : ℕ → ℕ) (p : Parts d.inputs d
       q.agree_at o x y (λ f. not-apart o x y rows codes u 0 (rw (numbers-from u (rows o)) at values) (serves.tells o x y h a b f)) z c
 
   -- the entry at a vertex's code and a free row is the vertex's value there
-  entry_right : (o x z j : ℕ) → o < length d.outputs → x < vertex_count d.bound
+  pub entry_right : (o x z j : ℕ) → o < length d.outputs → x < vertex_count d.bound
       → z < free_count d.inputs d.bound
       → j ≡ code_in (numbers_of u (rows o)) (codes x) * free_count d.inputs d.bound + z
       → entry d codes o (numbers_of u (rows o)) j ≡ value_at d d.bound o x z
@@ -158,41 +152,6 @@ module _ (d : Design) (u : ℕ) (rows codes : ℕ → ℕ) (p : Parts d.inputs d
       map-numbers (λ i. lut_at (built d u rows codes) i x) (on (codes x)) u (rows o)
       (λ i h. lut_built d codes u 0 i x h a ∙ ap (on (codes x)) (zero-add i))
 
-  node_is : (o : ℕ) → o < length d.outputs → node_of (built d u rows codes) o ≡ node_built d codes o (numbers_of u (rows o))
+  pub node_is : (o : ℕ) → o < length d.outputs → node_of (built d u rows codes) o ≡ node_built d codes o (numbers_of u (rows o))
   unfolding built
   node_is o h = node-built d u rows codes (length d.outputs) 0 o h ∙ ap (λ (n : ℕ). node_built d codes n (numbers_of u (rows n))) (zero-add o)
-
-  -- the network has each output's value at every vertex and free row
-  at_parts : (o x z : ℕ) → o < length d.outputs → x < vertex_count d.bound → z < free_count d.inputs d.bound
-      → network_on d (built d u rows codes) o (join_row d.inputs d.bound x z) ≡ value_at d d.bound o x z
-  unfolding node_built code_in
-  at_parts o x z h a c =
-      let is = numbers_of u (rows o) in
-      let fl = length (free d.inputs d.bound) in
-      let vs = map (on (codes x)) is in
-      let js = row_of (vs ++ values_of fl z) in
-      let lv : length (vs ++ values_of fl z) ≡ length is + fl = length-append vs (values_of fl z) ∙ ap₂ ◌+◌ (length-map is (on (codes x))) (length_values fl z) in
-      let js-is : js ≡ code_in is (codes x) * free_count d.inputs d.bound + z = row-append vs (values_of fl z) ∙ ap₂ (λ (m n : ℕ). row_of vs * 2 ^ m + n) (length_values fl z) (row_values fl z c) in
-      node_at_lem d (built d u rows codes) p o x z a c
-      ∙ ap (λ (t : Node). get_or t.digits (row_of (map (λ i. lut_at (built d u rows codes) i x) t.reads ++ values_of fl z)) false) (node_is o h)
-      ∙ ap (λ (l : List Bool). get_or (values_upto (entry d codes o is) (2 ^ (length is + fl))) (row_of (l ++ values_of fl z)) false) (tables_at o x a)
-      ∙ values_at (entry d codes o is) (2 ^ (length is + fl)) js (subst (λ (n : ℕ). js < 2 ^ n) lv (row_lt (vs ++ values_of fl z)))
-      ∙ entry_right o x z js h a c js-is
-
-  vertex_below : (r : ℕ) → vertex_of d.inputs d.bound r < vertex_count d.bound
-  unfolding vertex_of
-  vertex_below r = subst (λ (n : ℕ). row_of (map (on_row d.inputs r) d.bound) < 2 ^ n) (length-map d.bound (on_row d.inputs r)) (row_lt (map (on_row d.inputs r) d.bound))
-
-  free_below : (r : ℕ) → free_row_of d.inputs d.bound r < free_count d.inputs d.bound
-  unfolding free_row_of
-  free_below r = subst (λ (n : ℕ). row_of (map (on_row d.inputs r) (free d.inputs d.bound)) < 2 ^ n) (length-map (free d.inputs d.bound) (on_row d.inputs r))
-      (row_lt (map (on_row d.inputs r) (free d.inputs d.bound)))
-
-  pub built_right : (o r : ℕ) → o < length d.outputs → r < 2 ^ length d.inputs → network_on d (built d u rows codes) o r ≡ output_on d o r
-  unfolding value_at
-  built_right o r h l =
-      let x = vertex_of d.inputs d.bound r in
-      let z = free_row_of d.inputs d.bound r in
-      ap (network_on d (built d u rows codes) o) (sym (p.join_of r l))
-      ∙ at_parts o x z h (vertex_below r) (free_below r)
-      ∙ ap (output_on d o) (p.join_of r l)

@@ -18,12 +18,11 @@ use Rattle.sheet.specs.Examine.{Design}
 use Rattle.sheet.specs.Value.{output_on}
 use Rattle.cells.specs.Core.{Apart, reading}
 use Rattle.classes.specs.Columns.{free, join_row, vertex_of, free_row_of, vertex_count, free_count, value_at}
-use Rattle.classes.specs.Width.{budget}
 use Rattle.network.specs.Network.{Network}
 use Rattle.network.specs.Value.{lut_on, node_row, network_on}
-use Rattle.serving.specs.NetworkCore.{node_of, has, cells_of, network_core, Conflicts, ServesDesign}
+use Rattle.serving.specs.NetworkCore.{node_of, has, cells_of, network_core}
 use Rattle.network.specs.Value.{lut_at}
-use Rattle.serving.specs.Parts.{Parts, Columns}
+use Rattle.serving.specs.Parts.{Parts}
 
 -- ---- a number in a list
 -- ---- two vertices with equal values in the tables of a list, or a table where they differ
@@ -39,7 +38,7 @@ has-later i j is e = go (eqb j i)
     go true = refl
     go false = e
 
-codes_or_apart : (w : Network) (is : List ℕ) (x y : ℕ) → (map (λ i. lut_at w i x) is ≡ map (λ i. lut_at w i y) is) ⊎ ((i : ℕ) × (has i is ≡ true) × (lut_at w i x ≡ lut_at w i y → ⊥))
+pub codes_or_apart : (w : Network) (is : List ℕ) (x y : ℕ) → (map (λ i. lut_at w i x) is ≡ map (λ i. lut_at w i y) is) ⊎ ((i : ℕ) × (has i is ≡ true) × (lut_at w i x ≡ lut_at w i y → ⊥))
 codes_or_apart w [] x y = inl refl
 codes_or_apart w (i ∷ is) x y =
     ⊎_elim
@@ -51,7 +50,7 @@ codes_or_apart w (i ∷ is) x y =
     (same_or_not (lut_at w i x) (lut_at w i y))
 
 -- ---- a table that o reads and that differs is a cell of the core
-apart_cell : (w : Network) (o x y k j i : ℕ) → j ≤ i → i < j + k → has i (node_of w o).reads ≡ true → (lut_at w i x ≡ lut_at w i y → ⊥) → Apart o x y (cells_of w k j)
+pub apart_cell : (w : Network) (o x y k j i : ℕ) → j ≤ i → i < j + k → has i (node_of w o).reads ≡ true → (lut_at w i x ≡ lut_at w i y → ⊥) → Apart o x y (cells_of w k j)
 unfolding cells_of
 apart_cell w o x y zero j i a b h n = absurd (omega arith)
 apart_cell w o x y (suc k) j i a b h n =
@@ -102,28 +101,13 @@ module _ (d : Design) (w : Network) (p : Parts d.inputs d.bound)
       ∙ ap (λ (l : List Bool). get_or (node_of w o).digits (row_of (l ++ values_of (length (free d.inputs d.bound)) z)) false) e
       ∙ sym (node_at_lem d w p o y z b c) ∙ sym (value_right o y z h)
 
--- ---- every value right: conflicting vertices are apart
-module _ (d : Design) (w : Network) (p : Parts d.inputs d.bound) (q : Columns d)
-    (right : (o r : ℕ) → o < length d.outputs → r < 2 ^ length d.inputs → network_on d w o r ≡ output_on d o r)
-    (known : (o i : ℕ) → o < length d.outputs → has i (node_of w o).reads ≡ true → i < length w.luts) where
-  network_tells : (o x y : ℕ) → o < length d.outputs → x < vertex_count d.bound → y < vertex_count d.bound → Conflicts d o x y → Apart o x y (network_core w)
-  unfolding network_core
-  network_tells o x y h a b f =
-      ⊎_elim
-      (λ e. absurd ((q.conflict_at o x y f).2 (one-column d w p right o x y h a b e (q.conflict_at o x y f).0 (q.conflict_at o x y f).1)))
-      (λ n. apart_cell w o x y (length w.luts) 0 n.0 (omega arith) (subst (λ (k : ℕ). n.0 < k) (sym (zero-plus (length w.luts))) (known o n.0 h n.1)) n.1 n.2)
-      (codes_or_apart w (node_of w o).reads x y)
-    where
-      zero-plus : (k : ℕ) → 0 + k ≡ k
-      zero-plus k = omega arith
-
 -- ---- how many cells an output reads
 count_or : (a b : Bool) → bit (a || b) ≤ bit a + bit b
 count_or true b = omega arith
 count_or false b = omega arith
 
 -- how many of the k numbers from j on pass a test
-tally : (ℕ → Bool) → ℕ → ℕ → ℕ
+pub tally : (ℕ → Bool) → ℕ → ℕ → ℕ
 tally f zero j = 0
 tally f (suc k) j = bit (f j) + tally f k (suc j)
 
@@ -160,7 +144,7 @@ unfolding tally
 tally_none zero j = refl
 tally_none (suc k) j = let a = tally_none k (suc j) in omega arith
 
-tally_has : (is : List ℕ) (k j : ℕ) → tally (λ i. has i is) k j ≤ length is
+pub tally_has : (is : List ℕ) (k j : ℕ) → tally (λ i. has i is) k j ≤ length is
 unfolding has
 tally_has [] k j = let a = tally_none k j in omega arith
 tally_has (i ∷ is) k j =
@@ -169,17 +153,10 @@ tally_has (i ∷ is) k j =
     let c = tally_has is k j in
     omega arith
 
-reading_tally : (w : Network) (o k j : ℕ) → reading o (cells_of w k j) ≡ tally (λ i. has i (node_of w o).reads) k j
+pub reading_tally : (w : Network) (o k j : ℕ) → reading o (cells_of w k j) ≡ tally (λ i. has i (node_of w o).reads) k j
 unfolding reading cells_of tally
 reading_tally w o zero j = refl
 reading_tally w o (suc k) j = ap (λ (n : ℕ). bit (has j (node_of w o).reads) + n) (reading_tally w o k (suc j))
-
-network-reading : (w : Network) (o : ℕ) → reading o (network_core w) ≤ length (node_of w o).reads
-unfolding network_core
-network-reading w o =
-    let a = tally_has (node_of w o).reads (length w.luts) 0 in
-    let b = reading_tally w o (length w.luts) 0 in
-    omega arith
 
 cells_count : (w : Network) (k j : ℕ) → length (cells_of w k j) ≡ k
 unfolding cells_of
@@ -189,15 +166,3 @@ cells_count w (suc k) j = ap suc (cells_count w k (suc j))
 pub core-length : (w : Network) → length (network_core w) ≡ length w.luts
 unfolding network_core
 core-length w = cells_count w (length w.luts) 0
-
--- Theorem A, one way: a network with the design's value on every row, each node within its budget, has a core that serves
-pub network_serves : (d : Design) (w : Network) → Parts d.inputs d.bound → Columns d
-    → ((o r : ℕ) → o < length d.outputs → r < 2 ^ length d.inputs → network_on d w o r ≡ output_on d o r)
-    → ((o i : ℕ) → o < length d.outputs → has i (node_of w o).reads ≡ true → i < length w.luts)
-    → ((o : ℕ) → o < length d.outputs → length (node_of w o).reads ≤ budget d d.bound o)
-    → ServesDesign d (network_core w)
-network_serves d w p q right known within =
-    record {
-      tells = network_tells d w p q right known;
-      within = λ o h. (let a = network-reading w o in let b = within o h in omega arith);
-    }

@@ -13,21 +13,20 @@ use Rattle.sheet.specs.Examine.{Design}
 use Rattle.cells.specs.Core.{reading, core_of, cells_from}
 use Rattle.classes.specs.Columns.{free, vertex_count, conflict}
 use Rattle.classes.specs.Width.{budget}
-use Rattle.classes.specs.Proper.{Proper, Parted}
+use Rattle.classes.specs.Proper.{Parted}
 use Rattle.classes.specs.JoinLaws.{join-lt, join_parts, vertex_of_join, free_row_of_join}
 use Rattle.classes.specs.ColumnLaws.{conflict_differ, no_conflict_agree}
-use Rattle.network.specs.Network.{Network, Node}
+use Rattle.network.specs.Network.{Node}
 use Rattle.network.specs.Numbers.{numbers_of}
 use Rattle.network.specs.NumbersLaws.{numbers_from, numbers-from}
 use Rattle.network.specs.RisingLaws.{rising_wider}
 use Rattle.network.specs.Reads.{Rising, rising_none, rising_more}
 use Rattle.network.specs.NetworkFor.{NetworkFor, NodeFits, node_at}
-use Rattle.network.specs.Answers.{WithinLimits, Computes, read_count}
-use Rattle.serving.specs.NetworkCore.{has, network_core, ServesDesign}
+use Rattle.network.specs.Answers.{WithinLimits, read_count}
+use Rattle.serving.specs.NetworkCore.{has, ServesDesign}
 use Rattle.serving.specs.Parts.{Parts, Columns}
-use Rattle.serving.specs.Tells.{network_serves}
 use Rattle.serving.specs.Build.{node_built, luts_built, nodes_built, built, entry}
-use Rattle.serving.specs.Compose.{built_right, luts-length, node-built, one_on}
+use Rattle.serving.specs.Compose.{luts-length, node-built, one_on}
 use Rattle.bits.specs.ValuesLaws.{values_length}
 
 -- ---- rows and columns of a design
@@ -60,16 +59,10 @@ has_none : (i : ℕ) → has i [] ≡ true → ⊥
 unfolding has
 has_none i e = true_false (sym e)
 
-rising_has : {j u : ℕ} {is : List ℕ} (i : ℕ) → Rising j u is → has i is ≡ true → i < u
+pub rising_has : {j u : ℕ} {is : List ℕ} (i : ℕ) → Rising j u is → has i is ≡ true → i < u
 rising_has i rising_none e = absurd (has_none i e)
 rising_has {u = u} i (rising_more {j = k} {js = js} a b r) e =
     ⊎_elim (λ q. subst (λ (n : ℕ). n < u) q b) (rising_has i r) (has_cases i k js e)
-
-pub drawn_serves : (d : Design) (w : Network) → Proper d → NetworkFor d w → WithinLimits d w → Computes d w → ServesDesign d (network_core w)
-drawn_serves d w p f l c =
-    network_serves d w (parts_of d.inputs d.bound p.parted) (columns_of d) c.agrees
-    (λ o i h e. rising_has i (f.node_fits o (subst (λ (n : ℕ). o < n) (sym f.node_each) h)).rises e)
-    (λ o h. l.reads-within o (subst (λ (n : ℕ). o < n) (sym f.node_each) h))
 
 -- ---- from a core to its network
 rising_pick : (b : Bool) (k i : ℕ) (is : List ℕ) → Rising (suc i) (i + suc k) is → Rising i (i + suc k) (pick b (i ∷ is) is)
@@ -150,7 +143,3 @@ module _ (d : Design) (u : ℕ) (rows codes : ℕ → ℕ) where
             (let q = subst (λ (n : ℕ). o < n) built-nodes l in
             subst (λ (n : ℕ). n ≤ budget d d.bound o) (sym (built-reads o q)) (s.within o q));
       }
-
-  pub built_computes : Proper d → ServesDesign d (core_of u rows codes) → Computes d (built d u rows codes)
-  built_computes p s =
-      record { agrees = built_right d u rows codes (parts_of d.inputs d.bound p.parted) (columns_of d) s }

@@ -15,13 +15,13 @@ pose-q-requires c = designed c.requires.found c.args.e c.requires.is c.requires.
 
 pub overflow_cast-asked : goal.overflow_cast-asked
 overflow_cast-asked c = let v = valid_here c.requires.found c.args.e c.requires.is (not-false _ c.if-not-e.false) in
-    let small = v.holds.limit-small in
+    let small = v.holds.limit_small in
     omega (arith, small)
 
 pub unserved-s-requires : goal.unserved-s-requires
 unserved-s-requires c = let s = asked c.requires.found c.args.e c.pose-q.result c.requires.is c.requires.right (not-false _ c.if-not-e.false) c.pose-q.ensures in
     let ready = s.poses.ready in
-    (ready.classes, ready.few-vertices, ready.few-outputs, ready.few-cells)
+    (ready.classes, ready.few_vertices, ready.few_outputs, ready.few_cells)
 
 pub returns-then-s-ne0 : goal.returns-then-s-ne0
 returns-then-s-ne0 c = let args = c.args in

@@ -4,9 +4,9 @@ use borrow.Author.Rules.{rules}
 use Rattle.mapper.proofs.map.Goals as goal
 
 pub map_of-requires : goal.map_of-requires
-map_of-requires c = c.examine.ensures.1
+map_of-requires c = c.examine.ensures.examination
 
 pub returns : goal.returns
 returns c = let args = c.args in
     let s = args.sheet.now in
-    c.map_of.ensures (spec.examine s) c.examine.ensures.0 (valid_well_formed s)
+    c.map_of.ensures (spec.examine s) c.examine.ensures.examined_is (valid_well_formed s)

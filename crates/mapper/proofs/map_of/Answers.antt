@@ -18,13 +18,13 @@ returns-then-not-p c = let args = c.args in
 
 pub overflow_cast-k : goal.overflow_cast-k
 overflow_cast-k c = let v = valid_here c.requires.found c.args.e c.requires.is (not-false _ c.if-not-e.false) in
-    let small = v.holds.limit-small in
+    let small = v.holds.limit_small in
     omega (arith, small)
 
 pub first-core-requires : goal.first-core-requires
 first-core-requires c = let s = asked c.requires.found c.args.e c.pose-p.result c.requires.is c.requires.right (not-false _ c.if-not-e.false) c.pose-p.ensures in
     let ready = s.poses.ready in
-    (ready.classes, ready.few-vertices, ready.few-outputs, ready.few-cells)
+    (ready.classes, ready.few_vertices, ready.few_outputs, ready.few_cells)
 
 pub returns-then-not-core : goal.returns-then-not-core
 returns-then-not-core c = λ x h r.

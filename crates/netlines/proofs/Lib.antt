@@ -1,2 +1,0 @@
--- What the proofs here share.
-pub mod Arrays
