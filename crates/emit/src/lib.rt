@@ -1,6 +1,7 @@
 // Texts put into a lent buffer. Each function writes its text from a place on, as far as the buffer goes, and answers the
 // place after it; so a write into an empty buffer is a dry run. Rests on network for how a list of names is written.
 #![tactic(auto)]
+
 ghost use Rattle.std.specs.Prelude.{[], ◌∷◌, map, true, ◌+◌, ◌*◌, ◌≤◌, length};
 ghost use Rattle.limits.specs.Limits.{max_name};
 ghost use Rattle.names.specs.Pack.{name_of};

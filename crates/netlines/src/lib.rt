@@ -2,6 +2,7 @@
 // codes of the vertices, and for each output a mask of the tables that it reads. Each function takes the slice and the place
 // as a number; the writer's methods stand over those that are public. Rests on emit for texts and on netnames for names.
 #![tactic(auto)]
+
 ghost use Rattle.std.specs.Prelude.{◌++◌, ◌∷◌, [], ℕ, ◌+◌, ◌*◌, ◌≤◌, ◌<◌, length, true, false};
 ghost use Rattle.limits.specs.Limits.{max_inputs, max_outputs, max_cells, max_vertices, max_codes};
 ghost use Rattle.bits.specs.Digit.{on};

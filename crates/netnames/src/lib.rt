@@ -1,6 +1,7 @@
 // What the lines of a network sheet list besides the inputs: the names of shared tables, and which vertex produces a code
 // first. Rests on network for names in a row, and on serving for what a code is.
 #![tactic(auto)]
+
 ghost use Rattle.std.specs.Prelude.{◌≡◌, map, ◌++◌, ℕ, ◌+◌, ◌*◌, ◌≤◌, ◌<◌, length};
 ghost use Rattle.limits.specs.Limits.{max_cells, max_vertices, max_codes};
 ghost use Rattle.bits.specs.Logic.{bit};

@@ -2,6 +2,7 @@
 // Each of its methods takes it by value, has one kind of line put down by a function on the slice and the place, and gives
 // back a writer whose place is after the text. Rests on netlines for the lines and on netnames for the names.
 #![tactic(auto)]
+
 ghost use Rattle.std.specs.Prelude.{◌≡◌, ◌+◌, ◌≤◌, ◌<◌, length};
 ghost use Rattle.std.proofs.lemmas.List.Edits.{sets};
 ghost use Rattle.limits.specs.Limits.{max_inputs, max_bound, max_outputs, max_cells};

@@ -1,5 +1,4 @@
 -- `put_byte`: a store inside the buffer, or none past its end. Assumes nothing.
-use borrow.Author.Rules.{rules}
 use Rattle.emit.specs.PutLaws.{byte_stored, byte_past}
 use Rattle.emit.proofs.put_byte.Goals as goal
 

@@ -3,7 +3,6 @@ use mathlib.Core.Bool.{Bool}
 use mathlib.Core.List.{[], ◌∷◌}
 use mathlib.Core.Path.{ap, sym}
 use native.Mathlib.Omega.{arith}
-use borrow.Author.Rules.{rules}
 use Rattle.rows.specs.Digits.{digit}
 use Rattle.emit.specs.PutLaws.{put_same, put_length}
 use Rattle.emit.proofs.put_digit.Goals as goal

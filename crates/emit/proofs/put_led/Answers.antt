@@ -2,7 +2,6 @@
 use mathlib.Core.Bool.{Bool}
 use mathlib.Core.Path.{ap, sym}
 use native.Mathlib.Omega.{arith}
-use borrow.Author.Rules.{rules}
 use Rattle.network.specs.Printer.{led}
 use Rattle.names.specs.Pack.{name_of}
 use Rattle.emit.specs.PutLaws.{put_same, put_next, put_then, put_length}

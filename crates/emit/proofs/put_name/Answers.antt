@@ -1,6 +1,5 @@
 use native.Mathlib.Omega.{arith}
-use borrow.Author.Rules.{rules}
-use Rattle.emit.specs.NameLaws.{Naming, naming_none, naming_over, naming_full, naming_more}
+use Rattle.emit.specs.NameLaws.{naming_none, naming_over, naming_full, naming_more}
 use Rattle.emit.specs.PutLaws.{put_length}
 use Rattle.emit.proofs.put_name.Goals as goal
 

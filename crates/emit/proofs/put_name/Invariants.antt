@@ -1,8 +1,5 @@
 -- `put_name`: each turn puts the lowest byte of what is left of the number. Assumes nothing.
-use native.Mathlib.Omega.{arith}
-use borrow.Author.Rules.{rules}
-use Rattle.emit.specs.NameLaws.{Naming, naming_none, naming_over, naming_full, naming_more}
-use Rattle.emit.specs.PutLaws.{put_length}
+use Rattle.emit.specs.NameLaws.{Naming}
 use Rattle.emit.proofs.put_name.Given as goal
 
 abbrev pub invariant-loop-left : goal.invariant-loop-left

@@ -1,7 +1,4 @@
-use Prim.Native.Nat.{◌-◌}
-use lib.ListN.{length}
-use borrow.Author.Rules.{rules}
-use Rattle.emit.specs.ListLaws.{Listing, listing_none, listing_more, listing_all}
+use Rattle.emit.specs.ListLaws.{listing_none, listing_more, listing_all}
 use Rattle.emit.specs.PutLaws.{put_length}
 use Rattle.emit.proofs.put_names.Goals as goal
 

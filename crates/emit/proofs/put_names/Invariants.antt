@@ -1,9 +1,7 @@
 -- `put_names`: each turn puts one item more. Assumes nothing.
 use Prim.Native.Nat.{◌-◌}
 use lib.ListN.{length}
-use borrow.Author.Rules.{rules}
-use Rattle.emit.specs.ListLaws.{Listing, listing_none, listing_more, listing_all}
-use Rattle.emit.specs.PutLaws.{put_length}
+use Rattle.emit.specs.ListLaws.{Listing}
 use Rattle.emit.proofs.put_names.Given as goal
 
 abbrev pub invariant-loop-i : goal.invariant-loop-i

@@ -1,9 +1,6 @@
-use Prim.Native.Nat.{◌≤◌, ◌-◌}
 use native.Mathlib.Omega.{arith}
-use lib.ListN.{length, take}
 use borrow.Author.Rules.{rules}
 use Rattle.emit.specs.PutLaws.{put_none, put_next, put_same, put_length, taken_more, taken_all}
-use Rattle.emit.specs.Written.{Written}
 use Rattle.emit.proofs.put_text.Goals as goal
 
 pub loop-i-init : goal.loop-i-init

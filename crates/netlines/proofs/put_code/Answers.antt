@@ -1,7 +1,6 @@
 -- `put_code`: the column at a vertex, or zeros where x is no vertex. Assumes nothing.
 use mathlib.Core.Path.{ap}
 use native.Mathlib.Omega.{arith}
-use borrow.Author.Rules.{rules}
 use Rattle.network.specs.Printer.{print_digits}
 use Rattle.emit.specs.PutLaws.{put_same}
 use Rattle.netlines.specs.RunningLaws.{some_free, vertex-row, column_entries, zero_entries}

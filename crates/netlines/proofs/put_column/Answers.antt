@@ -1,9 +1,6 @@
-use Prim.Native.Nat.{◌-◌}
 use native.Mathlib.Omega.{arith}
-use borrow.Author.Rules.{rules}
 use Rattle.emit.specs.PutLaws.{put_length}
-use Rattle.netlines.specs.Running.{VertexRow}
-use Rattle.netlines.specs.RunningLaws.{Running, row_small, bound-small, running_start, running_step, running_all}
+use Rattle.netlines.specs.RunningLaws.{row_small, bound-small, running_start, running_step, running_all}
 use Rattle.netlines.proofs.put_column.Goals as goal
 
 pub loop-z-init : goal.loop-z-init

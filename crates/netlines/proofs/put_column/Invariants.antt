@@ -1,11 +1,8 @@
 -- `put_column`: at each turn the running row number is the row of the vertex and of the free row whose digit is due.
 -- Assumes nothing.
 use Prim.Native.Nat.{◌-◌}
-use native.Mathlib.Omega.{arith}
-use borrow.Author.Rules.{rules}
-use Rattle.emit.specs.PutLaws.{put_length}
 use Rattle.netlines.specs.Running.{VertexRow}
-use Rattle.netlines.specs.RunningLaws.{Running, row_small, bound-small, running_start, running_step, running_all}
+use Rattle.netlines.specs.RunningLaws.{Running}
 use Rattle.netlines.proofs.put_column.Given as goal
 
 abbrev pub invariant-loop-z : goal.invariant-loop-z

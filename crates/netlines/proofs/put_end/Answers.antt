@@ -1,6 +1,5 @@
 -- `put_end`: three texts, one after the other. Assumes nothing.
 use native.Mathlib.Omega.{arith}
-use borrow.Author.Rules.{rules}
 use Rattle.emit.specs.PutLaws.{put_next, put_then}
 use Rattle.netlines.specs.TextLaws.{last_text}
 use Rattle.netlines.proofs.put_end.Goals as goal

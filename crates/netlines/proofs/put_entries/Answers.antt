@@ -1,15 +1,10 @@
-use Prim.Native.Nat.{ℕ, ◌*◌, ◌-◌, ◌≤◌}
+use Prim.Native.Nat.{◌*◌, ◌≤◌}
 use native.Mathlib.Omega.{arith}
 use native.Mathlib.Nat.{mul_comm}
 use lib.ListN.{length}
-use borrow.Author.Rules.{rules}
-use Rattle.bits.specs.Values.{values_upto}
-use Rattle.network.specs.Printer.{print_digits}
 use Rattle.emit.specs.PutLaws.{put_length}
-use Rattle.emit.specs.UptoLaws.{Texts, texts_none, texts_put, texts_all}
-use Rattle.netnames.specs.Listed.{vertex_at}
+use Rattle.emit.specs.UptoLaws.{texts_none, texts_put, texts_all}
 use Rattle.netlines.specs.DigitLaws.{cells_by_codes, code_room}
-use Rattle.netlines.specs.Lines.{cell_on}
 use Rattle.netlines.proofs.put_entries.Goals as goal
 
 pub loop-c-init : goal.loop-c-init

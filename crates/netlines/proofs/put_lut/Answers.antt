@@ -1,6 +1,5 @@
 -- `put_lut`: three texts, one after the other. Assumes nothing.
 use native.Mathlib.Omega.{arith}
-use borrow.Author.Rules.{rules}
 use Rattle.emit.specs.PutLaws.{put_next, put_then}
 use Rattle.netlines.specs.TextLaws.{lut_text}
 use Rattle.netlines.proofs.put_lut.Goals as goal

@@ -1,15 +1,7 @@
 use mathlib.Core.Path.{refl}
-use Prim.Native.Nat.{ℕ, ◌-◌}
 use native.Mathlib.Omega.{arith}
-use borrow.Author.Rules.{rules}
-use Rattle.network.specs.Shown.{shown, item}
 use Rattle.emit.specs.PutLaws.{put_length}
-use Rattle.network.specs.Printer.{print_lut}
-use Rattle.bits.specs.Values.{values_upto}
-use Rattle.bits.specs.Digit.{on}
-use Rattle.emit.specs.UptoLaws.{Texts, texts_none, texts_put, texts_all}
-use Rattle.netlines.specs.Lines.{ended}
-use Rattle.netlines.specs.Room.{lut_room}
+use Rattle.emit.specs.UptoLaws.{texts_none, texts_put, texts_all}
 use Rattle.netlines.proofs.put_luts.Goals as goal
 
 pub loop-i-init : goal.loop-i-init

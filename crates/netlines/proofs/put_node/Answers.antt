@@ -1,5 +1,4 @@
 -- `put_node`: four texts, one after the other; the digits are the node's, by the first vertex of each code. Assumes nothing.
-use mathlib.Core.Path.{refl}
 use native.Mathlib.Omega.{arith}
 use lib.ListN.{length}
 use Rattle.emit.specs.PutLaws.{put_next, put_then, put_length}

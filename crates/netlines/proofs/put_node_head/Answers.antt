@@ -1,6 +1,5 @@
 -- `put_node_head`: three texts, one after the other. Assumes nothing.
 use native.Mathlib.Omega.{arith}
-use borrow.Author.Rules.{rules}
 use Rattle.emit.specs.PutLaws.{put_next, put_then}
 use Rattle.netlines.specs.TextLaws.{node_head_text}
 use Rattle.netlines.proofs.put_node_head.Goals as goal

@@ -1,16 +1,7 @@
 use mathlib.Core.Path.{refl}
-use Prim.Native.Nat.{ℕ, ◌-◌}
 use native.Mathlib.Omega.{arith}
-use borrow.Author.Rules.{rules}
-use Rattle.network.specs.Shown.{shown, item}
 use Rattle.emit.specs.PutLaws.{put_length}
-use Rattle.network.specs.Numbers.{numbers_of}
-use Rattle.network.specs.Printer.{print_node}
-use Rattle.sheet.specs.Known.{table_at}
-use Rattle.names.specs.Pack.{name_of}
-use Rattle.emit.specs.UptoLaws.{Texts, texts_none, texts_put, texts_all}
-use Rattle.netlines.specs.Lines.{ended, node_by}
-use Rattle.netlines.specs.Room.{node_room}
+use Rattle.emit.specs.UptoLaws.{texts_none, texts_put, texts_all}
 use Rattle.netlines.proofs.put_nodes.Goals as goal
 
 pub loop-o-init : goal.loop-o-init

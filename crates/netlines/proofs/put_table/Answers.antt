@@ -1,11 +1,9 @@
 use mathlib.Core.Path.{ap, ◌∙◌}
-use Prim.Native.Nat.{ℕ, ◌-◌}
+use Prim.Native.Nat.{ℕ}
 use native.Mathlib.Omega.{arith}
-use borrow.Author.Rules.{rules}
-use Rattle.network.specs.Shown.{item}
 use Rattle.emit.specs.PutLaws.{put_length}
 use Rattle.bits.specs.Digit.{on}
-use Rattle.netlines.specs.DigitLaws.{Digits, digits_none, digits_put, digits_all}
+use Rattle.netlines.specs.DigitLaws.{digits_none, digits_put, digits_all}
 use Rattle.netlines.proofs.put_table.Goals as goal
 
 pub loop-x-init : goal.loop-x-init

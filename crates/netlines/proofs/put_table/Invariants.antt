@@ -1,12 +1,8 @@
 -- `put_table`: each turn puts one digit more. Assumes nothing.
-use mathlib.Core.Path.{ap, ◌∙◌}
 use Prim.Native.Nat.{ℕ, ◌-◌}
-use native.Mathlib.Omega.{arith}
-use borrow.Author.Rules.{rules}
 use Rattle.network.specs.Shown.{item}
-use Rattle.emit.specs.PutLaws.{put_length}
 use Rattle.bits.specs.Digit.{on}
-use Rattle.netlines.specs.DigitLaws.{Digits, digits_none, digits_put, digits_all}
+use Rattle.netlines.specs.DigitLaws.{Digits}
 use Rattle.netlines.proofs.put_table.Given as goal
 
 abbrev pub invariant-loop-x : goal.invariant-loop-x

@@ -1,10 +1,7 @@
 use mathlib.Core.Path.{refl}
-use mathlib.Core.Bool.{false}
-use Prim.Native.Nat.{ℕ, ◌-◌}
 use native.Mathlib.Omega.{arith}
-use borrow.Author.Rules.{rules}
 use Rattle.emit.specs.PutLaws.{put_length}
-use Rattle.netlines.specs.DigitLaws.{Digits, digits_none, digits_put, digits_all}
+use Rattle.netlines.specs.DigitLaws.{digits_none, digits_put, digits_all}
 use Rattle.netlines.proofs.put_zeros.Goals as goal
 
 pub loop-z-init : goal.loop-z-init

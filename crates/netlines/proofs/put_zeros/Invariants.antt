@@ -1,11 +1,7 @@
 -- `put_zeros`: each turn puts one digit more. Assumes nothing.
-use mathlib.Core.Path.{refl}
 use mathlib.Core.Bool.{false}
 use Prim.Native.Nat.{ℕ, ◌-◌}
-use native.Mathlib.Omega.{arith}
-use borrow.Author.Rules.{rules}
-use Rattle.emit.specs.PutLaws.{put_length}
-use Rattle.netlines.specs.DigitLaws.{Digits, digits_none, digits_put, digits_all}
+use Rattle.netlines.specs.DigitLaws.{Digits}
 use Rattle.netlines.proofs.put_zeros.Given as goal
 
 abbrev pub invariant-loop-z : goal.invariant-loop-z

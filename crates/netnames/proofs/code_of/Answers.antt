@@ -1,7 +1,6 @@
 use mathlib.Core.Path.{sym, ap, subst, ◌∙◌}
-use Prim.Native.Nat.{ℕ, ◌-◌, ◌+◌}
+use Prim.Native.Nat.{ℕ, ◌+◌}
 use native.Mathlib.Omega.{arith}
-use borrow.Author.Rules.{rules}
 use Rattle.bits.specs.Digit.{on}
 use Rattle.bits.specs.Logic.{bit}
 use Rattle.netnames.specs.NumbersLaws.{Coding, coding_none, coding_without, coding_with, coding_below, coding_all, digit_read}
@@ -21,11 +20,11 @@ overflow_add-code c = let pre = c.requires in
 pub loop-i-preserved : goal.loop-i-preserved
 loop-i-preserved c = let args = c.args in
     elim c.if-has.branch [
-      then-has w ↦ subst (λ (k : ℕ). Coding args.mask args.n args.u (c.loop-i.i + 1) k) (sym w.code-is)
-        (coding_with c.loop-i.invariant c.loop-i-test.true (digit_read c.loop-i.i c.has.ensures c.wide.ensures w.if-has.true)
-        (w.bit_of.ensures.0 ∙ ap bit (w.has-then-has.ensures ∙ ap (λ (k : ℕ). on k c.loop-i.i) w.wide-then-has.ensures)))
-    | else-has w ↦ subst (λ (k : ℕ). Coding args.mask args.n args.u (c.loop-i.i + 1) k) (sym w.code-is)
-        (coding_without c.loop-i.invariant c.loop-i-test.true (digit_read c.loop-i.i c.has.ensures c.wide.ensures w.if-has.false))
+      | then-has w ↦ subst (λ (k : ℕ). Coding args.mask args.n args.u (c.loop-i.i + 1) k) (sym w.code-is)
+          (coding_with c.loop-i.invariant c.loop-i-test.true (digit_read c.loop-i.i c.has.ensures c.wide.ensures w.if-has.true)
+          (w.bit_of.ensures.0 ∙ ap bit (w.has-then-has.ensures ∙ ap (λ (k : ℕ). on k c.loop-i.i) w.wide-then-has.ensures)))
+      | else-has w ↦ subst (λ (k : ℕ). Coding args.mask args.n args.u (c.loop-i.i + 1) k) (sym w.code-is)
+          (coding_without c.loop-i.invariant c.loop-i-test.true (digit_read c.loop-i.i c.has.ensures c.wide.ensures w.if-has.false))
     ]
 
 pub returns : goal.returns

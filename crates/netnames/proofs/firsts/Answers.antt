@@ -1,9 +1,4 @@
-use Prim.Native.Nat.{ℕ}
-use borrow.Author.Rules.{rules}
-use Rattle.network.specs.Numbers.{numbers_of}
-use Rattle.serving.specs.Build.{code_in}
-use Rattle.netnames.specs.FirstLaws.{Filling, filling_none, filling_more, filling_all}
-use Rattle.network.specs.Shown.{item}
+use Rattle.netnames.specs.FirstLaws.{filling_none, filling_more, filling_all}
 use Rattle.netnames.proofs.firsts.Goals as goal
 
 pub loop-x-init : goal.loop-x-init

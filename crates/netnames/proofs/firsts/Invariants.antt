@@ -1,9 +1,8 @@
 -- `firsts`: each turn puts one vertex down at its code. Assumes nothing.
 use Prim.Native.Nat.{ℕ}
-use borrow.Author.Rules.{rules}
 use Rattle.network.specs.Numbers.{numbers_of}
 use Rattle.serving.specs.Build.{code_in}
-use Rattle.netnames.specs.FirstLaws.{Filling, filling_none, filling_more, filling_all}
+use Rattle.netnames.specs.FirstLaws.{Filling}
 use Rattle.network.specs.Shown.{item}
 use Rattle.netnames.proofs.firsts.Given as goal
 

@@ -1,11 +1,6 @@
-use mathlib.Core.Path.{◌≡◌, refl}
-use Prim.Native.Nat.{◌-◌, ◌+◌}
+use mathlib.Core.Path.{refl}
 use native.Mathlib.Omega.{arith}
-use borrow.Author.Rules.{rules}
-use Rattle.names.specs.Pack.{name_of}
-use Rattle.network.specs.ShownLaws.{Growing, growing_none, growing_more, growing_all}
-use Rattle.network.specs.Shown.{shown}
-use Rattle.network.proofs.Arrays.{list_sized}
+use Rattle.network.specs.ShownLaws.{growing_none, growing_more, growing_all}
 use Rattle.netnames.proofs.joined.Goals as goal
 
 pub loop-i-init : goal.loop-i-init

@@ -1,12 +1,9 @@
 -- `joined`: each turn adds one name of the second row. Assumes nothing.
-use mathlib.Core.Path.{◌≡◌, refl}
+use mathlib.Core.Path.{◌≡◌}
 use Prim.Native.Nat.{◌-◌, ◌+◌}
-use native.Mathlib.Omega.{arith}
-use borrow.Author.Rules.{rules}
 use Rattle.names.specs.Pack.{name_of}
-use Rattle.network.specs.ShownLaws.{Growing, growing_none, growing_more, growing_all}
+use Rattle.network.specs.ShownLaws.{Growing}
 use Rattle.network.specs.Shown.{shown}
-use Rattle.network.proofs.Arrays.{list_sized}
 use Rattle.netnames.proofs.joined.Given as goal
 
 abbrev pub invariant-loop-i : goal.invariant-loop-i

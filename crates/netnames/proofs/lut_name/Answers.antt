@@ -1,5 +1,4 @@
 -- `lut_name`: the two bytes of a table's name as one number. Assumes nothing.
-use borrow.Author.Rules.{rules}
 use Rattle.netnames.specs.NumbersLaws.{table_name}
 use Rattle.netnames.proofs.lut_name.Goals as goal
 

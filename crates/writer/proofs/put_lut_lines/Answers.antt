@@ -1,5 +1,4 @@
 -- `put_lut_lines`: the plan is taken apart for `put_luts`. Assumes nothing.
-use borrow.Author.Rules.{rules}
 use Rattle.writer.specs.Plans.{lut_lines}
 use Rattle.writer.proofs.put_lut_lines.Goals as goal
 
