@@ -4,10 +4,11 @@
 // `refused N line L` or `written K DIGITS`; then LENGTH bytes, the sheet; then 0x0A. Table is lent BUFFER bytes, each
 // of them a mark that it never writes, so a byte that it should have left alone shows.
 #![tactic(auto)]
+
 ghost use Rattle.std.specs.Prelude.{◌≡◌, ◌≤◌, ◌<◌, length};
 
-use design::Tabled;
 use console::{STDIN, STDOUT};
+use design::Tabled;
 
 // The most bytes of standard input.
 const MAX_TEXT: usize = 655360;
@@ -270,8 +271,15 @@ fn report_all(done: u64, wrong: u64) -> bool {
         && io::write_all(STDOUT, b" wrong\n")
 }
 
+// A buffer of N bytes. N is a parameter, so that no proof counts the bytes.
+fn zeros<const N: usize>() -> [u8; N]
+    ensures { N ≡ length result }
+{
+    [0; N]
+}
+
 fn main() {
-    let mut text = [0u8; MAX_TEXT];
+    let mut text: [u8; MAX_TEXT] = zeros();
     let n = io::read_full(STDIN, &mut text);
     let is_written = execute_all(part(&text, 0, n));
     console::tell(b"tablecases", is_written);
