@@ -1,5 +1,5 @@
 -- How many names a list of names shows. Assumes nothing.
-use Rattle.std.proofs.Common.{◌≡◌, ◌∙◌, ℕ, ◌≤◌, length, take, length-take-le}
+use Rattle.std.proofs.Common.{◌≡◌, ◌∙◌, ◌≤◌, length, take, length-take-le}
 use Rattle.std.proofs.lemmas.List.{length-map}
 use Rattle.names.specs.Pack.{name_of}
 use Rattle.network.specs.Shown.{shown}

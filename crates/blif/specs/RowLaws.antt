@@ -1,5 +1,5 @@
 -- The lines of the rows of value 1, put down one after the other. Assumes nothing.
-use Rattle.std.specs.Prelude.{◌≡◌, refl, Bool, List, [], ◌∷◌, ◌++◌, ℕ, zero, suc, ◌+◌, ◌^◌, ◌≤◌}
+use Rattle.std.specs.Prelude.{◌≡◌, refl, Bool, List, [], ◌∷◌, ◌++◌, ℕ, zero, suc, ◌^◌, ◌≤◌}
 use Rattle.std.proofs.Common.{sym, ap, ◌∙◌, append_assoc, arith, pow_mono, eq-eqb, ne_eqb}
 use Rattle.limits.specs.Limits.{max_inputs, max_rows}
 use Rattle.bits.specs.Logic.{pick}

@@ -2,6 +2,7 @@
 // read where they stand in the network sheet. Rests on checker for the examination of the two sheets, on netnames for lists of
 // names and on emit for texts.
 #![tactic(auto)]
+
 ghost use Rattle.std.specs.Prelude.{◌≡◌, [], ◌∷◌, ◌++◌, map, ◌+◌, ◌*◌, ◌^◌, ◌≤◌, ◌<◌, length, take};
 ghost use Rattle.limits.specs.Limits.{max_inputs, max_outputs, max_bound, max_cells};
 ghost use Rattle.bits.specs.Logic.{pick};

@@ -1,5 +1,4 @@
 -- `cell_name`: the four bytes of a cell's name as one number. Assumes nothing.
-use borrow.Author.Rules.{rules}
 use Rattle.blif.specs.ItemLaws.{cell_held}
 use Rattle.blif.proofs.cell_name.Goals as goal
 

@@ -1,5 +1,4 @@
 -- `export`: Export on what the design sheet's examination answers. Assumes nothing.
-use borrow.Author.Rules.{rules}
 use Rattle.sheet.specs.Examine as sheets
 use Rattle.checker.specs.CheckLaws.{sheet_right}
 use Rattle.blif.specs.AnswerLaws.{answer_of_sheet}

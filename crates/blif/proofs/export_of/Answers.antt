@@ -1,6 +1,5 @@
 -- `export_of`: a refusal, or the text of the pair that passed. Assumes nothing.
 use borrow.Author.Tests.{not-true, not-false}
-use borrow.Author.Rules.{rules}
 use Rattle.blif.specs.AnswerLaws.{answer_refused, some_passed, answer-short, answer-written}
 use Rattle.blif.proofs.export_of.Goals as goal
 

@@ -2,7 +2,6 @@
 use mathlib.Core.Path.{ap}
 use native.Mathlib.Omega.{arith}
 use lib.ListN.{length}
-use borrow.Author.Rules.{rules}
 use Rattle.emit.specs.PutLaws.{put_next, put_then}
 use Rattle.blif.specs.PassedLaws.{bound-shown, free-shown, luts_ready, nodes_ready, text_is}
 use Rattle.blif.proofs.put_blif.Goals as goal

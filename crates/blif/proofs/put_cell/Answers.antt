@@ -1,6 +1,5 @@
 -- `put_cell`: nothing, or the cell's name after a space. Assumes nothing.
 use borrow.Author.Tests.{not-true, not-false}
-use borrow.Author.Rules.{rules}
 use Rattle.netnames.specs.NumbersLaws.{digit_read}
 use Rattle.blif.specs.ItemLaws.{cell_absent, cell_present}
 use Rattle.blif.proofs.put_cell.Goals as goal

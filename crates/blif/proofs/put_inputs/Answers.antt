@@ -1,7 +1,6 @@
 use native.Mathlib.Omega.{arith}
-use borrow.Author.Rules.{rules}
 use Rattle.emit.specs.PutLaws.{put_length}
-use Rattle.blif.specs.ItemLaws.{Inputs, inputs_none, inputs_more, inputs_all}
+use Rattle.blif.specs.ItemLaws.{inputs_none, inputs_more, inputs_all}
 use Rattle.blif.proofs.put_inputs.Goals as goal
 
 pub loop-i-init : goal.loop-i-init

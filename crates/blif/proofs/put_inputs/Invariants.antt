@@ -1,8 +1,5 @@
 -- `put_inputs`: each turn puts the value of one input more, the first input first. Assumes nothing.
-use native.Mathlib.Omega.{arith}
-use borrow.Author.Rules.{rules}
-use Rattle.emit.specs.PutLaws.{put_length}
-use Rattle.blif.specs.ItemLaws.{Inputs, inputs_none, inputs_more, inputs_all}
+use Rattle.blif.specs.ItemLaws.{Inputs}
 use Rattle.blif.proofs.put_inputs.Given as goal
 
 abbrev pub invariant-loop-i : goal.invariant-loop-i

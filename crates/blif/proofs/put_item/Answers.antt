@@ -1,7 +1,6 @@
 -- `put_item`: a space, and the name after it. Assumes nothing.
 use mathlib.Core.Path.{refl}
 use native.Mathlib.Omega.{arith}
-use borrow.Author.Rules.{rules}
 use Rattle.emit.specs.PutLaws.{put_next}
 use Rattle.blif.proofs.put_item.Goals as goal
 

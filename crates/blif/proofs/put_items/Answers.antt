@@ -1,11 +1,6 @@
-use Prim.Native.Nat.{◌-◌}
 use native.Mathlib.Omega.{arith}
-use lib.ListN.{length}
-use borrow.Author.Rules.{rules}
-use Rattle.emit.specs.Written.{item_room}
 use Rattle.emit.specs.PutLaws.{put_length}
-use Rattle.emit.specs.UptoLaws.{Texts, texts_none, texts_put, texts_all}
-use Rattle.blif.specs.Texts.{item_text}
+use Rattle.emit.specs.UptoLaws.{texts_none, texts_put, texts_all}
 use Rattle.blif.specs.ItemLaws.{names_text}
 use Rattle.blif.proofs.put_items.Goals as goal
 

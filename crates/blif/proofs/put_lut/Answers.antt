@@ -1,7 +1,6 @@
 -- `put_lut`: the block's first line, part after part, and its rows. Assumes nothing.
 use mathlib.Core.Path.{ap, ◌∙◌, sym}
 use native.Mathlib.Omega.{arith}
-use borrow.Author.Rules.{rules}
 use Rattle.names.specs.Pack.{name_of}
 use Rattle.names.specs.Name.{Name}
 use Rattle.emit.specs.PutLaws.{put_next, put_then}

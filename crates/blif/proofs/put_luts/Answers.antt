@@ -1,12 +1,7 @@
 use mathlib.Core.Path.{refl}
-use Prim.Native.Nat.{◌-◌}
 use native.Mathlib.Omega.{arith}
-use borrow.Author.Rules.{rules}
-use Rattle.emit.specs.UptoLaws.{Texts, texts_none, texts_put, texts_all}
+use Rattle.emit.specs.UptoLaws.{texts_none, texts_put, texts_all}
 use Rattle.emit.specs.PutLaws.{put_length}
-use Rattle.network.specs.Shown.{shown}
-use Rattle.blif.specs.Texts.{lut_text}
-use Rattle.blif.specs.Room.{block_room}
 use Rattle.blif.proofs.put_luts.Goals as goal
 
 pub loop-i-init : goal.loop-i-init

@@ -1,10 +1,6 @@
 -- `put_luts`: each turn puts one block more. Assumes nothing.
-use mathlib.Core.Path.{refl}
 use Prim.Native.Nat.{◌-◌}
-use native.Mathlib.Omega.{arith}
-use borrow.Author.Rules.{rules}
-use Rattle.emit.specs.UptoLaws.{Texts, texts_none, texts_put, texts_all}
-use Rattle.emit.specs.PutLaws.{put_length}
+use Rattle.emit.specs.UptoLaws.{Texts}
 use Rattle.network.specs.Shown.{shown}
 use Rattle.blif.specs.Texts.{lut_text}
 use Rattle.blif.specs.Room.{block_room}

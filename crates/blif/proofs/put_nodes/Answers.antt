@@ -1,12 +1,7 @@
 use mathlib.Core.Path.{refl}
-use Prim.Native.Nat.{◌-◌}
 use native.Mathlib.Omega.{arith}
-use borrow.Author.Rules.{rules}
-use Rattle.emit.specs.UptoLaws.{Texts, texts_none, texts_put, texts_all}
+use Rattle.emit.specs.UptoLaws.{texts_none, texts_put, texts_all}
 use Rattle.emit.specs.PutLaws.{put_length}
-use Rattle.network.specs.Shown.{shown}
-use Rattle.blif.specs.Texts.{node_text}
-use Rattle.blif.specs.Room.{block_room}
 use Rattle.blif.proofs.put_nodes.Goals as goal
 
 pub loop-o-init : goal.loop-o-init

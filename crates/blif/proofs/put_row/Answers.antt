@@ -1,6 +1,5 @@
 -- `put_row`: nothing, or the values of the inputs and what ends the line. Assumes nothing.
 use native.Mathlib.Omega.{arith}
-use borrow.Author.Rules.{rules}
 use Rattle.blif.specs.RowLaws.{row_absent, row_alone, row_many}
 use Rattle.blif.proofs.put_row.Goals as goal
 

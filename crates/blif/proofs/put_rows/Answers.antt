@@ -1,11 +1,8 @@
-use Prim.Native.Nat.{◌-◌}
 use native.Mathlib.Omega.{arith}
-use borrow.Author.Rules.{rules}
-use Rattle.emit.specs.UptoLaws.{Texts, texts_none, texts_put, texts_all}
+use Rattle.emit.specs.UptoLaws.{texts_none, texts_put, texts_all}
 use Rattle.emit.specs.PutLaws.{put_length}
 use Rattle.blif.specs.RowLaws.{rows_few, rows_text_lem}
-use Rattle.blif.specs.Texts.{row_text, digits_at}
-use Rattle.blif.specs.Room.{row_room}
+use Rattle.blif.specs.Texts.{digits_at}
 use Rattle.blif.proofs.put_rows.Goals as goal
 
 pub loop-r-init : goal.loop-r-init

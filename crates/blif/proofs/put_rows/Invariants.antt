@@ -1,10 +1,6 @@
 -- `put_rows`: each turn puts the line of one row more, or none. Assumes nothing.
 use Prim.Native.Nat.{◌-◌}
-use native.Mathlib.Omega.{arith}
-use borrow.Author.Rules.{rules}
-use Rattle.emit.specs.UptoLaws.{Texts, texts_none, texts_put, texts_all}
-use Rattle.emit.specs.PutLaws.{put_length}
-use Rattle.blif.specs.RowLaws.{rows_few, rows_text_lem}
+use Rattle.emit.specs.UptoLaws.{Texts}
 use Rattle.blif.specs.Texts.{row_text, digits_at}
 use Rattle.blif.specs.Room.{row_room}
 use Rattle.blif.proofs.put_rows.Given as goal
