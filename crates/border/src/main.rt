@@ -8,6 +8,7 @@
 // from the one before in its known digits and limit alone is asked with what was remembered of subproblems that do not read the
 // first open cell.
 #![tactic(auto)]
+
 ghost use Rattle.std.specs.Prelude.{◌≡◌, ℕ, ◌+◌, ◌<◌, ◌≤◌, true, ◌⊎◌, length};
 ghost use Rattle.limits.specs.Limits.{search_outputs, max_vertices, label_count};
 ghost use Rattle.problem.specs.Problem.{item};

@@ -1,6 +1,7 @@
 // Takes a design sheet, a byte 0x00 and a network sheet on standard input, and prints the network as a text in BLIF, or
 // `refused N line L`. Everything that matters is in blif. The buffer holds every text, so question 9 is always answered yes.
 #![tactic(auto)]
+
 ghost use Rattle.std.specs.Prelude.{◌≤◌, length};
 ghost use Rattle.limits.specs.Limits.{max_blif};
 

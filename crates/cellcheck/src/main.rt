@@ -1,6 +1,7 @@
 // Reads a design sheet, a byte 0x00 and a network sheet from standard input, and prints `same`, `differs output O row R`, or
 // `refused N line L`. Everything that matters is in checker.
 #![tactic(auto)]
+
 use comparing::Checked;
 use console::STDOUT;
 

@@ -2,6 +2,7 @@
 // is in mapper. One byte more than a sheet may have is kept, so that a longer sheet is seen to be too long; the rest is read and
 // dropped. The buffer holds every network sheet, so question 9 is always answered yes.
 #![tactic(auto)]
+
 use mapper::Mapped;
 
 // Maps a sheet, with a buffer for its network. Answers whether the answer was written.

@@ -2,6 +2,7 @@
 // texts and answers with two numbers are printed. Each function that writes answers whether it could, and tell says so on standard
 // error where it could not. Rests on the kit's io, and on limits for how long sheets are.
 #![tactic(auto)]
+
 ghost use Rattle.std.specs.Prelude.{◌≤◌, length};
 ghost use Rattle.io.specs.Counts.{IsPrefixLen};
 

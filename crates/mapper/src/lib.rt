@@ -3,6 +3,7 @@
 // columns, on first for the search, on unserved for sets of outputs and on selection for designs with some of their outputs, on
 // lineorder for the order of network sheets, and on writer for the network sheet.
 #![tactic(auto)]
+
 ghost use Rattle.std.specs.Prelude.{◌≡◌, ℕ, ◌≤◌, ◌<◌, ◌%◌, get_or};
 ghost use Rattle.limits.specs.Limits.{max_bound, max_outputs, max_vertices};
 ghost use Rattle.sheet.specs.Examine as spec;

@@ -2,6 +2,7 @@
 // examination is followed by. Rests on panel for the examination, on design, mapper and checker for the operations, and on
 // demands for what is proved of them.
 #![tactic(auto)]
+
 ghost use Rattle.std.specs.Prelude.{◌≡◌};
 ghost use Rattle.design.specs.Tabulate.{table_of};
 ghost use Rattle.design.specs.Answer.{table_answer};

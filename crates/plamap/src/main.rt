@@ -2,6 +2,7 @@
 // or `refused N line L`. Everything that matters is in pla. The first 0x00 parts the two texts: a PLA text that has one in an output
 // part is refused on that line either way. The buffer holds every network sheet, so question 9 is always answered yes.
 #![tactic(auto)]
+
 use mapper::Mapped;
 
 // The bytes of a PLA text, the one between the texts, those of the second text, and one by which a longer text is seen to be too

@@ -2,6 +2,7 @@
 // "no", and a value for each out-parameter. Rests on design, mapper, checker and blif for what the answers say, and calls none of
 // them.
 #![tactic(auto)]
+
 ghost use Rattle.std.specs.Prelude.{◌≡◌};
 ghost use Rattle.design.specs.Answer.{table_answer};
 ghost use Rattle.mapper.specs.Answer.{map_answer, cause_answer};

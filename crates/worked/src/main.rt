@@ -2,6 +2,7 @@
 // Map on sheet A with a buffer of 95 bytes, which stays as it was, with one of 96, and with one of 97, whose last byte stays;
 // and on sheet I within 4 cells, within 3, and with a fourth output. Everything that matters is in mapper.
 #![tactic(auto)]
+
 use console::STDOUT;
 use mapper::Mapped;
 

@@ -16,10 +16,10 @@ loop-i-init c = (omega arith, filled_none _ _ refl, λ k h. zeros_are label_coun
 
 pub loop-i-preserved : goal.loop-i-preserved
 loop-i-preserved c = let below = c.loop-i-test.true in (
-      omega arith,
-      filled_more _ (omega arith) c.label_of.ensures c.loop-i.invariant.1,
-      λ k h. get_or-set_other c.loop-i.cl c.loop-i.i k _ 0 (λ e. let z : k ≡ c.loop-i.i = e in omega arith) ∙ c.loop-i.invariant.2 k (omega arith),
-    )
+  omega arith,
+  filled_more _ (omega arith) c.label_of.ensures c.loop-i.invariant.1,
+  λ k h. get_or-set_other c.loop-i.cl c.loop-i.i k _ 0 (λ e. let z : k ≡ c.loop-i.i = e in omega arith) ∙ c.loop-i.invariant.2 k (omega arith),
+)
 
 pub returns : goal.returns
 returns c = let most = c.loop-i.invariant.0 in
