@@ -23,13 +23,9 @@ use Rattle.blif.specs.OutcomeLaws.{put_short, put_fits}
 
 module _ (t : List ℕ) (b : Beside) (x : sheets.Examined) (h : BesideIs t (examine_pair x t) b) where
   -- ---- a refusal of the examination
-  refused_by_flag : (p : Pair) (s : List ℕ) → BesideIs t p b → b.ok ≡ false → untouched b.number b.line s ≡ export_pair p s
+  pub refused_by_flag : (p : Pair) (s : List ℕ) → BesideIs t p b → b.ok ≡ false → untouched b.number b.line s ≡ export_pair p s
   refused_by_flag (refused_pair q l) s g f = ap₂ (λ (n m : ℕ). untouched n m s) g.number g.line
   refused_by_flag (pair d w) s g f = absurd (true_false (sym g.all_ok ∙ f))
-
-  pub answer_refused : (s : List ℕ) → b.ok ≡ false → untouched b.number b.line s ≡ export_of x t s
-  unfolding export_of
-  answer_refused s f = refused_by_flag (examine_pair x t) s h f
 
   -- ---- a pair that passed
   record PassedPair : Type 0 where

@@ -76,7 +76,7 @@ module _ (x : Examined) (t b : List ℕ) where
   unfolding export_of
   drawn_put d w e f = ap (λ (p : Pair). export_pair p b) (drawn_pair t x d w e f)
 
-  checked_refused : (q l : ℕ) → check_of x t ≡ checks.refused_by q l → export_of x t b ≡ untouched q l b
+  pub checked_refused : (q l : ℕ) → check_of x t ≡ checks.refused_by q l → export_of x t b ≡ untouched q l b
   unfolding export_of check_of
   checked_refused q l e = go (examine_pair x t) e
     where
@@ -86,10 +86,6 @@ module _ (x : Examined) (t b : List ℕ) where
           let j : m ≡ l = cc in
           ap₂ (λ (u v : ℕ). untouched u v b) i j
       go (pair d w) f = absurd (compared_not_refused d w q l f)
-
-  pub export_refuses : (q l : ℕ) → ExportRefuses x t (length b) q l → export_of x t b ≡ untouched q l b
-  export_refuses q l (as_check p m e) = checked_refused p m e
-  export_refuses q l (by_buffer d w e f h) = drawn_put d w e f ∙ put_short (print_blif d w) b h
 
   -- ---- from the answer to the questions
   refused-here : (q l p m : ℕ) → refused_by p m ≡ refused_by q l → ExportRefuses x t (length b) p m → ExportRefuses x t (length b) q l

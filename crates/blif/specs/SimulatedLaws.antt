@@ -4,10 +4,9 @@ use Rattle.std.specs.Prelude.{◌≡◌, refl, Bool, List, ℕ, ◌^◌, ◌≤�
 use Rattle.std.proofs.Common.{sym, ap, subst, ◌∙◌, arith}
 use Rattle.std.proofs.Math.Option.{some}
 use Rattle.limits.specs.Limits.{max_blif}
-use Rattle.sheet.specs.Examine.{Design, Examined, valid, examine}
+use Rattle.sheet.specs.Examine.{Design, Examined, valid}
 use Rattle.sheet.specs.Value.{output_on}
 use Rattle.sheet.specs.WellFormed.{WellFormed}
-use Rattle.sheet.specs.ExaminationLaws.{valid_well_formed}
 use Rattle.network.specs.Network.{Network}
 use Rattle.network.specs.Check as checks
 use Rattle.network.specs.Check.{check_of}
@@ -20,13 +19,12 @@ use Rattle.network.specs.PrintedLaws.{drawn_wellformed, drawn_within}
 use Rattle.blif.specs.Printer.{print_blif}
 use Rattle.blif.specs.Modelled.{model_of}
 use Rattle.blif.specs.Export.{Exported, written, export_of, put_text}
-use Rattle.blif.specs.Simulated.{Simulates, ExportDemand}
+use Rattle.blif.specs.Simulated.{Simulates}
 use Rattle.blif.specs.NamesOnceLaws.{signals_once}
 use Rattle.blif.specs.ReadLaws.{text_read}
 use Rattle.blif.specs.LengthLaws.{text_fits}
 use Rattle.blif.specs.ValueLaws.{output_valued}
-use Rattle.blif.specs.OutcomeLaws.{put_fits, put_text_lem, outcome, drawn_put, export_refuses}
-use Rattle.blif.specs.OutcomeLaws.{refusal_because, refusal_untouched, outcome_length, outcome_later}
+use Rattle.blif.specs.OutcomeLaws.{put_fits, put_text_lem, drawn_put}
 
 pub simulated : (d : Design) (w : Network) → WellFormed d → NetworkFor d w → Simulates d (network_on d w) (print_blif d w)
 unfolding model_of
@@ -56,7 +54,7 @@ simulates_another d f g t h s =
     }
 
 module _ (x : Examined) (t b : List ℕ) (right : (d : Design) → x ≡ valid d → WellFormed d) where
-  fits : (d : Design) (w : Network)
+  pub fits : (d : Design) (w : Network)
       → x ≡ valid d
       → Drawn d t w
       → max_blif ≤ length b
@@ -67,7 +65,7 @@ module _ (x : Examined) (t b : List ℕ) (right : (d : Design) → x ≡ valid d
       let most = text_fits d w formed (drawn_wellformed d w named t f) (drawn_within d w named t f) in
       ap (λ (y : Exported). y.answer) (drawn_put x t b d w e f ∙ put_fits (print_blif d w) b (omega arith))
 
-  simulates : (d : Design) (w : Network) (n : ℕ)
+  pub simulates : (d : Design) (w : Network) (n : ℕ)
       → x ≡ valid d
       → Drawn d t w
       → (export_of x t b).answer ≡ written n
@@ -80,7 +78,7 @@ module _ (x : Examined) (t b : List ℕ) (right : (d : Design) → x ≡ valid d
       subst (Simulates d (network_on d w)) (sym text)
       (simulated d w (right d e) (drawn_wellformed d w (design-named d (right d e)) t f))
 
-  simulates_design : (d : Design) (n : ℕ)
+  pub simulates_design : (d : Design) (n : ℕ)
       → x ≡ valid d
       → check_of x t ≡ checks.same
       → (export_of x t b).answer ≡ written n
@@ -88,22 +86,3 @@ module _ (x : Examined) (t b : List ℕ) (right : (d : Design) → x ≡ valid d
   simulates_design d n e c h =
       let (w, f, k) = check_same d t (subst (λ (y : Examined). check_of y t ≡ checks.same) e c) in
       simulates_another d (network_on d w) (output_on d) (take n (export_of x t b).buffer) k.agrees (simulates d w n e f h)
-
-  demanded : ExportDemand x t b
-  demanded =
-      record {
-        refuses = λ q l r. ap (λ (y : Exported). y.answer) (export_refuses x t b q l r);
-        because = λ q l h. refusal_because x t b q l (outcome x t b) h;
-        untouched = λ q l h. refusal_untouched x t b q l (outcome x t b) h;
-        fits = fits;
-        simulates = simulates;
-        simulates_design = simulates_design;
-        same_length = outcome_length x t b (outcome x t b);
-        later = λ n i h l. outcome_later x t b n i (outcome x t b) h l;
-      }
-
-pub export_demand : (x : Examined) (t b : List ℕ) → ((d : Design) → x ≡ valid d → WellFormed d) → ExportDemand x t b
-export_demand x t b right = demanded x t b right
-
-pub sheet_export_demand : (s t b : List ℕ) → ExportDemand (examine s) t b
-sheet_export_demand s t b = export_demand (examine s) t b (valid_well_formed s)

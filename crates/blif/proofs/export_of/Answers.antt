@@ -1,6 +1,7 @@
 -- `export_of`: a refusal, or the text of the pair that passed. Assumes nothing.
 use borrow.Author.Tests.{not-true, not-false}
-use Rattle.blif.specs.AnswerLaws.{answer_refused, some_passed, answer-short, answer-written}
+use Rattle.blif.proofs.Refused.{answer_refused}
+use Rattle.blif.specs.AnswerLaws.{some_passed, answer-short, answer-written}
 use Rattle.blif.proofs.export_of.Goals as goal
 
 pub returns-then-not-b : goal.returns-then-not-b
