@@ -28,7 +28,8 @@ use Rattle.cells.specs.Written.{tables_of}
 use Rattle.serving.specs.NetworkCore.{cells_of, network_core, Conflicts, ServesDesign}
 use Rattle.serving.specs.Tells.{core-length}
 use Rattle.serving.specs.Build.{built}
-use Rattle.serving.specs.TheoremA.{drawn_serves, built-luts}
+use Rattle.serving.specs.TheoremA.{built-luts}
+use Rattle.serving.proofs.Serves.{drawn_serves}
 use Rattle.lineorder.specs.CoreDigits.{network_tables, built_tables, network_zero}
 use Rattle.lineorder.specs.PrintOrder.{nodes_order, print_order}
 use Rattle.mapper.specs.Map.{Permitted, First}

@@ -28,11 +28,12 @@ use Rattle.cells.specs.Core.{Cell, Apart, reading}
 use Rattle.cells.specs.Written.{tables_of, reads_of}
 use Rattle.serving.specs.NetworkCore.{network_core, ServesDesign}
 use Rattle.serving.specs.Tells.{core-length}
-use Rattle.serving.specs.TheoremA.{drawn_serves, parts_of}
+use Rattle.serving.specs.TheoremA.{parts_of}
+use Rattle.serving.proofs.Serves.{drawn_serves}
 use Rattle.lineorder.specs.NodeOrder.{reads_order}
-use Rattle.lineorder.specs.ReadingSets.{chosen_order}
+use Rattle.lineorder.proofs.ChosenOrder.{chosen_order}
 use Rattle.lineorder.specs.CoreDigits.{network_tables, reads-length, network-reads}
-use Rattle.lineorder.specs.First.{first_from_reads}
+use Rattle.lineorder.proofs.FirstReads.{first_from_reads}
 use Rattle.mapper.specs.Map.{Permitted, First}
 use Rattle.mapper.specs.PermittedLaws.{permitted_count}
 use Rattle.mapper.specs.FirstLaws.{permitted_settled}

@@ -28,7 +28,7 @@ use Rattle.network.specs.CompareLaws.{compared_same}
 use Rattle.network.specs.PrintedLaws.{drawn_wellformed, drawn_within}
 use Rattle.serving.specs.NetworkCore.{network_core}
 use Rattle.serving.specs.Tells.{core-length}
-use Rattle.serving.specs.TheoremA.{drawn_serves}
+use Rattle.serving.proofs.Serves.{drawn_serves}
 use Rattle.serving.specs.FullReads.{reads-width}
 use Rattle.mapper.specs.Map.{Permitted, First, MapAnswer, refused_by, mapped, OutcomeFor, too_many_classes, no_network, buffer_short, written}
 use Rattle.mapper.specs.FunctionLaws.{first_one}

@@ -27,7 +27,8 @@ use Rattle.serving.specs.NetworkCore.{ServesDesign}
 use Rattle.network.specs.Numbers.{numbers_of}
 use Rattle.serving.specs.Build.{code_in, entry_at, entry, node_built, built}
 use Rattle.serving.specs.Compose.{lut_built, tables_at}
-use Rattle.serving.specs.TheoremA.{built-luts, built-node, built_wellformed, built-within, built_computes, parts_of, columns_of}
+use Rattle.serving.specs.TheoremA.{built-luts, built-node, built_wellformed, built-within, parts_of, columns_of}
+use Rattle.serving.proofs.Computes.{built_computes}
 use Rattle.mapper.specs.Map.{Permitted}
 
 -- ---- tables 0 at vertex 0

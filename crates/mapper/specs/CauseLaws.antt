@@ -16,7 +16,9 @@ use Rattle.cells.specs.Codes.{row_of, code_of}
 use Rattle.serving.specs.NetworkCore.{network_core, ServesDesign}
 use Rattle.serving.specs.Tells.{core-length}
 use Rattle.serving.specs.Build.{built}
-use Rattle.serving.specs.TheoremA.{drawn_serves, built_wellformed, built-within, built_computes}
+use Rattle.serving.specs.TheoremA.{built_wellformed, built-within}
+use Rattle.serving.proofs.Serves.{drawn_serves}
+use Rattle.serving.proofs.Computes.{built_computes}
 use Rattle.subsets.specs.Subset.{member_at, SomeOf}
 use Rattle.subsets.specs.SubsetLaws.{member_below, all-some}
 use Rattle.selection.specs.Selection.{part}

@@ -21,11 +21,13 @@ use Rattle.first.specs.First.{FirstCore, Answered}
 use Rattle.serving.specs.NetworkCore.{network_core}
 use Rattle.serving.specs.Tells.{core-length}
 use Rattle.serving.specs.Build.{built}
-use Rattle.serving.specs.TheoremA.{drawn_serves, built-luts, parts_of}
+use Rattle.serving.specs.TheoremA.{built-luts, parts_of}
+use Rattle.serving.proofs.Serves.{drawn_serves}
 use Rattle.lineorder.specs.NodeOrder.{reads_order}
-use Rattle.lineorder.specs.ReadingSets.{chosen_order}
+use Rattle.lineorder.proofs.ChosenOrder.{chosen_order}
 use Rattle.lineorder.specs.CoreDigits.{network_tables, built_tables, network_zero, reads-length, network-reads, built_core_reads}
-use Rattle.lineorder.specs.First.{Settled, first_from_reads}
+use Rattle.lineorder.specs.First.{Settled}
+use Rattle.lineorder.proofs.FirstReads.{first_from_reads}
 use Rattle.mapper.specs.Map.{Permitted, First}
 use Rattle.mapper.specs.PermittedLaws.{permitted_count, permitted_reads}
 use Rattle.mapper.specs.Posed.{Given}

@@ -19,7 +19,7 @@ use Rattle.first.specs.First.{Answered}
 use Rattle.serving.specs.NetworkCore.{network_core, ServesDesign}
 use Rattle.serving.specs.Tells.{core-length}
 use Rattle.serving.specs.Build.{built}
-use Rattle.serving.specs.TheoremA.{drawn_serves}
+use Rattle.serving.proofs.Serves.{drawn_serves}
 use Rattle.mapper.specs.Map.{Permitted}
 use Rattle.mapper.specs.BuiltLaws.{built_permitted}
 use Rattle.mapper.specs.Posed.{Given}
