@@ -49,8 +49,8 @@ THEOREMS = [
     ("sheet", "DesignLaws", "design_spelled"),
     ("network", "SheetLaws", "network_spelled"),
     ("blif", "SimulatedLaws", "simulated"),
-    ("blif", "SimulatedLaws", "sheet_export_demand"),
-    ("blif", "SimulatedLaws", "export_demand"),
+    ("blif", "ExportDemand", "sheet_export_demand"),
+    ("blif", "ExportDemand", "export_demand"),
     ("panel", "ValueLaws", "panel_says"),
     ("panel", "DesignLaws", "panel_refused"),
     ("panel", "QuestionLaws", "question_refuses"),
@@ -89,8 +89,8 @@ def imports(text):
 
 def path_of(module):
     """the file of a module of the repository's specs/, else none"""
-    m = re.match(r"Rattle\.(\w+)\.specs\.(\w+)$", module)
-    return f"crates/{m[1]}/specs/{m[2]}.antt" if m and (ROOT / "crates" / m[1]).is_dir() else None
+    m = re.match(r"Rattle\.(\w+)\.(specs|proofs)\.(\w+)$", module)
+    return f"crates/{m[1]}/{m[2]}/{m[3]}.antt" if m and (ROOT / "crates" / m[1]).is_dir() else None
 
 
 class Module:
@@ -167,10 +167,12 @@ def reached():
         for function in functions:
             found.read(code.contract(function), code, "")
     for crate, name, theorem in THEOREMS:
-        path = f"crates/{crate}/specs/{name}.antt"
+        # a theorem that an edit of a definition takes away stands in proofs/
+        part = "specs" if (ROOT / f"crates/{crate}/specs/{name}.antt").is_file() else "proofs"
+        path = f"crates/{crate}/{part}/{name}.antt"
         here = found.module(path)
         found.seen.add((path, theorem))
-        found.read(here.statement(theorem), here, f"Rattle.{crate}.specs.{name}")
+        found.read(here.statement(theorem), here, f"Rattle.{crate}.{part}.{name}")
     return found
 
 
