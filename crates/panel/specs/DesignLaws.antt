@@ -24,7 +24,7 @@ use Rattle.panel.specs.Panel.{by_spelling, by_inputs_count, by_outputs_count, by
 use Rattle.panel.specs.Panel.{by_bound_count, by_bound_again, by_bound_unknown, by_limit}
 use Rattle.panel.specs.OnceLaws.{distinct_first}
 use Rattle.panel.specs.WalkLaws.{outputs_count, NamesTaken, names_walk, BoundTaken, board_walk}
-use Rattle.panel.specs.RefusalLaws.{refusal_right}
+use Rattle.panel.specs.RefusalLaws.{refusal_right_by}
 
 -- ---- what a pair comes to
 -- a refusal by a question of one of the texts, or a design that is right
@@ -95,9 +95,9 @@ abbrev pub AsksBoard : Type 0
 AsksBoard = (bs : List Name) (n : ℕ) (x : Pla) → with_board (board bs n) x ≡ ask_names x (ask_board bs n)
 
 -- ---- questions 1 and 2 on the second text
-with_board_right : AsksBoard → (p b : List ℕ) (x : Pla) (y : Board) → TextPassed p x → sized b ≡ true → read_board (lines b) ≡ y → PairRight p b (with_board y x)
-with_board_right a p b x (misspelled l) h s e = (second_text, by_board x l h s e)
-with_board_right a p b x (board bs n) h s e =
+with_board_right_by : AsksBoard → (p b : List ℕ) (x : Pla) (y : Board) → TextPassed p x → sized b ≡ true → read_board (lines b) ≡ y → PairRight p b (with_board y x)
+with_board_right_by a p b x (misspelled l) h s e = (second_text, by_board x l h s e)
+with_board_right_by a p b x (board bs n) h s e =
     subst (PairRight p b) (sym (a bs n x)) (names_right p b x bs n (record { text_passed = h; board-sized = s; board_is_read = e }))
 
 -- ---- questions 12 to 14
@@ -141,28 +141,37 @@ unfolding examine_text
 text_right p = further_right p (read_pla p) refl
 
 -- ---- every pair
-beside_right : AsksBoard → (p b : List ℕ) (y : text.Examined) → TextRight p y → PairRight p b (beside_text y b)
-beside_right a p b (text.refused q l) h = (pla_text, h b)
-beside_right a p b (text.passed x) h = go (sized b) refl
+beside_right_by : AsksBoard → (p b : List ℕ) (y : text.Examined) → TextRight p y → PairRight p b (beside_text y b)
+beside_right_by a p b (text.refused q l) h = (pla_text, h b)
+beside_right_by a p b (text.passed x) h = go (sized b) refl
   where
     go : (t : Bool) → sized b ≡ t → PairRight p b (pick t (with_board (read_board (lines b)) x) (refused 1 0))
-    go true e = with_board_right a p b x (read_board (lines b)) h e refl
+    go true e = with_board_right_by a p b x (read_board (lines b)) h e refl
     go false e = (second_text, by_size x h e)
 
-pair_right : AsksBoard → (p b : List ℕ) → PairRight p b (examine p b)
+pair_right_by : AsksBoard → (p b : List ℕ) → PairRight p b (examine p b)
 unfolding examine
-pair_right a p b = beside_right a p b (examine_text p) (text_right p)
+pair_right_by a p b = beside_right_by a p b (examine_text p) (text_right p)
+
+with_board_right : (p b : List ℕ) (x : Pla) (y : Board) → TextPassed p x → sized b ≡ true → read_board (lines b) ≡ y → PairRight p b (with_board y x)
+with_board_right = with_board_right_by (λ bs n x. refl)
+
+beside_right : (p b : List ℕ) (y : text.Examined) → TextRight p y → PairRight p b (beside_text y b)
+beside_right = beside_right_by (λ bs n x. refl)
+
+pair_right : (p b : List ℕ) → PairRight p b (examine p b)
+pair_right = pair_right_by (λ bs n x. refl)
 
 pub panel_refused : (p b : List ℕ) (q l : ℕ) → examine p b ≡ refused q l → PanelRefusal p b q l
 panel_refused p b q l e =
-    let (t, r) = subst (PairRight p b) e (pair_right (λ bs n x. refl) p b) in
-    refusal_right p b (λ m k. refl) t q l r
+    let (t, r) = subst (PairRight p b) e (pair_right_by (λ bs n x. refl) p b) in
+    refusal_right_by p b (λ m k. refl) t q l r
 
 pub panel_valid : (p b : List ℕ) (d : Design) → examine p b ≡ valid d → Panel p b d
-panel_valid p b d e = (subst (PairRight p b) e (pair_right (λ bs n x. refl) p b)).0
+panel_valid p b d e = (subst (PairRight p b) e (pair_right_by (λ bs n x. refl) p b)).0
 
 pub well_formed_by : AsksBoard → (p b : List ℕ) (d : Design) → examine p b ≡ valid d → WellFormed d
-well_formed_by a p b d e = (subst (PairRight p b) e (pair_right a p b)).1
+well_formed_by a p b d e = (subst (PairRight p b) e (pair_right_by a p b)).1
 
 pub panel_well_formed : (p b : List ℕ) (d : Design) → examine p b ≡ valid d → WellFormed d
 panel_well_formed p b d e = well_formed_by (λ bs n x. refl) p b d e

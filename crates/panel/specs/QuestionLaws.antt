@@ -35,8 +35,8 @@ module _ (p b : List ℕ) where
       refl
 
   module _ (x : Pla) (bs : List Name) (n : ℕ) where
-    board_passed : AsksBoard → BoardPassed p b x bs n → examine p b ≡ ask_names x (ask_board bs n)
-    board_passed a h = text_passed x h.text_passed ∙ rw (h.board-sized, h.board_is_read) (a bs n x)
+    board_passed_by : AsksBoard → BoardPassed p b x bs n → examine p b ≡ ask_names x (ask_board bs n)
+    board_passed_by a h = text_passed x h.text_passed ∙ rw (h.board-sized, h.board_is_read) (a bs n x)
 
     -- a property of what is left holds of the answer
     names_passed : (P : Examined → Type 0)
@@ -49,15 +49,15 @@ module _ (p b : List ℕ) where
         (λ _ e. absurd (never_both h.names_once e))
         (λ e w. f e w.same_inputs)
 
-    board_refuses : AsksBoard → (q l : ℕ)
+    board_refuses_by : AsksBoard → (q l : ℕ)
         → NamesPassed p b x bs n
         → Noes (λ (y : Examined). y ≡ refused q l) bound_line (bound_questions x.inputs bs)
         → (BoundTaken x.inputs bs → max_limit < n → refused 3 limit_line ≡ refused q l)
         → (BoundTaken x.inputs bs → n ≤ max_limit → ⊥)
         → examine p b ≡ refused q l
-    board_refuses a q l h f g k =
+    board_refuses_by a q l h f g k =
         let P : Examined → Type 0 = λ y. y ≡ refused q l in
-        board_passed a h.board_passed
+        board_passed_by a h.board_passed
         ∙ names_passed P h
         (λ e i.
         let there : BoundTaken e.inputs bs → BoundTaken x.inputs bs = subst (λ (ns : List Name). BoundTaken ns bs) i in
@@ -65,6 +65,17 @@ module _ (p b : List ℕ) where
         (subst (λ (ns : List Name). Noes P bound_line (bound_questions ns bs)) (sym i) f)
         (λ c. g (there c))
         (λ c m. absurd (k (there c) m)))
+
+    board_passed : BoardPassed p b x bs n → examine p b ≡ ask_names x (ask_board bs n)
+    board_passed = board_passed_by (λ _ _ _. refl)
+
+    board_refuses : (q l : ℕ)
+        → NamesPassed p b x bs n
+        → Noes (λ (y : Examined). y ≡ refused q l) bound_line (bound_questions x.inputs bs)
+        → (BoundTaken x.inputs bs → max_limit < n → refused 3 limit_line ≡ refused q l)
+        → (BoundTaken x.inputs bs → n ≤ max_limit → ⊥)
+        → examine p b ≡ refused q l
+    board_refuses = board_refuses_by (λ _ _ _. refl)
 
 -- ---- every question
 pub question_refuses : (p b : List ℕ) (t : PanelText) (q l : ℕ) → PanelRefuses p b t q l → examine p b ≡ refused q l
@@ -78,29 +89,29 @@ question_refuses p b t q l (refusals.by_mark x m e g h i) =
 question_refuses p b t q l (refusals.by_size x h e) = text_passed p b x h ∙ rw e refl
 question_refuses p b t q l (refusals.by_board x m h e g) = text_passed p b x h ∙ rw (e, g) refl
 question_refuses p b t q l (refusals.by_input_again x bs n h e) =
-    board_passed p b x bs n (λ _ _ _. refl) h
+    board_passed_by p b x bs n (λ _ _ _. refl) h
     ∙ names_walk (λ (y : Examined). y ≡ refused 4 input_names_line) p x (ask_board bs n) h.text_passed (λ _. refl)
     (λ f _. absurd (never_both f e))
     (λ _ w. absurd (never_both (distinct_first x.inputs x.outputs w.names_once) e))
 question_refuses p b t q l (refusals.by_output_again x bs n h e g) =
-    board_passed p b x bs n (λ _ _ _. refl) h
+    board_passed_by p b x bs n (λ _ _ _. refl) h
     ∙ names_walk (λ (y : Examined). y ≡ refused 4 output_names_line) p x (ask_board bs n) h.text_passed (λ f. absurd (never_both e f))
     (λ _ _. refl)
     (λ _ w. absurd (never_both w.names_once g))
 question_refuses p b t q l (refusals.by_bound_count x bs n h e) =
-    board_refuses p b x bs n (λ _ _ _. refl) 3 bound_line h (λ _. refl, λ f. absurd (never_both f e)) (λ c. absurd (never_both c.counted e))
+    board_refuses_by p b x bs n (λ _ _ _. refl) 3 bound_line h (λ _. refl, λ f. absurd (never_both f e)) (λ c. absurd (never_both c.counted e))
     (λ c. absurd (never_both c.counted e))
 question_refuses p b t q l (refusals.by_bound_again x bs n h e g) =
-    board_refuses p b x bs n (λ _ _ _. refl) 4 bound_line h (λ f. absurd (never_both e f), λ _. (λ _. refl, λ f. absurd (never_both f g)))
+    board_refuses_by p b x bs n (λ _ _ _. refl) 4 bound_line h (λ f. absurd (never_both e f), λ _. (λ _. refl, λ f. absurd (never_both f g)))
     (λ c. absurd (never_both c.once g))
     (λ c. absurd (never_both c.once g))
 question_refuses p b t q l (refusals.by_bound_unknown x bs n h e g i) =
-    board_refuses p b x bs n (λ _ _ _. refl) 5 bound_line h
+    board_refuses_by p b x bs n (λ _ _ _. refl) 5 bound_line h
     (λ f. absurd (never_both e f), λ _. (λ f. absurd (never_both g f), λ _. (λ _. refl, λ _. tt)))
     (λ c. absurd (never_both c.known i))
     (λ c. absurd (never_both c.known i))
 question_refuses p b t q l (refusals.by_limit x bs n h e g i j) =
-    board_refuses p b x bs n (λ _ _ _. refl) 3 limit_line h
+    board_refuses_by p b x bs n (λ _ _ _. refl) 3 limit_line h
     (λ f. absurd (never_both e f), λ _. (λ f. absurd (never_both g f), λ _. (λ f. absurd (never_both i f), λ _. tt)))
     (λ _ _. refl)
     (λ _ m. omega arith)

@@ -143,23 +143,29 @@ module _ (p b : List ℕ) where
       }
 
   -- the question is given twice, once to be taken apart
-  by_question : TellsText → (t : PanelText) (q l : ℕ) → PanelRefuses p b t q l → PanelRefuses p b t q l → PanelRefusal p b q l
-  by_question a t q l (refusals.by_spelling m e) r =
+  by_question_by : TellsText → (t : PanelText) (q l : ℕ) → PanelRefuses p b t q l → PanelRefuses p b t q l → PanelRefusal p b q l
+  by_question_by a t q l (refusals.by_spelling m e) r =
       pla_refusal 12 m r (a 12 m) (search arith) (λ _. (bad_line_inside p m e, line_zero_size p m e)) (search arith)
-  by_question a t q l (refusals.by_inputs_count x e h) r = pla_refusal 13 inputs_line r (a 13 inputs_line) (search arith) (λ n. absurd (omega arith)) (search arith)
-  by_question a t q l (refusals.by_outputs_count x e g h) r = pla_refusal 13 outputs_line r (a 13 outputs_line) (search arith) (λ n. absurd (omega arith)) (search arith)
-  by_question a t q l (refusals.by_mark x m e g h i) r = pla_refusal 14 m r (a 14 m) (search arith) (λ n. absurd (omega arith)) (λ _. mark_line p x m e i)
-  by_question a t q l (refusals.by_size x h e) r = second_refusal 1 0 r (a 1 0) (search arith) (search arith)
-  by_question a t q l (refusals.by_board x m h e g) r =
+  by_question_by a t q l (refusals.by_inputs_count x e h) r = pla_refusal 13 inputs_line r (a 13 inputs_line) (search arith) (λ n. absurd (omega arith)) (search arith)
+  by_question_by a t q l (refusals.by_outputs_count x e g h) r = pla_refusal 13 outputs_line r (a 13 outputs_line) (search arith) (λ n. absurd (omega arith)) (search arith)
+  by_question_by a t q l (refusals.by_mark x m e g h i) r = pla_refusal 14 m r (a 14 m) (search arith) (λ n. absurd (omega arith)) (λ _. mark_line p x m e i)
+  by_question_by a t q l (refusals.by_size x h e) r = second_refusal 1 0 r (a 1 0) (search arith) (search arith)
+  by_question_by a t q l (refusals.by_board x m h e g) r =
       second_refusal 2 m r (a 2 m) (search arith) (λ _. subst (BoardLine (lines b)) g (read_board_line (lines b)))
-  by_question a t q l (refusals.by_input_again x bs n h e) r =
+  by_question_by a t q l (refusals.by_input_again x bs n h e) r =
       pla_refusal 4 input_names_line r (a 4 input_names_line) (search arith) (λ n. absurd (omega arith)) (search arith)
-  by_question a t q l (refusals.by_output_again x bs n h e g) r =
+  by_question_by a t q l (refusals.by_output_again x bs n h e g) r =
       pla_refusal 4 output_names_line r (a 4 output_names_line) (search arith) (λ n. absurd (omega arith)) (search arith)
-  by_question a t q l (refusals.by_bound_count x bs n h e) r = second_refusal 3 bound_line r (a 3 bound_line) (search arith) (search arith)
-  by_question a t q l (refusals.by_bound_again x bs n h e g) r = second_refusal 4 bound_line r (a 4 bound_line) (search arith) (search arith)
-  by_question a t q l (refusals.by_bound_unknown x bs n h e g i) r = second_refusal 5 bound_line r (a 5 bound_line) (search arith) (search arith)
-  by_question a t q l (refusals.by_limit x bs n h e g i j) r = second_refusal 3 limit_line r (a 3 limit_line) (search arith) (search arith)
+  by_question_by a t q l (refusals.by_bound_count x bs n h e) r = second_refusal 3 bound_line r (a 3 bound_line) (search arith) (search arith)
+  by_question_by a t q l (refusals.by_bound_again x bs n h e g) r = second_refusal 4 bound_line r (a 4 bound_line) (search arith) (search arith)
+  by_question_by a t q l (refusals.by_bound_unknown x bs n h e g i) r = second_refusal 5 bound_line r (a 5 bound_line) (search arith) (search arith)
+  by_question_by a t q l (refusals.by_limit x bs n h e g i j) r = second_refusal 3 limit_line r (a 3 limit_line) (search arith) (search arith)
 
-  pub refusal_right : TellsText → (t : PanelText) (q l : ℕ) → PanelRefuses p b t q l → PanelRefusal p b q l
-  refusal_right a t q l r = by_question a t q l r r
+  pub refusal_right_by : TellsText → (t : PanelText) (q l : ℕ) → PanelRefuses p b t q l → PanelRefusal p b q l
+  refusal_right_by a t q l r = by_question_by a t q l r r
+
+  by_question : (t : PanelText) (q l : ℕ) → PanelRefuses p b t q l → PanelRefuses p b t q l → PanelRefusal p b q l
+  by_question = by_question_by (λ m k. refl)
+
+  pub refusal_right : (t : PanelText) (q l : ℕ) → PanelRefuses p b t q l → PanelRefusal p b q l
+  refusal_right = refusal_right_by (λ m k. refl)
