@@ -1,25 +1,16 @@
 -- On a refusal the buffer is untouched, whatever its length: what rests on the definition that an edit in must-fail/ turns.
 -- Assumes nothing.
-use Rattle.std.specs.Prelude.{◌≡◌, List, ℕ, length}
+use Rattle.std.specs.Prelude.{◌≡◌, false, List, ℕ, length}
 use Rattle.std.proofs.Common.{◌∙◌}
-use Rattle.std.proofs.Math.Bool.{false}
-use Rattle.sheet.specs.Examine.{Design, Examined, valid}
-use Rattle.network.specs.Check.{examine_pair}
-use Rattle.blif.specs.Printer.{print_blif}
-use Rattle.blif.specs.Export.{untouched, export_of}
-use Rattle.blif.specs.Simulated.{ExportRefuses, as_check, by_buffer}
-use Rattle.std.specs.Prelude.{◌≡◌, false, ℕ}
-use Rattle.std.proofs.Common.{◌∙◌}
-use mathlib.Core.List.{List}
-use Rattle.std.proofs.Math.ListN.{length}
 use Rattle.sheet.specs.Examine as sheets
-use Rattle.sheet.specs.Examine.{Design}
+use Rattle.sheet.specs.Examine.{Design, Examined, valid}
 use Rattle.network.specs.Check.{examine_pair}
 use Rattle.checker.specs.Beside.{BesideIs}
 use Rattle.checker.specs.declared.Beside.{Beside}
+use Rattle.blif.specs.Printer.{print_blif}
 use Rattle.blif.specs.Export.{untouched, export_of}
-use Rattle.blif.specs.OutcomeLaws.{put_short}
-use Rattle.blif.specs.OutcomeLaws.{drawn_put, checked_refused}
+use Rattle.blif.specs.Simulated.{ExportRefuses, as_check, by_buffer}
+use Rattle.blif.specs.OutcomeLaws.{put_short, drawn_put, checked_refused}
 use Rattle.blif.specs.AnswerLaws.{refused_by_flag}
 
 module _ (x : Examined) (t b : List ℕ) where

@@ -1,6 +1,7 @@
 -- Digits put down one after the other, and what a digit of a composition table is. Assumes nothing.
 use Rattle.std.specs.Prelude.{◌≡◌, Bool, true, false, List, [], ◌∷◌, ◌++◌, map, ℕ, zero, suc, ◌+◌, ◌*◌, ◌/◌, ◌%◌, ◌^◌, ◌≤◌, ◌<◌, eqb, ltb, length, get_or}
-use Rattle.std.proofs.Common.{sym, ap, ap₂, ◌∙◌, append-nil, append_assoc, arith, div-lt_iff_lt-mul, mul-le-mul, zero-mul, suc-mul, mul-suc, mul_comm, add-zero, add-suc, add-one, pow_mono, lt-ltb, le-ltb}
+use Rattle.std.proofs.Common.{sym, ap, ap₂, ◌∙◌, append-nil, append_assoc, arith, div-lt_iff_lt-mul, mul-le-mul}
+use Rattle.std.proofs.Common.{zero-mul, suc-mul, mul-suc, mul_comm, add-zero, add-suc, add-one, pow_mono, lt-ltb, le-ltb}
 use Rattle.std.proofs.lemmas.List.{map-append}
 use Rattle.std.proofs.Math.Option.{Option, some, none}
 use Rattle.std.proofs.Math.Arith.{digits_div, digits_mod}

@@ -1,5 +1,5 @@
 -- A core that serves can be completed to a network with the design's value on every row: vertices with one code in the
--- tables that an output reads have no conflict, so the first of them gives the composition entry. Assumes nothing.
+-- tables that an output reads have no conflict, so the first of them gives the composition entry (and proofs/Computes.antt the values). Assumes nothing.
 use Rattle.std.specs.Prelude.{◌≡◌, refl, Bool, true, false, ◌⊎◌}
 use Rattle.std.proofs.Common.{sym, ◌∙◌, ⊎_elim, arith, add-zero, add-mul, add_assoc, mul_assoc, zero-mul, zero-add, pow-add, eq-eqb, eqb-true}
 use Rattle.std.proofs.Math.Path.{ap, ap₂}

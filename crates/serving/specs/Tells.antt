@@ -1,5 +1,5 @@
 -- A network that has a design's value on every row tells conflicting vertices apart: two vertices with equal values in all
--- the tables that an output reads give that output one column. So its core serves. Assumes nothing.
+-- the tables that an output reads give that output one column. So its core serves (proofs/Serves.antt). Assumes nothing.
 use Rattle.std.specs.Prelude.{◌≡◌, refl, Bool, true, false, ◌||◌, ◌⊎◌, ℕ, zero, suc, ◌+◌, ◌^◌, ◌≤◌, ◌<◌, eqb, length}
 use Rattle.std.proofs.Math.Path.{sym, ap, ap₂}
 use Rattle.std.proofs.Common.{◌∙◌, subst, inl, inr, eq-eqb, ne_eqb}

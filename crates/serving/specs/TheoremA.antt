@@ -1,5 +1,6 @@
 -- Theorem A: tables and reading sets can be completed to a network with a design's value on every row exactly when they
--- serve. From networks to cores, and from cores to networks. Assumes nothing.
+-- serve. From networks to cores, and from cores to networks: what both rest on; the two theorems themselves, `drawn_serves` and
+-- `built_computes`, stand in proofs/Serves.antt and proofs/Computes.antt. Assumes nothing.
 use Rattle.std.specs.Prelude.{◌≡◌, refl, Bool, true, false, ◌||◌, List, [], ◌∷◌, ◌⊎◌, ℕ, zero, suc, ◌+◌, ◌^◌, ◌≤◌, ◌<◌, eqb, get_or}
 use Rattle.std.proofs.Common.{sym, ◌∙◌, inl, inr, ⊎_elim, arith, zero-add, eqb-true}
 use Rattle.std.proofs.Math.Path.{ap, subst}
