@@ -62,7 +62,7 @@ record OneClass (d : Design) (x y : ℕ) : Type 0 where
   one_local : (o : ℕ) → o < length d.outputs → local_class d d.bound o x ≡ local_class d d.bound o y
 
 turned : (d : Design) (x y : ℕ) → OneClass d x y → OneClass d y x
-turned d x y c = record { is_vertex = c.is-other; is_other = c.is-vertex; one_local = λ o h. sym (c.one_local o h) }
+turned d x y c = record { is_vertex = c.is_other; is_other = c.is_vertex; one_local = λ o h. sym (c.one_local o h) }
 
 module _ (d : Design) (f : WellFormed d) (w : Network) (p : Permitted d w) (x y : ℕ) (c : OneClass d x y) where
   abbrev l : List Cell
@@ -75,7 +75,7 @@ module _ (d : Design) (f : WellFormed d) (w : Network) (p : Permitted d w) (x y 
   seen_below z h = at (ℕ_discrete z y)
     where
       at : Dec (z ≡ y) → seen_as x y z < vertex_count d.bound
-      at (yes q) = subst (λ (n : ℕ). n < vertex_count d.bound) (sym (seen_self x y z q)) c.is-vertex
+      at (yes q) = subst (λ (n : ℕ). n < vertex_count d.bound) (sym (seen_self x y z q)) c.is_vertex
       at (no n) = subst (λ (n : ℕ). n < vertex_count d.bound) (sym (seen_other x y z n)) h
 
   seen_class : (o z : ℕ) → o < length d.outputs → local_class d d.bound o (seen_as x y z) ≡ local_class d d.bound o z

@@ -2,7 +2,7 @@
 use Rattle.std.specs.Prelude.{◌≡◌, List, ℕ}
 use Rattle.mapper.specs.Map.{MapAnswer, OutcomeOf}
 use Rattle.mapper.specs.Cause.{CauseAnswer, CauseOf}
-use Rattle.mapper.specs.FunctionLaws.{examined_one}
+use Rattle.mapper.proofs.OneOutcome.{examined_one}
 use Rattle.mapper.specs.CauseFunctionLaws.{cause_of_one}
 use Rattle.panel.specs.Examine.{examine}
 

@@ -1,0 +1,2 @@
+-- Laws that rest on the definition of Map's outcomes.
+pub mod OneOutcome
