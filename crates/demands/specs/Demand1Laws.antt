@@ -162,11 +162,13 @@ module _ (x : Examined) (b : List ℕ) where
       → OutcomeFor d b a b'
       → a ≡ refused_by q l
       → MapSays q l b'
-  design_says q l d e (too_many_classes h) f = record { because = same_refusal q l 7 0 f (why.by_classes d e h); unchanged = refl }
-  design_says q l d e (no_network h n) f = record { because = same_refusal q l 8 0 f (why.by_cells d e h n); unchanged = refl }
-  design_says q l d e (buffer_short w h k n) f =
-      record { because = same_refusal q l 9 0 f (why.by_buffer d w e h k n); unchanged = refl }
-  design_says q l d e (written w h k n) f = absurd (mapped_not_refused f)
+  design_says {a} {b'} q l d e o f = go d a b' e o f
+    where
+      go : (d : Design) (a : MapAnswer) (b' : List ℕ) → x ≡ valid d → OutcomeFor d b a b' → a ≡ refused_by q l → MapSays q l b'
+      go d a b' e (too_many_classes h) f = record { because = same_refusal q l 7 0 f (why.by_classes d e h); unchanged = refl }
+      go d a b' e (no_network h n) f = record { because = same_refusal q l 8 0 f (why.by_cells d e h n); unchanged = refl }
+      go d a b' e (buffer_short w h k n) f = record { because = same_refusal q l 9 0 f (why.by_buffer d w e h k n); unchanged = refl }
+      go d a b' e (written w h k n) f = absurd (mapped_not_refused f)
 
   map_says : (a : MapAnswer) (b' : List ℕ) (q l : ℕ) (y : Examined)
       → x ≡ y

@@ -5,7 +5,6 @@
 pub mod Map
 pub mod PermittedLaws
 pub mod FunctionLaws
-pub mod WrittenLaws
 pub mod BuiltLaws
 pub mod Posed
 pub mod MapLaws
