@@ -15,4 +15,7 @@ report_export-r-requires c = let exported = c.export-e.ensures in
 
 pub returns : goal.returns
 returns c = let exported = c.export-e.ensures in
-    (c.report_export-r.ensures ∙ ap (λ (e : Exported). export_report e.answer) exported, ap (λ (e : Exported). e.buffer) exported)
+    record {
+      length_after = c.report_export-r.ensures ∙ ap (λ (e : Exported). export_report e.answer) exported;
+      buffer_after = ap (λ (e : Exported). e.buffer) exported;
+    }

@@ -14,4 +14,7 @@ report_table-r-requires c = let a = c.args in
 
 pub returns : goal.returns
 returns c = let t = c.table-t.ensures in
-    (c.report_table-r.ensures ∙ ap (λ (t : Tabulated). table_report t.answer) t, ap (λ (t : Tabulated). t.buffer) t)
+    record {
+      written_after = c.report_table-r.ensures ∙ ap (λ (t : Tabulated). table_report t.answer) t;
+      buffer_after = ap (λ (t : Tabulated). t.buffer) t;
+    }

@@ -5,10 +5,10 @@ use Rattle.panel.specs.DesignLaws.{panel_well_formed}
 use Rattle.pla.proofs.cause.Goals as goal
 
 pub cause_of-requires : goal.cause_of-requires
-cause_of-requires c = c.examine.ensures.1
+cause_of-requires c = c.examine.ensures.examination
 
 pub returns : goal.returns
 returns c = let a = c.args in
     let p = a.pla.now in
     let b = a.board.now in
-    c.cause_of.ensures (spec.examine p b) c.examine.ensures.0 (panel_well_formed p b)
+    c.cause_of.ensures (spec.examine p b) c.examine.ensures.examined_is (panel_well_formed p b)

@@ -5,10 +5,10 @@ use Rattle.panel.specs.DesignLaws.{panel_well_formed}
 use Rattle.pla.proofs.check.Goals as goal
 
 pub check_of-requires : goal.check_of-requires
-check_of-requires c = c.examine.ensures.1
+check_of-requires c = c.examine.ensures.examination
 
 pub returns : goal.returns
 returns c = let a = c.args in
     let p = a.pla.now in
     let b = a.board.now in
-    c.check_of.ensures (spec.examine p b) c.examine.ensures.0 (panel_well_formed p b)
+    c.check_of.ensures (spec.examine p b) c.examine.ensures.examined_is (panel_well_formed p b)

@@ -5,10 +5,10 @@ use Rattle.panel.specs.DesignLaws.{panel_well_formed}
 use Rattle.pla.proofs.map.Goals as goal
 
 pub map_of-requires : goal.map_of-requires
-map_of-requires c = c.examine.ensures.1
+map_of-requires c = c.examine.ensures.examination
 
 pub returns : goal.returns
 returns c = let a = c.args in
     let p = a.pla.now in
     let b = a.board.now in
-    c.map_of.ensures (spec.examine p b) c.examine.ensures.0 (panel_well_formed p b)
+    c.map_of.ensures (spec.examine p b) c.examine.ensures.examined_is (panel_well_formed p b)
