@@ -1,13 +1,11 @@
--- Demand 3 holds of every outcome on a well_formed design, and so on every sheet that says one. Assumes nothing.
+-- Demand 3 for each kind of outcome on a well-formed design; proofs/ThirdDemand.antt says it of every outcome. Assumes nothing.
 use Rattle.std.specs.Prelude.{◌≡◌, refl, List, ℕ, ◌+◌, ◌≤◌, ◌<◌, length, take}
 use Rattle.std.proofs.Common.{sym, ap, ◌∙◌, subst, ⊎_elim, arith}
 use Rattle.std.proofs.lemmas.List.Edits.{sets}
-use Rattle.limits.specs.Limits.{max_classes, max_network, first_lut}
+use Rattle.limits.specs.Limits.{max_network, first_lut}
 use Rattle.text.specs.Line.{lines, line_at}
-use Rattle.sheet.specs.Examine.{Design, Examined, valid, examine}
+use Rattle.sheet.specs.Examine.{Design, valid}
 use Rattle.sheet.specs.WellFormed.{WellFormed}
-use Rattle.sheet.specs.ExaminationLaws.{valid_well_formed}
-use Rattle.classes.specs.Classes.{global_count}
 use Rattle.network.specs.Network.{Network}
 use Rattle.network.specs.Printer.{print_network}
 use Rattle.network.specs.NetworkFor.{NetworkFor}
@@ -20,9 +18,8 @@ use Rattle.network.specs.CompareLaws.{same_or_differs, compared_same}
 use Rattle.network.specs.CheckLaws.{check_compares}
 use Rattle.network.specs.PrintedLaws.{printed_drawn, printed_same, drawn_wellformed, drawn_within}
 use Rattle.emit.specs.StoredLaws.{stored_text}
-use Rattle.mapper.specs.Map.{Permitted, First, MapAnswer, refused_by, mapped, OutcomeFor, too_many_classes, no_network, buffer_short, written, OutcomeOf, Outcome}
+use Rattle.mapper.specs.Map.{Permitted, First, refused_by, mapped}
 use Rattle.mapper.specs.FunctionLaws.{first_one}
-use Rattle.demands.specs.OutcomeLaws.{outcome_for}
 use Rattle.demands.specs.SizeLaws.{print_fits}
 use Rattle.demands.specs.Demand3.{Differs, Cells, TooShort, Demand3}
 
@@ -101,7 +98,7 @@ module _ (d : Design) (f : WellFormed d) where
       omega (arith, fits, l, h)
 
   -- ---- each outcome
-  demand_written : (b : List ℕ) (w : Network)
+  pub demand_written : (b : List ℕ) (w : Network)
       → First d w
       → length (print_network d w) ≤ length b
       → Demand3 (valid d) d b (mapped (length w.luts) (length (print_network d w))) (sets b 0 (print_network d w))
@@ -129,7 +126,7 @@ module _ (d : Design) (f : WellFormed d) where
         fewest_cells = λ u n e y v r g. subst (λ (m : ℕ). m ≤ length v.luts) (mapped_count e) (rival w p y v r g);
       }
 
-  demand_none : (b : List ℕ)
+  pub demand_none : (b : List ℕ)
       → ((w : Network) → NetworkFor d w → WithinLimits d w → Computes d w → ⊥)
       → Demand3 (valid d) d b (refused_by 8 0) b
   demand_none b h =
@@ -146,7 +143,7 @@ module _ (d : Design) (f : WellFormed d) where
         fewest_cells = λ u n e. absurd (mapped_not_refused (sym e));
       }
 
-  demand_short : (b : List ℕ) (w : Network)
+  pub demand_short : (b : List ℕ) (w : Network)
       → First d w
       → length b < length (print_network d w)
       → Demand3 (valid d) d b (refused_by 9 0) b
@@ -165,30 +162,3 @@ module _ (d : Design) (f : WellFormed d) where
         same_as_design = λ u n e. absurd (mapped_not_refused (sym e));
         fewest_cells = λ u n e. absurd (mapped_not_refused (sym e));
       }
-
-  design_demand_3 : (b : List ℕ) {a : MapAnswer} {b' : List ℕ}
-      → global_count d d.bound ≤ max_classes
-      → OutcomeFor d b a b'
-      → Demand3 (valid d) d b a b'
-  design_demand_3 b few (too_many_classes h) = absurd (omega (arith, h, few))
-  design_demand_3 b few (no_network h n) = demand_none b n
-  design_demand_3 b few (buffer_short w h p n) = demand_short b w p n
-  design_demand_3 b few (written w h p n) = demand_written b w p n
-
--- ======== Demand 3 for every examination's answer that is a well_formed design
-pub demand_3 : (x : Examined) (d : Design) (b : List ℕ) (a : MapAnswer) (b' : List ℕ)
-    → x ≡ valid d
-    → WellFormed d
-    → global_count d d.bound ≤ max_classes
-    → OutcomeOf x b a b'
-    → Demand3 x d b a b'
-demand_3 x d b a b' e f few o =
-    subst (λ (y : Examined). Demand3 y d b a b') (sym e) (design_demand_3 d f b few (outcome_for d e o))
-
--- ======== and on sheets
-pub sheet_demand_3 : (s : List ℕ) (d : Design) (b : List ℕ) (a : MapAnswer) (b' : List ℕ)
-    → examine s ≡ valid d
-    → global_count d d.bound ≤ max_classes
-    → Outcome s b a b'
-    → Demand3 (examine s) d b a b'
-sheet_demand_3 s d b a b' e few o = demand_3 (examine s) d b a b' e (valid_well_formed s d e) few o

@@ -13,7 +13,7 @@ use Rattle.demands.specs.Demand1Laws.{demand_1}
 use Rattle.demands.specs.Demand2.{Demand2}
 use Rattle.demands.specs.Demand2Laws.{demand_2}
 use Rattle.demands.specs.Demand3.{Demand3}
-use Rattle.demands.specs.Demand3Laws.{demand_3}
+use Rattle.demands.proofs.ThirdDemand.{demand_3}
 use Rattle.panel.specs.Examine.{examine}
 use Rattle.panel.specs.DesignLaws.{panel_well_formed, panel_refused}
 use Rattle.pla.specs.Demand1.{TextNumber, PanelDemand1}

@@ -4,8 +4,4 @@ pub mod DemandLaws
 pub mod FunctionLaws
 pub mod SameTables
 pub mod SameTablesLaws
-pub mod SameNetworksLaws
-pub mod SameCauseLaws
-pub mod SameAnswersLaws
 pub mod Worked
-pub mod WorkedPanel

@@ -18,7 +18,7 @@ use Rattle.selection.specs.PartColumnLaws.{part-value}
 use Rattle.mapper.specs.Cause.{Served, Cause, CauseAnswer, CauseFor, too_many_classes, mapped, refused_by_8}
 use Rattle.pla.specs.SameTables.{SameTables}
 use Rattle.pla.specs.SameTablesLaws.{SameValues, global_same}
-use Rattle.pla.specs.SameNetworksLaws.{formed_same, within_same, computes_same, second_is, second_values, counts_same, tables_back}
+use Rattle.pla.proofs.SameNetworksLaws.{formed_same, within_same, computes_same, second_is, second_values, counts_same, tables_back}
 
 -- ---- the same network serves both
 served_with : (d : Design) (ps : List Output) → output_names d.outputs ≡ output_names ps → SameValues d ps → Served d → Served (with_outputs d ps)

@@ -19,9 +19,9 @@ use Rattle.mapper.specs.Map.{Permitted, First, MapAnswer, mapped, OutcomeFor, to
 use Rattle.panel.specs.Examine as panels
 use Rattle.pla.specs.SameTables.{SameTables, SameAnswers}
 use Rattle.pla.specs.SameTablesLaws.{SameValues, global_same, print_same, table_same, check_same}
-use Rattle.pla.specs.SameNetworksLaws.{formed_same, within_same, is_output, computes_same, values_back}
-use Rattle.pla.specs.SameNetworksLaws.{second_is, second_values, tables_back}
-use Rattle.pla.specs.SameCauseLaws.{cause_same}
+use Rattle.pla.proofs.SameNetworksLaws.{formed_same, within_same, is_output, computes_same, values_back}
+use Rattle.pla.proofs.SameNetworksLaws.{second_is, second_values, tables_back}
+use Rattle.pla.proofs.SameCauseLaws.{cause_same}
 
 -- ---- Map on two designs that differ in their formulas alone
 module _ (d : Design) (ps : List Output) (names : output_names d.outputs ≡ output_names ps) (values : SameValues d ps) where

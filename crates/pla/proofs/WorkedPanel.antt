@@ -17,7 +17,7 @@ use Rattle.panel.specs.Computing as panels
 use Rattle.panel.specs.Examine.{examine}
 use Rattle.panel.specs.Worked.{pla_a, board_a, panel_a}
 use Rattle.pla.specs.SameTables.{SameTables, SameAnswers}
-use Rattle.pla.specs.SameAnswersLaws.{pair_as_sheet}
+use Rattle.pla.proofs.SameAnswersLaws.{pair_as_sheet}
 use Rattle.pla.specs.Worked.{WorkedPla}
 
 pair_said : examine pla_a board_a ≡ valid panel_a

@@ -1,0 +1,2 @@
+-- What rests on every part of a demand.
+pub mod ThirdDemand
