@@ -95,6 +95,18 @@ module _ (t : List ℕ) (d : Design) (s : ℕ) (w : Writes t d) where
         fits = subst (λ (v : List ℕ). length v ≤ max_sheet) (sym e) kept_fits;
       }
 
+  only_outs_printed : only_outs s (length d.outputs) t ≡ print_design (with_bound (part s d) w.written)
+  unfolding only_outs
+  only_outs_printed = kept_printed
+
+  only_outs_fits : length (only_outs s (length d.outputs) t) ≤ max_sheet
+  unfolding only_outs
+  only_outs_fits = subst (λ (v : List ℕ). length v ≤ max_sheet) (sym kept_printed) kept_fits
+
+  only_outs_written : SomeOf (length d.outputs) s → Writes (only_outs s (length d.outputs) t) (part s d)
+  unfolding only_outs
+  only_outs_written p = part_written p (ended_lines (kept s (length d.outputs) (lines t))) kept_printed
+
 module _ (t : List ℕ) (d : Design) (e : examine t ≡ valid d) (s : ℕ) where
   pub only_outs_valid : SomeOf (length d.outputs) s → examine (only_outs s (length d.outputs) t) ≡ valid (part s d)
   unfolding only_outs
