@@ -2,10 +2,10 @@
  * theirs names, the outputs that cause a refusal by 8, and Table, Map, Check and such a cause on panels that arrive as PLA.
  * docs/SPECIFICATION.md says what the texts are and what is answered: section 11 has the operations, section 9 the questions.
  *
- * Link target/staticlib/libcellmapper.a, which `rt staticlib cellmapper` proves and builds for x86-64 Linux. The archive
+ * Link target/staticlib/libcellmapper.a, which `tests/archive` proves and builds for x86-64 Linux. The archive
  * needs nothing but memcpy and memset, keeps no state, allocates nothing, and may be called from several threads at once.
  *
- * What holds of every function, proved for all bytes, lengths and numbers handed in (crates/cellmapper/src/lib.rt):
+ * What holds of every function, proved for all bytes, lengths and numbers handed in (crates/cellmapper_c/src/lib.rt):
  * - They end, and read and write nothing outside of what they are lent.
  * - The result is 0, or the number of the question that was answered "no", 1 to 14 (enum cellmapper_refusal below). On a refusal
  *   *line is the line at fault, counted from 1, or 0 where the question concerns no line, and the buffer is untouched.

@@ -3,6 +3,8 @@
 
 usage: tools/respell.py [--table] [ROOT]
 
+It was run once, as docs/PORT.md says, and is kept so that this can be done again beside.
+
 `maxRows` becomes `max_rows`, `filled-all` becomes `filled_all`, and `count-le` stays, since `count` and `le` are names. It goes by what the
 .antt files below crates/ declare, and rewrites .antt files, the clauses, ghost items and comments of .rt files, the edits in must-fail/, and
 the code spans of pages. Names of Rust items, strings and what Rattle generates stay. --table prints the table and writes nothing. A second

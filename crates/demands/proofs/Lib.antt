@@ -1,2 +1,3 @@
 -- What rests on every part of a demand.
 pub mod ThirdDemand
+pub mod GateLaws
