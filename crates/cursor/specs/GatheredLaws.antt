@@ -1,6 +1,6 @@
 -- The names of a list, one after another: those passed stand before those that are still read, all are counted, and the
 -- first ten are kept. Assumes nothing.
-use Rattle.std.specs.Prelude.{◌≡◌, refl, true, false, List, [], ◌∷◌, ◌++◌, ℕ, ◌+◌, ◌≤◌, ◌<◌, length, drop, set}
+use Rattle.std.specs.Prelude.{◌≡◌, refl, List, [], ◌∷◌, ◌++◌, ℕ, ◌+◌, ◌≤◌, ◌<◌, length, drop, set, Some, None}
 use Rattle.std.proofs.Common.{sym, ap, ◌∙◌, append_assoc, append-nil, add-one, arith, length-append, length-set, take-suc-set}
 use Rattle.std.proofs.lemmas.List.{map-append}
 use Rattle.limits.specs.Limits.{max_inputs}
@@ -75,12 +75,12 @@ gathered_more s start at count v c kept more g n e =
 -- ---- the end
 pub gathered_all : (s : List ℕ) (start at : ℕ) (l : NameList)
     → Gathered s start at l.count l.names → NamesEnd s at l.next
-    → l.ok ≡ true → NamesAre s l (read_names (drop start s))
-gathered_all s start at l g e k =
+    → NamesAre s (Some l) (read_names (drop start s))
+gathered_all s start at l g e =
     rw (g.is ∙ ap (before g.passed) e.is ∙ ap (λ (ns : List Name). found ns (drop l.next.at s)) (append-nil g.passed))
-    (record { good = k; inside = e.inside; rest = refl; kept = g.held })
+    (record { inside = e.inside; rest = refl; kept = g.held })
 
-pub gathered_bad : (s : List ℕ) (start at count : ℕ) (l : NameList) (kept : List ℕ)
+pub gathered_bad : (s : List ℕ) (start at count : ℕ) (kept : List ℕ)
     → Gathered s start at count kept → read_names (drop at s) ≡ bad
-    → l.ok ≡ false → NamesAre s l (read_names (drop start s))
-gathered_bad s start at count l kept g e k = rw (g.is ∙ ap (before g.passed) e) k
+    → NamesAre s None (read_names (drop start s))
+gathered_bad s start at count kept g e = sym (g.is ∙ ap (before g.passed) e)

@@ -1,6 +1,6 @@
 -- A name is read where its word ends: the word's length, its first letter and whether it is an operator word decide.
 -- Assumes nothing.
-use Rattle.std.specs.Prelude.{◌≡◌, true, false, List, ℕ, ◌-◌, ◌≤◌, ◌<◌, length, take, drop}
+use Rattle.std.specs.Prelude.{◌≡◌, true, false, List, ℕ, ◌-◌, ◌≤◌, ◌<◌, length, take, drop, Option}
 use Rattle.std.proofs.Common.{sym, ap, ◌∙◌, arith}
 use Rattle.limits.specs.Limits.{max_name}
 use Rattle.text.specs.Bytes.{bad}
@@ -32,7 +32,7 @@ module _ (s : List ℕ) (at e : ℕ) (w : WordEnd s at e) where
     word_held : name_of v ≡ word (drop at s)
     word_held = ap name_of (p ∙ ap pack w.is_word) ∙ word_back (drop at s) (rw word-length h)
 
-    pub operator-held : (o : Operator) → operator_of o ≡ operator (name_of v) → operator_of o ≡ operator (word (drop at s))
+    pub operator-held : (o : Option Operator) → operator_of o ≡ operator (name_of v) → operator_of o ≡ operator (word (drop at s))
     operator-held o q = q ∙ ap operator word_held
 
     pub named_there : (c : Cursor)

@@ -1,6 +1,6 @@
 -- What opens a formula, by the kind of the first byte: a name, a digit, or a bracket with an operator word and a space.
 -- Assumes nothing.
-use Rattle.std.specs.Prelude.{◌≡◌, refl, true, false, List, [], ◌∷◌, ℕ, ◌≤◌, ◌<◌, eqb, length}
+use Rattle.std.specs.Prelude.{◌≡◌, refl, true, false, List, [], ◌∷◌, ℕ, ◌≤◌, ◌<◌, eqb, length, drop, Option, Some, None}
 use Rattle.std.proofs.Common.{sym, ap, ◌∙◌, arith, ne_eqb, eqb-true}
 use Rattle.bits.specs.Logic.{pick}
 use Rattle.bits.specs.LogicLaws.{true_false}
@@ -11,20 +11,18 @@ use Rattle.text.specs.EatLaws.{eat-found}
 use Rattle.text.specs.Number.{numeral}
 use Rattle.text.specs.NumeralLaws.{numeral-low, numeral-between}
 use Rattle.names.specs.Name.{word, after_word, read_name, operator}
-use Rattle.names.specs.Word.{operator_of}
+use Rattle.names.specs.Word.{WordEnd, operator_of}
 use Rattle.names.specs.declared.Operator.{Operator}
-use Rattle.names.specs.declared.Operator.TheVariants.{Not, And, Or, Xor, Nothing}
+use Rattle.names.specs.declared.Operator.TheVariants.{Not, And, Or, Xor}
 use Rattle.names.specs.Name as names
 use Rattle.cursor.specs.declared.Cursor.{Cursor}
 use Rattle.cursor.specs.declared.First.TheVariants.{Letter, Digit, Bracket, Other}
 use Rattle.cursor.specs.declared.Gate.{Gate}
 use Rattle.cursor.specs.declared.Opening.{Opening}
-use Rattle.cursor.specs.declared.OperatorRead.{OperatorRead}
 use Rattle.cursor.specs.First.{first_at}
 use Rattle.cursor.specs.FirstLaws.{byte_opens}
 use Rattle.cursor.specs.EatingLaws.{missing_byte}
 use Rattle.cursor.specs.Item.{At, OpeningIs, from}
-use Rattle.cursor.specs.OperatorRead.{OperatorIs}
 use Rattle.cursor.specs.Opening.{name-opens, digit-opens, not-opens, gate_opens, spaced, read_opening}
 use Rattle.cursor.specs.Opening as spec
 
@@ -102,15 +100,13 @@ operator_opens Not c = Opening.Not c
 operator_opens And c = Opening.Gate Gate.And c
 operator_opens Or c = Opening.Gate Gate.Or c
 operator_opens Xor c = Opening.Gate Gate.Xor c
-operator_opens Nothing c = Opening.Bad
 
 spaced-opens : (s u : List ℕ) (o : Operator) (c : Cursor)
-    → At s tt c (eat (space ∷ []) u) → OpeningIs s (operator_opens o c) (spaced (operator_of o) u)
+    → At s tt c (eat (space ∷ []) u) → OpeningIs s (Some (operator_opens o c)) (spaced (operator_of (Some o)) u)
 spaced-opens s u Not c h = item_as s tt c (eat (space ∷ []) u) (λ _. not-opens) h
 spaced-opens s u And c h = item_as s tt c (eat (space ∷ []) u) (λ _. gate_opens spec.and_gate) h
 spaced-opens s u Or c h = item_as s tt c (eat (space ∷ []) u) (λ _. gate_opens spec.or_gate) h
 spaced-opens s u Xor c h = item_as s tt c (eat (space ∷ []) u) (λ _. gate_opens spec.xor_gate) h
-spaced-opens s u Nothing c h = refl
 
 no_space_bad : (u : List ℕ) (o : names.Operator) → bad ≡ eat (space ∷ []) u → bad ≡ spaced o u
 no_space_bad u names.not_op h = rw (← h) refl
@@ -119,19 +115,23 @@ no_space_bad u names.or_op h = rw (← h) refl
 no_space_bad u names.xor_op h = rw (← h) refl
 no_space_bad u names.none_op h = refl
 
-module _ (s t : List ℕ) (f : first_at t ≡ Bracket) (a : Cursor) (h : At s tt a (eat (open_bracket ∷ []) t)) (w : OperatorRead)
-    (i : OperatorIs s a.at w) where
-  bracket_here : spaced (operator_of w.operator) (from s w.next) ≡ read_opening t
+-- a bracket stands at the front of t, and the word after it, which is the operator o, ends at e
+module _ (s t : List ℕ) (f : first_at t ≡ Bracket) (a : Cursor) (h : At s tt a (eat (open_bracket ∷ []) t)) (e : ℕ) (w : WordEnd s a.at e)
+    (o : Option Operator) (i : operator_of o ≡ operator (word (from s a))) where
+  bracket_here : spaced (operator_of o) (drop e s) ≡ read_opening t
   bracket_here =
       let q = eat-found (open_bracket ∷ []) t (from s a) (sym h.is) in
-      rw (i.is_operator, i.is_rest, q) (opening_bracket open_bracket (from s a) (rw q at f))
+      rw (i, w.is_rest, q) (opening_bracket open_bracket (from s a) (rw q at f))
 
-  pub operator_opened : (o : Operator) (c : Cursor) → w.operator ≡ o → At s tt c (eat (space ∷ []) (from s w.next))
-      → OpeningIs s (operator_opens o c) (read_opening t)
-  operator_opened o c e k = rw (← bracket_here, e) (spaced-opens s (from s w.next) o c k)
+  pub operator_opened : (p : Operator) (c : Cursor) → o ≡ Some p → At s tt c (eat (space ∷ []) (drop e s))
+      → OpeningIs s (Some (operator_opens p c)) (read_opening t)
+  operator_opened p c q k = rw (← bracket_here, q) (spaced-opens s (drop e s) p c k)
 
-  pub unspaced_bad : bad ≡ eat (space ∷ []) (from s w.next) → bad ≡ read_opening t
-  unspaced_bad k = no_space_bad (from s w.next) (operator_of w.operator) k ∙ bracket_here
+  pub no_operator_bad : o ≡ None → bad ≡ read_opening t
+  no_operator_bad q = ap (λ (x : Option Operator). spaced (operator_of x) (drop e s)) (sym q) ∙ bracket_here
+
+  pub unspaced_bad : bad ≡ eat (space ∷ []) (drop e s) → bad ≡ read_opening t
+  unspaced_bad k = no_space_bad (drop e s) (operator_of o) k ∙ bracket_here
 
 pub bracket_bad : (t : List ℕ) → first_at t ≡ Bracket → bad ≡ eat (open_bracket ∷ []) t → bad ≡ read_opening t
 unfolding first_at

@@ -13,7 +13,6 @@ ghost use Rattle.cursor.specs.Opening.{read_opening};
 ghost use Rattle.cursor.specs.NumeralsEnd.{Numerals, NumeralsEnd};
 ghost use Rattle.cursor.specs.First.{first_of, first_at};
 ghost use Rattle.cursor.specs.NextName.{NextIs};
-ghost use Rattle.cursor.specs.OperatorRead.{OperatorIs};
 ghost use Rattle.cursor.specs.Item.{MovedIs, NumberIs, NameIs, OpeningIs, NamesAre};
 
 use names::Operator;
@@ -23,47 +22,26 @@ pub struct Cursor {
     pub at: usize,
 }
 
-// What reading a fixed text finds.
-#[derive(Clone, Copy)]
-pub enum Moved {
-    To(Cursor),
-    Bad,
-}
-
-#[derive(Drop)]
-pub enum NumberRead {
-    Number(usize, Cursor),
-    Bad,
-}
-
-#[derive(Drop)]
-pub enum NameRead {
-    Name(u64, Cursor),
-    Bad,
-}
-
 // The operators of two or more operands.
-#[derive(Clone, Copy)]
+#[derive(Clone, Copy, PartialEq, Eq)]
 pub enum Gate {
     And,
     Or,
     Xor,
 }
 
-// What opens a formula.
-#[derive(Drop)]
+// What opens a formula, and the place after it.
+#[derive(Clone, Copy)]
 pub enum Opening {
     Name(u64, Cursor),
     Digit(bool, Cursor),
     Not(Cursor),
     Gate(Gate, Cursor),
-    Bad,
 }
 
 // The names of a list up to its closing bracket: how many they are, and the first ten.
 #[derive(Clone, Copy)]
 pub struct NameList {
-    pub ok: bool,
     pub next: Cursor,
     pub count: usize,
     pub names: [u64; limits::MAX_INPUTS],
@@ -156,29 +134,21 @@ fn first_of(b: u8) -> First
 }
 
 // The operator that the word from a up to e is.
-fn operator_word(s: &[u8], a: usize, e: usize) -> Operator
+fn operator_word(s: &[u8], a: usize, e: usize) -> Option<Operator>
     requires { WordEnd s.now a e }
     ensures { operator_of result ≡ operator (word (drop a s.now)) }
 {
     if limits::MAX_NAME < e - a {
-        return Operator::Nothing;
+        return None;
     }
     names::as_operator(names::packed(s, a, e))
 }
 
-// An operator word: the operator that it is, and the place after it.
-#[derive(Drop)]
-struct OperatorRead {
-    operator: Operator,
-    next: Cursor,
-}
-
-// What stands next in a list of names.
-#[derive(Drop)]
+// What stands next in a list of names: a name after a space, or the closing bracket.
+#[derive(Clone, Copy)]
 enum NextName {
     Name(u64, Cursor),
     End(Cursor),
-    Bad,
 }
 
 // Keeps v in the place that count says, where it is one of the ten.
@@ -207,49 +177,40 @@ impl Cursor {
     }
 
     // The byte b.
-    pub fn byte(self, s: &[u8], b: u8) -> Moved
+    pub fn byte(self, s: &[u8], b: u8) -> Option<Cursor>
         ensures { MovedIs s.now result (eat (b ∷ []) (drop self.at s.now)) }
     {
-        let at = self.at;
-        if s.len() <= at {
-            return Moved::Bad;
+        if self.at < s.len() && s[self.at] == b {
+            Some(Cursor { at: self.at + 1 })
+        } else {
+            None
         }
-        if s[at] != b {
-            return Moved::Bad;
-        }
-        Moved::To(Cursor { at: at + 1 })
     }
 
     // The bytes of w.
-    pub fn text(self, s: &[u8], w: &[u8]) -> Moved
+    pub fn text(self, s: &[u8], w: &[u8]) -> Option<Cursor>
         requires { self.at ≤ length s.now }
         ensures { MovedIs s.now result (eat w.now (drop self.at s.now)) }
     {
-        let at = self.at;
-        if s.len() - at < w.len() {
-            return Moved::Bad;
+        if s[self.at..].starts_with(w) {
+            Some(Cursor {
+                at: self.at + w.len(),
+            })
+        } else {
+            None
         }
-        let mut i = 0;
-        while i < w.len() {
-            if s[at + i] != w[i] {
-                return Moved::Bad;
-            }
-            i += 1;
-        }
-        Moved::To(Cursor { at: at + i })
     }
 
     // The number of at most so many digits.
-    pub fn number(self, s: &[u8], digits: usize) -> NumberRead
+    pub fn number(self, s: &[u8], digits: usize) -> Option<(usize, Cursor)>
         requires { (self.at ≤ length s.now) × (digits ≤ max_pla_digits) }
         ensures { NumberIs s.now result (read_number_of digits (drop self.at s.now)) }
     {
-        let at = self.at;
-        let e = numerals_end(s, at);
-        if is_number(s, at, e, digits) {
-            NumberRead::Number(value(s, at, e), Cursor { at: e })
+        let e = numerals_end(s, self.at);
+        if is_number(s, self.at, e, digits) {
+            Some((value(s, self.at, e), Cursor { at: e }))
         } else {
-            NumberRead::Bad
+            None
         }
     }
 
@@ -258,147 +219,105 @@ impl Cursor {
         requires { self.at ≤ length s.now }
         ensures { result ≡ first_at (drop self.at s.now) }
     {
-        let at = self.at;
-        if at < s.len() {
-            first_of(s[at])
+        if self.at < s.len() {
+            first_of(s[self.at])
         } else {
             First::Other
         }
     }
 
     // The name that a word with a letter first is.
-    fn named(self, s: &[u8]) -> NameRead
+    fn named(self, s: &[u8]) -> Option<(u64, Cursor)>
         requires { (self.at ≤ length s.now) × (first_at (drop self.at s.now) ≡ First.Letter) }
         ensures { NameIs s.now result (read_name (drop self.at s.now)) }
     {
-        let at = self.at;
-        let e = names::word_end(s, at);
-        if limits::MAX_NAME < e - at {
-            return NameRead::Bad;
+        let e = names::word_end(s, self.at);
+        if limits::MAX_NAME < e - self.at {
+            return None;
         }
-        let v = names::packed(s, at, e);
+        let v = names::packed(s, self.at, e);
         if names::is_operator_word(v) {
-            return NameRead::Bad;
+            return None;
         }
-        NameRead::Name(v, Cursor { at: e })
+        Some((v, Cursor { at: e }))
     }
 
     // A name: a word of at most 8 bytes with a letter first, and no operator word in any case.
-    pub fn name(self, s: &[u8]) -> NameRead
+    pub fn name(self, s: &[u8]) -> Option<(u64, Cursor)>
         requires { self.at ≤ length s.now }
         ensures { NameIs s.now result (read_name (drop self.at s.now)) }
     {
-        let f = self.kind(s);
-        if let First::Letter = f {
-            self.named(s)
-        } else {
-            NameRead::Bad
+        match self.kind(s) {
+            First::Letter => self.named(s),
+            _ => None,
         }
     }
 
     // A name that opens a formula.
-    fn opens_name(self, s: &[u8]) -> Opening
+    fn opens_name(self, s: &[u8]) -> Option<Opening>
         requires { (self.at ≤ length s.now) × (first_at (drop self.at s.now) ≡ First.Letter) }
         ensures { OpeningIs s.now result (read_opening (drop self.at s.now)) }
     {
-        let r = self.named(s);
-        match r {
-            NameRead::Name(v, next) => Opening::Name(v, next),
-            NameRead::Bad => Opening::Bad,
-        }
+        let (v, next) = self.named(s)?;
+        Some(Opening::Name(v, next))
     }
 
     // A digit that opens a formula: 0 or 1.
-    fn opens_digit(self, s: &[u8]) -> Opening
+    fn opens_digit(self, s: &[u8]) -> Option<Opening>
         requires { first_at (drop self.at s.now) ≡ First.Digit }
         ensures { OpeningIs s.now result (read_opening (drop self.at s.now)) }
     {
-        let zero = self.byte(s, b'0');
-        let one = self.byte(s, b'1');
-        match zero {
-            Moved::To(next) => Opening::Digit(false, next),
-            Moved::Bad => match one {
-                Moved::To(next) => Opening::Digit(true, next),
-                Moved::Bad => Opening::Bad,
-            },
+        if let Some(next) = self.byte(s, b'0') {
+            return Some(Opening::Digit(false, next));
         }
-    }
-
-    // The operator that the word is.
-    fn operator(self, s: &[u8]) -> OperatorRead
-        requires { self.at ≤ length s.now }
-        ensures { OperatorIs s.now self.at result }
-    {
-        let at = self.at;
-        let e = names::word_end(s, at);
-        OperatorRead {
-            operator: operator_word(s, at, e),
-            next: Cursor { at: e },
-        }
+        let next = self.byte(s, b'1')?;
+        Some(Opening::Digit(true, next))
     }
 
     // A bracket that opens a formula: an operator word and a space stand after it.
-    fn opens_bracket(self, s: &[u8]) -> Opening
+    fn opens_bracket(self, s: &[u8]) -> Option<Opening>
         requires { first_at (drop self.at s.now) ≡ First.Bracket }
         ensures { OpeningIs s.now result (read_opening (drop self.at s.now)) }
     {
-        let m = self.byte(s, b'(');
-        let Moved::To(word) = m else {
-            return Opening::Bad;
-        };
-        let w = word.operator(s);
-        let after = w.next;
-        let g = after.byte(s, b' ');
-        let Moved::To(next) = g else {
-            return Opening::Bad;
-        };
-        let o = w.operator;
-        match o {
+        let word = self.byte(s, b'(')?;
+        let e = names::word_end(s, word.at);
+        let operator = operator_word(s, word.at, e)?;
+        let next = Cursor { at: e }.byte(s, b' ')?;
+        Some(match operator {
             Operator::Not => Opening::Not(next),
             Operator::And => Opening::Gate(Gate::And, next),
             Operator::Or => Opening::Gate(Gate::Or, next),
             Operator::Xor => Opening::Gate(Gate::Xor, next),
-            Operator::Nothing => Opening::Bad,
-        }
+        })
     }
 
     // What opens a formula, by its first byte.
-    pub fn opening(self, s: &[u8]) -> Opening
+    pub fn opening(self, s: &[u8]) -> Option<Opening>
         requires { self.at ≤ length s.now }
         ensures { OpeningIs s.now result (read_opening (drop self.at s.now)) }
     {
-        let f = self.kind(s);
-        match f {
+        match self.kind(s) {
             First::Letter => self.opens_name(s),
             First::Digit => self.opens_digit(s),
             First::Bracket => self.opens_bracket(s),
-            First::Other => Opening::Bad,
+            First::Other => None,
         }
     }
 
     // A name after a space, or the closing bracket.
-    fn next_name(self, s: &[u8]) -> NextName
+    fn next_name(self, s: &[u8]) -> Option<NextName>
         ensures { NextIs s.now self.at result }
     {
-        let e = self.byte(s, b')');
-        let g = self.byte(s, b' ');
-        match e {
-            Moved::To(next) => NextName::End(next),
-            Moved::Bad => match g {
-                Moved::To(first) => {
-                    let r = first.name(s);
-                    match r {
-                        NameRead::Name(v, next) => NextName::Name(v, next),
-                        NameRead::Bad => NextName::Bad,
-                    }
-                }
-                Moved::Bad => NextName::Bad,
-            },
+        if let Some(next) = self.byte(s, b')') {
+            return Some(NextName::End(next));
         }
+        let first = self.byte(s, b' ')?;
+        let (v, next) = first.name(s)?;
+        Some(NextName::Name(v, next))
     }
 
     // The names, each after a space, up to the closing bracket: all are counted, and the first ten are kept.
-    pub fn names(self, s: &[u8]) -> NameList
+    pub fn names(self, s: &[u8]) -> Option<NameList>
         requires { self.at ≤ length s.now }
         ensures { NamesAre s.now result (read_names (drop self.at s.now)) }
     {
@@ -406,28 +325,14 @@ impl Cursor {
         let mut count: usize = 0;
         let mut names = [0u64; limits::MAX_INPUTS];
         loop {
-            let n = c.next_name(s);
-            match n {
+            match c.next_name(s)? {
                 NextName::Name(v, next) => {
                     keep(&mut names, count, v);
                     count += 1;
                     c = next;
                 }
                 NextName::End(next) => {
-                    return NameList {
-                        ok: true,
-                        next,
-                        count,
-                        names,
-                    };
-                }
-                NextName::Bad => {
-                    return NameList {
-                        ok: false,
-                        next: self,
-                        count,
-                        names,
-                    };
+                    return Some(NameList { next, count, names });
                 }
             }
         }

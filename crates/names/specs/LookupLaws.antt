@@ -1,6 +1,6 @@
 -- Looking a name up: a lookup that answers at the first name that is the same, by the number of names after it, answers by the
 -- place that the code finds; and a name that is found is among the names. Assumes nothing.
-use Rattle.std.specs.Prelude.{◌≡◌, Bool, ◌||◌, ℕ, zero, suc, ◌-◌, ◌<◌, get_or}
+use Rattle.std.specs.Prelude.{◌≡◌, Bool, ◌||◌, ℕ, zero, suc, ◌-◌, ◌<◌, get_or, Some, None}
 use Rattle.std.proofs.Math.Path.{refl, ap}
 use Rattle.std.proofs.Common.{◌∙◌, arith}
 use Rattle.std.proofs.Math.Bool.{true, false}
@@ -11,7 +11,6 @@ use Rattle.bits.specs.LogicLaws.{neither_first, neither_second}
 use Rattle.names.specs.Name.{Name, same_name, among}
 use Rattle.names.specs.Pack.{unpack_within, name_of}
 use Rattle.names.specs.Word.{PositionIs}
-use Rattle.names.specs.declared.Position.TheVariants.{At, Nowhere}
 
 or_picks : (a b : Bool) → a || b ≡ pick a true b
 or_picks true b = refl
@@ -50,7 +49,7 @@ unfolding name_of unpack_within
 name_at vs k = get_or-map name_of vs k 0
 
 module _ {A : Type 0} (vs : List ℕ) (v : ℕ) (look : List Name → A) (hit : ℕ → A) (step : AtFirst (name_of v) look hit) where
-  pub look_position : (i : ℕ) → PositionIs vs v (At i) → look (map name_of vs) ≡ hit (length vs - 1 - i)
+  pub look_position : (i : ℕ) → PositionIs vs v (Some i) → look (map name_of vs) ≡ hit (length vs - 1 - i)
   unfolding PositionIs
   look_position i p =
       let is : (k : ℕ) (t : Bool) → same_name (name_of (get_or vs k 0)) (name_of v) ≡ t → same_name (get_or (map name_of vs) k []) (name_of v) ≡ t
@@ -59,19 +58,19 @@ module _ {A : Type 0} (vs : List ℕ) (v : ℕ) (look : List Name → A) (hit : 
       look_first (name_of v) look hit step (map name_of vs) i (omega arith) (is i true p.1) (λ k l. is k false (p.2 k l))
       ∙ ap (λ (c : ℕ). hit (c - 1 - i)) count
 
-  pub look_nowhere : PositionIs vs v Nowhere → look (map name_of vs) ≡ look []
+  pub look_nowhere : PositionIs vs v None → look (map name_of vs) ≡ look []
   unfolding PositionIs
   look_nowhere p = look_none (name_of v) look hit step (map name_of vs) p
 
 module _ (vs : List ℕ) (v : ℕ) where
-  pub found_among : (i : ℕ) → PositionIs vs v (At i) → among (name_of v) (map name_of vs) ≡ true
+  pub found_among : (i : ℕ) → PositionIs vs v (Some i) → among (name_of v) (map name_of vs) ≡ true
   unfolding among
   found_among i p = look_position vs v (among (name_of v)) (λ _. true) (λ m ms. or_picks (same_name m (name_of v)) (among (name_of v) ms)) i p
 
-  pub nowhere_among : PositionIs vs v Nowhere → among (name_of v) (map name_of vs) ≡ false
+  pub nowhere_among : PositionIs vs v None → among (name_of v) (map name_of vs) ≡ false
   unfolding PositionIs
   nowhere_among p = p
 
-  pub found_inside : (i : ℕ) → PositionIs vs v (At i) → i < length vs
+  pub found_inside : (i : ℕ) → PositionIs vs v (Some i) → i < length vs
   unfolding PositionIs
   found_inside i p = p.0

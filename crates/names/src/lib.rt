@@ -86,46 +86,33 @@ pub fn same_name(a: u64, b: u64) -> bool
     y == 0
 }
 
-// The operator that a word in small letters is.
-#[derive(Drop)]
+// The operators, each a word in small letters.
+#[derive(Clone, Copy, PartialEq, Eq)]
 pub enum Operator {
     Not,
     And,
     Or,
     Xor,
-    Nothing,
 }
 
-pub fn as_operator(w: u64) -> Operator
+// The operator that a word is.
+pub fn as_operator(w: u64) -> Option<Operator>
     ensures { operator_of result ≡ names.operator (name_of w) }
 {
     match w {
-        0x74_6f_6e => Operator::Not,
-        0x64_6e_61 => Operator::And,
-        0x72_6f => Operator::Or,
-        0x72_6f_78 => Operator::Xor,
-        _ => Operator::Nothing,
+        0x74_6f_6e => Some(Operator::Not),
+        0x64_6e_61 => Some(Operator::And),
+        0x72_6f => Some(Operator::Or),
+        0x72_6f_78 => Some(Operator::Xor),
+        _ => None,
     }
 }
 
 // Where a name stands first among some.
-#[derive(Drop)]
-pub enum Position {
-    At(usize),
-    Nowhere,
-}
-
-pub fn find(among: &[u64], n: u64) -> Position
+pub fn find(among: &[u64], n: u64) -> Option<usize>
     ensures { PositionIs among.now n result }
 {
-    let mut i = 0;
-    while i < among.len() {
-        if same_name(among[i], n) {
-            return Position::At(i);
-        }
-        i += 1;
-    }
-    Position::Nowhere
+    among.iter().position(|&m| same_name(m, n))
 }
 
 // Whether a word is an operator word, in any case.
@@ -133,9 +120,5 @@ pub fn is_operator_word(w: u64) -> bool
     ensures { result ≡ names.among (name_of w) operator_words }
 {
     let words: [u64; 4] = [0x74_6f_6e, 0x64_6e_61, 0x72_6f, 0x72_6f_78];
-    let p = find(&words, w);
-    match p {
-        Position::At(_) => true,
-        Position::Nowhere => false,
-    }
+    find(&words, w).is_some()
 }
