@@ -4,9 +4,11 @@
 // vertices and codes is free.
 #![tactic(auto)]
 
-ghost use Rattle.std.specs.Prelude.{◌≡◌, ℕ, ◌+◌, ◌*◌, ◌<◌, ◌≤◌, true, false, List, length, ◌≢◌};
+ghost use Rattle.std.specs.Prelude.{◌≡◌, ℕ, ◌+◌, ◌*◌, ◌<◌, ◌≤◌, true, false, List, length};
+ghost use Rattle.std.specs.Option.{is_some};
 ghost use Rattle.limits.specs.Limits.{search_outputs, max_vertices, label_count, block_count, max_codes};
-ghost use Rattle.problem.specs.Problem.{no_vertex, Labels, Blocks, Plan, Kept, Hopeless, Knows, Told, item};
+ghost use Rattle.problem.specs.Problem.{Labels, Blocks, Plan, Kept, Hopeless, Knows, Told, item};
+ghost use Rattle.problem.specs.Answer.{is_found, is_unsure, found_codes};
 ghost use Rattle.holding.specs.Search.{Seeking, Empty};
 ghost use Rattle.coding.specs.Values.{group_count, Groups, Marks, Over, Fresh, Canon, Marked, Valued};
 ghost use Rattle.coding.specs.Known.{Fitting};
@@ -14,6 +16,7 @@ ghost use Rattle.coding.specs.Tried.{Covers};
 ghost use Rattle.coding.specs.Limit.{no_limit, Sure};
 
 use limits::{MAX_CELLS, MAX_CODES, MAX_VERTICES, SEARCH_OUTPUTS};
+use problem::Answer;
 
 // Groups of cells with the same readers that are looked at: more groups of two or more cells there are not.
 pub const GROUPS: usize = MAX_CELLS / 2;
@@ -150,18 +153,17 @@ fn rank(left: u32, classes: u32, known: bool) -> u64
     left as u64 * (2 * SEARCH_OUTPUTS as u64) + second as u64
 }
 
-// Whether a vertex of rank n is to be preferred to the best so far; none so far is no vertex.
-fn better(best: usize, least: u64, n: u64) -> bool
-    ensures { result ≡ false → best ≢ no_vertex }
+// Whether rank n is to be preferred to that of the best so far.
+fn better(best: Option<(usize, u64)>, n: u64) -> bool
+    ensures { result ≡ false → is_some best ≡ true }
 {
-    if best == problem::NO_VERTEX {
-        true
-    } else {
-        n < least
+    match best {
+        Some((_, least)) => n < least,
+        None => true,
     }
 }
 
-// A vertex without a code that has the fewest codes left in can, or no vertex where all have a code. Among those with equally
+// A vertex without a code that has the fewest codes left in can, or none where all have a code. Among those with equally
 // few, the classes that met has not and whether digits of cell 0 are known decide.
 fn pick(
     cl: &[u8],
@@ -172,25 +174,21 @@ fn pick(
     v: usize,
     can: u64,
     known: bool,
-) -> usize
+) -> Option<usize>
     requires { Labels cl.now × (j ≤ search_outputs) × (v ≤ max_vertices) × (length dom.now ≡ max_vertices) × (length codes.now ≡ max_vertices)
         × (length met.now ≡ search_outputs) }
     ensures { Seeking codes.now v result }
 {
-    let mut best: usize = problem::NO_VERTEX;
-    let mut least: u64 = 0;
-    let mut y = 0;
-    while y < v {
+    let mut best: Option<(usize, u64)> = None;
+    for y in 0..v {
         if codes[y] >= problem::NO_CODE {
             let n = rank(u64::count_ones(dom[y] & can), unmet(cl, j, met, y), known);
-            if better(best, least, n) {
-                best = y;
-                least = n;
+            if better(best, n) {
+                best = Some((y, n));
             }
         }
-        y += 1;
     }
-    best
+    best.map(|(y, _)| y)
 }
 
 // The codes with one value of group k that a does not have, for the groups whose blocks gb has.
@@ -263,12 +261,10 @@ fn spent(limit: u64, nodes: u64) -> bool
     }
 }
 
-// Codes of the vertices, whether they are right, whether the search was given up, and how often a vertex was given a code.
-#[derive(Drop)]
+// What a search came to, with the codes of the vertices where it found some, and how often a vertex was given a code.
+#[derive(Clone, Copy)]
 pub struct Search {
-    pub ok: bool,
-    pub unsure: bool,
-    pub codes: [u8; MAX_VERTICES],
+    pub answer: Answer<[u8; MAX_VERTICES]>,
     pub nodes: u64,
 }
 
@@ -300,65 +296,53 @@ pub fn find(
         × Plan p.ms p.ps p.caps p.outputs × Valued p.ms gb.now all p.outputs p.kn s.codes p.vertices s.used
         × Covers cl.now base.now p.ms p.caps p.spots p.vertices p.outputs p.kn p.val s.codes s.dom
         × Knows p.kn p.val p.ps s.codes p.vertices p.outputs }
-    ensures { Sure limit result.unsure
-        (Told cl.now base.now p.ms p.ps p.caps p.spots p.vertices p.outputs p.kn p.val s.codes s.dom result.ok result.codes) }
+    ensures { Sure limit (is_unsure result.answer)
+        (Told cl.now base.now p.ms p.ps p.caps p.spots p.vertices p.outputs p.kn p.val s.codes s.dom (is_found result.answer) (found_codes result.answer)) }
 {
-    let codes = s.codes;
-    let dom = s.dom;
-    let used = s.used;
-    let met = s.met;
-    let can = allowed(gb, all, used);
+    let can = allowed(gb, all, s.used);
     let known = p.kn != 0;
-    let x = pick(cl, p.outputs, &met, &dom, &codes, p.vertices, can, known);
-    if x == problem::NO_VERTEX {
-        let f = numbering::finish(cl, p, codes);
-        let all_codes = f.codes;
-        return Search {
-            ok: f.ok,
-            unsure: false,
-            codes: all_codes,
-            nodes,
+    let Some(x) = pick(
+        cl, p.outputs, &s.met, &s.dom, &s.codes, p.vertices, can, known,
+    ) else {
+        let answer = match numbering::finish(cl, p, s.codes) {
+            Some(codes) => Answer::Found(codes),
+            None => Answer::Nothing,
         };
-    }
+        return Search { answer, nodes };
+    };
     let mut total = nodes;
     let fit = fitting(p.kn, p.val, x);
-    let mut left = dom[x] & can & fit;
+    let mut left = s.dom[x] & can & fit;
+    // The codes of a set are taken off one by one.
     while left != 0 {
         if spent(limit, total) {
             return Search {
-                ok: false,
-                unsure: true,
-                codes,
+                answer: Answer::Unsure,
                 nodes: total,
             };
         }
         let c = cells::lowest(left);
         left = cells::without(left, c);
         total = std::num::wrapping_add_u64(total, 1);
-        let mut next = codes;
+        let mut next = s.codes;
         next[x] = c;
-        let mut d = dom;
+        let mut d = s.dom;
         if settle_all(cl, base, bs, p, &next, &mut d, c, x) {
             let after = State {
                 codes: next,
                 dom: d,
-                used: mark(gb, used, c),
-                met: meet(cl, p.outputs, met, x),
+                used: mark(gb, s.used, c),
+                met: meet(cl, p.outputs, s.met, x),
             };
             let r = find(cl, base, bs, gb, all, p, after, limit, total);
-            if r.ok {
-                return r;
-            }
-            if r.unsure {
+            if !matches!(r.answer, Answer::Nothing) {
                 return r;
             }
             total = r.nodes;
         }
     }
     Search {
-        ok: false,
-        unsure: false,
-        codes,
+        answer: Answer::Nothing,
         nodes: total,
     }
 }

@@ -1,4 +1,4 @@
--- The search for codes, step by step: the next vertex, codes given, and the two answers. Each step says only that no solution
+-- The search for codes, step by step: codes given, and the two answers. Each step says only that no solution
 -- is lost; what is found is tested by writing it out. A vertex without a code left ends the search: a solution has a code for
 -- it in its set. Assumes nothing.
 use Rattle.std.specs.Prelude.{◌≡◌, refl, Bool, true, false, List, ℕ, ◌+◌, ◌≤◌, ◌<◌, leb, length, set}
@@ -8,26 +8,7 @@ use Rattle.bits.specs.Digit.{on}
 use Rattle.bits.specs.DigitLaws.{on_zero}
 use Rattle.bits.specs.CountLaws.{less_or_equal, count-drop}
 use Rattle.problem.specs.Problem.{item, Hopeless, Told}
-use Rattle.holding.specs.Search.{Seeking, uncoded, Empty}
-
--- ======== the next vertex
-pub seeking_start : (codes : List ℕ) → Seeking codes 0 32
-seeking_start codes = record { none = λ e x h. absurd (omega arith); some = λ ne. absurd (ne refl) }
-
-pub seeking_coded : (codes : List ℕ) (y best best' : ℕ) → item codes y < 64 → best' ≡ best → Seeking codes y best → Seeking codes (y + 1) best'
-seeking_coded codes y best best' h e s = subst (Seeking codes (y + 1)) (sym e) (record {
-  none = λ q x l. ⊎_elim (s.none q x) (λ p. subst (λ (z : ℕ). item codes z < 64) (sym p) h) (less_or_equal x y (omega arith));
-  some = λ ne. let r = s.some ne in ((let z = r.0 in omega arith), r.1);
-})
-
-pub seeking_better : (codes : List ℕ) (y best best' : ℕ) → y < 32 → 64 ≤ item codes y → best' ≡ y → Seeking codes y best → Seeking codes (y + 1) best'
-seeking_better codes y best best' l h e s = subst (Seeking codes (y + 1)) (sym e) (record { none = λ q. absurd (omega arith); some = λ ne. ((omega arith), h) })
-
-pub seeking_worse : (codes : List ℕ) (y best best' : ℕ) → (best ≡ 32 → ⊥) → best' ≡ best → Seeking codes y best → Seeking codes (y + 1) best'
-seeking_worse codes y best best' ne e s = subst (Seeking codes (y + 1)) (sym e) (record {
-  none = λ q. absurd (ne q);
-  some = λ ne. let r = s.some ne in ((let z = r.0 in omega arith), r.1);
-})
+use Rattle.holding.specs.Search.{uncoded, Empty}
 
 -- ======== codes given
 pub uncoded_less : (codes : List ℕ) (v x c : ℕ) → length codes ≡ 32 → v ≤ 32 → x < v → 64 ≤ item codes x → c < 64 → uncoded (set codes x c) v < uncoded codes v

@@ -6,21 +6,19 @@
 ghost use Rattle.std.specs.Prelude.{◌≡◌, true, false, ℕ, ◌+◌, ◌<◌, ◌≤◌, List};
 ghost use Rattle.limits.specs.Limits.{search_outputs, max_vertices, max_codes, max_cells};
 ghost use Rattle.problem.specs.Problem.{part_of, item, Labels, Plan, Knows, Told};
+ghost use Rattle.problem.specs.Answer.{some_codes};
+ghost use Rattle.std.specs.Option.{is_some};
 ghost use Rattle.numbering.specs.Number.{Numbered, Number, Spread, Written};
 
 use limits::MAX_VERTICES;
-use problem::{Codes, Problem};
+use problem::Problem;
 
 // Whether a vertex y with a code in some block is in the same block b and in part p.
 fn together(cl: &[u8], o: usize, y: usize, p: u8, own: u8, b: u8) -> bool
     requires { Labels cl.now × (o < search_outputs) × (y < max_vertices) }
     ensures { (result ≡ true → (part_of cl.now o y ≡ p) × (own ≡ b)) × (result ≡ false → part_of cl.now o y ≡ p → own ≡ b → ⊥) }
 {
-    if own == b {
-        let q = problem::part(cl, o, y);
-        return q == p;
-    }
-    false
+    own == b && problem::part(cl, o, y) == p
 }
 
 // A number for x's class inside its block: the one that it has, or the next after the highest.
@@ -39,19 +37,16 @@ fn number(
     let class = problem::label(cl, o, x);
     let own = problem::part(cl, o, x);
     let mut next: u8 = 0;
-    let mut y = 0;
-    while y < x {
+    for y in 0..x {
         if together(cl, o, y, own, codes[y] & mask, block) {
             let n = nums[y];
-            let l = problem::label(cl, o, y);
-            if l == class {
+            if problem::label(cl, o, y) == class {
                 return n;
             }
             if next <= n {
                 next = n + 1;
             }
         }
-        y += 1;
     }
     next
 }
@@ -62,10 +57,8 @@ fn numbers(cl: &[u8], o: usize, mask: u8, codes: [u8; MAX_VERTICES], v: usize) -
     ensures { Numbered cl.now codes o mask v result }
 {
     let mut nums = [0u8; MAX_VERTICES];
-    let mut x = 0;
-    while x < v {
+    for x in 0..v {
         nums[x] = number(cl, o, mask, codes, nums, x);
-        x += 1;
     }
     nums
 }
@@ -76,60 +69,50 @@ fn spread(n: u8, p: u8) -> u8
 {
     let mut r: u64 = 0;
     let mut k: u8 = 0;
-    let mut i: u8 = 0;
-    while i < cells::MAX_CELLS {
+    for i in 0..cells::MAX_CELLS {
         if cells::in_set(p as u64, i) {
             if cells::in_set(n as u64, k) {
                 r = cells::with(r, i);
             }
             k += 1;
         }
-        i += 1;
     }
     r as u8
 }
 
 // The codes with the numbers in the digits of p, unless a number is too large for them.
-fn write(nums: [u8; MAX_VERTICES], cap: u8, p: u8, v: usize, codes: [u8; MAX_VERTICES]) -> Codes
+fn write(
+    nums: [u8; MAX_VERTICES],
+    cap: u8,
+    p: u8,
+    v: usize,
+    codes: [u8; MAX_VERTICES],
+) -> Option<[u8; MAX_VERTICES]>
     requires { v ≤ max_vertices }
-    ensures { Written nums p cap v codes result.ok result.codes }
+    ensures { Written nums p cap v codes (is_some result) (some_codes result) }
 {
     let mut r = codes;
-    let mut x = 0;
-    while x < v {
+    for x in 0..v {
         let n = nums[x];
         if cap <= n {
-            return Codes { ok: false, codes };
+            return None;
         }
         r[x] = (r[x] & !p) | spread(n, p);
-        x += 1;
     }
-    Codes { ok: true, codes: r }
+    Some(r)
 }
 
 // Codes over all cells from codes over the shared ones, unless some block has too many classes.
-pub fn finish(cl: &[u8], p: Problem, codes: [u8; MAX_VERTICES]) -> Codes
+pub fn finish(cl: &[u8], p: Problem, codes: [u8; MAX_VERTICES]) -> Option<[u8; MAX_VERTICES]>
     requires { Labels cl.now × (p.outputs ≤ search_outputs) × (p.vertices ≤ max_vertices) × Plan p.ms p.ps p.caps p.outputs
         × ((x : ℕ) → x < p.vertices → item codes x < max_codes) }
     ensures { (base spots dom : List ℕ) (kn val : ℕ) → Knows kn val p.ps codes p.vertices p.outputs
-        → Told cl.now base p.ms p.ps p.caps spots p.vertices p.outputs kn val codes dom result.ok result.codes }
+        → Told cl.now base p.ms p.ps p.caps spots p.vertices p.outputs kn val codes dom (is_some result) (some_codes result) }
 {
-    let ms = p.ms;
-    let ps = p.ps;
-    let caps = p.caps;
-    let v = p.vertices;
-    let j = p.outputs;
     let mut r = codes;
-    let mut o = 0;
-    while o < j {
-        let nums = numbers(cl, o, ms[o], codes, v);
-        let w = write(nums, caps[o], ps[o], v, r);
-        if w.ok {
-            r = w.codes;
-        } else {
-            return Codes { ok: false, codes };
-        }
-        o += 1;
+    for o in 0..p.outputs {
+        let nums = numbers(cl, o, p.ms[o], codes, p.vertices);
+        r = write(nums, p.caps[o], p.ps[o], p.vertices, r)?;
     }
-    Codes { ok: true, codes: r }
+    Some(r)
 }

@@ -1,2 +1,3 @@
--- Problem has the definitions that contracts cite.
+-- Problem has the definitions that contracts cite, Answer those of what a search answers.
 pub mod Problem
+pub mod Answer

@@ -8,12 +8,9 @@ use Rattle.bits.specs.Digit.{on}
 use Rattle.bits.specs.Count.{count}
 use Rattle.cells.specs.Shared.{Fits}
 
--- what stands for the code of a vertex that has none yet, and for a vertex where there is none
+-- what stands for the code of a vertex that has none yet
 abbrev pub no_code : ℕ
 no_code = max_codes
-
-abbrev pub no_vertex : ℕ
-no_vertex = max_vertices
 
 abbrev pub label_at : List ℕ → ℕ → ℕ → ℕ
 label_at cl o x = get_or cl (o * max_vertices + x) 0

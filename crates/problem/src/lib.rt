@@ -18,10 +18,8 @@ ghost use Rattle.problem.specs.Problem.{label_at, part_at, part_of, Labels};
 
 use limits::{LABELS, MAX_VERTICES, SEARCH_OUTPUTS};
 
-// What stands for the code of a vertex that has none yet, and for a vertex where there is none.
+// What stands for the code of a vertex that has none yet: the search reads and copies these arrays at every step, so a code is a byte.
 pub const NO_CODE: u8 = cells::MAX_CODES;
-
-pub const NO_VERTEX: usize = MAX_VERTICES;
 
 // The labels of the outputs at the vertices, and after them the parts of the classes.
 pub const LABELS_AND_PARTS: usize = 2 * LABELS;
@@ -51,11 +49,12 @@ pub fn part(cl: &[u8], o: usize, x: usize) -> u8
     class_part(cl, o, l)
 }
 
-// Codes of the vertices, and whether they are right.
-#[derive(Drop)]
-pub struct Codes {
-    pub ok: bool,
-    pub codes: [u8; MAX_VERTICES],
+// What a search that may be given up comes to: what it found, that there is nothing to find, or that neither is known.
+#[derive(Clone, Copy, Debug, PartialEq, Eq, Drop)]
+pub enum Answer<T> {
+    Found(T),
+    Nothing,
+    Unsure,
 }
 
 // What a search for codes is asked for: for each output its shared and its private cells, and 2 to the number of the private

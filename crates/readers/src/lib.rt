@@ -7,6 +7,7 @@ ghost use Rattle.std.specs.Prelude.{◌≡◌, true, false, ℕ, ◌<◌, ◌≤
 ghost use Rattle.limits.specs.Limits.{search_outputs, max_vertices, max_codes, max_cells};
 ghost use Rattle.bits.specs.Digit.{on};
 ghost use Rattle.problem.specs.Problem.{Labels, item};
+ghost use Rattle.problem.specs.Answer.{is_found, is_unsure, found_codes};
 ghost use Rattle.coding.specs.Exchange.{Uniform};
 ghost use Rattle.coding.specs.Limit.{Sure};
 ghost use Rattle.std.specs.Int.Bits.{bit_and};
@@ -14,8 +15,9 @@ ghost use Rattle.readers.specs.Masks.{Short, Common, Planned, Start, Decided};
 ghost use Rattle.readers.specs.Groups.{Grouping};
 ghost use Rattle.readers.specs.Known.{Public, Zero, Asked, Groupable, Fitted, Digit, Wrote};
 
-use coding::GROUPS;
+use coding::{GROUPS, Search};
 use limits::{MAX_VERTICES, SEARCH_OUTPUTS};
+use problem::Answer;
 
 // The cells that two of the first j outputs read.
 fn shared(rows: [u8; SEARCH_OUTPUTS], j: usize) -> u8
@@ -307,9 +309,9 @@ fn search(
     kn: u32,
     val: u32,
     limit: u64,
-) -> coding::Search
+) -> Search
     requires { Labels cl.now × (v ≤ max_vertices) × (j ≤ search_outputs) × Short rows j × Zero kn val v }
-    ensures { Sure limit result.unsure (Decided cl.now v j rows kn val result.ok result.codes) }
+    ensures { Sure limit (is_unsure result.answer) (Decided cl.now v j rows kn val (is_found result.answer) (found_codes result.answer)) }
 {
     let sh = searched(rows, j, kn);
     let p = plan(v, j, rows, kn, val, sh);
@@ -320,21 +322,15 @@ fn search(
     let codes = b.codes;
     let mut d = b.dom;
     if !coding::settle_all(cl, &base, &bs, p, &codes, &mut d, 0, 0) {
-        return coding::Search {
-            ok: false,
-            unsure: false,
-            codes,
+        return Search {
+            answer: Answer::Nothing,
             nodes: 0,
         };
     }
     if sh == 0 {
-        let f = numbering::finish(cl, p, [0u8; MAX_VERTICES]);
-        if f.ok {
-            let written = f.codes;
-            return coding::Search {
-                ok: f.ok,
-                unsure: false,
-                codes: written,
+        if let Some(found) = numbering::finish(cl, p, [0u8; MAX_VERTICES]) {
+            return Search {
+                answer: Answer::Found(found),
                 nodes: 0,
             };
         }
@@ -363,16 +359,14 @@ pub fn codes_for(
     kn: u32,
     val: u32,
     limit: u64,
-) -> coding::Search
+) -> Search
     requires { Labels cl.now × (v ≤ max_vertices) × (j ≤ search_outputs) × Short rows j }
-    ensures { Sure limit result.unsure (Decided cl.now v j rows kn val result.ok result.codes) }
+    ensures { Sure limit (is_unsure result.answer) (Decided cl.now v j rows kn val (is_found result.answer) (found_codes result.answer)) }
 {
     let k = asked(rows, j, kn);
     if contrary(v, k, val) {
-        return coding::Search {
-            ok: false,
-            unsure: false,
-            codes: [0u8; MAX_VERTICES],
+        return Search {
+            answer: Answer::Nothing,
             nodes: 0,
         };
     }
@@ -380,12 +374,11 @@ pub fn codes_for(
     if k == kn {
         return s;
     }
-    let found = s.codes;
-    let codes = written(kn, val, v, found);
-    coding::Search {
-        ok: s.ok,
-        unsure: s.unsure,
-        codes,
-        nodes: s.nodes,
+    match s.answer {
+        Answer::Found(codes) => Search {
+            answer: Answer::Found(written(kn, val, v, codes)),
+            nodes: s.nodes,
+        },
+        Answer::Nothing | Answer::Unsure => s,
     }
 }
