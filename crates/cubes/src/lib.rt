@@ -10,35 +10,21 @@ ghost use Rattle.cubes.specs.Cover.{admits, covers};
 ghost use Rattle.cubes.specs.Spelled.{is_literal, is_there};
 
 // Whether a byte is a literal.
+#[tactic(auto, unfolding(crate::specs::Spelled::is_literal))]
 fn literal(b: u8) -> bool
     ensures { result ≡ is_literal b }
 {
-    match b {
-        b'0' => true,
-        b'1' => true,
-        b'-' => true,
-        _ => false,
-    }
+    matches!(b, b'0' | b'1' | b'-')
 }
 
 // Whether a line is a cube of i inputs and o outputs.
 pub fn is_cube(l: &[u8], i: usize, o: usize) -> bool
     ensures { result ≡ is_there (read_cube i o l.now) }
 {
-    if l.len() <= i {
+    if l.len() <= i || l.len() - i - 1 != o {
         return false;
     }
-    if l.len() - i - 1 != o {
-        return false;
-    }
-    let mut k = 0;
-    while k < i {
-        if !literal(l[k]) {
-            return false;
-        }
-        k += 1;
-    }
-    l[i] == b' '
+    l[..i].iter().all(|b| literal(*b)) && l[i] == b' '
 }
 
 // The rows of t on which digit p of the row's number is as the literal b says.
@@ -56,13 +42,10 @@ fn narrowed(t: [u64; limits::TABLE_WORDS], b: u8, p: usize) -> [u64; limits::TAB
 pub fn covered(l: &[u8]) -> [u64; limits::TABLE_WORDS]
     ensures { (ls : List Literal) → l.now ≡ map literal_byte ls → Rowwise (covers ls) result }
 {
-    let n = l.len();
     let mut t = rows::constant(true);
-    let mut i = 0;
-    while i < n {
-        let next = narrowed(t, l[i], n - 1 - i);
+    for (i, b) in l.iter().enumerate() {
+        let next = narrowed(t, *b, l.len() - 1 - i);
         t = next;
-        i += 1;
     }
     t
 }

@@ -1,8 +1,5 @@
-use Rattle.cubes.specs.RowsLaws.{narrowed_none, narrowed_more, narrowed_all}
+use Rattle.cubes.specs.RowsLaws.{narrowed_more, narrowed_all}
 use Rattle.cubes.proofs.covered.Goals as goal
-
-pub loop-i-init : goal.loop-i-init
-loop-i-init c = narrowed_none _ _ c.constant-t.ensures
 
 pub loop-i-preserved : goal.loop-i-preserved
 loop-i-preserved c = narrowed_more _ _ _ _ c.loop-i.invariant c.loop-i-test.true c.narrowed-next.ensures
