@@ -12,10 +12,10 @@ pub record Dominates (cl budgets : List ℕ) (v o q : ℕ) : Type 0 where
   pub inside : Inside cl o q v
   pub budget : item budgets o ≡ item budgets q
 
--- k is the place of one of the first n outputs of from that dominates output o, or n
+-- k is the place of one of the first n outputs of from that dominates output o
 pub record Dominator (cl budgets : List ℕ) (v : ℕ) (from : List ℕ) (n o k : ℕ) : Type 0 where
-  pub under : k ≤ n
-  pub dominates : k < n → Dominates cl budgets v o (item from k)
+  pub under : k < n
+  pub dominates : Dominates cl budgets v o (item from k)
 
 -- the first n outputs of from are some of the m outputs, and each of the first i outputs of order is dominated by one of them
 pub record Choosing (cl budgets : List ℕ) (v m : ℕ) (order : List ℕ) (i n : ℕ) (from by : List ℕ) : Type 0 where

@@ -4,7 +4,7 @@
 // nothing, holds for all (specs/KeptLaws). It rests on relation and sorting, and on the definitions of seeking.
 #![tactic(auto)]
 
-ghost use Rattle.std.specs.Prelude.{◌≡◌, ℕ, ◌<◌, ◌≤◌, length};
+ghost use Rattle.std.specs.Prelude.{◌≡◌, ℕ, ◌<◌, ◌≤◌, length, IfSome};
 ghost use Rattle.limits.specs.Limits.{search_outputs, max_vertices, label_count};
 ghost use Rattle.problem.specs.Problem.{item};
 ghost use Rattle.relation.specs.Relation.{Classes};
@@ -20,17 +20,10 @@ fn classes(cl: &[u8], v: usize, o: usize) -> u64
     ensures { result ≤ max_vertices }
 {
     let mut seen: u64 = 0;
-    let mut n: u64 = 0;
-    let mut x: usize = 0;
-    while x < v {
-        let l = problem::label(cl, o, x);
-        if !cells::in_set(seen, l) {
-            seen = cells::with(seen, l);
-            n += 1;
-        }
-        x += 1;
+    for x in 0..v {
+        seen = cells::with(seen, problem::label(cl, o, x));
     }
-    n
+    u64::from(seen.count_ones())
 }
 
 // The largest budget by which outputs are told apart.
@@ -40,8 +33,7 @@ const MOST: u8 = limits::MAX_CELLS as u8 + 4;
 fn fullness(classes: u64, budget: u8) -> u64
     requires { classes ≤ max_vertices }
 {
-    let b = if budget < MOST { budget } else { MOST };
-    (classes << MOST) >> b
+    (classes << MOST) >> budget.min(MOST)
 }
 
 // The same for each output.
@@ -49,15 +41,13 @@ fn ranks(cl: &[u8], budgets: [u8; SEARCH_OUTPUTS], v: usize, m: usize) -> [u64; 
     requires { Classes cl.now × (v ≤ max_vertices) × (m ≤ search_outputs) }
 {
     let mut r = [0u64; SEARCH_OUTPUTS];
-    let mut o: usize = 0;
-    while o < m {
+    for o in 0..m {
         r[o] = fullness(classes(cl, v, o), budgets[o]);
-        o += 1;
     }
     r
 }
 
-// The place of the first of the n outputs of from that dominates output o, or n where none does.
+// The place of the first of the n outputs of from that dominates output o.
 fn dominator(
     cl: &[u8],
     budgets: [u8; SEARCH_OUTPUTS],
@@ -65,21 +55,17 @@ fn dominator(
     from: [u8; SEARCH_OUTPUTS],
     n: usize,
     o: usize,
-) -> usize
+) -> Option<usize>
     requires { Classes cl.now × (v ≤ max_vertices) × Indices from × (n ≤ search_outputs) × (o < search_outputs) }
-    ensures { Dominator cl.now budgets v from n o result }
+    ensures { IfSome result (Dominator cl.now budgets v from n o) }
 {
-    let mut k: usize = 0;
-    while k < n {
+    for k in 0..n {
         let q = from[k] as usize;
-        if budgets[q] == budgets[o] {
-            if relation::inside(cl, o, q, v) {
-                return k;
-            }
+        if budgets[q] == budgets[o] && relation::inside(cl, o, q, v) {
+            return Some(k);
         }
-        k += 1;
     }
-    n
+    None
 }
 
 // The outputs kept, in their order, and for each output the place of one that dominates it, which may be itself.
@@ -98,16 +84,16 @@ fn chosen(cl: &[u8], budgets: [u8; SEARCH_OUTPUTS], v: usize, m: usize) -> Choic
     let mut from = [0u8; SEARCH_OUTPUTS];
     let mut by = [0u8; SEARCH_OUTPUTS];
     let mut n: usize = 0;
-    let mut i: usize = 0;
-    while i < m {
+    for i in 0..m {
         let o = order[i] as usize;
-        let k = dominator(cl, budgets, v, from, n, o);
-        by[o] = k as u8;
-        if k == n {
-            from[n] = o as u8;
-            n += 1;
+        match dominator(cl, budgets, v, from, n, o) {
+            Some(k) => by[o] = k as u8,
+            None => {
+                by[o] = n as u8;
+                from[n] = o as u8;
+                n += 1;
+            }
         }
-        i += 1;
     }
     Choice { count: n, from, by }
 }
@@ -118,10 +104,8 @@ pub fn labels(cl: &[u8], from: [u8; SEARCH_OUTPUTS]) -> [u8; LABELS]
     ensures { Taken cl.now from label_count result }
 {
     let mut r = [0u8; LABELS];
-    let mut i = 0;
-    while i < LABELS {
+    for i in 0..LABELS {
         r[i] = problem::label(cl, from[i / MAX_VERTICES] as usize, i % MAX_VERTICES);
-        i += 1;
     }
     r
 }
@@ -132,10 +116,8 @@ pub fn picked(budgets: [u8; SEARCH_OUTPUTS], from: [u8; SEARCH_OUTPUTS]) -> [u8;
     ensures { Picked budgets from search_outputs result }
 {
     let mut r = [0u8; SEARCH_OUTPUTS];
-    let mut i: usize = 0;
-    while i < SEARCH_OUTPUTS {
+    for i in 0..SEARCH_OUTPUTS {
         r[i] = budgets[from[i] as usize];
-        i += 1;
     }
     r
 }
@@ -156,14 +138,13 @@ pub fn kept(cl: &[u8], budgets: [u8; SEARCH_OUTPUTS], v: usize, m: usize) -> Ask
     ensures { StandFor cl.now budgets v m result.labels result.budgets result.outputs result.by }
 {
     let c = chosen(cl, budgets, v, m);
-    let from = c.from;
     let by = c.by;
-    let taken = labels(cl, from);
-    let bs = picked(budgets, from);
+    let labels = labels(cl, c.from);
+    let budgets = picked(budgets, c.from);
     Asked {
         outputs: c.count,
-        labels: taken,
-        budgets: bs,
+        labels,
+        budgets,
         by,
     }
 }
@@ -178,10 +159,8 @@ pub fn placed(
     ensures { Placed rows by m result }
 {
     let mut r = [0u16; SEARCH_OUTPUTS];
-    let mut o: usize = 0;
-    while o < m {
+    for o in 0..m {
         r[o] = rows[by[o] as usize];
-        o += 1;
     }
     r
 }

@@ -1,39 +1,24 @@
-use Rattle.std.proofs.Common.{◌+◌, ◌*◌, arith}
+use Rattle.std.proofs.Common.{◌≡◌, sym, ◌∙◌, ℕ, ◌%◌, ◌^◌, ◌≤◌, ◌<◌, false, arith}
+use Rattle.std.proofs.Math.Decide.{dec_lt}
+use Rattle.bits.specs.Digit.{on}
+use Rattle.bits.specs.CountLaws.{count-le, ones-count}
+use Rattle.bits.specs.DigitLaws.{on_zero, on_above, equal_digits}
+use Rattle.bits.specs.ShiftLaws.{on_cut}
 use Rattle.dominance.proofs.classes.Goals as goal
-use Rattle.dominance.proofs.classes.Goals.{then-not-in_set, else-not-in_set}
 
-pub label-l-requires : goal.label-l-requires
-label-l-requires c = let p = c.requires in let h = c.loop-x-test.true in let b = p.1 in let w = p.0.long in (omega arith, p.2, omega arith)
+-- a number whose digits from 32 on are 0 is below 2 ^ 32
+below_all : (n : ℕ) → ((k : ℕ) → 32 ≤ k → on n k ≡ false) → n < 2 ^ 32
+below_all n h = let e : n % 2 ^ 32 ≡ n = equal_digits (n % 2 ^ 32) n (λ k. at k (dec_lt k 32)) in omega arith
+  where
+    at : (k : ℕ) → Dec (k < 32) → on (n % 2 ^ 32) k ≡ on n k
+    at k (yes l) = on_cut 32 n k l
+    at k (no l) = on_above 32 (n % 2 ^ 32) k (omega arith) (omega arith) ∙ sym (h k (omega arith))
 
-pub in_set-requires : goal.in_set-requires
-in_set-requires c = let args = c.args in
-    let pre = c.requires in
-    let h = c.loop-x-test.true in
-    let b = pre.1 in
-    let o = pre.2 in
-    let z = pre.0.low (args.o * 32 + c.loop-x.x) (omega arith) in
-    let e = c.label-l.ensures in
+pub loop-x-init : goal.loop-x-init
+loop-x-init c = λ k h. on_zero k
+
+pub returns : goal.returns
+returns c = let n = c.loop-x.seen in
+    let e = ones-count 32 n (below_all n c.loop-x.invariant) in
+    let b = count-le (on n) 32 in
     omega arith
-
-pub with-seen-requires : goal.with-seen-requires
-with-seen-requires c = let args = c.args in
-    let pre = c.requires in
-    let h = c.loop-x-test.true in
-    let b = pre.1 in
-    let o = pre.2 in
-    let z = pre.0.low (args.o * 32 + c.loop-x.x) (omega arith) in
-    let e = c.label-l.ensures in
-    omega arith
-
-pub overflow_add-n : goal.overflow_add-n
-overflow_add-n c = let pre = c.requires in
-    let b = pre.1 in
-    let h = c.loop-x-test.true in
-    let z = c.loop-x.invariant.1 in
-    omega arith
-
-pub overflow_add-x : goal.overflow_add-x
-overflow_add-x c = let b = c.requires.1 in let h = c.loop-x-test.true in omega arith
-
-pub loop-x-preserved : goal.loop-x-preserved
-loop-x-preserved c = (omega arith, elim c.if-not-in_set.branch [ then-not-in_set w ↦ omega arith | else-not-in_set w ↦ omega arith ])
