@@ -39,13 +39,10 @@ fn number(
     let mut next: u8 = 0;
     for y in 0..x {
         if together(cl, o, y, own, codes[y] & mask, block) {
-            let n = nums[y];
             if problem::label(cl, o, y) == class {
-                return n;
+                return nums[y];
             }
-            if next <= n {
-                next = n + 1;
-            }
+            next = next.max(nums[y] + 1);
         }
     }
     next

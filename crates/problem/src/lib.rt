@@ -45,8 +45,7 @@ pub fn part(cl: &[u8], o: usize, x: usize) -> u8
     requires { Labels cl.now × (o < search_outputs) × (x < max_vertices) }
     ensures { (result ≡ part_of cl.now o x) × (result < max_vertices) }
 {
-    let l = label(cl, o, x) as usize;
-    class_part(cl, o, l)
+    class_part(cl, o, label(cl, o, x) as usize)
 }
 
 // What a search that may be given up comes to: what it found, that there is nothing to find, or that neither is known.

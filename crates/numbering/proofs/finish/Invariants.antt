@@ -1,9 +1,6 @@
+-- The first o outputs have their private cells written.
 use Rattle.numbering.specs.Number.{Finished}
-use Prim.Native.Nat.{◌≤◌, ◌-◌}
 use Rattle.numbering.proofs.finish.Given as goal
 
 abbrev pub invariant-loop-o : goal.invariant-loop-o
-invariant-loop-o l = (l.o ≤ l.j) × Finished l.cl l.ms l.ps l.v l.o l.codes l.r
-
-abbrev pub decreases-loop-o : goal.decreases-loop-o
-decreases-loop-o l = l.j - l.o
+invariant-loop-o l = Finished l.cl l.p.ms l.p.ps l.p.vertices l.o l.codes l.r
