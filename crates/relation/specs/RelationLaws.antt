@@ -1,7 +1,7 @@
 -- Laws of what given tables leave: a conflict has no order, codes tell apart what is left exactly when they tell the labels and parts
 -- apart, and one output has to tell apart no more than another where that is so at each vertex for the vertices before it. Assumes
 -- nothing.
-use Rattle.std.specs.Prelude.{◌≡◌, refl, List, [], ◌∷◌, ◌⊎◌, ℕ, ◌+◌, ◌≤◌, ◌<◌}
+use Rattle.std.specs.Prelude.{◌≡◌, refl, List, [], ◌∷◌, ◌⊎◌, ℕ, zero, suc, ◌+◌, ◌≤◌, ◌<◌}
 use Rattle.std.proofs.Common.{sym, ◌∙◌, subst, inl, inr, arith}
 use Rattle.bits.specs.CountLaws.{less_or_equal}
 use Rattle.cells.specs.Core.{Within}
@@ -62,6 +62,11 @@ none_left_more cl given g o x new s = record { none = λ a b h k. at a b (less_o
     at a b (inl h) (inr k) l = new a h (left_sym cl given g o a x (subst (L a) k l))
     at a b (inr h) (inr k) l = left_self cl given g o x (subst (L x) k (subst (λ (a : ℕ). L a b) h l))
 
+pub none_left_all : (cl given : List ℕ) (g o v : ℕ) → ((x : ℕ) → x < v → (y : ℕ) → y < x → Left cl given g o x y → ⊥) → NoneLeft cl given g o v
+none_left_all cl given g o zero new = none_left_start cl given g o
+none_left_all cl given g o (suc n) new = subst (NoneLeft cl given g o) (let z : n + 1 ≡ suc n = omega arith in z)
+    (none_left_more cl given g o n (new n (omega arith)) (none_left_all cl given g o n (λ x h. new x (omega arith))))
+
 -- ======== no conflict that another output does not have
 pub inside_start : (cl : List ℕ) (o q : ℕ) → Inside cl o q 0
 inside_start cl o q = record { inside = λ x y h. absurd (omega arith) }
@@ -77,6 +82,11 @@ inside_more cl o q x new s = record { inside = λ a b h k. at a b (less_or_equal
     at a b (inr h) (inl k) = subst (λ (a : ℕ). T a b) (sym h) (new b k)
     at a b (inl h) (inr k) = subst (T a) (sym k) (λ c. conflict_sym cl q x a (new a h (conflict_sym cl o a x c)))
     at a b (inr h) (inr k) = subst (T a) (sym k) (subst (λ (a : ℕ). T a x) (sym h) (λ c. absurd (conflict_self cl o x c)))
+
+pub inside_all : (cl : List ℕ) (o q v : ℕ) → ((x : ℕ) → x < v → (y : ℕ) → y < x → Conflict cl o x y → Conflict cl q x y) → Inside cl o q v
+inside_all cl o q zero new = inside_start cl o q
+inside_all cl o q (suc n) new = subst (Inside cl o q) (let z : n + 1 ≡ suc n = omega arith in z)
+    (inside_more cl o q n (new n (omega arith)) (inside_all cl o q n (λ x h. new x (omega arith))))
 
 -- ======== a worked example
 -- Classes 0 1 1 0 at four vertices, and given tables 0 0 1 1 and 0 1 0 1: the first leaves the pairs 0 1 and 2 3, but not 0 2.

@@ -18,10 +18,8 @@ fn values(given: &[u16], g: u16, v: usize) -> [u16; MAX_VERTICES]
     ensures { Valued given.now g v result }
 {
     let mut r = [0u16; MAX_VERTICES];
-    let mut x = 0;
-    while x < v {
+    for x in 0..v {
         r[x] = given[x] & g;
-        x += 1;
     }
     r
 }
@@ -32,12 +30,9 @@ fn pairs(cl: &[u8], o: usize, parts: [u8; MAX_VERTICES], v: usize) -> [u16; MAX_
     ensures { Paired cl.now o parts v result }
 {
     let mut r = [0u16; MAX_VERTICES];
-    let mut x = 0;
-    while x < v {
-        let p = parts[x] as usize;
-        let l = problem::label(cl, o, x) as usize;
-        r[x] = (p * MAX_VERTICES + l) as u16;
-        x += 1;
+    for x in 0..v {
+        let p = parts[x];
+        r[x] = p as u16 * MAX_VERTICES as u16 + problem::label(cl, o, x) as u16;
     }
     r
 }
@@ -48,14 +43,7 @@ fn first(keys: [u16; MAX_VERTICES], x: usize) -> usize
     ensures { First keys x result }
 {
     let key = keys[x];
-    let mut y = 0;
-    while y < x {
-        if keys[y] == key {
-            return y;
-        }
-        y += 1;
-    }
-    x
+    keys[..x].iter().position(|k| *k == key).unwrap_or(x)
 }
 
 // Numbers for the keys of the first v vertices, in the order in which the keys occur first.
@@ -65,17 +53,14 @@ fn numbers(keys: [u16; MAX_VERTICES], v: usize) -> [u8; MAX_VERTICES]
 {
     let mut r = [0u8; MAX_VERTICES];
     let mut next: u8 = 0;
-    let mut x = 0;
-    while x < v {
+    for x in 0..v {
         let y = first(keys, x);
-        let mut k = next;
         if y < x {
-            k = r[y];
+            r[x] = r[y];
         } else {
+            r[x] = next;
             next += 1;
         }
-        r[x] = k;
-        x += 1;
     }
     r
 }
@@ -92,13 +77,10 @@ fn place(
     ensures { Placed old labels parts i v result }
 {
     let mut r = old;
-    let mut x = 0;
-    while x < v {
+    for x in 0..v {
         let l = labels[x];
-        let p = parts[x];
         r[i * MAX_VERTICES + x] = l;
-        r[LABELS + (i * MAX_VERTICES + l as usize)] = p;
-        x += 1;
+        r[LABELS + (i * MAX_VERTICES + l as usize)] = parts[x];
     }
     r
 }
@@ -129,12 +111,8 @@ fn copied(cl: &[u8], from: [u8; SEARCH_OUTPUTS], n: usize) -> [u8; LABELS_AND_PA
     ensures { Copied cl.now from (n * max_vertices) result }
 {
     let mut r = [0u8; LABELS_AND_PARTS];
-    let end = n * MAX_VERTICES;
-    let mut k = 0;
-    while k < end {
-        let o = from[k / MAX_VERTICES] as usize;
-        r[k] = problem::label(cl, o, k % MAX_VERTICES);
-        k += 1;
+    for k in 0..n * MAX_VERTICES {
+        r[k] = problem::label(cl, from[k / MAX_VERTICES] as usize, k % MAX_VERTICES);
     }
     r
 }
@@ -153,15 +131,12 @@ pub fn cut(
     ensures { Leaves cl.now given.now from gs n v result }
 {
     let mut r = copied(cl, from, n);
-    let mut i = 0;
-    while i < n {
-        let g = gs[i];
-        if g != 0 {
-            let o = from[i] as usize;
-            let refined = refine(cl, given, o, g, v, i, r);
+    for i in 0..n {
+        if gs[i] != 0 {
+            // The prover takes no call's result straight into an array that is passed to it.
+            let refined = refine(cl, given, from[i] as usize, gs[i], v, i, r);
             r = refined;
         }
-        i += 1;
     }
     r
 }
@@ -174,16 +149,7 @@ fn told(cl: &[u8], given: &[u16], o: usize, g: u16, x: usize) -> bool
 {
     let value = given[x] & g;
     let label = problem::label(cl, o, x);
-    let mut y = 0;
-    while y < x {
-        if given[y] & g == value {
-            if problem::label(cl, o, y) != label {
-                return false;
-            }
-        }
-        y += 1;
-    }
-    true
+    (0..x).all(|y| given[y] & g != value || problem::label(cl, o, y) == label)
 }
 
 // Whether the given tables of g leave no conflict of output o at the first v vertices.
@@ -192,14 +158,7 @@ pub fn none_left(cl: &[u8], given: &[u16], o: usize, g: u16, v: usize) -> bool
     ensures { (result ≡ true → NoneLeft cl.now given.now g o v)
         × (result ≡ false → NoneLeft cl.now given.now g o v → ⊥) }
 {
-    let mut x = 0;
-    while x < v {
-        if !told(cl, given, o, g, x) {
-            return false;
-        }
-        x += 1;
-    }
-    true
+    (0..v).all(|x| told(cl, given, o, g, x))
 }
 
 // Whether output q has to tell vertex x from all vertices before it from which output o has to tell it.
@@ -209,16 +168,7 @@ fn inside_at(cl: &[u8], o: usize, q: usize, x: usize) -> bool
 {
     let a = problem::label(cl, o, x);
     let b = problem::label(cl, q, x);
-    let mut y = 0;
-    while y < x {
-        if problem::label(cl, q, y) == b {
-            if problem::label(cl, o, y) != a {
-                return false;
-            }
-        }
-        y += 1;
-    }
-    true
+    (0..x).all(|y| problem::label(cl, q, y) != b || problem::label(cl, o, y) == a)
 }
 
 // Whether output o has to tell apart no vertices of the first v that output q need not tell apart.
@@ -226,12 +176,5 @@ pub fn inside(cl: &[u8], o: usize, q: usize, v: usize) -> bool
     requires { Classes cl.now × (o < search_outputs) × (q < search_outputs) × (v ≤ max_vertices) }
     ensures { result ≡ true → Inside cl.now o q v }
 {
-    let mut x = 0;
-    while x < v {
-        if !inside_at(cl, o, q, x) {
-            return false;
-        }
-        x += 1;
-    }
-    true
+    (0..v).all(|x| inside_at(cl, o, q, x))
 }

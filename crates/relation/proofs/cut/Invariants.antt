@@ -1,9 +1,5 @@
-use Prim.Native.Nat.{◌≤◌, ◌-◌}
 use Rattle.relation.specs.Refining.{Cutting}
 use Rattle.relation.proofs.cut.Given as goal
 
 abbrev pub invariant-loop-i : goal.invariant-loop-i
-invariant-loop-i l = (l.i ≤ l.n) × Cutting l.cl l.given l.from l.gs l.n l.v l.i l.r
-
-abbrev pub decreases-loop-i : goal.decreases-loop-i
-decreases-loop-i l = l.n - l.i
+invariant-loop-i l = Cutting l.cl l.given l.from l.gs l.n l.v l.i l.r

@@ -1,42 +1,26 @@
-use native.Mathlib.Omega.{arith}
-use Prim.Native.Nat.{ℕ}
-use mathlib.Core.Path.{refl, sym, ◌∙◌, subst}
-use mathlib.Core.Logic.{⊎_elim}
-use Rattle.bits.specs.LogicLaws.{true_false}
-use Rattle.bits.specs.CountLaws.{less_or_equal}
+use Rattle.std.proofs.Common.{◌≡◌, ℕ, List, refl, sym, ◌∙◌, rules}
+use borrow.Author.Tests.{tests}
+use lib.Bits.{bit_and}
+use Rattle.problem.specs.Problem.{item, label_at}
 use Rattle.relation.specs.Relation.{Left}
 use Rattle.relation.specs.RelationLaws.{different_conflict, equal_not_left}
+use Rattle.relation.specs.RangeLaws.{all_below}
 use Rattle.relation.proofs.told.Goals as goal
-use Rattle.relation.proofs.told.Goals.{then-given-y+else-label, else-given-y}
 
-pub loop-y-init : goal.loop-y-init
-loop-y-init c = (omega arith, refl, c.label-label.ensures, λ z h. absurd (omega arith))
+-- where the values agree, the labels do too
+not_left : (cl given : List ℕ) (g o x y value label : ℕ) → value ≡ bit_and (item given x) g → label ≡ label_at cl o x
+    → (bit_and (item given y) g ≡ value → label_at cl o y ≡ label) → Left cl given g o x y → ⊥
+not_left cl given g o x y value label v l same w = equal_not_left cl given g o x y (sym l ∙ sym (same (sym w.agree ∙ sym v))) w
 
-pub returns-then-label : goal.returns-then-label
-returns-then-label c = let a = c.args in
-    let i = c.loop-y.invariant in
-    let h = c.loop-y-test.true in (
-      λ e. absurd (true_false (sym e)),
-      λ e none. none c.loop-y.y h (record {
-        conflict = different_conflict a.cl.now a.o a.x c.loop-y.y (λ q. omega arith);
-        agree = sym i.1 ∙ sym c.if-given-y.true;
-      }),
-    )
-
-pub loop-y-preserved : goal.loop-y-preserved
-loop-y-preserved c = let a = c.args in
-    let i = c.loop-y.invariant in
-    let h = c.loop-y-test.true in
-    let L : ℕ → Type 0 = Left a.cl.now a.given.now a.g a.o a.x in
-    let here : L c.loop-y.y → ⊥ = elim c.if-given-y.branch [
-      | then-given-y+else-label w ↦ equal_not_left a.cl.now a.given.now a.g a.o a.x c.loop-y.y (sym i.2 ∙ sym w.if-label.false ∙ w.label.ensures)
-      | else-given-y w ↦ λ k. w.if-given-y.false (sym k.agree ∙ sym i.1)
-    ] in (
-      omega arith,
-      i.1,
-      i.2,
-      λ z k w. ⊎_elim (λ b. i.3 z b w) (λ q. here (subst L q w)) (less_or_equal z c.loop-y.y (omega arith)),
-    )
+-- the values agree, and the labels do not
+left : (cl given : List ℕ) (g o x y value label : ℕ) → value ≡ bit_and (item given x) g → label ≡ label_at cl o x
+    → bit_and (item given y) g ≡ value → (label_at cl o y ≡ label → ⊥) → Left cl given g o x y
+left cl given g o x y value label v l same apart = record { conflict = different_conflict cl o x y (λ e. apart (sym e ∙ sym l)); agree = sym v ∙ sym same }
 
 pub returns : goal.returns
-returns c = (λ e y h. c.loop-y.invariant.3 y (let w = c.loop-y-test.false in omega arith), λ e. absurd (true_false e))
+returns c = let a = c.args in
+    let l = c.label-label.ensures in
+    let all = all_below a.x _ _ c.all.result (λ y. Left a.cl.now a.given.now a.g a.o a.x y → ⊥) (λ y. Left a.cl.now a.given.now a.g a.o a.x y) c.all.ensures.ran refl
+    (λ y q k. (search rules, search (rules, tests, not_left a.cl.now a.given.now a.g a.o a.x y _ _ refl l)))
+    (λ y q k. search (rules, tests, left a.cl.now a.given.now a.g a.o a.x y _ _ refl l)) in
+    (all.0, λ e none. let k = all.1 e in none k.0 k.1 k.2)
