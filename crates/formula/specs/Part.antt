@@ -1,14 +1,13 @@
 -- What the code that reads a formula answers, by the definitions: a formula with the text after it, or no formula.
 -- Assumes nothing.
-use Rattle.std.specs.Prelude.{◌≡◌, Bool, true, false, not, List, [], ◌∷◌, ℕ, suc, ◌≤◌, ◌<◌, min, max, length, drop}
-use Rattle.bits.specs.Logic.{andb, pick}
+use Rattle.std.specs.Prelude.{◌≡◌, Bool, not, List, [], ◌∷◌, ℕ, suc, ◌≤◌, ◌<◌, min, max, length, drop, Option, Some, None}
+use Rattle.bits.specs.Logic.{andb}
 use Rattle.limits.specs.Limits.{max_depth}
 use Rattle.text.specs.Bytes.{Read, found, bad, after, eat, close_bracket}
 use Rattle.names.specs.Name.{Name}
 use Rattle.rows.specs.Words.{Rowwise, row_on}
 use Rattle.cursor.specs.Opening.{Gate}
 use Rattle.cursor.specs.declared.Cursor.{Cursor}
-use Rattle.cursor.specs.declared.Moved.{Moved}
 use Rattle.formula.specs.Tree.{Formula, depth, knows}
 use Rattle.formula.specs.Reader.{read_operands, close_gate}
 use Rattle.formula.specs.Value.{value, on_row}
@@ -22,24 +21,19 @@ deepened d = min (suc d) (suc max_depth)
 -- the formula f, and after it the text t; ns are the inputs. Of a formula that is k brackets deep or deeper only that and
 -- its spelling are known.
 pub record Good (k : ℕ) (s : List ℕ) (ns : List Name) (f : Formula) (t : List ℕ) (p : Part) : Type 0 where
-  pub good : p.ok ≡ true
   pub inside : p.next.at ≤ length s
   pub rest : drop p.next.at s ≡ t
   pub deep : p.depth ≡ min (depth f) k
   pub names : depth f < k → p.known ≡ knows ns f
   pub rows : depth f < k → Rowwise (λ (r : ℕ). value (on_row ns r) f) p.rows
 
-abbrev pub PartIs : ℕ → List ℕ → List Name → Read Formula → Part → Type 0
-PartIs k s ns (found f t) p = Good k s ns f t p
-PartIs k s ns bad p = p.ok ≡ false
-
--- what was read so far, and the text after it
-abbrev pub read_so_far : List ℕ → Part → Read (Unit {0})
-read_so_far s p = pick p.ok (found tt (drop p.next.at s)) bad
+abbrev pub PartIs : ℕ → List ℕ → List Name → Read Formula → Option Part → Type 0
+PartIs k s ns (found f t) (Some p) = Good k s ns f t p
+PartIs k s ns bad (Some p) = ⊥
+PartIs k s ns q None = bad ≡ q
 
 -- a name or a digit before a cursor
 pub record Atom (c : Cursor) (known : Bool) (v : ℕ → Bool) (p : Part) : Type 0 where
-  pub good : p.ok ≡ true
   pub moved : p.next ≡ c
   pub flat : p.depth ≡ 0
   pub named : p.known ≡ known
@@ -47,32 +41,26 @@ pub record Atom (c : Cursor) (known : Bool) (v : ℕ → Bool) (p : Part) : Type
 
 -- a formula before a cursor that was only skimmed
 pub record Skimmed (c : Cursor) (p : Part) : Type 0 where
-  pub good : p.ok ≡ true
   pub moved : p.next ≡ c
   pub flat : p.depth ≡ 0
 
-abbrev pub Unread : Moved → Part → Type 0
-Unread (Moved.To c) p = Skimmed c p
-Unread Moved.Bad p = p.ok ≡ false
-
 -- p past its closing bracket, after which the text t is left
 pub record Shut (s : List ℕ) (p r : Part) (t : List ℕ) : Type 0 where
-  pub good : r.ok ≡ true
   pub inside : r.next.at ≤ length s
   pub rest : drop r.next.at s ≡ t
   pub deep : r.depth ≡ deepened p.depth
   pub named : r.known ≡ p.known
   pub same : r.rows ≡ p.rows
 
-abbrev pub ClosedBy : List ℕ → Part → Part → Read (Unit {0}) → Type 0
-ClosedBy s p r (found _ t) = Shut s p r t
-ClosedBy s p r bad = r.ok ≡ false
+abbrev pub ClosedBy : List ℕ → Part → Option Part → Read (Unit {0}) → Type 0
+ClosedBy s p (Some r) (found _ t) = Shut s p r t
+ClosedBy s p (Some r) bad = ⊥
+ClosedBy s p None x = bad ≡ x
 
-abbrev pub Closed : List ℕ → Part → Part → Type 0
-Closed s p r = ClosedBy s p r (after (read_so_far s p) (λ _ t. eat (close_bracket ∷ []) t))
+abbrev pub Closed : List ℕ → Part → Option Part → Type 0
+Closed s p r = ClosedBy s p r (eat (close_bracket ∷ []) (drop p.next.at s))
 
 pub record Negated (p r : Part) : Type 0 where
-  pub good : r.ok ≡ p.ok
   pub moved : r.next ≡ p.next
   pub deep : r.depth ≡ p.depth
   pub named : r.known ≡ p.known
@@ -80,7 +68,6 @@ pub record Negated (p r : Part) : Type 0 where
 
 -- the operands of p and the operand q
 pub record Joined (g : Gate) (p q r : Part) : Type 0 where
-  pub good : r.ok ≡ q.ok
   pub moved : r.next ≡ q.next
   pub deep : r.depth ≡ max p.depth q.depth
   pub named : r.known ≡ andb p.known q.known

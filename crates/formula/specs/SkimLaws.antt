@@ -1,6 +1,6 @@
 -- Past a formula of which only the spelling is read, by what opens it; and past the operands of a gate, one after another.
 -- Assumes nothing.
-use Rattle.std.specs.Prelude.{◌≡◌, refl, Bool, true, false, List, [], ◌∷◌, ℕ, drop}
+use Rattle.std.specs.Prelude.{◌≡◌, refl, Bool, true, false, List, [], ◌∷◌, ℕ, drop, Option, Some}
 use Rattle.std.proofs.Common.{sym, ap, ◌∙◌, subst}
 use Rattle.bits.specs.Logic.{pick}
 use Rattle.text.specs.Bytes.{Read, found, bad, after, eat, space, close_bracket}
@@ -9,28 +9,12 @@ use Rattle.cursor.specs.Opening as spec
 use Rattle.cursor.specs.Opening.{read_opening}
 use Rattle.cursor.specs.Item.{At, MovedIs, from}
 use Rattle.cursor.specs.declared.Cursor.{Cursor}
-use Rattle.cursor.specs.declared.Moved.{Moved}
 use Rattle.formula.specs.Tree.{Formula, Operands, none, more}
 use Rattle.formula.specs.Reader.{read_formula, read_operands, close_not, close_gate}
 use Rattle.formula.specs.ReaderLaws.{formula_opened, formula_unopened}
 use Rattle.formula.specs.Part.{gate_on}
-use Rattle.formula.specs.Skim.{spelling, skimmed_so_far}
+use Rattle.formula.specs.Skim.{spelling}
 use Rattle.formula.specs.TurnLaws.{operand_after, no_operand_after}
-
-pub skimmed_is : (s : List ℕ) (m : Moved) (r : Read (Unit {0})) → MovedIs s m r → skimmed_so_far s m ≡ r
-skimmed_is s (Moved.To c) r h = h.is
-skimmed_is s Moved.Bad r h = h
-
--- the byte b after what was skimmed
-abbrev pub then : List ℕ → Moved → ℕ → Read (Unit {0})
-then s m b = after (skimmed_so_far s m) (λ _ t. eat (b ∷ []) t)
-
-pub skimmed_then : (s : List ℕ) (m r : Moved) (b : ℕ) (c : Cursor) → m ≡ Moved.To c → MovedIs s r (eat (b ∷ []) (from s c))
-    → MovedIs s r (then s m b)
-skimmed_then s m r b c e h = rw e h
-
-pub skimmed_nothing : (s : List ℕ) (m : Moved) (b : ℕ) → m ≡ Moved.Bad → bad ≡ then s m b
-skimmed_nothing s m b e = rw e refl
 
 -- ---- by the opening
 closing_spelled : {A : Type 0} (a : A) (x : Read (Unit {0})) → spelling (after x (λ _ t. found a t)) ≡ x
@@ -48,16 +32,16 @@ module _ (s : List ℕ) (at : ℕ) (c : Cursor) where
   pub skim_digit : (b : Bool) → At s (spec.digit-opens b) c (read_opening (drop at s)) → At s tt c (spelling (read_formula (drop at s)))
   skim_digit b h = record { inside = h.inside; is = rw (formula_opened (drop at s) (spec.digit-opens b) (from s c) (sym h.is)) refl }
 
-  pub skim_not : (m r : Moved) → At s spec.not-opens c (read_opening (drop at s)) → MovedIs s m (spelling (read_formula (from s c)))
-      → MovedIs s r (after (skimmed_so_far s m) (λ _ t. eat (close_bracket ∷ []) t)) → MovedIs s r (spelling (read_formula (drop at s)))
-  skim_not m r h i k =
+  pub skim_not : (d : Cursor) (r : Option Cursor) → At s spec.not-opens c (read_opening (drop at s)) → At s tt d (spelling (read_formula (from s c)))
+      → MovedIs s r (eat (close_bracket ∷ []) (from s d)) → MovedIs s r (spelling (read_formula (drop at s)))
+  skim_not d r h i k =
       subst (λ (x : Read (Unit {0})). MovedIs s r x)
-      (ap (λ (x : Read (Unit {0})). after x (λ _ t. eat (close_bracket ∷ []) t)) (skimmed_is s m (spelling (read_formula (from s c))) i)
+      (ap (λ (x : Read (Unit {0})). after x (λ _ t. eat (close_bracket ∷ []) t)) i.is
       ∙ sym (not_spelled (read_formula (from s c)))
       ∙ ap spelling (sym (formula_opened (drop at s) spec.not-opens (from s c) (sym h.is))))
       k
 
-  pub skim_gate : (g : spec.Gate) (r : Moved) → At s (spec.gate_opens g) c (read_opening (drop at s))
+  pub skim_gate : (g : spec.Gate) (r : Option Cursor) → At s (spec.gate_opens g) c (read_opening (drop at s))
       → MovedIs s r (spelling (gate_on g (read_formula (from s c)))) → MovedIs s r (spelling (read_formula (drop at s)))
   skim_gate g r h k =
       subst (λ (x : Read (Unit {0})). MovedIs s r x) (ap spelling (sym (formula_opened (drop at s) (spec.gate_opens g) (from s c) (sym h.is)))) k
@@ -112,17 +96,19 @@ ending_over true bad e = refl
 ending_over false bad e = refl
 
 -- where no further operand comes
-module _ (s : List ℕ) (first past : Moved) (b : Bool) (g : spec.Gate) (q : Read Formula) (h : MovedIs s first (spelling q))
-    (i : ending false (skimmed_so_far s first) ≡ ending b (skimmed_so_far s past)) (n : bad ≡ then s past space) where
-  over : spelling (gate_on g q) ≡ pick b (then s past close_bracket) bad
-  over =
-      ending-start g q ∙ ap (ending false) (sym (skimmed_is s first (spelling q) h)) ∙ i
-      ∙ ending_over b (skimmed_so_far s past) n
+module _ (s : List ℕ) (first past : Cursor) (g : spec.Gate) (q : Read Formula) (h : At s tt first (spelling q)) where
+  -- a gate has two operands or more
+  pub skim_short : bad ≡ eat (space ∷ []) (from s first) → bad ≡ spelling (gate_on g q)
+  skim_short n = sym (ending-start g q ∙ ap (ending false) (sym h.is) ∙ ending_over false (found tt (from s first)) n)
 
-  pub skim_closed : b ≡ true → (r : Moved) → MovedIs s r (then s past close_bracket) → MovedIs s r (spelling (gate_on g q))
-  skim_closed e r k =
+  -- where what stands after a space is no operand
+  pub skim_broken : (b : Bool) (v : List ℕ) → ending false (found tt (from s first)) ≡ ending b (found tt (from s past))
+      → found tt v ≡ eat (space ∷ []) (from s past) → bad ≡ spelling (read_formula v) → bad ≡ spelling (gate_on g q)
+  skim_broken b v i n e =
+      sym (ending-start g q ∙ ap (ending false) (sym h.is) ∙ i ∙ ending_more b (found tt (from s past)) v n ∙ ap (ending true) (sym e))
+
+  pub skim_closed : ending false (found tt (from s first)) ≡ ending true (found tt (from s past)) → bad ≡ eat (space ∷ []) (from s past)
+      → (r : Option Cursor) → MovedIs s r (eat (close_bracket ∷ []) (from s past)) → MovedIs s r (spelling (gate_on g q))
+  skim_closed i n r k =
       subst (λ (x : Read (Unit {0})). MovedIs s r x)
-      (sym (over ∙ ap (λ (t : Bool). pick t (then s past close_bracket) bad) e)) k
-
-  pub skim_short : b ≡ false → bad ≡ spelling (gate_on g q)
-  skim_short e = sym (over ∙ ap (λ (t : Bool). pick t (then s past close_bracket) bad) e)
+      (sym (ending-start g q ∙ ap (ending false) (sym h.is) ∙ i ∙ ending_over true (found tt (from s past)) n)) k

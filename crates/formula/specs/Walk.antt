@@ -2,7 +2,7 @@
 -- looked into. Assumes nothing.
 use Rattle.std.specs.Prelude.{◌≡◌, Bool, true, false, List, [], ◌∷◌, ℕ, ◌<◌, min, max, drop}
 use Rattle.bits.specs.Logic.{andb}
-use Rattle.text.specs.Bytes.{Read, found, bad, after, eat}
+use Rattle.text.specs.Bytes.{Read, found, bad}
 use Rattle.names.specs.Name.{Name}
 use Rattle.rows.specs.Words.{Rowwise}
 use Rattle.cursor.specs.Opening.{Gate}
@@ -10,12 +10,7 @@ use Rattle.formula.specs.Tree.{Formula, Operands, none, depth, depths, knows, kn
 use Rattle.formula.specs.Reader.{read_operands}
 use Rattle.formula.specs.Value.{value, values, on_row, combine}
 use Rattle.formula.specs.Onto.{onto}
-use Rattle.formula.specs.Part.{read_so_far}
 use Rattle.formula.specs.declared.Part.{Part}
-
--- the byte b after what was read
-abbrev pub then : List ℕ → Part → ℕ → Read (Unit {0})
-then s p b = after (read_so_far s p) (λ _ t. eat (b ∷ []) t)
 
 -- operands put before others
 abbrev pub before : List Formula → Read Operands → Read Operands
@@ -29,7 +24,6 @@ non_empty (f ∷ fs) = true
 
 -- after the first operand e and the operands fs; u is the text after e
 pub record Going (k : ℕ) (s : List ℕ) (ns : List Name) (g : Gate) (e : Formula) (u : List ℕ) (fs : List Formula) (p : Part) : Type 0 where
-  pub good : p.ok ≡ true
   pub here : read_operands u ≡ before fs (read_operands (drop p.next.at s))
   pub deep : p.depth ≡ min (max (depth e) (depths (onto fs none))) k
   pub named : max (depth e) (depths (onto fs none)) < k → p.known ≡ andb (knows ns e) (knows_all ns (onto fs none))
@@ -37,9 +31,8 @@ pub record Going (k : ℕ) (s : List ℕ) (ns : List Name) (g : Gate) (e : Formu
       → Rowwise (λ (r : ℕ). combine g (value (on_row ns r) e ∷ values (on_row ns r) (onto fs none))) p.rows
 
 pub data Walk (k : ℕ) (s : List ℕ) (ns : List Name) (g : Gate) (e : Formula) (u : List ℕ) (p : Part) (enough : Bool) : Type 0 where
-  broken : p.ok ≡ false → read_operands u ≡ bad → Walk k s ns g e u p enough
   going : (fs : List Formula) → enough ≡ non_empty fs → Going k s ns g e u fs p → Walk k s ns g e u p enough
 
 abbrev pub WalkOf : ℕ → List ℕ → List Name → Gate → Read Formula → Part → Bool → Type 0
 WalkOf k s ns g (found e u) p enough = Walk k s ns g e u p enough
-WalkOf k s ns g bad p enough = p.ok ≡ false
+WalkOf k s ns g bad p enough = ⊥

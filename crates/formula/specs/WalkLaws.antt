@@ -1,9 +1,9 @@
 -- The loop over the operands of a gate keeps what is known after each operand, and at the closing bracket the gate comes to what
 -- the definitions say: a broken operand breaks the gate, and otherwise depth, names and values are those of all operands so far.
 -- Assumes nothing.
-use Rattle.std.specs.Prelude.{◌≡◌, refl, Bool, true, false, not, ◌&&◌, List, [], ◌∷◌, ℕ, suc, ◌≤◌, ◌<◌, min, max, length, drop}
-use Rattle.std.proofs.Common.{sym, ap, ap₂, ◌∙◌, subst, arith}
-use Rattle.bits.specs.Logic.{andb, pick}
+use Rattle.std.specs.Prelude.{◌≡◌, refl, Bool, true, false, not, ◌&&◌, List, [], ◌∷◌, ℕ, suc, ◌≤◌, ◌<◌, min, max, length, drop, Option, Some, None}
+use Rattle.std.proofs.Common.{sym, ap, ◌∙◌, subst, arith}
+use Rattle.bits.specs.Logic.{andb}
 use Rattle.bits.specs.LogicLaws.{true_false}
 use Rattle.limits.specs.Limits.{max_depth}
 use Rattle.text.specs.Bytes.{Read, found, bad, after, eat, close_bracket, space}
@@ -12,38 +12,25 @@ use Rattle.names.specs.Name.{Name}
 use Rattle.rows.specs.Words.{Rowwise}
 use Rattle.rows.specs.WordLaws.{rowwise_same, rowwise_one}
 use Rattle.cursor.specs.Opening.{Gate}
-use Rattle.cursor.specs.Item.{At, MovedIs}
+use Rattle.cursor.specs.Item.{At, from}
 use Rattle.cursor.specs.declared.Cursor.{Cursor}
-use Rattle.cursor.specs.declared.Moved.{Moved}
 use Rattle.formula.specs.Tree.{Formula, negation, gate, Operands, none, depth, depths, knows, knows_all}
 use Rattle.formula.specs.Reader.{read_operands, close_gate, close_not}
 use Rattle.formula.specs.Value.{value, on_row}
 use Rattle.formula.specs.Onto.{onto}
 use Rattle.formula.specs.GateLaws.{combine_one}
-use Rattle.formula.specs.Part.{PartIs, read_so_far, Unread, ClosedBy, Closed, Negated, Joined, deepened, gate_on}
+use Rattle.formula.specs.Part.{Good, PartIs, Skimmed, ClosedBy, Closed, Negated, deepened, gate_on}
 use Rattle.formula.specs.Skim.{spelling}
-use Rattle.formula.specs.Walk.{before, Going, broken, going, WalkOf, then}
+use Rattle.formula.specs.Walk.{before, Going, going, WalkOf}
 use Rattle.formula.specs.TurnLaws.{no_operand_after}
 use Rattle.formula.specs.declared.Part.{Part}
 
--- ---- what was read so far
-pub part_read : (k : ℕ) (s : List ℕ) (ns : List Name) (q : Read Formula) (p : Part) → PartIs k s ns q p → read_so_far s p ≡ spelling q
-part_read k s ns (found f t) p h = rw h.good (ap (λ (l : List ℕ). found tt l) h.rest)
-part_read k s ns bad p h = rw h refl
-
-so_far_good : (s : List ℕ) (p : Part) → p.ok ≡ true → read_so_far s p ≡ found tt (drop p.next.at s)
-so_far_good s p e = rw e refl
-
-so_far_bad : (s : List ℕ) (p : Part) → p.ok ≡ false → read_so_far s p ≡ bad
-so_far_bad s p e = rw e refl
-
 -- ---- the loop
-pub walk_start : (k : ℕ) (s : List ℕ) (ns : List Name) (g : Gate) (q : Read Formula) (p : Part) → PartIs k s ns q p
+pub walk_start : (k : ℕ) (s : List ℕ) (ns : List Name) (g : Gate) (q : Read Formula) (p : Part) → PartIs k s ns q (Some p)
     → WalkOf k s ns g q p false
 unfolding depth knows value
 walk_start k s ns g (found e u) p h =
     going [] refl record {
-      good = h.good;
       here = ap read_operands (sym h.rest) ∙ before_none (read_operands (drop p.next.at s));
       deep = h.deep ∙ ap (λ (d : ℕ). min d k) (omega arith);
       named = λ l. h.names (omega (arith, l)) ∙ and_one (knows ns e);
@@ -57,58 +44,38 @@ walk_start k s ns g (found e u) p h =
     and_one : (b : Bool) → b ≡ andb b true
     and_one true = refl
     and_one false = refl
-walk_start k s ns g bad p h = h
-
--- ---- a byte after what was read
-pub then_good : (s : List ℕ) (p : Part) (b : ℕ) → p.ok ≡ true → then s p b ≡ eat (b ∷ []) (drop p.next.at s)
-then_good s p b e = ap (λ (x : Read (Unit {0})). after x (λ _ t. eat (b ∷ []) t)) (so_far_good s p e)
-
-pub then_bad : (s : List ℕ) (p : Part) (b : ℕ) → p.ok ≡ false → then s p b ≡ bad
-then_bad s p b e = ap (λ (x : Read (Unit {0})). after x (λ _ t. eat (b ∷ []) t)) (so_far_bad s p e)
-
-pub followed_by : (s : List ℕ) (p : Part) (b : ℕ) (m : Moved) → p.ok ≡ true → MovedIs s m (eat (b ∷ []) (drop p.next.at s))
-    → MovedIs s m (then s p b)
-followed_by s p b m e h = subst (λ (x : Read (Unit {0})). MovedIs s m x) (sym (then_good s p b e)) h
-
-pub followed_by_nothing : (s : List ℕ) (p : Part) (b : ℕ) → p.ok ≡ false → bad ≡ then s p b
-followed_by_nothing s p b e = sym (then_bad s p b e)
+walk_start k s ns g bad p h = absurd h
 
 -- ---- past the closing bracket
 -- the part p just before the closing bracket of f: the values and names are f's, and the depth lacks f's own bracket
 record Whole (k : ℕ) (ns : List Name) (f : Formula) (p : Part) : Type 0 where
-  ready : p.ok ≡ true
   deep : deepened p.depth ≡ min (depth f) (suc k)
   named : depth f < suc k → p.known ≡ knows ns f
   rows : depth f < suc k → Rowwise (λ (r : ℕ). value (on_row ns r) f) p.rows
 
-closed_is : (k : ℕ) (s : List ℕ) (ns : List Name) (f : Formula) (p r : Part) → Whole k ns f p → Closed s p r
+closed_is : (k : ℕ) (s : List ℕ) (ns : List Name) (f : Formula) (p : Part) (r : Option Part) → Whole k ns f p → Closed s p r
     → PartIs (suc k) s ns (after (eat (close_bracket ∷ []) (drop p.next.at s)) (λ _ t. found f t)) r
-closed_is k s ns f p r w c =
-    by (eat (close_bracket ∷ []) (drop p.next.at s))
-    (subst (λ (x : Read (Unit {0})). ClosedBy s p r x) (then_good s p close_bracket w.ready) c)
+closed_is k s ns f p r w c = by (eat (close_bracket ∷ []) (drop p.next.at s)) r c
   where
-    by : (x : Read (Unit {0})) → ClosedBy s p r x → PartIs (suc k) s ns (after x (λ _ t. found f t)) r
-    by (found _ t) h =
+    by : (x : Read (Unit {0})) (r : Option Part) → ClosedBy s p r x → PartIs (suc k) s ns (after x (λ _ t. found f t)) r
+    by (found _ t) (Some r) h =
         record {
-          good = h.good;
           inside = h.inside;
           rest = h.rest;
           deep = h.deep ∙ w.deep;
           names = λ l. h.named ∙ w.named l;
           rows = λ l. subst (λ (v : List ℕ). Rowwise (λ (i : ℕ). value (on_row ns i) f) v) (sym h.same) (w.rows l);
         }
-    by bad h = h
-
-closed_broken : (s : List ℕ) (p r : Part) → p.ok ≡ false → Closed s p r → r.ok ≡ false
-closed_broken s p r e c = subst (λ (x : Read (Unit {0})). ClosedBy s p r x) (then_bad s p close_bracket e) c
+    by (found _ t) None h = absurd (bad_found h)
+    by bad (Some r) h = absurd h
+    by bad None h = refl
 
 -- what the code does at the closing bracket
-pub closed_at : (s : List ℕ) (p r : Part) (c : Cursor) (x : Read (Unit {0})) → At s tt c x → r.ok ≡ true → r.next ≡ c
-    → r.depth ≡ deepened p.depth → r.known ≡ p.known → r.rows ≡ p.rows → ClosedBy s p r x
-closed_at s p r c x h good moved deep named same =
-    subst (λ (y : Read (Unit {0})). ClosedBy s p r y) h.is
+pub closed_at : (s : List ℕ) (p r : Part) (c : Cursor) (x : Read (Unit {0})) → At s tt c x → r.next ≡ c
+    → r.depth ≡ deepened p.depth → r.known ≡ p.known → r.rows ≡ p.rows → ClosedBy s p (Some r) x
+closed_at s p r c x h moved deep named same =
+    subst (λ (y : Read (Unit {0})). ClosedBy s p (Some r) y) h.is
     (record {
-      good = good;
       inside = subst (λ (d : Cursor). d.at ≤ length s) (sym moved) h.inside;
       rest = ap (λ (d : Cursor). drop d.at s) moved;
       deep = deep;
@@ -116,11 +83,8 @@ closed_at s p r c x h good moved deep named same =
       same = same;
     })
 
-pub unclosed : (s : List ℕ) (p r : Part) (x : Read (Unit {0})) → bad ≡ x → r.ok ≡ false → ClosedBy s p r x
-unclosed s p r x e h = subst (λ (y : Read (Unit {0})). ClosedBy s p r y) e h
-
 -- ---- a negation
-pub negation_is : (k : ℕ) (s : List ℕ) (ns : List Name) (q : Read Formula) (p n r : Part) → k ≤ max_depth → PartIs k s ns q p
+pub negation_is : (k : ℕ) (s : List ℕ) (ns : List Name) (q : Read Formula) (p n : Part) (r : Option Part) → k ≤ max_depth → PartIs k s ns q (Some p)
     → Negated p n → Closed s n r → PartIs (suc k) s ns (after q (λ f u. close_not f u)) r
 unfolding depth knows value
 negation_is k s ns (found f u) p n r z h m c =
@@ -131,12 +95,11 @@ negation_is k s ns (found f u) p n r z h m c =
     whole =
         let d : n.depth ≡ min (depth f) k = m.deep ∙ h.deep in
         record {
-          ready = m.good ∙ h.good;
           deep = omega (arith, d, z);
           named = λ l. m.named ∙ h.names (omega (arith, l));
           rows = λ l. rowwise_one not m.each (h.rows (omega (arith, l)));
         }
-negation_is k s ns bad p n r z h m c = closed_broken s n r (m.good ∙ h) c
+negation_is k s ns bad p n r z h m c = absurd h
 
 -- ---- a gate
 gate_whole : (k : ℕ) (s : List ℕ) (ns : List Name) (g : Gate) (e : Formula) (u : List ℕ) (f : Formula) (fs : List Formula) (p : Part)
@@ -145,7 +108,6 @@ unfolding depth knows value
 gate_whole k s ns g e u f fs p z w =
     let d : p.depth ≡ min (max (depth e) (max (depth f) (depths (onto fs none)))) k = w.deep in
     record {
-      ready = w.good;
       deep = omega (arith, d, z);
       named = λ l. w.named (omega (arith, l)) ∙ and_same (knows ns e) (knows_all ns (onto (f ∷ fs) none));
       rows = λ l. w.rows (omega (arith, l));
@@ -156,46 +118,42 @@ gate_whole k s ns g e u f fs p z w =
     and_same false b = refl
 
 read_all : (k : ℕ) (s : List ℕ) (ns : List Name) (g : Gate) (e : Formula) (u : List ℕ) (fs : List Formula) (p : Part)
-    → Going k s ns g e u fs p → bad ≡ then s p space → read_operands u ≡ found (onto fs none) (drop p.next.at s)
+    → Going k s ns g e u fs p → bad ≡ eat (space ∷ []) (drop p.next.at s) → read_operands u ≡ found (onto fs none) (drop p.next.at s)
 read_all k s ns g e u fs p w n =
-    w.here ∙ ap (before fs) (no_operand_after (drop p.next.at s) (n ∙ then_good s p space w.good))
+    w.here ∙ ap (before fs) (no_operand_after (drop p.next.at s) n)
 
-pub walk_closed : (k : ℕ) (s : List ℕ) (ns : List Name) (g : Gate) (y : Read Formula) (p r : Part) → k ≤ max_depth
-    → WalkOf k s ns g y p true → bad ≡ then s p space → Closed s p r → PartIs (suc k) s ns (gate_on g y) r
-walk_closed k s ns g (found e u) p r z (broken b x) n c =
-    subst (λ (o : Read Operands). PartIs (suc k) s ns (after o (λ fs t. close_gate g e fs t)) r) (sym x) (closed_broken s p r b c)
+pub walk_closed : (k : ℕ) (s : List ℕ) (ns : List Name) (g : Gate) (y : Read Formula) (p : Part) (r : Option Part) → k ≤ max_depth
+    → WalkOf k s ns g y p true → bad ≡ eat (space ∷ []) (drop p.next.at s) → Closed s p r → PartIs (suc k) s ns (gate_on g y) r
 walk_closed k s ns g (found e u) p r z (going [] m w) n c = absurd (true_false m)
 walk_closed k s ns g (found e u) p r z (going (f ∷ fs) m w) n c =
     subst (λ (o : Read Operands). PartIs (suc k) s ns (after o (λ fs t. close_gate g e fs t)) r)
     (sym (read_all k s ns g e u (f ∷ fs) p w n))
     (closed_is k s ns (gate g e f (onto fs none)) p r (gate_whole k s ns g e u f fs p z w) c)
-walk_closed k s ns g bad p r z w n c = closed_broken s p r w c
+walk_closed k s ns g bad p r z w n c = absurd w
 
-pub walk_short : (k : ℕ) (s : List ℕ) (ns : List Name) (g : Gate) (y : Read Formula) (p r : Part)
-    → WalkOf k s ns g y p false → bad ≡ then s p space → r.ok ≡ false → PartIs (suc k) s ns (gate_on g y) r
-walk_short k s ns g (found e u) p r (broken b x) n c =
-    subst (λ (o : Read Operands). PartIs (suc k) s ns (after o (λ fs t. close_gate g e fs t)) r) (sym x) c
-walk_short k s ns g (found e u) p r (going [] m w) n c =
-    subst (λ (o : Read Operands). PartIs (suc k) s ns (after o (λ fs t. close_gate g e fs t)) r) (sym (read_all k s ns g e u [] p w n)) c
-walk_short k s ns g (found e u) p r (going (f ∷ fs) m w) n c = absurd (true_false (sym m))
-walk_short k s ns g bad p r w n c = c
+-- a gate has two operands or more
+pub walk_short : (k : ℕ) (s : List ℕ) (ns : List Name) (g : Gate) (y : Read Formula) (p : Part)
+    → WalkOf k s ns g y p false → bad ≡ eat (space ∷ []) (drop p.next.at s) → bad ≡ gate_on g y
+walk_short k s ns g (found e u) p (going [] m w) n =
+    sym (ap (λ (o : Read Operands). after o (λ fs t. close_gate g e fs t)) (read_all k s ns g e u [] p w n))
+walk_short k s ns g (found e u) p (going (f ∷ fs) m w) n = absurd (true_false (sym m))
+walk_short k s ns g bad p w n = absurd w
 
 -- ---- a formula that was only skimmed
-pub unread_is : (k : ℕ) (s : List ℕ) (ns : List Name) (q : Read Formula) (m : Moved) (p : Part) → k ≡ 0 → MovedIs s m (spelling q)
-    → Unread m p → PartIs k s ns q p
-unread_is k s ns (found f t) (Moved.To c) p z h u =
+pub unread_is : (k : ℕ) (s : List ℕ) (ns : List Name) (q : Read Formula) (c : Cursor) (p : Part) → k ≡ 0 → At s tt c (spelling q)
+    → Skimmed c p → PartIs k s ns q (Some p)
+unread_is k s ns (found f t) c p z h u =
     record {
-      good = u.good;
       inside = subst (λ (d : Cursor). d.at ≤ length s) (sym u.moved) h.inside;
       rest = ap (λ (d : Cursor). drop d.at s) u.moved ∙ found-rest h.is;
       deep = omega (arith, u.flat, z);
       names = λ l. absurd (omega (arith, l, z));
       rows = λ l. absurd (omega (arith, l, z));
     }
-unread_is k s ns (found f t) Moved.Bad p z h u = absurd (bad_found h)
-unread_is k s ns bad (Moved.To c) p z h u = absurd (bad_found (sym h.is))
-unread_is k s ns bad Moved.Bad p z h u = u
+unread_is k s ns bad c p z h u = absurd (bad_found (sym h.is))
 
 -- ---- what is left of the text
-pub joined_read : (s : List ℕ) (g : Gate) (p q r : Part) → Joined g p q r → read_so_far s r ≡ read_so_far s q
-joined_read s g p q r j = ap₂ (λ (b : Bool) (d : Cursor). pick b (found tt (drop d.at s)) bad) j.good j.moved
+pub part_read : (k : ℕ) (s : List ℕ) (ns : List Name) (q : Read Formula) (p : Part) → PartIs k s ns q (Some p)
+    → found tt (from s p.next) ≡ spelling q
+part_read k s ns (found f t) p h = ap (λ (l : List ℕ). found tt l) h.rest
+part_read k s ns bad p h = absurd h

@@ -3,10 +3,9 @@
 // are told. Rests on cursor for what stands at a place, and on rows for tables.
 #![tactic(auto)]
 
-ghost use Rattle.std.specs.Prelude.{◌≡◌, [], ◌∷◌, map, true, false, ℕ, suc, ◌≤◌, max, length, drop};
-ghost use Rattle.bits.specs.Logic.{andb};
+ghost use Rattle.std.specs.Prelude.{map, true, ℕ, suc, ◌≤◌, length, drop, Some};
 ghost use Rattle.limits.specs.Limits.{max_depth};
-ghost use Rattle.text.specs.Bytes.{Read, after, eat};
+ghost use Rattle.text.specs.Bytes.{Read};
 ghost use Rattle.names.specs.Name.{among};
 ghost use Rattle.names.specs.Pack.{name_of};
 ghost use Rattle.cursor.specs.Opening as spec;
@@ -16,51 +15,19 @@ ghost use Rattle.formula.specs.Tree.{Formula};
 ghost use Rattle.formula.specs.Reader.{read_formula};
 ghost use Rattle.formula.specs.Value.{on_row};
 ghost use Rattle.formula.specs.Gates.{two};
-ghost use Rattle.formula.specs.Part.{PartIs, Atom, Closed, Negated, Joined, Unread, deepened, gate_on, read_so_far};
-ghost use Rattle.formula.specs.Skim.{spelling, skimmed_so_far};
+ghost use Rattle.formula.specs.Part.{PartIs, Atom, Skimmed, Closed, Negated, Joined, gate_on};
+ghost use Rattle.formula.specs.Skim.{spelling};
 
-use cursor::{Cursor, Gate, Moved, Opening};
-use names::Position;
+use cursor::{Cursor, Gate, Opening};
 
-// What reading a formula finds: whether it is spelled right, and then the cursor after it, its depth as far as it
-// matters, whether its names are inputs, and its value on each row.
+// What is known of a formula that was read: the cursor after it, its depth as far as it matters, whether its names are
+// inputs, and its value on each row.
 #[derive(Clone, Copy)]
 pub struct Part {
-    pub ok: bool,
     pub next: Cursor,
     pub depth: usize,
     pub known: bool,
     pub rows: [u64; limits::TABLE_WORDS],
-}
-
-// One bracket more; past the deepest that is allowed depths are not told apart.
-fn deeper(d: usize) -> usize
-    ensures { result ≡ deepened d }
-{
-    if d <= limits::MAX_DEPTH {
-        d + 1
-    } else {
-        limits::MAX_DEPTH + 1
-    }
-}
-
-fn larger(a: usize, b: usize) -> usize
-    ensures { result ≡ max a b }
-{
-    if a < b { b } else { a }
-}
-
-// No formula.
-fn none() -> Part
-    ensures { result.ok ≡ false }
-{
-    Part {
-        ok: false,
-        next: Cursor::start(),
-        depth: 0,
-        known: false,
-        rows: rows::constant(false),
-    }
 }
 
 // A digit.
@@ -68,7 +35,6 @@ fn constant(b: bool, next: Cursor) -> Part
     ensures { Atom next true (λ (x : ℕ). b) result }
 {
     Part {
-        ok: true,
         next,
         depth: 0,
         known: true,
@@ -80,17 +46,14 @@ fn constant(b: bool, next: Cursor) -> Part
 fn input(inputs: &[u64], n: u64, next: Cursor) -> Part
     ensures { Atom next (among (name_of n) (map name_of inputs.now)) (λ (x : ℕ). on_row (map name_of inputs.now) x (name_of n)) result }
 {
-    let p = names::find(inputs, n);
-    match p {
-        Position::At(i) => Part {
-            ok: true,
+    match names::find(inputs, n) {
+        Some(i) => Part {
             next,
             depth: 0,
             known: true,
             rows: rows::input(inputs.len() - 1 - i),
         },
-        Position::Nowhere => Part {
-            ok: true,
+        None => Part {
             next,
             depth: 0,
             known: false,
@@ -99,44 +62,34 @@ fn input(inputs: &[u64], n: u64, next: Cursor) -> Part
     }
 }
 
-// The byte b after what was read.
-fn followed(s: &[u8], p: Part, b: u8) -> Moved
-    ensures { MovedIs s.now result (after (read_so_far s.now p) (λ _ t. eat (b ∷ []) t)) }
+// A formula that was only skimmed.
+fn unread(next: Cursor) -> Part
+    ensures { Skimmed next result }
 {
-    let next = p.next;
-    if p.ok { next.byte(s, b) } else { Moved::Bad }
+    Part {
+        next,
+        depth: 0,
+        known: false,
+        rows: rows::constant(false),
+    }
 }
 
-// A formula past its closing bracket.
-fn closed(s: &[u8], p: Part) -> Part
+// A formula past its closing bracket. Past the deepest that is allowed depths are not told apart.
+fn closed(s: &[u8], p: Part) -> Option<Part>
     ensures { Closed s.now p result }
 {
-    let m = followed(s, p, b')');
-    let Moved::To(next) = m else {
-        return none();
-    };
-    let rows = p.rows;
-    Part {
-        ok: true,
-        next,
-        depth: deeper(p.depth),
-        known: p.known,
-        rows,
-    }
+    let next = p.next.byte(s, b')')?;
+    let depth = p.depth.min(limits::MAX_DEPTH) + 1;
+    Some(Part { next, depth, ..p })
 }
 
 // The negation of a formula.
 fn negated(p: Part) -> Part
     ensures { Negated p result }
 {
-    let old = p.rows;
-    let next = p.next;
     Part {
-        ok: p.ok,
-        next,
-        depth: p.depth,
-        known: p.known,
-        rows: rows::complement(old),
+        rows: rows::complement(p.rows),
+        ..p
     }
 }
 
@@ -155,153 +108,93 @@ fn combined(
     }
 }
 
-fn and(a: bool, b: bool) -> bool
-    ensures { result ≡ andb a b }
-{
-    if a { b } else { false }
-}
-
 // The operands so far, and one more.
 fn joined(g: Gate, p: Part, q: Part) -> Part
     ensures { Joined (gate_of g) p q result }
 {
-    let a = p.rows;
-    let b = q.rows;
-    let next = q.next;
     Part {
-        ok: q.ok,
-        next,
-        depth: larger(p.depth, q.depth),
-        known: and(p.known, q.known),
-        rows: combined(g, a, b),
-    }
-}
-
-// The byte b after a formula that was only skimmed.
-fn skimmed_byte(s: &[u8], m: Moved, b: u8) -> Moved
-    ensures { MovedIs s.now result (after (skimmed_so_far s.now m) (λ _ t. eat (b ∷ []) t)) }
-{
-    match m {
-        Moved::To(c) => c.byte(s, b),
-        Moved::Bad => Moved::Bad,
+        next: q.next,
+        depth: p.depth.max(q.depth),
+        known: p.known && q.known,
+        rows: combined(g, p.rows, q.rows),
     }
 }
 
 // Past the formula at a place, where only its spelling matters.
 #[cycle(skim_skim_operands)]
-fn skim(s: &[u8], c: Cursor) -> Moved
+fn skim(s: &[u8], c: Cursor) -> Option<Cursor>
     requires { c.at ≤ length s.now }
     ensures { MovedIs s.now result (spelling (read_formula (drop c.at s.now))) }
 {
-    let o = c.opening(s);
-    match o {
-        Opening::Name(_, next) => Moved::To(next),
-        Opening::Digit(_, next) => Moved::To(next),
+    match c.opening(s)? {
+        Opening::Name(_, next) => Some(next),
+        Opening::Digit(_, next) => Some(next),
         Opening::Not(next) => {
-            let inner = skim(s, next);
-            skimmed_byte(s, inner, b')')
+            let inner = skim(s, next)?;
+            inner.byte(s, b')')
         }
         Opening::Gate(_, next) => {
-            let first = skim(s, next);
+            let first = skim(s, next)?;
             skim_operands(s, first)
         }
-        Opening::Bad => Moved::Bad,
     }
 }
 
-// Past the operands of a gate after the first, and its closing bracket.
+// Past the operands of a gate after the first, of which there is at least one, and its closing bracket.
 #[cycle(skim_skim_operands)]
-fn skim_operands(s: &[u8], first: Moved) -> Moved
-    ensures { (g : spec.Gate) (q : Read Formula) → MovedIs s.now first (spelling q) → MovedIs s.now result (spelling (gate_on g q)) }
+fn skim_operands(s: &[u8], first: Cursor) -> Option<Cursor>
+    ensures { (g : spec.Gate) (q : Read Formula) → MovedIs s.now (Some first) (spelling q) → MovedIs s.now result (spelling (gate_on g q)) }
 {
-    let mut past = first;
-    let mut enough = false;
-    loop {
-        let m = skimmed_byte(s, past, b' ');
-        match m {
-            Moved::To(next) => {
-                past = skim(s, next);
-                enough = true;
-            }
-            Moved::Bad => {
-                return if enough {
-                    skimmed_byte(s, past, b')')
-                } else {
-                    Moved::Bad
-                };
-            }
-        }
+    let second = first.byte(s, b' ')?;
+    let mut past = skim(s, second)?;
+    while let Some(next) = past.byte(s, b' ') {
+        past = skim(s, next)?;
     }
-}
-
-// A formula that was only skimmed.
-fn unread(m: Moved) -> Part
-    ensures { Unread m result }
-{
-    match m {
-        Moved::To(next) => Part {
-            ok: true,
-            next,
-            depth: 0,
-            known: false,
-            rows: rows::constant(false),
-        },
-        Moved::Bad => none(),
-    }
+    past.byte(s, b')')
 }
 
 // The formula at a place, of which the inputs' names are given. Past `left` brackets it is only skimmed, so that the stack
 // holds no more tables than the deepest formula that is allowed needs.
 #[cycle(nested_operands)]
-fn nested(s: &[u8], inputs: &[u64], c: Cursor, left: usize) -> Part
+fn nested(s: &[u8], inputs: &[u64], c: Cursor, left: usize) -> Option<Part>
     requires { (c.at ≤ length s.now) × (left ≤ suc max_depth) }
     ensures { PartIs left s.now (map name_of inputs.now) (read_formula (drop c.at s.now)) result }
 {
     if left == 0 {
-        return unread(skim(s, c));
+        let next = skim(s, c)?;
+        return Some(unread(next));
     }
-    let o = c.opening(s);
-    match o {
-        Opening::Name(n, next) => input(inputs, n, next),
-        Opening::Digit(b, next) => constant(b, next),
+    match c.opening(s)? {
+        Opening::Name(n, next) => Some(input(inputs, n, next)),
+        Opening::Digit(b, next) => Some(constant(b, next)),
         Opening::Not(next) => {
-            let inner = nested(s, inputs, next, left - 1);
+            let inner = nested(s, inputs, next, left - 1)?;
             closed(s, negated(inner))
         }
         Opening::Gate(g, next) => {
-            let first = nested(s, inputs, next, left - 1);
+            let first = nested(s, inputs, next, left - 1)?;
             operands(s, inputs, g, first, left - 1)
         }
-        Opening::Bad => none(),
     }
 }
 
-// The operands of a gate after the first, and its closing bracket.
+// The operands of a gate after the first, of which there is at least one, and its closing bracket.
 #[cycle(nested_operands)]
-fn operands(s: &[u8], inputs: &[u64], g: Gate, first: Part, left: usize) -> Part
+fn operands(s: &[u8], inputs: &[u64], g: Gate, first: Part, left: usize) -> Option<Part>
     requires { left ≤ max_depth }
-    ensures { (q : Read Formula) → PartIs left s.now (map name_of inputs.now) q first
+    ensures { (q : Read Formula) → PartIs left s.now (map name_of inputs.now) q (Some first)
         → PartIs (suc left) s.now (map name_of inputs.now) (gate_on (gate_of g) q) result }
 {
-    let mut sum = first;
-    let mut enough = false;
-    loop {
-        let m = followed(s, sum, b' ');
-        match m {
-            Moved::To(next) => {
-                let one = nested(s, inputs, next, left);
-                sum = joined(g, sum, one);
-                enough = true;
-            }
-            Moved::Bad => {
-                return if enough { closed(s, sum) } else { none() };
-            }
-        }
+    let second = first.next.byte(s, b' ')?;
+    let mut sum = joined(g, first, nested(s, inputs, second, left)?);
+    while let Some(next) = sum.next.byte(s, b' ') {
+        sum = joined(g, sum, nested(s, inputs, next, left)?);
     }
+    closed(s, sum)
 }
 
 // The formula at a place, of which the inputs' names are given.
-pub fn formula(s: &[u8], inputs: &[u64], c: Cursor) -> Part
+pub fn formula(s: &[u8], inputs: &[u64], c: Cursor) -> Option<Part>
     requires { c.at ≤ length s.now }
     ensures { PartIs (suc max_depth) s.now (map name_of inputs.now) (read_formula (drop c.at s.now)) result }
 {
