@@ -16,13 +16,7 @@ use limits::{MAX_VERTICES, SEARCH_OUTPUTS};
 fn widened(codes: [u8; MAX_VERTICES]) -> [u16; MAX_VERTICES]
     ensures { result ≡ codes }
 {
-    let mut r = [0u16; MAX_VERTICES];
-    let mut x: usize = 0;
-    while x < MAX_VERTICES {
-        r[x] = codes[x] as u16;
-        x += 1;
-    }
-    r
+    codes.map(u16::from)
 }
 
 // Whether of two sets of the first u cells f comes before g: it has the first cell in which they differ.
@@ -30,13 +24,11 @@ fn sooner(f: u8, g: u8, u: u8) -> bool
     requires { u ≤ max_cells }
     ensures { result ≡ is_less (set_order u g f) }
 {
-    let mut i: u8 = 0;
-    while i < u {
+    for i in 0..u {
         let a = cells::in_set(f as u64, i);
         if a != cells::in_set(g as u64, i) {
             return a;
         }
-        i += 1;
     }
     false
 }
@@ -47,11 +39,7 @@ fn suits(cl: &[u8], codes: &[u16], v: usize, o: usize, budget: u8, f: u8) -> boo
     ensures { (result ≡ true → Suits cl.now codes.now v o budget f)
         × (result ≡ false → Suits cl.now codes.now v o budget f → ⊥) }
 {
-    if u32::count_ones(f as u32) <= budget as u32 {
-        relation::none_left(cl, codes, o, f as u16, v)
-    } else {
-        false
-    }
+    f.count_ones() <= budget as u32 && relation::none_left(cl, codes, o, f as u16, v)
 }
 
 // The first set of the first u cells that suits output o.
@@ -59,16 +47,11 @@ fn first_row(cl: &[u8], codes: &[u16], v: usize, o: usize, u: u8, budget: u8) ->
     requires { Classes cl.now × (length codes.now ≡ max_vertices) × (v ≤ max_vertices) × (o < search_outputs) × (u ≤ max_cells) }
     ensures { Best cl.now codes.now v o u budget (2 ^ u) result }
 {
-    let end = cells::single(u) as u8;
     let mut best: u8 = 0;
-    let mut f: u8 = 0;
-    while f < end {
-        if sooner(f, best, u) {
-            if suits(cl, codes, v, o, budget, f) {
-                best = f;
-            }
+    for f in 0..cells::power(u) {
+        if sooner(f, best, u) && suits(cl, codes, v, o, budget, f) {
+            best = f;
         }
-        f += 1;
     }
     best
 }
@@ -87,10 +70,8 @@ pub fn first_rows(
 {
     let tables = widened(codes);
     let mut r = [0u8; SEARCH_OUTPUTS];
-    let mut o: usize = 0;
-    while o < m {
+    for o in 0..m {
         r[o] = first_row(cl, &tables, v, o, u, budgets[o]);
-        o += 1;
     }
     r
 }
