@@ -1,11 +1,10 @@
 -- Table's answers, one for each way out of the code. Assumes nothing.
-use Rattle.std.specs.Prelude.{◌≡◌, refl, true, false, ℕ, ◌^◌, ◌≤◌, ◌<◌, length}
+use Rattle.std.specs.Prelude.{◌≡◌, refl, ℕ, ◌^◌, ◌≤◌, ◌<◌, length, Result, Ok, Err}
 use Rattle.std.proofs.Math.Path.{sym, ap}
 use Rattle.std.proofs.Common.{ap₂, ◌∙◌, arith, pow_mono}
 use mathlib.Core.List.{List}
 use Rattle.std.proofs.Math.Seq.{sets}
 use borrow.Author.Tests.{le-leb, lt-leb, lt-ltb, le-ltb}
-use Rattle.bits.specs.LogicLaws.{true_false}
 use Rattle.limits.specs.Limits.{max_inputs, max_rows}
 use Rattle.rows.specs.Words.{row_on}
 use Rattle.rows.specs.Digits.{digits_upto}
@@ -17,29 +16,30 @@ use Rattle.sheet.specs.Value.{output_on}
 use Rattle.sheet.specs.declared.Sheet.{Sheet}
 use Rattle.design.specs.Tabulate.{Tabulated, written, untouched, table_of, tabulate, table_digits, row_count}
 use Rattle.design.specs.Answer.{ExaminedIs}
-use Rattle.design.specs.declared.Examined.{Examined}
+use Rattle.refusal.specs.Number.{number_of}
+use Rattle.refusal.specs.declared.Refusal.{Refusal}
 
--- ---- what the answer of an examination holds, by its flag
-pub refused-here : (y : spec.Examined) (e : Examined) → ExaminedIs y e → e.ok ≡ false → refused e.number e.line ≡ y
-refused-here (refused q l) e h f = ap₂ refused h.number h.line
-refused-here (valid d) e h f = absurd (true_false (sym h.all_ok ∙ f))
+-- ---- what the answer of an examination holds
+-- by a refusal
+pub refused-here : (y : spec.Examined) (r : Refusal) → ExaminedIs y (Err r) → refused (number_of r.question) r.line ≡ y
+refused-here (refused q l) r h = ap₂ refused h.number h.line
+refused-here (valid d) r h = absurd h
 
+-- by a sheet
 pub record Valid (y : spec.Examined) (k : Sheet) : Type 0 where
   pub design : Design
   pub answered : valid design ≡ y
   pub holds : Holds design k
 
-pub valid_here : (y : spec.Examined) (e : Examined) → ExaminedIs y e → e.ok ≡ true → Valid y e.sheet
-valid_here (refused q l) e h f = absurd (true_false (sym f ∙ h.not_ok))
-valid_here (valid d) e h f = record { design = d; answered = refl; holds = h.holds }
+pub valid_here : (y : spec.Examined) (k : Sheet) → ExaminedIs y (Ok k) → Valid y k
+valid_here (refused q l) k h = absurd h
+valid_here (valid d) k h = record { design = d; answered = refl; holds = h }
 
 -- ---- where nothing is written
-pub table-refused : (x : spec.Examined) (o : ℕ) (b : List ℕ) (e : Examined)
-    → ExaminedIs x e
-    → e.ok ≡ false
-    → untouched e.number e.line b ≡ table_of x o b
+pub table-refused : (x : spec.Examined) (o : ℕ) (b : List ℕ) (r : Refusal) → ExaminedIs x (Err r)
+    → untouched (number_of r.question) r.line b ≡ table_of x o b
 unfolding table_of
-table-refused x o b e h f = ap (λ (y : spec.Examined). table_of y o b) (refused-here x e h f)
+table-refused x o b r h = ap (λ (y : spec.Examined). table_of y o b) (refused-here x r h)
 
 module _ (x : spec.Examined) (o : ℕ) (b : List ℕ) (k : Sheet) (v : Valid x k) where
   rows_are : (n : ℕ) → n ≡ 2 ^ k.inputs → n ≡ row_count v.design

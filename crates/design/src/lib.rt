@@ -8,23 +8,8 @@ ghost use Rattle.sheet.specs.Known.{Holds, place_of};
 ghost use Rattle.design.specs.Tabulate.{table_of, tabulate};
 ghost use Rattle.design.specs.Answer.{ExaminedIs, Examination, table_answer};
 
+use refusal::{Question, Refusal};
 use sheet::{Place, Rows, Sheet};
-
-// The examination's answer: the refusal, or what the sheet says.
-#[derive(Drop)]
-pub struct Examined {
-    pub ok: bool,
-    pub number: usize,
-    pub line: usize,
-    pub sheet: Sheet,
-}
-
-// Table's answer: the refusal, or how many digits were written.
-#[derive(Drop)]
-pub enum Tabled {
-    Refused { number: usize, line: usize },
-    Written(usize),
-}
 
 // Whether a byte may stand in a sheet.
 fn plain(b: u8) -> bool
@@ -48,14 +33,12 @@ pub fn sized(s: &[u8]) -> bool
     if limits::MAX_SHEET < n {
         return false;
     }
-    let mut i = 0;
-    while i < n - 1 {
+    for i in 0..n - 1 {
         if !plain(s[i]) {
             return false;
         }
-        i += 1;
     }
-    s[i] == b'\n'
+    s[n - 1] == b'\n'
 }
 
 // A sheet of which nothing is known.
@@ -77,91 +60,77 @@ pub fn blank() -> Sheet
 }
 
 // The answer after the last line, where n is the number of the line after it.
-fn ended(p: Place, n: usize, k: Sheet) -> Examined
+fn ended(p: Place, n: usize, k: Sheet) -> Result<Sheet, Refusal>
     ensures { (d : spec.Design) → Holds d k → ExaminedIs (spec.at_end (place_of p) d n) result }
 {
-    let over = match p {
-        Place::Over => true,
-        Place::Design => false,
-        Place::In => false,
-        Place::Bound => false,
-        Place::Limit => false,
-        Place::Out => false,
-    };
-    Examined {
-        ok: over,
-        number: 2,
-        line: n,
-        sheet: k,
+    match p {
+        Place::Over => Ok(k),
+        _ => Err(Refusal {
+            question: Question::Spelling,
+            line: n,
+        }),
     }
 }
 
 // Questions 1 to 5.
-pub fn examine(s: &[u8]) -> Examined
+pub fn examine(s: &[u8]) -> Result<Sheet, Refusal>
     ensures examined_is { ExaminedIs (spec.examine s.now) result }
     ensures examination { Examination result }
 {
-    let mut k = blank();
     if !sized(s) {
-        return Examined {
-            ok: false,
-            number: 1,
+        return Err(Refusal {
+            question: Question::SheetBytes,
             line: 0,
-            sheet: k,
-        };
+        });
     }
+    let mut k = blank();
     let mut p = Place::Design;
     let mut at = 0;
     let mut n = 1;
     while at < s.len() {
         let e = text::line_end(s, at);
-        let a = sheet::ask_line(p, k, &s[at..e]);
-        if !a.ok {
-            return Examined {
-                ok: false,
-                number: a.number,
-                line: n,
-                sheet: k,
-            };
-        }
-        let place = a.place;
-        let next = a.sheet;
-        p = place;
-        k = next;
+        let step = sheet::ask_line(p, k, &s[at..e]).map_err(|question| Refusal {
+            question,
+            line: n,
+        })?;
+        p = step.place;
+        k = step.sheet;
         at = e + 1;
         n += 1;
     }
     ended(p, n, k)
 }
 
-// Table on what an examination answered: the digits of an output, in row order from the buffer's start. Where a question
-// is answered "no" the buffer is left as it was.
-pub fn table_of(e: Examined, output: usize, buffer: &mut [u8]) -> Tabled
+// Table on what an examination answered: the digits of an output, in row order from the buffer's start, and how many they are.
+// Where a question is answered "no" the buffer is left as it was.
+pub fn table_of(
+    e: Result<Sheet, Refusal>,
+    output: usize,
+    buffer: &mut [u8],
+) -> Result<usize, Refusal>
     requires { Examination e }
     ensures { (x : spec.Examined) → ExaminedIs x e → record { answer = table_answer result; buffer = buffer.new } ≡ table_of x output buffer.old }
 {
-    if !e.ok {
-        return Tabled::Refused {
-            number: e.number,
-            line: e.line,
-        };
-    }
-    let k = e.sheet;
+    let k = e?;
     if k.outputs <= output {
-        return Tabled::Refused { number: 6, line: 0 };
+        return Err(Refusal {
+            question: Question::OutputNumber,
+            line: 0,
+        });
     }
     let n = bits::power(k.inputs);
     if buffer.len() < n {
-        return Tabled::Refused { number: 9, line: 0 };
+        return Err(Refusal {
+            question: Question::BufferLength,
+            line: 0,
+        });
     }
-    let t = k.tables[output];
-    let words = t.words;
-    rows::put_digits(buffer, words, n);
-    Tabled::Written(n)
+    rows::put_digits(buffer, k.tables[output].words, n);
+    Ok(n)
 }
 
 // Table on a design sheet.
-pub fn table(s: &[u8], output: usize, buffer: &mut [u8]) -> Tabled
+pub fn table(s: &[u8], output: usize, buffer: &mut [u8]) -> Result<usize, Refusal>
     ensures { record { answer = table_answer result; buffer = buffer.new } ≡ tabulate s.now output buffer.old }
 {
     table_of(examine(s), output, buffer)

@@ -1,9 +1,12 @@
 -- What the code holds of a pair's two texts, by the definitions. Assumes nothing.
-use Rattle.std.specs.Prelude.{◌≡◌, Bool, true, false, ◌&&◌, ◌||◌, List, [], ℕ, ◌+◌, ◌-◌, ◌≤◌, ◌<◌, eqb, length, get_or, take, drop}
-use Rattle.std.proofs.Math.Option.{Option, some, none}
+use Rattle.std.specs.Prelude.{◌≡◌, Bool, true, false, ◌&&◌, ◌||◌, List, [], ℕ, ◌+◌, ◌-◌, ◌≤◌, ◌<◌, eqb, length, get_or, take, drop, Option, Some, None, Result, Ok, Err}
+use Rattle.std.proofs.Math.Option as maybe
+use Rattle.std.proofs.Math.Option.{some, none}
 use Rattle.limits.specs.Limits.{max_outputs}
 use Rattle.names.specs.Name.{Name, distinct}
 use Rattle.rows.specs.Words.{Rowwise, row_on}
+use Rattle.refusal.specs.Number.{number_of, Refuses}
+use Rattle.refusal.specs.declared.Refusal.{Refusal}
 use Rattle.cursor.specs.Item.{Kept}
 use Rattle.sheet.specs.Lines.{read_bound, read_limit}
 use Rattle.sheet.specs.Examine as spec
@@ -11,7 +14,6 @@ use Rattle.sheet.specs.Examine.{Design, refused}
 use Rattle.sheet.specs.Known.{Holds, table_at}
 use Rattle.sheet.specs.declared.Sheet.{Sheet}
 use Rattle.sheet.specs.declared.Rows.{Rows}
-use Rattle.design.specs.declared.Examined.{Examined}
 use Rattle.cubes.specs.Cube.{Cube}
 use Rattle.cubes.specs.Cover.{cover_on, cube_at}
 use Rattle.platext.specs.Text.{Pla}
@@ -29,10 +31,10 @@ pub record CubesStand (s : List ℕ) (i o first cubes : ℕ) : Type 0 where
   pub stand : Stand s i o first list end
   pub counted : length list ≡ cubes
 
--- the line of the first cube with another mark, or 0
-abbrev pub OtherIs : ℕ → Option ℕ → Type 0
-OtherIs r none = r ≡ 0
-OtherIs r (some l) = (r ≡ l) × (0 < l)
+-- the line of the first cube with another mark, if there is one
+abbrev pub OtherIs : Option ℕ → maybe.Option ℕ → Type 0
+OtherIs r none = r ≡ None
+OtherIs r (some l) = r ≡ Some l
 
 -- the table `old` with a cube's rows, where the cube's mark is a 1
 abbrev pub with_rows : List ℕ → List ℕ → ℕ → ℕ → Bool
@@ -54,23 +56,25 @@ pub record Readable (s : List ℕ) (t : PlaText) : Type 0 where
   pub outputs_few : length text.outputs ≤ max_outputs
 
 -- ---- the second text
-pub record BadBoard (q l : ℕ) (r : BoardLines) : Type 0 where
-  pub not_ok : r.ok ≡ false
-  pub number : r.number ≡ q
-  pub line : r.line ≡ l
-
 pub record BoardRead (b : List ℕ) (bs : List Name) (n : ℕ) (r : BoardLines) : Type 0 where
-  pub all_ok : r.ok ≡ true
   pub bound_read : read_bound (take r.bound b) ≡ some bs
   pub limit_read : read_limit (take (r.limit - (r.bound + 1)) (drop (r.bound + 1) b)) ≡ some n
   pub ordered : r.bound + 1 ≤ r.limit
   pub inside : r.limit ≤ length b
 
+abbrev pub BadBoard : ℕ → ℕ → Result BoardLines Refusal → Type 0
+BadBoard q l (Err r) = Refuses q l r
+BadBoard q l (Ok y) = ⊥
+
+abbrev pub GoodBoard : List ℕ → List Name → ℕ → Result BoardLines Refusal → Type 0
+GoodBoard b bs n (Err r) = ⊥
+GoodBoard b bs n (Ok y) = BoardRead b bs n y
+
 -- by the answer to question 1 and what the lines say
-abbrev pub BoardIs : List ℕ → Bool → Board → BoardLines → Type 0
+abbrev pub BoardIs : List ℕ → Bool → Board → Result BoardLines Refusal → Type 0
 BoardIs b false y r = BadBoard 1 0 r
 BoardIs b true (misspelled l) r = BadBoard 2 l r
-BoardIs b true (board bs n) r = BoardRead b bs n r
+BoardIs b true (board bs n) r = GoodBoard b bs n r
 
 -- ---- questions 3 to 5
 -- the sheet holds a design
@@ -100,6 +104,6 @@ pub record Onward (asked : (Design → spec.Examined) → spec.Examined) (k : Sh
   pub holds : Holds design k
   pub is : (onward : Design → spec.Examined) → asked onward ≡ onward design
 
-pub record AskedIs (asked : (Design → spec.Examined) → spec.Examined) (r : Examined) : Type 0 where
-  pub there : r.ok ≡ true → Onward asked r.sheet
-  pub missing : r.ok ≡ false → (onward : Design → spec.Examined) → asked onward ≡ refused r.number r.line
+abbrev pub AskedIs : ((Design → spec.Examined) → spec.Examined) → Result Sheet Refusal → Type 0
+AskedIs asked (Err r) = (onward : Design → spec.Examined) → asked onward ≡ refused (number_of r.question) r.line
+AskedIs asked (Ok k) = Onward asked k

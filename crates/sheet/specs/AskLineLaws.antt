@@ -1,25 +1,31 @@
 -- One line by the place that it stands at: at each place, what the code answers is what the line comes to.
 -- Assumes nothing.
-use Rattle.std.specs.Prelude.{◌≡◌, true, false, List, ℕ}
+use Rattle.std.specs.Prelude.{◌≡◌, refl, true, false, List, ℕ, Result, Ok, Err}
 use Rattle.text.specs.Bytes.{same}
+use Rattle.refusal.specs.declared.Question.{Question}
 use Rattle.sheet.specs.Lines.{design_line, end_line, read_in, read_bound, read_limit, read_out}
 use Rattle.sheet.specs.Examine.{Design, ask_in, ask_bound, ask_limit, ask_out, ask_end, ask_line}
-use Rattle.sheet.specs.Known.{Holds, Fresh, Fits, Refused, StepIs, place_of}
-use Rattle.sheet.specs.OnwardLaws.{Passed, passed_onward}
+use Rattle.sheet.specs.Known.{Holds, Fresh, Fits, StepIs, place_of}
+use Rattle.sheet.specs.OnwardLaws.{step_to, passed_onward}
 use Rattle.sheet.specs.declared.Place.{Place}
-use Rattle.sheet.specs.declared.Asked.{Asked}
 use Rattle.sheet.specs.declared.Sheet.{Sheet}
+use Rattle.sheet.specs.declared.Step as code
 
-module _ {p : Place} (d : Design) (l : List ℕ) (r : Asked) where
-  pub line_design : p ≡ Place.Design → same l design_line ≡ true → {k : Sheet} → Passed Place.In k r → Holds d k
-      → StepIs (ask_line (place_of p) d l) r
+module _ {p : Place} (d : Design) (l : List ℕ) where
+  pub line_design : p ≡ Place.Design → same l design_line ≡ true → (k : Sheet) → Holds d k
+      → StepIs (ask_line (place_of p) d l) (Ok (step_to Place.In k))
   unfolding ask_line
-  line_design e t a h = rw (e, t) (passed_onward a h)
+  line_design e t k h = rw (e, t) (passed_onward h)
 
-  pub line_no_design : p ≡ Place.Design → same l design_line ≡ false → Refused 2 r → StepIs (ask_line (place_of p) d l) r
+  pub line_no_design : p ≡ Place.Design → same l design_line ≡ false → StepIs (ask_line (place_of p) d l) (Err Question.Spelling)
   unfolding ask_line
-  line_no_design e t a = rw (e, t) a
+  line_no_design e t = rw (e, t) refl
 
+  pub line_over : p ≡ Place.Over → StepIs (ask_line (place_of p) d l) (Err Question.Spelling)
+  unfolding ask_line
+  line_over e = rw e refl
+
+module _ {p : Place} (d : Design) (l : List ℕ) (r : Result code.Step Question) where
   pub line_in : p ≡ Place.In → (Fresh d → StepIs (ask_in d (read_in l)) r) → Fits (place_of p) d
       → StepIs (ask_line (place_of p) d l) r
   unfolding ask_line
@@ -41,7 +47,3 @@ module _ {p : Place} (d : Design) (l : List ℕ) (r : Asked) where
       → StepIs (ask_line (place_of p) d l) r
   unfolding ask_line
   line_out e t a = rw (e, t) a
-
-  pub line_over : p ≡ Place.Over → Refused 2 r → StepIs (ask_line (place_of p) d l) r
-  unfolding ask_line
-  line_over e a = rw e a

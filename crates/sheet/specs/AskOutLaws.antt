@@ -1,12 +1,13 @@
 -- The questions on an `out` line and on `(end)`: the first "no" by what the code knows of the line and of the sheet.
 -- Assumes nothing.
-use Rattle.std.specs.Prelude.{◌≡◌, Bool, List, map, ℕ, ◌≤◌, ◌<◌, leb, ltb, length, take}
+use Rattle.std.specs.Prelude.{◌≡◌, refl, Bool, List, map, ℕ, ◌≤◌, ◌<◌, leb, ltb, length, take, Option, Some, None, Result, Ok, Err}
 use Rattle.std.proofs.Common.{sym, ap, subst, ◌∙◌, arith}
 use Rattle.std.proofs.Math.Bool.{true, false}
-use Rattle.std.proofs.Math.Option.{Option, some, none}
+use Rattle.std.proofs.Math.Option as maybe
+use Rattle.std.proofs.Math.Option.{some, none}
 use borrow.Author.Tests.{le-leb, lt-leb, lt-ltb, le-ltb}
-use Rattle.bits.specs.LogicLaws.{true_false}
 use Rattle.limits.specs.Limits.{max_outputs, max_depth}
+use Rattle.refusal.specs.declared.Question.{Question}
 use Rattle.names.specs.Name.{Name}
 use Rattle.names.specs.Pack.{name_of}
 use Rattle.rows.specs.Words.{Rowwise}
@@ -14,39 +15,40 @@ use Rattle.formula.specs.Tree.{depth, knows}
 use Rattle.formula.specs.Value.{value, on_row}
 use Rattle.sheet.specs.Lines.{Output}
 use Rattle.sheet.specs.Examine.{Design, new_name, with_output, ask_out, ask_end}
-use Rattle.sheet.specs.Known.{Holds, Refused, StepIs, OutGood, OutIs}
-use Rattle.sheet.specs.OnwardLaws.{Passed, passed_onward}
+use Rattle.sheet.specs.Known.{Holds, StepIs, OutGood, OutIs}
+use Rattle.sheet.specs.OnwardLaws.{step_to, passed_onward}
 use Rattle.sheet.specs.declared.OutLine.{OutLine}
 use Rattle.sheet.specs.declared.Place.{Place}
-use Rattle.sheet.specs.declared.Asked.{Asked}
 use Rattle.sheet.specs.declared.Sheet.{Sheet}
+use Rattle.sheet.specs.declared.Step as code
 
 -- ---- a line that is misspelled, and one that is an output
-module _ (d : Design) (k : Sheet) (h : Holds d k) (w : OutLine) (r : Asked) where
-  pub out_misspelled : (o : Option Output) → OutIs (map name_of (take k.inputs k.names)) o w → w.ok ≡ false
-      → Refused 2 r → StepIs (ask_out d o) r
+module _ (d : Design) (k : Sheet) (h : Holds d k) where
+  pub out_misspelled : (o : maybe.Option Output) → OutIs (map name_of (take k.inputs k.names)) o None
+      → StepIs (ask_out d o) (Err Question.Spelling)
   unfolding ask_out
-  out_misspelled none i e q = q
-  out_misspelled (some x) i e q = absurd (true_false (sym i.good ∙ e))
+  out_misspelled none i = refl
+  out_misspelled (some x) i = absurd i
 
-  pub out_spelled : (o : Option Output) → OutIs (map name_of (take k.inputs k.names)) o w → w.ok ≡ true
+  pub out_spelled : (w : OutLine) (r : Result code.Step Question) (o : maybe.Option Output)
+      → OutIs (map name_of (take k.inputs k.names)) o (Some w)
       → ((x : Output) → OutGood d.inputs x w → StepIs (ask_out d (some x)) r) → StepIs (ask_out d o) r
-  out_spelled none i e f = absurd (true_false (sym e ∙ i))
-  out_spelled (some x) i e f = f x (subst (λ (ns : List Name). OutGood ns x w) h.inputs_named i)
+  out_spelled w r none i f = absurd i
+  out_spelled w r (some x) i f = f x (subst (λ (ns : List Name). OutGood ns x w) h.inputs_named i)
 
 -- ---- the questions on an output
-module _ (d : Design) (k : Sheet) (h : Holds d k) (w : OutLine) (r : Asked) (x : Output) (g : OutGood d.inputs x w) where
-  pub out_fifth : max_outputs ≤ k.outputs → Refused 3 r → StepIs (ask_out d (some x)) r
+module _ (d : Design) (k : Sheet) (h : Holds d k) (w : OutLine) (x : Output) (g : OutGood d.inputs x w) where
+  pub out_fifth : max_outputs ≤ k.outputs → StepIs (ask_out d (some x)) (Err Question.Ranges)
   unfolding ask_out
-  out_fifth l q = rw (le-ltb (length d.outputs) max_outputs (omega (arith, h.outputs_counted))) q
+  out_fifth l = rw (le-ltb (length d.outputs) max_outputs (omega (arith, h.outputs_counted))) refl
 
   module _ (l : k.outputs < max_outputs) where
     few : ltb (length d.outputs) max_outputs ≡ true
     few = lt-ltb (length d.outputs) max_outputs (omega (arith, h.outputs_counted))
 
-    pub out_deep : max_depth < w.depth → Refused 3 r → StepIs (ask_out d (some x)) r
+    pub out_deep : max_depth < w.depth → StepIs (ask_out d (some x)) (Err Question.Ranges)
     unfolding ask_out
-    out_deep m q = rw (few, lt-leb (depth x.formula) max_depth (omega (arith, g.deep))) q
+    out_deep m = rw (few, lt-leb (depth x.formula) max_depth (omega (arith, g.deep))) refl
 
     module _ (m : w.depth ≤ max_depth) where
       low : depth x.formula ≤ max_depth
@@ -61,27 +63,27 @@ module _ (d : Design) (k : Sheet) (h : Holds d k) (w : OutLine) (r : Asked) (x :
       knows-is : (t : Bool) → w.known ≡ t → knows d.inputs x.formula ≡ t
       knows-is t u = sym (g.knowing low) ∙ u
 
-      pub out-old-name : false ≡ new_name d (name_of w.name) → Refused 4 r → StepIs (ask_out d (some x)) r
+      pub out-old-name : false ≡ new_name d (name_of w.name) → StepIs (ask_out d (some x)) (Err Question.NewNames)
       unfolding ask_out
-      out-old-name n q = rw (few, flat, name_is false n) q
+      out-old-name n = rw (few, flat, name_is false n) refl
 
       module _ (n : true ≡ new_name d (name_of w.name)) where
-        pub out-unknown : w.known ≡ false → Refused 5 r → StepIs (ask_out d (some x)) r
+        pub out-unknown : w.known ≡ false → StepIs (ask_out d (some x)) (Err Question.InputNames)
         unfolding ask_out
-        out-unknown u q = rw (few, flat, name_is true n, knows-is false u) q
+        out-unknown u = rw (few, flat, name_is true n, knows-is false u) refl
 
-        pub out-passes : (k' : Sheet) → w.known ≡ true → Passed Place.Out k' r
+        pub out-passes : (k' : Sheet) → w.known ≡ true
             → (name_of w.name ≡ x.name → Rowwise (λ (i : ℕ). value (on_row d.inputs i) x.formula) w.rows → Holds (with_output d x) k')
-            → StepIs (ask_out d (some x)) r
+            → StepIs (ask_out d (some x)) (Ok (step_to Place.Out k'))
         unfolding ask_out
-        out-passes k' u p a = rw (few, flat, name_is true n, knows-is true u) (passed_onward p (a g.named (g.tabled low)))
+        out-passes k' u a = rw (few, flat, name_is true n, knows-is true u) (passed_onward (a g.named (g.tabled low)))
 
 -- ---- `(end)`
-module _ (d : Design) (k : Sheet) (h : Holds d k) (r : Asked) where
-  pub end_too_early : k.outputs < 1 → Refused 3 r → StepIs (ask_end d) r
+module _ (d : Design) (k : Sheet) (h : Holds d k) where
+  pub end_too_early : k.outputs < 1 → StepIs (ask_end d) (Err Question.Ranges)
   unfolding ask_end
-  end_too_early l q = rw (lt-leb 1 (length d.outputs) (omega (arith, h.outputs_counted))) q
+  end_too_early l = rw (lt-leb 1 (length d.outputs) (omega (arith, h.outputs_counted))) refl
 
-  pub end_passes : 1 ≤ k.outputs → Passed Place.Over k r → StepIs (ask_end d) r
+  pub end_passes : 1 ≤ k.outputs → StepIs (ask_end d) (Ok (step_to Place.Over k))
   unfolding ask_end
-  end_passes l p = rw (le-leb 1 (length d.outputs) (omega (arith, h.outputs_counted))) (passed_onward p h)
+  end_passes l = rw (le-leb 1 (length d.outputs) (omega (arith, h.outputs_counted))) (passed_onward h)

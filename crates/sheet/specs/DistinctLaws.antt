@@ -1,5 +1,5 @@
 -- Whether no name stands twice, from the first name on: no name passed stands again. Assumes nothing.
-use Rattle.std.specs.Prelude.{◌≡◌, refl, Bool, true, false, ◌&&◌, List, map, ℕ, ◌+◌, ◌-◌, ◌≤◌, ◌<◌, length, get_or, take, drop}
+use Rattle.std.specs.Prelude.{◌≡◌, refl, Bool, true, false, ◌&&◌, List, map, ℕ, ◌+◌, ◌-◌, ◌≤◌, ◌<◌, length, get_or, take, drop, Option, Some, None}
 use Rattle.std.proofs.Common.{sym, subst, ◌∙◌, arith, length-drop, drop_of_length-le, take_all}
 use Rattle.std.proofs.Math.Path.{ap}
 use Rattle.std.proofs.Math.Bool.{not}
@@ -7,8 +7,6 @@ use Rattle.names.specs.Name.{among, distinct}
 use Rattle.names.specs.Pack.{name_of}
 use Rattle.names.specs.Word.{PositionIs}
 use Rattle.names.specs.LookupLaws.{found_among, nowhere_among}
-use Rattle.names.specs.declared.Position.{Position}
-use Rattle.names.specs.declared.Position.TheVariants.{At, Nowhere}
 use Rattle.sheet.specs.StepLaws.{names_from}
 
 -- the names from i on decide
@@ -27,24 +25,24 @@ module _ {ns : List ℕ} {i : ℕ} (p : Passed ns i) (l : i < length ns) where
       p.decides ∙ ap distinct (names_from ns i l) ∙ ap (λ (b : Bool). not b && distinct (map name_of (drop (i + 1) ns))) e
 
   -- the code lends the names after i up to the last
-  later_names : (r : Position) → PositionIs (take (length ns - (i + 1)) (drop (i + 1) ns)) (get_or ns i 0) r
+  later_names : (r : Option ℕ) → PositionIs (take (length ns - (i + 1)) (drop (i + 1) ns)) (get_or ns i 0) r
       → PositionIs (drop (i + 1) ns) (get_or ns i 0) r
   later_names r h =
       subst (λ (vs : List ℕ). PositionIs vs (get_or ns i 0) r)
       (take_all (length ns - (i + 1)) (drop (i + 1) ns) (omega (arith, length-drop (i + 1) ns))) h
 
-  module _ {r : Position} (h : PositionIs (take (length ns - (i + 1)) (drop (i + 1) ns)) (get_or ns i 0) r) where
-    found : (q : Position) → r ≡ q → PositionIs (drop (i + 1) ns) (get_or ns i 0) q
-    found q e = subst (λ (s : Position). PositionIs (drop (i + 1) ns) (get_or ns i 0) s) e (later_names r h)
+  module _ {r : Option ℕ} (h : PositionIs (take (length ns - (i + 1)) (drop (i + 1) ns)) (get_or ns i 0) r) where
+    found : (q : Option ℕ) → r ≡ q → PositionIs (drop (i + 1) ns) (get_or ns i 0) q
+    found q e = subst (λ (s : Option ℕ). PositionIs (drop (i + 1) ns) (get_or ns i 0) s) e (later_names r h)
 
-    pub stands_twice : {k : ℕ} → r ≡ At k → false ≡ distinct (map name_of ns)
-    stands_twice {k} e = sym (decided true (found_among (drop (i + 1) ns) (get_or ns i 0) k (found (At k) e)))
+    pub stands_twice : {k : ℕ} → r ≡ Some k → false ≡ distinct (map name_of ns)
+    stands_twice {k} e = sym (decided true (found_among (drop (i + 1) ns) (get_or ns i 0) k (found (Some k) e)))
 
-    pub passed_more : r ≡ Nowhere → Passed ns (i + 1)
+    pub passed_more : r ≡ None → Passed ns (i + 1)
     passed_more e =
         record {
           inside = omega arith;
-          decides = decided false (nowhere_among (drop (i + 1) ns) (get_or ns i 0) (found Nowhere e));
+          decides = decided false (nowhere_among (drop (i + 1) ns) (get_or ns i 0) (found None e));
         }
 
 pub passed_all : {ns : List ℕ} {i : ℕ} → Passed ns i → length ns ≤ i → true ≡ distinct (map name_of ns)

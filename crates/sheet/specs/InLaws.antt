@@ -1,5 +1,5 @@
 -- The `in` line: what it says once questions 2 to 4 are answered, and that the code's sheet holds it. Assumes nothing.
-use Rattle.std.specs.Prelude.{◌≡◌, refl, List, map, ℕ, ◌≤◌, length, take}
+use Rattle.std.specs.Prelude.{◌≡◌, refl, List, map, ℕ, ◌≤◌, length, take, Option}
 use Rattle.std.proofs.Common.{sym, ap, ◌∙◌, arith}
 use Rattle.text.specs.Bytes.{bytes, eat}
 use Rattle.limits.specs.Limits.{max_inputs}
@@ -11,16 +11,15 @@ use Rattle.sheet.specs.Examine.{Design, next, at_bound, ask_in, with_inputs}
 use Rattle.sheet.specs.Known.{position, Holds, Fresh, Onward, LineIs}
 use Rattle.sheet.specs.LineLaws.{names_after}
 use Rattle.sheet.specs.ListLaws.{AsksList}
-use Rattle.sheet.specs.OnwardLaws.{Passed, passed_onward}
+use Rattle.sheet.specs.OnwardLaws.{step_to, passed_onward}
 use Rattle.sheet.specs.declared.Place.{Place}
 use Rattle.sheet.specs.declared.Sheet.{Sheet}
-use Rattle.sheet.specs.declared.Asked.{Asked}
 
 pub in_asks : (d : Design) → AsksList max_inputs (λ (ns : List Name). next at_bound (with_inputs d ns)) (ask_in d)
 unfolding ask_in
 in_asks d = record { few = omega arith; misspelled = refl; listed = λ ns. refl }
 
-pub in_reads : (l : List ℕ) (w : NameList) → LineIs (names_after (eat (bytes "(in") l)) w → LineIs (read_in l) w
+pub in_reads : (l : List ℕ) (w : Option NameList) → LineIs (names_after (eat (bytes "(in") l)) w → LineIs (read_in l) w
 unfolding read_in
 in_reads l w h = h
 
@@ -58,6 +57,6 @@ module _ {d : Design} {k : Sheet} (h : Holds d k) (f : Fresh d) (n : ℕ) (vs : 
         tabled = λ o l. absurd (omega arith);
       }
 
-  pub in_onward : {r : Asked} → Passed Place.Bound (inputs_into k n vs) r
-      → (ns : List Name) → n ≡ length ns → map name_of (take n vs) ≡ ns → Onward at_bound (with_inputs d ns) r
-  in_onward a ns counted named = passed_onward a (holds_inputs ns counted named)
+  pub in_onward : (ns : List Name) → n ≡ length ns → map name_of (take n vs) ≡ ns
+      → Onward at_bound (with_inputs d ns) (step_to Place.Bound (inputs_into k n vs))
+  in_onward ns counted named = passed_onward (holds_inputs ns counted named)

@@ -1,16 +1,14 @@
--- A line that passes its questions: the code's answer says so, and its sheet holds what is known then. Assumes nothing.
-use Rattle.std.specs.Prelude.{◌≡◌, true}
-use Rattle.std.proofs.Common.{sym, ap, subst}
+-- A line that passes its questions: the sheet that the code goes on with holds what is known then. Assumes nothing.
+use Rattle.std.specs.Prelude.{refl}
 use Rattle.sheet.specs.Examine.{Design}
 use Rattle.sheet.specs.Known.{Holds, Onward, place_of}
 use Rattle.sheet.specs.declared.Place.{Place}
-use Rattle.sheet.specs.declared.Asked.{Asked}
 use Rattle.sheet.specs.declared.Sheet.{Sheet}
+use Rattle.sheet.specs.declared.Step.{Step}
 
--- what `onward` says of its answer
-abbrev pub Passed : Place → Sheet → Asked → Type 0
-Passed p k a = (a.ok ≡ true) × (a.place ≡ p) × (a.sheet ≡ k)
+-- the code's step to the place p with the sheet k
+abbrev pub step_to : Place → Sheet → Step
+step_to p k = record { place = p; sheet = k }
 
-pub passed_onward : {p : Place} {k : Sheet} {a : Asked} {d : Design} → Passed p k a → Holds d k → Onward (place_of p) d a
-passed_onward {p} {k} {a} {d} e h =
-    record { all_ok = e.0; placed = ap place_of e.1; holds = subst (Holds d) (sym e.2) h }
+pub passed_onward : {p : Place} {k : Sheet} {d : Design} → Holds d k → Onward (place_of p) d (step_to p k)
+passed_onward h = record { placed = refl; holds = h }

@@ -1,12 +1,11 @@
 -- The places of names among the inputs, from the first name on: each name's place is where the lookup finds it, in any
 -- spelling. Assumes nothing.
-use Rattle.std.specs.Prelude.{◌≡◌, refl, Bool, true, false, ◌&&◌, ℕ, zero, suc, ◌+◌, ◌≤◌, ◌<◌, length, get_or, take, drop, set}
+use Rattle.std.specs.Prelude.{◌≡◌, refl, Bool, true, false, ◌&&◌, ℕ, zero, suc, ◌+◌, ◌≤◌, ◌<◌, length, get_or, take, drop, set, Option, Some, None}
 use Rattle.std.proofs.Common.{sym, ap₂, subst, ◌∙◌, arith, add-one, length-set, drop_of_length-le, take-suc-set, take_all}
 use Rattle.std.proofs.Math.Path.{ap}
 use mathlib.Core.List.{List, [], ◌∷◌, ◌++◌, map, map-append}
 use Rattle.std.proofs.lemmas.List.{length-map}
 use Rattle.bits.specs.Logic.{pick}
-use Rattle.bits.specs.LogicLaws.{true_false}
 use Rattle.limits.specs.Limits.{max_bound}
 use Rattle.names.specs.Name.{Name, same_name, among, all_among}
 use Rattle.names.specs.SameLaws.{same_name_right}
@@ -15,8 +14,6 @@ use Rattle.names.specs.SpelledLaws.{spelled_same}
 use Rattle.names.specs.Pack.{name_of}
 use Rattle.names.specs.Word.{PositionIs}
 use Rattle.names.specs.LookupLaws.{found_among, nowhere_among}
-use Rattle.names.specs.declared.Position.{Position}
-use Rattle.names.specs.declared.Position.TheVariants.{At, Nowhere}
 use Rattle.sheet.specs.Known.{position, PlacesAre}
 use Rattle.sheet.specs.StepLaws.{names_from, names_before}
 
@@ -29,7 +26,7 @@ position_first (x ∷ vs) v zero l e h = rw e refl
 position_first (x ∷ vs) v (suc i) l e h =
     rw (h 0 (omega arith)) (ap suc (position_first vs v i (omega arith) e (λ k g. h (suc k) (omega arith))))
 
-position-found : (vs : List ℕ) (v i : ℕ) → PositionIs vs v (At i) → position (map name_of vs) (name_of v) ≡ i
+position-found : (vs : List ℕ) (v i : ℕ) → PositionIs vs v (Some i) → position (map name_of vs) (name_of v) ≡ i
 unfolding PositionIs
 position-found vs v i p = position_first vs v i p.0 p.1 p.2
 
@@ -74,36 +71,32 @@ module _ {ns inputs list : List ℕ} {i : ℕ} (p : Placed ns inputs list i) (l 
       ∙ sym (map-append place (map name_of (take i ns)) (name_of (get_or ns i 0) ∷ []))
       ∙ ap (map place) (sym (names_before ns i l))
 
-  module _ {r : Position} (h : PositionIs inputs (get_or ns i 0) r) where
-    found : (q : Position) → r ≡ q → PositionIs inputs (get_or ns i 0) q
-    found q e = subst (λ (s : Position). PositionIs inputs (get_or ns i 0) s) e h
+  module _ {r : Option ℕ} (h : PositionIs inputs (get_or ns i 0) r) where
+    found : (q : Option ℕ) → r ≡ q → PositionIs inputs (get_or ns i 0) q
+    found q e = subst (λ (s : Option ℕ). PositionIs inputs (get_or ns i 0) s) e h
 
-    pub place_missing : r ≡ Nowhere → PlacesAre (map name_of ns) (map name_of inputs) (record { ok = false; list = list })
-    place_missing e =
-        record {
-          all = sym (decided false (nowhere_among inputs (get_or ns i 0) (found Nowhere e)));
-          listed = λ y. absurd (true_false (sym y));
-        }
+    pub place_missing : r ≡ None → PlacesAre (map name_of ns) (map name_of inputs) None
+    place_missing e = decided false (nowhere_among inputs (get_or ns i 0) (found None e))
 
-    pub placed_more : {k : ℕ} → r ≡ At k → length ns ≤ max_bound → Placed ns inputs (set list i k) (i + 1)
+    pub placed_more : {k : ℕ} → r ≡ Some k → length ns ≤ max_bound → Placed ns inputs (set list i k) (i + 1)
     placed_more {k} e few =
         record {
           inside = omega arith;
           room = length-set list i k ∙ p.room;
-          decides = decided true (found_among inputs (get_or ns i 0) k (found (At k) e));
-          listed = listed_more k (omega (arith, p.room)) (position-found inputs (get_or ns i 0) k (found (At k) e));
+          decides = decided true (found_among inputs (get_or ns i 0) k (found (Some k) e));
+          listed = listed_more k (omega (arith, p.room)) (position-found inputs (get_or ns i 0) k (found (Some k) e));
         }
 
 pub placed_all : {ns inputs list : List ℕ} {i : ℕ} → Placed ns inputs list i → length ns ≤ i
-    → PlacesAre (map name_of ns) (map name_of inputs) (record { ok = true; list = list })
+    → PlacesAre (map name_of ns) (map name_of inputs) (Some list)
 unfolding all_among
 placed_all {ns} {inputs} {list} {i} p h =
     let whole : i ≡ length ns = omega (arith, p.inside) in
     let none_left : all_among (map name_of (drop i ns)) (map name_of inputs) ≡ true
     = ap (λ (vs : List ℕ). all_among (map name_of vs) (map name_of inputs)) (drop_of_length-le ns h) in
     record {
-      all = sym (p.decides ∙ none_left);
-      listed = λ _.
+      all = p.decides ∙ none_left;
+      listed =
           ap (λ (n : ℕ). take n list) (length-map ns name_of ∙ sym whole)
           ∙ p.listed
           ∙ ap (λ (vs : List ℕ). map (position (map name_of inputs)) (map name_of vs)) (take_all i ns h);

@@ -2,7 +2,7 @@
 // of a line, and on formula for the formulas and their tables.
 #![tactic(auto)]
 
-ghost use Rattle.std.specs.Prelude.{◌≡◌, true, false, List, map, ℕ, ◌≤◌, ◌<◌, length, drop};
+ghost use Rattle.std.specs.Prelude.{◌≡◌, List, map, ℕ, ◌≤◌, ◌<◌, length, drop};
 ghost use Rattle.std.proofs.Math.Option.{Option};
 ghost use Rattle.limits.specs.Limits.{max_inputs, max_bound, max_outputs};
 ghost use Rattle.text.specs.Bytes.{eat, after, whole};
@@ -13,11 +13,10 @@ ghost use Rattle.rows.specs.Words.{Rowwise};
 ghost use Rattle.formula.specs.Value.{value, on_row};
 ghost use Rattle.sheet.specs.Lines.{Output, read_in, read_bound, read_limit, read_out};
 ghost use Rattle.sheet.specs.Examine.{Design, within, ask_in, ask_bound, ask_limit, ask_out, ask_end, ask_line, with_output, new_name};
-ghost use Rattle.sheet.specs.Known.{Holds, Fresh, Fits, first_no, StepIs, Refused, LineIs, LimitIs, OutIs, place_of, PlacesAre, output_after, closes_at};
+ghost use Rattle.sheet.specs.Known.{Holds, Fresh, Fits, first_no, StepIs, LineIs, LimitIs, OutIs, place_of, PlacesAre, closes_at};
 
-use cursor::{Cursor, Moved, NameList, NameRead, NumberRead};
-use formula::Part;
-use names::Position;
+use cursor::{Cursor, NameList};
+use refusal::Question;
 
 // A whole truth table.
 #[derive(Clone, Copy)]
@@ -40,7 +39,7 @@ pub struct Sheet {
 }
 
 // Which line is wanted.
-#[derive(Drop)]
+#[derive(Clone, Copy, Debug, PartialEq, Eq)]
 pub enum Place {
     Design,
     In,
@@ -50,128 +49,54 @@ pub enum Place {
     Over,
 }
 
-// What a line comes to: the number of the first question with the answer "no", or the next place and what is known then.
-#[derive(Drop)]
-pub struct Asked {
-    pub ok: bool,
-    pub number: usize,
+// What a line comes to whose questions are all answered "yes": the next place, and what is known then.
+#[derive(Clone, Copy)]
+pub struct Step {
     pub place: Place,
     pub sheet: Sheet,
 }
 
-// An `out` line: whether it is spelled right, and then its name, its formula's depth as far as it matters, whether the
-// formula's names are inputs, and its table.
-#[derive(Drop)]
+// What an `out` line says: its name, its formula's depth as far as it matters, whether the formula's names are inputs, and
+// its table.
+#[derive(Clone, Copy)]
 struct OutLine {
-    ok: bool,
     name: u64,
     depth: usize,
     known: bool,
     rows: [u64; limits::TABLE_WORDS],
 }
 
-// The number of a `limit` line.
-#[derive(Drop)]
-pub enum LimitLine {
-    Limit(usize),
-    Bad,
-}
-
-// The places of names among others, where all of them have one.
-#[derive(Drop)]
-struct Places {
-    ok: bool,
-    list: [usize; limits::MAX_BOUND],
-}
-
-// A "no" to question q.
-fn refuse(q: usize, k: Sheet) -> Asked
-    ensures { Refused q result }
-{
-    Asked {
-        ok: false,
-        number: q,
-        place: Place::Over,
-        sheet: k,
-    }
-}
-
-// The sheet k at the next place.
-fn onward(p: Place, k: Sheet) -> Asked
-    ensures { (result.ok ≡ true) × (result.place ≡ p) × (result.sheet ≡ k) }
-{
-    Asked {
-        ok: true,
-        number: 0,
-        place: p,
-        sheet: k,
-    }
-}
-
-pub fn no_names() -> NameList
-    ensures { result.ok ≡ false }
-{
-    NameList {
-        ok: false,
-        next: Cursor::start(),
-        count: 0,
-        names: [0; limits::MAX_INPUTS],
-    }
-}
-
 // The names of a line that begins with head and is nothing besides.
-pub fn names_line(l: &[u8], head: &[u8]) -> NameList
+pub fn names_line(l: &[u8], head: &[u8]) -> Option<NameList>
     ensures { LineIs (whole (after (eat head.now l.now) (λ _ s. read_names s))) result }
 {
-    let m = Cursor::start().text(l, head);
-    match m {
-        Moved::To(c) => {
-            let r = c.names(l);
-            let e = r.next;
-            if e.at_end(l) { r } else { no_names() }
-        }
-        Moved::Bad => no_names(),
-    }
+    let c = Cursor::start().text(l, head)?;
+    let r = c.names(l)?;
+    if r.next.at_end(l) { Some(r) } else { None }
 }
 
 // Whether no name stands twice.
 fn distinct(ns: &[u64]) -> bool
     ensures { result ≡ names.distinct (map name_of ns.now) }
 {
-    let mut i = 0;
-    while i < ns.len() {
-        let p = names::find(&ns[i + 1..], ns[i]);
-        match p {
-            Position::At(_) => {
-                return false;
-            }
-            Position::Nowhere => {}
+    for i in 0..ns.len() {
+        if names::find(&ns[i + 1..], ns[i]).is_some() {
+            return false;
         }
-        i += 1;
     }
     true
 }
 
-// The places of the names ns among the inputs.
-fn placed(ns: &[u64], inputs: &[u64]) -> Places
+// The places of the names ns among the inputs, where all of them have one.
+fn placed(ns: &[u64], inputs: &[u64]) -> Option<[usize; limits::MAX_BOUND]>
     requires { length ns.now ≤ max_bound }
     ensures { PlacesAre (map name_of ns.now) (map name_of inputs.now) result }
 {
-    let mut list = [0usize; limits::MAX_BOUND];
-    let mut i = 0;
-    while i < ns.len() {
-        let p = names::find(inputs, ns[i]);
-        match p {
-            Position::At(k) => {
-                list[i] = k;
-            }
-            Position::Nowhere => {
-                return Places { ok: false, list };
-            }
-        }
-        i += 1;
+    let mut list = [0; limits::MAX_BOUND];
+    for i in 0..ns.len() {
+        list[i] = names::find(inputs, ns[i])?;
     }
-    Places { ok: true, list }
+    Some(list)
 }
 
 // Whether a count is 1 to high.
@@ -181,173 +106,112 @@ fn in_range(n: usize, high: usize) -> bool
     1 <= n && n <= high
 }
 
-// The first of questions 2 to 4 that a line of names is answered "no" to, or 0; high is the greatest count.
-fn first_no(w: NameList, high: usize) -> usize
+// The first of questions 2 to 4 that a line of names is answered "no" to, or the names; high is the greatest count.
+fn first_no(w: Option<NameList>, high: usize) -> Result<NameList, Question>
     requires { high ≤ max_inputs }
     ensures { result ≡ first_no high w }
 {
-    let n = w.count;
-    let ns = w.names;
-    if !w.ok {
-        return 2;
+    let l = w.ok_or(Question::Spelling)?;
+    if !in_range(l.count, high) {
+        return Err(Question::Ranges);
     }
-    if !in_range(n, high) {
-        return 3;
+    if !distinct(&l.names[..l.count]) {
+        return Err(Question::NewNames);
     }
-    if !distinct(&ns[..n]) {
-        return 4;
-    }
-    0
+    Ok(l)
 }
 
 // The names of an `in` line.
-pub fn asked_in(k: Sheet, w: NameList) -> Asked
+pub fn asked_in(k: Sheet, w: Option<NameList>) -> Result<Step, Question>
     ensures { (d : Design) (x : Option (List names.Name)) → LineIs x w → Holds d k → Fresh d → StepIs (ask_in d x) result }
 {
-    let q = first_no(w, limits::MAX_INPUTS);
-    if q != 0 {
-        return refuse(q, k);
-    }
-    let n = w.count;
-    let ns = w.names;
-    let mut next = k;
-    next.inputs = n;
-    next.names = ns;
-    onward(Place::Bound, next)
+    let l = first_no(w, limits::MAX_INPUTS)?;
+    let names = l.names;
+    Ok(Step {
+        place: Place::Bound,
+        sheet: Sheet {
+            inputs: l.count,
+            names,
+            ..k
+        },
+    })
 }
 
 // The `in` line.
-fn ask_in(k: Sheet, l: &[u8]) -> Asked
+fn ask_in(k: Sheet, l: &[u8]) -> Result<Step, Question>
     ensures { (d : Design) → Holds d k → Fresh d → StepIs (ask_in d (read_in l.now)) result }
 {
     asked_in(k, names_line(l, b"(in"))
 }
 
 // The `bound` line.
-fn ask_bound(k: Sheet, l: &[u8]) -> Asked
+fn ask_bound(k: Sheet, l: &[u8]) -> Result<Step, Question>
     requires { k.inputs ≤ max_inputs }
     ensures { (d : Design) → Holds d k → StepIs (ask_bound d (read_bound l.now)) result }
 {
-    let w = names_line(l, b"(bound");
-    let q = first_no(w, limits::MAX_BOUND);
-    if q != 0 {
-        return refuse(q, k);
-    }
-    let n = w.count;
-    let ns = w.names;
-    let m = k.inputs;
-    let inputs = k.names;
-    let p = placed(&ns[..n], &inputs[..m]);
-    let list = p.list;
-    if !p.ok {
-        return refuse(5, k);
-    }
-    let mut next = k;
-    next.bounds = n;
-    next.bound = list;
-    onward(Place::Limit, next)
+    let w = first_no(names_line(l, b"(bound"), limits::MAX_BOUND)?;
+    let bound = placed(&w.names[..w.count], &k.names[..k.inputs]).ok_or(Question::InputNames)?;
+    Ok(Step {
+        place: Place::Limit,
+        sheet: Sheet {
+            bounds: w.count,
+            bound,
+            ..k
+        },
+    })
 }
 
 // The number of a line `(limit N)`.
-pub fn limit_line(l: &[u8]) -> LimitLine
+pub fn limit_line(l: &[u8]) -> Option<usize>
     ensures { LimitIs (read_limit l.now) result }
 {
-    let m = Cursor::start().text(l, b"(limit ");
-    let Moved::To(c) = m else {
-        return LimitLine::Bad;
-    };
-    let w = c.number(l, limits::MAX_DIGITS);
-    let NumberRead::Number(n, e) = w else {
-        return LimitLine::Bad;
-    };
-    if closes(l, e) {
-        LimitLine::Limit(n)
-    } else {
-        LimitLine::Bad
-    }
+    let c = Cursor::start().text(l, b"(limit ")?;
+    let (n, e) = c.number(l, limits::MAX_DIGITS)?;
+    if closes(l, e) { Some(n) } else { None }
 }
 
 // Whether the closing bracket stands at a place, and nothing after it.
 fn closes(l: &[u8], c: Cursor) -> bool
     ensures { result ≡ closes_at (drop c.at l.now) }
 {
-    let m = c.byte(l, b')');
-    match m {
-        Moved::To(e) => e.at_end(l),
-        Moved::Bad => false,
+    match c.byte(l, b')') {
+        Some(e) => e.at_end(l),
+        None => false,
     }
 }
 
 // The `limit` line.
-fn ask_limit(k: Sheet, l: &[u8]) -> Asked
+fn ask_limit(k: Sheet, l: &[u8]) -> Result<Step, Question>
     ensures { (d : Design) → Holds d k → StepIs (ask_limit d (read_limit l.now)) result }
 {
-    let w = limit_line(l);
-    match w {
-        LimitLine::Limit(n) => {
-            if limits::MAX_LIMIT < n {
-                return refuse(3, k);
-            }
-            let mut next = k;
-            next.limit = n;
-            onward(Place::Out, next)
-        }
-        LimitLine::Bad => refuse(2, k),
+    let limit = limit_line(l).ok_or(Question::Spelling)?;
+    if limits::MAX_LIMIT < limit {
+        return Err(Question::Ranges);
     }
-}
-
-fn no_out() -> OutLine
-    ensures { result.ok ≡ false }
-{
-    OutLine {
-        ok: false,
-        name: 0,
-        depth: 0,
-        known: false,
-        rows: [0; limits::TABLE_WORDS],
-    }
+    Ok(Step {
+        place: Place::Out,
+        sheet: Sheet { limit, ..k },
+    })
 }
 
 // The name and the formula of a line `(out NAME F)`, where the inputs are given.
-fn out_line(l: &[u8], inputs: &[u64]) -> OutLine
+fn out_line(l: &[u8], inputs: &[u64]) -> Option<OutLine>
     ensures { OutIs (map name_of inputs.now) (read_out l.now) result }
 {
-    let m = Cursor::start().text(l, b"(out ");
-    let Moved::To(c) = m else {
-        return no_out();
-    };
-    let w = c.name(l);
-    let NameRead::Name(n, e) = w else {
-        return no_out();
-    };
-    let g = e.byte(l, b' ');
-    let Moved::To(f) = g else {
-        return no_out();
-    };
-    out_formula(l, inputs, n, f)
-}
-
-// The formula of an `out` line whose name is n, and the line's end.
-fn out_formula(l: &[u8], inputs: &[u64], n: u64, c: Cursor) -> OutLine
-    requires { c.at ≤ length l.now }
-    ensures { OutIs (map name_of inputs.now) (output_after (name_of n) (drop c.at l.now)) result }
-{
-    let p = formula::formula(l, inputs, c);
-    let e = p.next;
+    let c = Cursor::start().text(l, b"(out ")?;
+    let (name, e) = c.name(l)?;
+    let f = e.byte(l, b' ')?;
+    let p = formula::formula(l, inputs, f)?;
+    if !closes(l, p.next) {
+        return None;
+    }
     let rows = p.rows;
-    if !p.ok {
-        return no_out();
-    }
-    if !closes(l, e) {
-        return no_out();
-    }
-    OutLine {
-        ok: true,
-        name: n,
+    Some(OutLine {
+        name,
         depth: p.depth,
         known: p.known,
         rows,
-    }
+    })
 }
 
 // The sheet with one output more.
@@ -355,11 +219,10 @@ pub fn with_output(k: Sheet, n: u64, rows: [u64; limits::TABLE_WORDS]) -> Sheet
     requires { k.outputs < max_outputs }
     ensures { (d : Design) (o : Output) → Holds d k → name_of n ≡ o.name → Rowwise (λ (i : ℕ). value (on_row d.inputs i) o.formula) rows → Holds (with_output d o) result }
 {
-    let m = k.outputs;
     let mut next = k;
-    next.outs[m] = n;
-    next.tables[m] = Rows { words: rows };
-    next.outputs = m + 1;
+    next.outs[k.outputs] = n;
+    next.tables[k.outputs] = Rows { words: rows };
+    next.outputs = k.outputs + 1;
     next
 }
 
@@ -368,67 +231,57 @@ pub fn is_new(k: Sheet, n: u64) -> bool
     requires { (k.inputs ≤ max_inputs) × (k.outputs ≤ max_outputs) }
     ensures { (d : Design) → Holds d k → result ≡ new_name d (name_of n) }
 {
-    let a = k.inputs;
-    let inputs = k.names;
-    let p = names::find(&inputs[..a], n);
-    let Position::Nowhere = p else {
-        return false;
-    };
-    let b = k.outputs;
-    let outs = k.outs;
-    let q = names::find(&outs[..b], n);
-    match q {
-        Position::At(_) => false,
-        Position::Nowhere => true,
-    }
+    names::find(&k.names[..k.inputs], n).is_none() && names::find(&k.outs[..k.outputs], n).is_none()
 }
 
 // An `out` line.
-fn ask_out(k: Sheet, l: &[u8]) -> Asked
+fn ask_out(k: Sheet, l: &[u8]) -> Result<Step, Question>
     requires { (k.inputs ≤ max_inputs) × (k.outputs ≤ max_outputs) }
     ensures { (d : Design) → Holds d k → StepIs (ask_out d (read_out l.now)) result }
 {
-    let a = k.inputs;
-    let inputs = k.names;
-    let w = out_line(l, &inputs[..a]);
-    let n = w.name;
-    let rows = w.rows;
-    if !w.ok {
-        return refuse(2, k);
-    }
+    let w = out_line(l, &k.names[..k.inputs]).ok_or(Question::Spelling)?;
     if limits::MAX_OUTPUTS <= k.outputs || limits::MAX_DEPTH < w.depth {
-        return refuse(3, k);
+        return Err(Question::Ranges);
     }
-    if !is_new(k, n) {
-        return refuse(4, k);
+    if !is_new(k, w.name) {
+        return Err(Question::NewNames);
     }
     if !w.known {
-        return refuse(5, k);
+        return Err(Question::InputNames);
     }
-    onward(Place::Out, with_output(k, n, rows))
+    Ok(Step {
+        place: Place::Out,
+        sheet: with_output(k, w.name, w.rows),
+    })
 }
 
 // The line `(end)`.
-fn ask_end(k: Sheet) -> Asked
+fn ask_end(k: Sheet) -> Result<Step, Question>
     ensures { (d : Design) → Holds d k → StepIs (ask_end d) result }
 {
     if k.outputs < 1 {
-        return refuse(3, k);
+        return Err(Question::Ranges);
     }
-    onward(Place::Over, k)
+    Ok(Step {
+        place: Place::Over,
+        sheet: k,
+    })
 }
 
 // One line, by the place that it stands at.
-pub fn ask_line(p: Place, k: Sheet, l: &[u8]) -> Asked
+pub fn ask_line(p: Place, k: Sheet, l: &[u8]) -> Result<Step, Question>
     requires { (k.inputs ≤ max_inputs) × (k.outputs ≤ max_outputs) }
     ensures { (d : Design) → Holds d k → Fits (place_of p) d → StepIs (ask_line (place_of p) d l.now) result }
 {
     match p {
         Place::Design => {
             if text::equal(l, b"(design 1)") {
-                onward(Place::In, k)
+                Ok(Step {
+                    place: Place::In,
+                    sheet: k,
+                })
             } else {
-                refuse(2, k)
+                Err(Question::Spelling)
             }
         }
         Place::In => ask_in(k, l),
@@ -441,6 +294,6 @@ pub fn ask_line(p: Place, k: Sheet, l: &[u8]) -> Asked
                 ask_out(k, l)
             }
         }
-        Place::Over => refuse(2, k),
+        Place::Over => Err(Question::Spelling),
     }
 }
