@@ -19,8 +19,7 @@ fn kinds(cl: &[u8], v: usize, o: usize, q: usize) -> [u8; MAX_VERTICES]
     let mut seen = [0u64; MAX_VERTICES];
     let mut g = [0u8; PAIRS];
     let mut r = [0u8; MAX_VERTICES];
-    let mut x = 0;
-    while x < v {
+    for x in 0..v {
         let l = problem::label(cl, o, x) as usize;
         let k = problem::label(cl, q, x);
         if !cells::in_set(seen[l], k) {
@@ -29,11 +28,8 @@ fn kinds(cl: &[u8], v: usize, o: usize, q: usize) -> [u8; MAX_VERTICES]
             let i = l * MAX_VERTICES + p;
             let n = g[i] + 1;
             g[i] = n;
-            if r[l] < n {
-                r[l] = n;
-            }
+            r[l] = r[l].max(n);
         }
-        x += 1;
     }
     r
 }
@@ -45,14 +41,9 @@ fn raise(base: &mut [u8], o: usize, kinds: [u8; MAX_VERTICES], d: u8)
     ensures { Raised o d max_vertices kinds base.old base.new }
 {
     let p = cells::power(d);
-    let mut l = 0;
-    while l < MAX_VERTICES {
+    for l in 0..MAX_VERTICES {
         let i = o * MAX_VERTICES + l;
-        let b = (kinds[l] + p - 1) >> d;
-        if base[i] < b {
-            base[i] = b;
-        }
-        l += 1;
+        base[i] = base[i].max((kinds[l] + p - 1) >> d);
     }
 }
 
@@ -61,13 +52,11 @@ fn raise_all(base: &mut [u8], cl: &[u8], v: usize, j: usize, rows: [u8; SEARCH_O
     requires { Labels cl.now × (v ≤ max_vertices) × (j ≤ search_outputs) × (o < j) × Based cl.now rows v j (j * max_vertices) base.old }
     ensures { Based cl.now rows v j (j * max_vertices) base.new }
 {
-    let mut q = 0;
-    while q < j {
+    for q in 0..j {
         if q != o || j == 1 {
             let d = cells::size(rows[q] & !rows[o]);
             raise(base, o, kinds(cl, v, o, q), d);
         }
-        q += 1;
     }
 }
 
@@ -77,10 +66,8 @@ pub fn bases(cl: &[u8], v: usize, j: usize, rows: [u8; SEARCH_OUTPUTS]) -> [u8; 
     ensures { Based cl.now rows v j (j * max_vertices) result }
 {
     let mut r = [0u8; LABELS];
-    let mut o = 0;
-    while o < j {
+    for o in 0..j {
         raise_all(&mut r, cl, v, j, rows, o);
-        o += 1;
     }
     r
 }

@@ -1,10 +1,7 @@
 -- `raise_all`: each turn keeps the table or raises it by the kinds of one output, and either way its entries have reasons.
-use Prim.Native.Nat.{◌≤◌, ◌-◌, ◌*◌}
+use Prim.Native.Nat.{◌*◌}
 use Rattle.lowerbounds.specs.Reasons.{Based}
 use Rattle.lowerbounds.proofs.raise_all.Given as goal
 
 abbrev pub invariant-loop-q : goal.invariant-loop-q
-invariant-loop-q l = (l.q ≤ l.j) × Based l.cl l.rows l.v l.j (l.j * 32) l.base
-
-abbrev pub decreases-loop-q : goal.decreases-loop-q
-decreases-loop-q l = l.j - l.q
+invariant-loop-q l = Based l.cl l.rows l.v l.j (l.j * 32) l.base
