@@ -13,10 +13,9 @@ pub fn put_byte(buf: &mut [u8], at: usize, b: u8) -> usize
     requires { at + 1 ≤ reach }
     ensures { Written 1 buf.old buf.new at result (b ∷ []) }
 {
-    if buf.len() <= at {
-        return at + 1;
+    if at < buf.len() {
+        buf[at] = b;
     }
-    buf[at] = b;
     at + 1
 }
 
@@ -25,10 +24,8 @@ pub fn put_text(buf: &mut [u8], at: usize, s: &[u8]) -> usize
     ensures { Written (length s.now) buf.old buf.new at result s.now }
 {
     let mut p = at;
-    let mut i = 0;
-    while i < s.len() {
-        p = put_byte(buf, p, s[i]);
-        i += 1;
+    for b in s {
+        p = put_byte(buf, p, *b);
     }
     p
 }
@@ -38,10 +35,7 @@ pub fn put_digit(buf: &mut [u8], at: usize, b: bool) -> usize
     requires { at + 1 ≤ reach }
     ensures { Written 1 buf.old buf.new at result (digit b ∷ []) }
 {
-    if b {
-        return put_byte(buf, at, b'1');
-    }
-    put_byte(buf, at, b'0')
+    put_byte(buf, at, b'0' + u8::from(b))
 }
 
 // The name v.
@@ -51,14 +45,10 @@ pub fn put_name(buf: &mut [u8], at: usize, v: u64) -> usize
 {
     let mut p = at;
     let mut rest = v;
-    let mut left = limits::MAX_NAME;
-    while 0 < left {
-        if rest == 0 {
-            return p;
-        }
+    // A `while`: it takes the bytes off the number one by one, and counts nothing.
+    while rest != 0 {
         p = put_byte(buf, p, (rest % names::BASE) as u8);
-        rest = rest / names::BASE;
-        left -= 1;
+        rest /= names::BASE;
     }
     p
 }
@@ -81,10 +71,8 @@ pub fn put_names(buf: &mut [u8], at: usize, ns: &[u64]) -> usize
     ensures { Written (item_room * length ns.now) buf.old buf.new at result (led_all true (map name_of ns.now)) }
 {
     let mut p = at;
-    let mut i = 0;
-    while i < ns.len() {
-        p = put_led(buf, p, i == 0, ns[i]);
-        i += 1;
+    for (i, v) in ns.iter().enumerate() {
+        p = put_led(buf, p, i == 0, *v);
     }
     p
 }

@@ -1,11 +1,12 @@
 -- Digits put down one after the other, and what a digit of a composition table is. Assumes nothing.
-use Rattle.std.specs.Prelude.{◌≡◌, Bool, true, false, List, [], ◌∷◌, ◌++◌, map, ℕ, zero, suc, ◌+◌, ◌*◌, ◌/◌, ◌%◌, ◌^◌, ◌≤◌, ◌<◌, eqb, ltb, length, get_or}
-use Rattle.std.proofs.Common.{sym, ap, ap₂, ◌∙◌, append-nil, append_assoc, arith, div-lt_iff_lt-mul, mul-le-mul}
+use Rattle.std.specs.Prelude.{◌≡◌, Bool, true, false, List, [], ◌∷◌, ◌++◌, map, ℕ, zero, suc, ◌+◌, ◌*◌, ◌/◌, ◌%◌, ◌^◌, ◌≤◌, ◌<◌, eqb, length, get_or, Option, Some, None}
+use Rattle.std.proofs.Common.{refl, sym, ap, ap₂, ◌∙◌, append-nil, append_assoc, arith, div-lt_iff_lt-mul, mul-le-mul}
 use Rattle.std.proofs.Common.{zero-mul, suc-mul, mul-suc, mul_comm, add-zero, add-suc, add-one, pow_mono, lt-ltb, le-ltb}
 use Rattle.std.proofs.lemmas.List.{map-append}
-use Rattle.std.proofs.Math.Option.{Option, some, none}
+use Rattle.std.proofs.Math.Option.{some, none}
+use Rattle.std.proofs.Math.Option as math
 use Rattle.std.proofs.Math.Arith.{digits_div, digits_mod}
-use Rattle.limits.specs.Limits.{max_cells, max_vertices, max_free_rows, max_codes}
+use Rattle.limits.specs.Limits.{max_cells, max_free_rows, max_codes}
 use Rattle.bits.specs.Logic.{pick}
 use Rattle.rows.specs.Digits.{digit}
 use Rattle.rows.specs.Words.{row_on}
@@ -67,11 +68,11 @@ pub entries_within : (p m : ℕ) → p ≤ max_codes → p * m ≤ max_codes * m
 entries_within p m h = mul-le-mul h (omega arith)
 
 -- ---- the entry of a code is that of the vertex that the array has
-abbrev Within : ℕ → Option ℕ → Type 0
+abbrev Within : ℕ → math.Option ℕ → Type 0
 Within n (some x) = x < n
 Within n none = Unit {0}
 
-either_within : (n : ℕ) (b : Bool) (i : ℕ) (q : Option ℕ) → i < n → Within n q → Within n (pick b (some i) q)
+either_within : (n : ℕ) (b : Bool) (i : ℕ) (q : math.Option ℕ) → i < n → Within n q → Within n (pick b (some i) q)
 either_within n true i q l w = l
 either_within n false i q l w = w
 
@@ -81,34 +82,42 @@ first_within f zero i n e = tt
 first_within f (suc k) i n e =
     either_within n (f i) i (first_of f k (suc i)) (omega arith) (first_within f k (suc i) n (omega arith))
 
-module _ (g : ℕ → Bool) (n : ℕ) (few : n ≤ max_vertices) where
-  chosen_at : (q : Option ℕ) (v : ℕ) → FirstIs q v → Within n q → pick (ltb v n) (g v) false ≡ chosen g q
+module _ (t vertex free : List ℕ) (z : ℕ) where
+  chosen_at : (q : math.Option ℕ) (v : Option Vertex) → FirstIs q v → Within (length vertex) q → cell_on t vertex free v z ≡ chosen (λ x. seen t vertex free x z) q
+  unfolding cell_on
   chosen_at (some x) v e h =
-      ap (λ (k : ℕ). pick (ltb k n) (g k) false) e ∙ ap (λ (t : Bool). pick t (g x) false) (lt-ltb x n h)
-  chosen_at none v l h = ap (λ (t : Bool). pick t (g v) false) (le-ltb v n (omega arith))
+      ap (λ (w : Option Vertex). cell_on t vertex free w z) e
+      ∙ ap (λ (b : Bool). pick b (seen t vertex free x z) false) (lt-ltb x (length vertex) h)
+  chosen_at none v e h = ap (λ (w : Option Vertex). cell_on t vertex free w z) e
 
-pub cells_are : (t vertex free : List ℕ) (l : List Vertex) (codes : ℕ → ℕ) (is : List ℕ) (n : ℕ) → Firsts (λ x. code_in is (codes x)) (length vertex) 0 l
-    → length vertex ≤ max_vertices → n ≤ max_codes * length free → values_upto (cell_by t vertex free l) n ≡ values_upto (entry_by t vertex free codes is) n
-unfolding cell_by cell_on entry_by
-cells_are t vertex free l codes is n g few h =
+pub cells_are : (t vertex free : List ℕ) (l : List (Option Vertex)) (codes : ℕ → ℕ) (is : List ℕ) (n : ℕ) → Firsts (λ x. code_in is (codes x)) (length vertex) 0 l
+    → n ≤ max_codes * length free → values_upto (cell_by t vertex free l) n ≡ values_upto (entry_by t vertex free codes is) n
+unfolding cell_by entry_by
+cells_are t vertex free l codes is n g h =
     values_same (cell_by t vertex free l) (entry_by t vertex free codes is) n
     (λ j lt.
     let m : ℕ = length free in
     let f : ℕ → Bool = λ x. eqb (code_in is (codes x)) (j / m) in
-    chosen_at (λ x. seen t vertex free x (j % m)) (length vertex) few
+    chosen_at t vertex free (j % m)
     (first_of f (length vertex) 0) (vertex_at l (j / m))
     (g.each (j / m) (code_below j n m lt h))
     (first_within f (length vertex) 0 (length vertex) (omega arith)))
 
 -- ---- one cell
-pub cell_past : (t vertex free : List ℕ) (x z : ℕ) → length vertex ≤ x → false ≡ cell_on t vertex free x z
-unfolding cell_on
-cell_past t vertex free x z l = sym (ap (λ (b : Bool). pick b (seen t vertex free x z) false) (le-ltb x (length vertex) l))
+-- no vertex, or a number that no vertex has
+abbrev pub NoVertex : List ℕ → Option Vertex → Type 0
+NoVertex vertex (Some x) = length vertex ≤ x.0
+NoVertex vertex None = Unit {0}
 
-pub cell_there : (t vertex free : List ℕ) (x z : ℕ) → x < length vertex
-    → row_on t (get_or vertex x 0 + get_or free z 0) ≡ cell_on t vertex free x z
+pub cell_past : (t vertex free : List ℕ) (x : Option Vertex) (z : ℕ) → NoVertex vertex x → false ≡ cell_on t vertex free x z
+unfolding cell_on
+cell_past t vertex free (Some x) z l = sym (ap (λ (b : Bool). pick b (seen t vertex free x.0 z) false) (le-ltb x.0 (length vertex) l))
+cell_past t vertex free None z l = refl
+
+pub cell_there : (t vertex free : List ℕ) (x : Vertex) (z : ℕ) → x.0 < length vertex
+    → row_on t (get_or vertex x.0 0 + get_or free z 0) ≡ cell_on t vertex free (Some x) z
 unfolding cell_on seen
-cell_there t vertex free x z l = sym (ap (λ (b : Bool). pick b (seen t vertex free x z) false) (lt-ltb x (length vertex) l))
+cell_there t vertex free x z l = sym (ap (λ (b : Bool). pick b (seen t vertex free x.0 z) false) (lt-ltb x.0 (length vertex) l))
 
 -- ---- the entries code by code
 values_append : (f : ℕ → Bool) (k m : ℕ) → values_upto f (k + m) ≡ values_upto f k ++ values_upto (λ z. f (k + z)) m
@@ -133,7 +142,7 @@ codes_digits f m (suc k) =
     ∙ ap (map digit) (sym (values_append g (k * m) m))
     ∙ ap (λ (n : ℕ). map digit (values_upto g n)) (sym (suc-mul k m))
 
-pub cells_by_codes : (t vertex free : List ℕ) (firsts : List Vertex) (k : ℕ)
+pub cells_by_codes : (t vertex free : List ℕ) (firsts : List (Option Vertex)) (k : ℕ)
     → texts_upto (λ c. print_digits (values_upto (cell_on t vertex free (vertex_at firsts c)) (length free))) k
     ≡ print_digits (values_upto (cell_by t vertex free firsts) (k * length free))
 unfolding cell_by

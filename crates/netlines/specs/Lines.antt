@@ -1,7 +1,8 @@
 -- The lines of a network sheet by what the code has in hand: a table for each output, and the rows of a design by their
 -- parts. Assumes nothing.
-use Rattle.std.specs.Prelude.{◌≡◌, Bool, false, List, [], ◌∷◌, ◌++◌, ℕ, ◌+◌, ◌*◌, ◌/◌, ◌%◌, ◌^◌, ◌≤◌, ◌<◌, eqb, ltb, length, get_or}
-use Rattle.std.proofs.Math.Option.{Option, some, none}
+use Rattle.std.specs.Prelude.{◌≡◌, Bool, false, List, [], ◌∷◌, ◌++◌, ℕ, ◌+◌, ◌*◌, ◌/◌, ◌%◌, ◌^◌, ◌≤◌, ◌<◌, eqb, ltb, length, get_or, Option, Some, None}
+use Rattle.std.proofs.Math.Option.{some, none}
+use Rattle.std.proofs.Math.Option as math
 use Rattle.limits.specs.Limits.{max_inputs, max_vertices, max_free_rows}
 use Rattle.bits.specs.Logic.{pick}
 use Rattle.text.specs.Bytes.{bytes, newline}
@@ -36,7 +37,7 @@ unfoldable pub last_lines : ℕ → List ℕ
 last_lines u = print_count u ++ (newline ∷ (end_line ++ (newline ∷ [])))
 
 -- the value at a vertex that was found, and 0 where none was
-abbrev pub chosen : (ℕ → Bool) → Option ℕ → Bool
+abbrev pub chosen : (ℕ → Bool) → math.Option ℕ → Bool
 chosen f (some x) = f x
 chosen f none = false
 
@@ -51,10 +52,11 @@ node_by t vertex free codes is =
     record { reads = is; digits = values_upto (entry_by t vertex free codes is) (2 ^ length is * length free) }
 
 -- the same entry, where an array has the first vertex of each code
-unfoldable pub cell_on : List ℕ → List ℕ → List ℕ → ℕ → ℕ → Bool
-cell_on t vertex free x z = pick (ltb x (length vertex)) (seen t vertex free x z) false
+unfoldable pub cell_on : List ℕ → List ℕ → List ℕ → Option Vertex → ℕ → Bool
+cell_on t vertex free (Some x) z = pick (ltb x.0 (length vertex)) (seen t vertex free x.0 z) false
+cell_on t vertex free None z = false
 
-unfoldable pub cell_by : List ℕ → List ℕ → List ℕ → List Vertex → ℕ → Bool
+unfoldable pub cell_by : List ℕ → List ℕ → List ℕ → List (Option Vertex) → ℕ → Bool
 cell_by t vertex free firsts j = cell_on t vertex free (vertex_at firsts (j / length free)) (j % length free)
 
 -- arrays have the rows of the vertices and of the free rows of some inputs ns, of which bs are bound

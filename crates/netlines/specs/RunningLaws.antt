@@ -1,9 +1,10 @@
 -- A running row number is at every free row the row of its vertex and that free row, and the column that is put down by it
 -- is the vertex's. Assumes nothing.
-use Rattle.std.specs.Prelude.{◌≡◌, Bool, false, List, ◌∷◌, [], ℕ, ◌+◌, ◌-◌, ◌≤◌, ◌<◌, length, get_or}
+use Rattle.std.specs.Prelude.{◌≡◌, Bool, false, List, ◌∷◌, [], ℕ, ◌+◌, ◌-◌, ◌≤◌, ◌<◌, length, get_or, Option, Some}
 use Rattle.std.proofs.Common.{sym, ap₂, ◌∙◌, arith, pow_pos}
 use Rattle.std.proofs.Math.Path.{ap}
 use Rattle.limits.specs.Limits.{max_rows}
+use Rattle.limits.specs.declared.Vertex.{Vertex}
 use Rattle.rows.specs.Digits.{digit}
 use Rattle.rows.specs.Words.{row_on}
 use Rattle.rows.specs.Step.{stepped}
@@ -15,7 +16,7 @@ use Rattle.classes.specs.NextLaws.{next_row}
 use Rattle.network.specs.Printer.{print_digits}
 use Rattle.emit.specs.Written.{Written}
 use Rattle.netlines.specs.Lines.{cell_on, Laid}
-use Rattle.netlines.specs.DigitLaws.{Digits, digits_none, digits_put, digits_all, cell_past, cell_there}
+use Rattle.netlines.specs.DigitLaws.{Digits, digits_none, digits_put, digits_all, NoVertex, cell_past, cell_there}
 use Rattle.netlines.specs.Running.{VertexRow, row_at}
 
 -- the number at free row z, and the digits of the free rows before
@@ -82,14 +83,14 @@ module _ {vs fs : List ℕ} (l : Laid (length vs) (length fs) vs fs) where
       }
 
   -- the values along it are the entries of a code that vertex x produces
-  pub column_entries : (t : List ℕ) (x : ℕ) (h : x < length vs)
-      → values_upto (λ z. row_on t (row_at (vertex-row x h) z)) (length fs) ≡ values_upto (cell_on t vs fs x) (length fs)
+  pub column_entries : (t : List ℕ) (x : Vertex) (h : x.0 < length vs)
+      → values_upto (λ z. row_on t (row_at (vertex-row x.0 h) z)) (length fs) ≡ values_upto (cell_on t vs fs (Some x)) (length fs)
   unfolding vertex-row
   column_entries t x h =
-      values_same (λ z. row_on t (join_row l.ns l.bs x z)) (cell_on t vs fs x) (length fs)
-      (λ z g. ap (row_on t) (sym (join-sum l.ns l.bs x z (l.at_vertex x h) (l.at_free z g))) ∙ cell_there t vs fs x z h)
+      values_same (λ z. row_on t (join_row l.ns l.bs x.0 z)) (cell_on t vs fs (Some x)) (length fs)
+      (λ z g. ap (row_on t) (sym (join-sum l.ns l.bs x.0 z (l.at_vertex x.0 h) (l.at_free z g))) ∙ cell_there t vs fs x z h)
 
 -- a code that no vertex produces has no running row number, and its entries are 0
-pub zero_entries : (t vs fs : List ℕ) (x : ℕ) → length vs ≤ x
+pub zero_entries : (t vs fs : List ℕ) (x : Option Vertex) → NoVertex vs x
     → values_upto (λ z. false) (length fs) ≡ values_upto (cell_on t vs fs x) (length fs)
 zero_entries t vs fs x h = values_same (λ z. false) (cell_on t vs fs x) (length fs) (λ z g. cell_past t vs fs x z h)

@@ -1,7 +1,7 @@
 -- The parts of each line, joined. Assumes nothing.
-use Rattle.std.specs.Prelude.{◌≡◌, refl, Bool, true, List, [], ◌∷◌, ◌++◌, map, ℕ, ◌+◌, ◌*◌, ◌^◌, ◌≤◌, ◌<◌, length}
+use Rattle.std.specs.Prelude.{◌≡◌, refl, Bool, true, List, [], ◌∷◌, ◌++◌, map, ℕ, ◌+◌, ◌*◌, ◌^◌, ◌≤◌, ◌<◌, length, Option}
 use Rattle.std.proofs.Common.{sym, ap, ap₂, ◌∙◌, append_assoc}
-use Rattle.limits.specs.Limits.{max_vertices, max_codes}
+use Rattle.limits.specs.Limits.{max_codes}
 use Rattle.text.specs.Bytes.{bytes, newline, close_bracket}
 use Rattle.text.specs.FigureLaws.{print_digit}
 use Rattle.names.specs.Name.{Name}
@@ -53,16 +53,16 @@ last_text u l =
     ap (λ (t : List ℕ). (bytes "(count " ++ (t ++ (close_bracket ∷ []))) ++ (newline ∷ (end_line ++ (newline ∷ [])))) (sym (print_digit u l))
 
 -- a node line whose digits were looked up by an array of first vertices
-pub node_line : (n : Name) (fs ns rs : List Name) (t vertex free : List ℕ) (l : List Vertex) (codes : ℕ → ℕ) (is : List ℕ) (p c : ℕ)
+pub node_line : (n : Name) (fs ns rs : List Name) (t vertex free : List ℕ) (l : List (Option Vertex)) (codes : ℕ → ℕ) (is : List ℕ) (p c : ℕ)
     → ns ≡ rs ++ fs → rs ≡ map lut_name is → Firsts (λ x. code_in is (codes x)) (length vertex) 0 l
-    → length vertex ≤ max_vertices → p ≡ 2 ^ c → c ≡ length is → p ≤ max_codes
+    → p ≡ 2 ^ c → c ≡ length is → p ≤ max_codes
     → node_head n ++ ((led_all true ns ++ bytes ") ") ++ (print_digits (values_upto (cell_by t vertex free l) (p * length free)) ++ bytes ")\n"))
     ≡ print_node n fs (node_by t vertex free codes is) ++ (newline ∷ [])
 unfolding node_by
-node_line n fs ns rs t vertex free l codes is p c en er g few ep ec small =
+node_line n fs ns rs t vertex free l codes is p c en er g ep ec small =
     let count : p * length free ≡ 2 ^ length is * length free
     = ap (λ (k : ℕ). k * length free) (ep ∙ ap (λ (k : ℕ). 2 ^ k) ec) in
     node_text n fs ns (node_by t vertex free codes is) (values_upto (cell_by t vertex free l) (p * length free))
     (en ∙ ap (λ (x : List Name). x ++ fs) er)
-    (cells_are t vertex free l codes is (p * length free) g few (entries_within p (length free) small)
+    (cells_are t vertex free l codes is (p * length free) g (entries_within p (length free) small)
     ∙ ap (values_upto (entry_by t vertex free codes is)) count)

@@ -39,9 +39,7 @@ fn put_list(buf: &mut [u8], at: usize, ns: Names) -> usize
     requires { (at + list_room ≤ reach) × (ns.count ≤ max_names) }
     ensures { Written list_room buf.old buf.new at result (led_all true (shown ns) ++ bytes ") ") }
 {
-    let list = ns.list;
-    let n = ns.count;
-    let p = emit::put_names(buf, at, &list[..n]);
+    let p = emit::put_names(buf, at, &ns.list[..ns.count]);
     emit::put_text(buf, p, b") ")
 }
 
@@ -68,10 +66,8 @@ fn put_table(
     ensures { Written n buf.old buf.new at result (print_digits (values_upto (λ (x : ℕ). on (item codes x) i) n)) }
 {
     let mut p = at;
-    let mut x = 0;
-    while x < n {
-        p = emit::put_digit(buf, p, bits::has(netnames::wide(codes[x]), i as u32));
-        x += 1;
+    for x in 0..n {
+        p = emit::put_digit(buf, p, bits::has(u64::from(codes[x]), i as u32));
     }
     p
 }
@@ -106,10 +102,8 @@ pub fn put_luts(
     ensures { Written luts_room buf.old buf.new at result (lines_upto (λ (i : ℕ). print_lut (shown bs) i (values_upto (λ (x : ℕ). on (item codes x) i) n)) u) }
 {
     let mut p = at;
-    let mut i = 0;
-    while i < u {
+    for i in 0..u {
         p = put_lut(buf, p, bs, i, codes, n);
-        i += 1;
     }
     p
 }
@@ -130,10 +124,8 @@ fn put_zeros(buf: &mut [u8], at: usize, n: usize) -> usize
     ensures { Written n buf.old buf.new at result (print_digits (values_upto (λ (z : ℕ). false) n)) }
 {
     let mut p = at;
-    let mut z = 0;
-    while z < n {
+    for _ in 0..n {
         p = emit::put_digit(buf, p, false);
-        z += 1;
     }
     p
 }
@@ -154,16 +146,14 @@ fn put_column(
 {
     let mut p = at;
     let mut row = start;
-    let mut z = 0;
-    while z < n {
+    for _ in 0..n {
         p = emit::put_digit(buf, p, rows::row(t, row));
         row = rows::step(row, bound, free);
-        z += 1;
     }
     p
 }
 
-// The entries of a code that vertex x produces. Where x is no vertex the code has no running row number, and its entries are
+// The entries of a code that vertex x produces. Where no vertex does, the code has no running row number, and its entries are
 // zeros. The row of the last vertex has every bound digit, and that of the last free row every free digit.
 fn put_code<'a>(
     buf: &mut [u8],
@@ -171,19 +161,18 @@ fn put_code<'a>(
     t: &'a [u64; limits::TABLE_WORDS],
     vertex: &'a [usize],
     free: &'a [usize],
-    x: Vertex,
+    x: Option<Vertex>,
 ) -> usize
     requires { (at + length free.now ≤ reach) × Laid (length vertex.now) (length free.now) vertex.now free.now }
     ensures { Written (length free.now) buf.old buf.new at result
-        (print_digits (values_upto (cell_on t.now vertex.now free.now x.0) (length free.now))) }
+        (print_digits (values_upto (cell_on t.now vertex.now free.now x) (length free.now))) }
 {
-    let i = x.0;
     let v = vertex.len();
     let n = free.len();
-    if v <= i {
-        return put_zeros(buf, at, n);
+    match x {
+        Some(x) if x.0 < v => put_column(buf, at, t, vertex[x.0], vertex[v - 1], free[n - 1], n),
+        _ => put_zeros(buf, at, n),
     }
-    put_column(buf, at, t, vertex[i], vertex[v - 1], free[n - 1], n)
 }
 
 // A composition table, code by code.
@@ -193,7 +182,7 @@ fn put_entries<'a>(
     t: &'a [u64; limits::TABLE_WORDS],
     vertex: &'a [usize],
     free: &'a [usize],
-    firsts: [Vertex; limits::MAX_CODES],
+    firsts: [Option<Vertex>; limits::MAX_CODES],
     count: usize,
 ) -> usize
     requires { (at + count * length free.now ≤ reach) × (count ≤ max_codes) × Laid (length vertex.now) (length free.now) vertex.now free.now }
@@ -201,11 +190,8 @@ fn put_entries<'a>(
         (print_digits (values_upto (cell_by t.now vertex.now free.now firsts) (count * length free.now))) }
 {
     let mut p = at;
-    let mut c = 0;
-    while c < count {
-        let x = firsts[c];
-        p = put_code(buf, p, t, vertex, free, x);
-        c += 1;
+    for c in 0..count {
+        p = put_code(buf, p, t, vertex, free, firsts[c]);
     }
     p
 }
@@ -253,16 +239,21 @@ pub fn put_nodes<'a>(
         (lines_upto (λ (o : ℕ). print_node (name_of (item k.outs o)) (shown fs)
         (node_by (table_at k.tables o) vertex.now free.now (item codes) (numbers_of u (item rows o)))) k.outputs) }
 {
-    let outputs = k.outputs;
-    let outs = k.outs;
-    let tables = k.tables;
     let mut p = at;
-    let mut o = 0;
-    while o < outputs {
-        let table = tables[o];
-        let t = table.words;
-        p = put_node(buf, p, outs[o], fs, u, rows[o], codes, &t, vertex, free);
-        o += 1;
+    for o in 0..k.outputs {
+        let table = k.tables[o];
+        p = put_node(
+            buf,
+            p,
+            k.outs[o],
+            fs,
+            u,
+            rows[o],
+            codes,
+            &table.words,
+            vertex,
+            free,
+        );
     }
     p
 }

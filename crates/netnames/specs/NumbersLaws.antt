@@ -1,7 +1,8 @@
 -- The digits of a mask that are 1, one digit after the other: how many, the names of the tables that they number, and the
 -- code that a vertex has in these tables. Assumes nothing.
 use Rattle.std.specs.Prelude.{◌≡◌, Bool, true, false, List, [], ◌∷◌, ◌++◌, map, ℕ, ◌+◌, ◌*◌, ◌≤◌, ◌<◌, length}
-use Rattle.std.proofs.Common.{sym, ap, ap₂, subst, ◌∙◌, length-append}
+use Rattle.std.specs.Int.{from_bool}
+use Rattle.std.proofs.Common.{refl, sym, ap, ap₂, subst, ◌∙◌, length-append}
 use Rattle.std.proofs.lemmas.List.{map-append}
 use native.Mathlib.Omega.{arith}
 use Rattle.limits.specs.Limits.{max_name, max_cells, max_codes}
@@ -80,6 +81,14 @@ table_name i l =
     ap name_of held ∙ digit-held (underscore ∷ []) i (omega arith) (omega arith, omega arith, tt) l
 
 -- ---- the code in the tables
+pub as_bit : (b : Bool) → from_bool b ≡ bit b
+as_bit true = refl
+as_bit false = refl
+
+pub bit_small : (b : Bool) → from_bool b < 2
+bit_small true = omega arith
+bit_small false = omega arith
+
 pub record Coding (mask n u i code : ℕ) : Type 0 where
   pub within : i ≤ u
   pub coded : code ≡ code_in (numbers_of i mask) n

@@ -4,7 +4,6 @@
 
 ghost use Rattle.std.specs.Prelude.{◌≡◌, map, ◌++◌, ℕ, ◌+◌, ◌*◌, ◌≤◌, ◌<◌, length};
 ghost use Rattle.limits.specs.Limits.{max_cells, max_vertices, max_codes};
-ghost use Rattle.bits.specs.Logic.{bit};
 ghost use Rattle.names.specs.Pack.{name_of};
 ghost use Rattle.network.specs.Printer.{lut_name};
 ghost use Rattle.network.specs.Numbers.{numbers_of};
@@ -20,27 +19,14 @@ const UNDERSCORE: u64 = b'_' as u64;
 
 const ZERO: u64 = b'0' as u64;
 
-// What stands at a code that no vertex produces.
-const NO_VERTEX: Vertex = Vertex(limits::MAX_VERTICES);
-
-pub fn wide(x: u8) -> u64
-    ensures { result ≡ x }
-{
-    x as u64
-}
-
 // The names of a, then those of b.
 pub fn joined(a: Names, b: Names) -> Names
     requires { a.count + b.count ≤ max_names }
     ensures { (shown result ≡ shown a ++ shown b) × (result.count ≡ a.count + b.count) }
 {
-    let list = b.list;
-    let n = b.count;
     let mut r = a;
-    let mut i = 0;
-    while i < n {
-        r = network::pushed(r, list[i]);
-        i += 1;
+    for v in &b.list[..b.count] {
+        r = network::pushed(r, *v);
     }
     r
 }
@@ -59,20 +45,12 @@ pub fn read_names(u: usize, mask: u8) -> Names
     ensures { (shown result ≡ map lut_name (numbers_of u mask)) × (result.count ≡ length (numbers_of u mask)) × (result.count ≤ u) }
 {
     let mut r = network::no_names();
-    let mut i = 0;
-    while i < u {
-        if bits::has(wide(mask), i as u32) {
+    for i in 0..u {
+        if bits::has(u64::from(mask), i as u32) {
             r = network::pushed(r, lut_name(i));
         }
-        i += 1;
     }
     r
-}
-
-fn bit_of(b: bool) -> usize
-    ensures { (result ≡ bit b) × (result < 2) }
-{
-    if b { 1 } else { 0 }
 }
 
 // The code of the vertex number n in the tables below u whose digits are 1 in the mask.
@@ -81,31 +59,27 @@ fn code_of(u: usize, mask: u8, n: u8) -> usize
     ensures { (result ≡ code_in (numbers_of u mask) n) × (result < max_codes) }
 {
     let mut code = 0;
-    let mut i = 0;
-    while i < u {
-        if bits::has(wide(mask), i as u32) {
-            code = code * 2 + bit_of(bits::has(wide(n), i as u32));
+    for i in 0..u {
+        if bits::has(u64::from(mask), i as u32) {
+            code = code * 2 + usize::from(bits::has(u64::from(n), i as u32));
         }
-        i += 1;
     }
     code
 }
 
-// For each code the first vertex that produces it. The last vertex goes in first, so that the first one stays.
+// For each code the first vertex that produces it, where one does. The last vertex goes in first, so that the first one stays.
 pub fn firsts(
     u: usize,
     mask: u8,
     codes: [u8; limits::MAX_VERTICES],
     vertices: usize,
-) -> [Vertex; limits::MAX_CODES]
+) -> [Option<Vertex>; limits::MAX_CODES]
     requires { (u ≤ max_cells) × (vertices ≤ max_vertices) }
     ensures { Firsts (λ (x : ℕ). code_in (numbers_of u mask) (item codes x)) vertices 0 result }
 {
-    let mut r = [NO_VERTEX; limits::MAX_CODES];
-    let mut x = vertices;
-    while 0 < x {
-        x -= 1;
-        r[code_of(u, mask, codes[x])] = Vertex(x);
+    let mut r = [None; limits::MAX_CODES];
+    for x in (0..vertices).rev() {
+        r[code_of(u, mask, codes[x])] = Some(Vertex(x));
     }
     r
 }

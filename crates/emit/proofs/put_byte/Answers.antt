@@ -1,9 +1,11 @@
 -- `put_byte`: a store inside the buffer, or none past its end. Assumes nothing.
 use Rattle.emit.specs.PutLaws.{byte_stored, byte_past}
 use Rattle.emit.proofs.put_byte.Goals as goal
-
-pub returns-then-buf-at : goal.returns-then-buf-at
-returns-then-buf-at c = byte_past _ _ _ c.if-buf-at.true
+use Rattle.emit.proofs.put_byte.Goals.{then-at-buf, else-at-buf}
 
 pub returns : goal.returns
-returns c = byte_stored _ _ _
+returns c =
+    elim c.if-at-buf.branch [
+      | then-at-buf w ↦ rw w.buf-is (byte_stored _ _ _)
+      | else-at-buf w ↦ rw w.buf-is (byte_past _ _ _ w.if-at-buf.false)
+    ]

@@ -1,20 +1,14 @@
--- `put_digit`: the byte of the value that the test found. Assumes nothing.
-use mathlib.Core.Bool.{Bool}
-use mathlib.Core.List.{[], ◌∷◌}
-use mathlib.Core.Path.{ap, sym}
-use native.Mathlib.Omega.{arith}
+-- `put_digit`: the byte of the value. Assumes nothing.
+use Rattle.std.proofs.Common.{◌≡◌, Bool, true, false, refl, ap, ◌∙◌, ◌+◌, ℕ, [], ◌∷◌, arith}
+use Rattle.std.specs.Int.{from_bool}
 use Rattle.rows.specs.Digits.{digit}
-use Rattle.emit.specs.PutLaws.{put_same, put_length}
+use Rattle.emit.specs.PutLaws.{put_same}
 use Rattle.emit.proofs.put_digit.Goals as goal
 
-pub shape_of-buf-then-b : goal.shape_of-buf-then-b
-shape_of-buf-then-b c = put_length c.put_byte.ensures
-
-pub returns-then-b : goal.returns-then-b
-returns-then-b c = put_same c.put_byte.ensures (ap (λ (b : Bool). digit b ∷ []) (sym c.if-b.true)) (omega arith)
-
-pub shape_of-buf : goal.shape_of-buf
-shape_of-buf c = put_length c.put_byte-2.ensures
+digit_is : (b : Bool) → 48 + from_bool b ≡ digit b
+digit_is true = refl
+digit_is false = refl
 
 pub returns : goal.returns
-returns c = put_same c.put_byte-2.ensures (ap (λ (b : Bool). digit b ∷ []) (sym c.if-b.false)) (omega arith)
+returns c =
+    put_same c.put_byte.ensures (ap (λ (d : ℕ). d ∷ []) (ap (λ (n : ℕ). 48 + n) c.from.ensures ∙ digit_is c.args.b)) (omega arith)

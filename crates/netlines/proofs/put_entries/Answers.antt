@@ -11,18 +11,18 @@ pub loop-c-init : goal.loop-c-init
 loop-c-init c = texts_none _ _ _ _ _
 
 pub offset_bounds-firsts-c : goal.offset_bounds-firsts-c
-offset_bounds-firsts-c c = record { fits = omega (arith, c.loop-c-test.true, c.requires.1) }
+offset_bounds-firsts-c c = record { fits = omega (arith, c.requires.1) }
 
 pub bounds-firsts-c : goal.bounds-firsts-c
-bounds-firsts-c c = omega (arith, c.loop-c-test.true, c.requires.1)
+bounds-firsts-c c = omega (arith, c.requires.1)
 
 pub put_code-p-requires : goal.put_code-p-requires
 put_code-p-requires c = let so_far = c.loop-c.invariant.so_far in
-    let room = code_room (length c.args.free.now) c.loop-c.c c.args.count c.loop-c-test.true in
+    let room = code_room (length c.args.free.now) c.loop-c.c c.args.count (omega arith) in
     (omega (arith, c.requires.0, so_far.place, so_far.short, room), c.requires.2)
 
 pub loop-c-preserved : goal.loop-c-preserved
-loop-c-preserved c = texts_put c.loop-c.invariant c.loop-c-test.true c.put_code-p.ensures
+loop-c-preserved c = texts_put c.loop-c.invariant (omega arith) c.put_code-p.ensures
 
 pub shape_of-buf : goal.shape_of-buf
 shape_of-buf c = put_length c.loop-c.invariant.so_far
@@ -31,5 +31,5 @@ pub returns : goal.returns
 returns c = let args = c.args in
     let frees = length args.free.now in
     let room : frees * args.count ≤ args.count * frees = omega (arith, mul_comm frees args.count) in
-    texts_all c.loop-c.invariant c.loop-c-test.false room
+    texts_all c.loop-c.invariant (omega arith) room
     (cells_by_codes args.t.now args.vertex.now args.free.now _ args.count)

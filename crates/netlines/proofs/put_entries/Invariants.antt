@@ -1,5 +1,5 @@
 -- `put_entries`: each turn puts the entries of one code more. Assumes nothing.
-use Prim.Native.Nat.{ℕ, ◌-◌}
+use Prim.Native.Nat.{ℕ}
 use lib.ListN.{length}
 use Rattle.bits.specs.Values.{values_upto}
 use Rattle.network.specs.Printer.{print_digits}
@@ -10,6 +10,3 @@ use Rattle.netlines.proofs.put_entries.Given as goal
 
 abbrev pub invariant-loop-c : goal.invariant-loop-c
 invariant-loop-c l = Texts (λ (k : ℕ). print_digits (values_upto (cell_on l.t l.vertex l.free (vertex_at l.firsts k)) (length l.free))) (length l.free) l.count l.initial.buf l.buf l.at l.p l.c
-
-abbrev pub decreases-loop-c : goal.decreases-loop-c
-decreases-loop-c l = l.count - l.c

@@ -11,10 +11,10 @@ pub put_lut-p-requires : goal.put_lut-p-requires
 put_lut-p-requires c = omega (arith, c.requires, c.loop-i.invariant.so_far.place, c.loop-i.invariant.so_far.short)
 
 pub loop-i-preserved : goal.loop-i-preserved
-loop-i-preserved c = texts_put c.loop-i.invariant c.loop-i-test.true c.put_lut-p.ensures
+loop-i-preserved c = texts_put c.loop-i.invariant (omega arith) c.put_lut-p.ensures
 
 pub shape_of-buf : goal.shape_of-buf
 shape_of-buf c = put_length c.loop-i.invariant.so_far
 
 pub returns : goal.returns
-returns c = texts_all c.loop-i.invariant c.loop-i-test.false (omega (arith, c.requires)) refl
+returns c = texts_all c.loop-i.invariant (omega arith) (omega (arith, c.requires)) refl

@@ -49,5 +49,5 @@ returns c = let codes = codes_few _ c.power-count.result c.power-count.ensures (
     let few = entries_few c.power-count.result (length c.args.free.now) codes c.requires.3.few_free in
     put_next c.put_node_head-p.ensures (put_then c.put_list-q.ensures (put_then c.put_entries-r.ensures c.put_text.ensures))
     (node_line _ _ _ _ _ _ _ _ _ _ _ _ c.joined.ensures.0 c.read_names-reads.ensures.0 c.firsts-firsts.ensures
-    c.requires.3.few_vertices c.power-count.ensures c.read_names-reads.ensures.1 codes)
+    c.power-count.ensures c.read_names-reads.ensures.1 codes)
     (omega arith)

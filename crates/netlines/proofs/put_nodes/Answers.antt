@@ -9,13 +9,13 @@ loop-o-init c = texts_none _ _ _ _ _
 
 pub put_node-p-requires : goal.put_node-p-requires
 put_node-p-requires c = let pre = c.requires in
-    (omega (arith, pre.0, pre.1, c.loop-o-test.true, c.loop-o.invariant.so_far.place, c.loop-o.invariant.so_far.short), pre.2, pre.3, pre.4)
+    (omega (arith, pre.0, pre.1, c.loop-o.invariant.so_far.place, c.loop-o.invariant.so_far.short), pre.2, pre.3, pre.4)
 
 pub loop-o-preserved : goal.loop-o-preserved
-loop-o-preserved c = texts_put c.loop-o.invariant c.loop-o-test.true c.put_node-p.ensures
+loop-o-preserved c = texts_put c.loop-o.invariant (omega arith) c.put_node-p.ensures
 
 pub shape_of-buf : goal.shape_of-buf
 shape_of-buf c = put_length c.loop-o.invariant.so_far
 
 pub returns : goal.returns
-returns c = texts_all c.loop-o.invariant c.loop-o-test.false (omega (arith, c.requires.1)) refl
+returns c = texts_all c.loop-o.invariant (omega arith) (omega (arith, c.requires.1)) refl

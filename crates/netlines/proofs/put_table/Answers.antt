@@ -15,10 +15,10 @@ put_digit-p-requires c = let pre = c.requires in
 
 pub loop-x-preserved : goal.loop-x-preserved
 loop-x-preserved c = let args = c.args in
-    digits_put c.loop-x.invariant c.loop-x-test.true c.put_digit-p.ensures (c.has.ensures ∙ ap (λ (k : ℕ). on k args.i) c.wide.ensures)
+    digits_put c.loop-x.invariant (omega arith) c.put_digit-p.ensures (c.has.ensures ∙ ap (λ (k : ℕ). on k args.i) c.from.ensures)
 
 pub shape_of-buf : goal.shape_of-buf
 shape_of-buf c = put_length c.loop-x.invariant.so_far
 
 pub returns : goal.returns
-returns c = digits_all c.loop-x.invariant c.loop-x-test.false
+returns c = digits_all c.loop-x.invariant (omega arith)

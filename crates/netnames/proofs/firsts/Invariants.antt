@@ -8,6 +8,3 @@ use Rattle.netnames.proofs.firsts.Given as goal
 
 abbrev pub invariant-loop-x : goal.invariant-loop-x
 invariant-loop-x l = Filling (λ (y : ℕ). code_in (numbers_of l.u l.mask) (item l.codes y)) l.vertices l.x l.r
-
-abbrev pub decreases-loop-x : goal.decreases-loop-x
-decreases-loop-x l = l.x
