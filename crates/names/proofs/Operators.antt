@@ -1,7 +1,6 @@
 -- The operator words by their numbers: a number that is none of the four holds no operator, and four numbers hold the words
 -- that are no names in any case. Assumes nothing.
-use mathlib.Core.Path.{◌≡◌, refl, sym, ap, subst, ◌∙◌}
-use mathlib.Core.Bool.{true, false}
+use mathlib.Core.Path.{◌≡◌, refl, sym, ap, ◌∙◌}
 use mathlib.Core.List.{List, [], ◌∷◌, map}
 use Prim.Native.Nat.{ℕ, ◌^◌, ◌<◌}
 use Rattle.text.specs.Bytes.{bytes}
@@ -10,8 +9,7 @@ use Rattle.names.specs.Pack.{pack, unpack_within, name_of}
 use Rattle.names.specs.Word.{PositionIs}
 use Rattle.names.specs.PackLaws.{other_text}
 use Rattle.names.specs.LookupLaws.{found_among, nowhere_among}
-use Rattle.names.specs.declared.Position.{Position}
-use Rattle.names.specs.declared.Position.TheVariants.{At, Nowhere}
+use Rattle.std.specs.Prelude.{Option, Some, None, is_some}
 
 pub operator_of : {w n : ℕ} → w ≡ n → operator (name_of n) ≡ operator (name_of w)
 operator_of e = ap (λ (x : ℕ). operator (name_of x)) (sym e)
@@ -35,10 +33,6 @@ numbers_hold : map name_of numbers ≡ operator_words
 unfolding name_of unpack_within
 numbers_hold = refl
 
-pub operator-found : (w : ℕ) {i : ℕ} {r : Position} → PositionIs numbers w r → r ≡ At i → true ≡ among (name_of w) operator_words
-operator-found w {i} p e =
-    sym (ap (among (name_of w)) (sym numbers_hold) ∙ found_among numbers w i (subst (PositionIs numbers w) e p))
-
-pub operator_nowhere : (w : ℕ) {r : Position} → PositionIs numbers w r → r ≡ Nowhere → false ≡ among (name_of w) operator_words
-operator_nowhere w p e =
-    sym (ap (among (name_of w)) (sym numbers_hold) ∙ nowhere_among numbers w (subst (PositionIs numbers w) e p))
+pub is_operator : (w : ℕ) (r : Option ℕ) → PositionIs numbers w r → is_some r ≡ among (name_of w) operator_words
+is_operator w (Some i) p = sym (ap (among (name_of w)) (sym numbers_hold) ∙ found_among numbers w i p)
+is_operator w None p = sym (ap (among (name_of w)) (sym numbers_hold) ∙ nowhere_among numbers w p)

@@ -1,76 +1,56 @@
--- Reading a word byte by byte: the bytes passed are the front of the word, and what is left holds its rest.
--- Assumes nothing.
-use mathlib.Core.Path.{◌≡◌, refl, sym, ap, ◌∙◌}
-use mathlib.Core.Bool.{true, false}
-use mathlib.Core.List.{List, [], ◌∷◌, ◌++◌, append_assoc, append-nil}
-use Prim.Native.Nat.{ℕ, suc, ◌+◌, ◌-◌, ◌≤◌, ◌<◌}
-use native.Mathlib.Omega.{arith}
-use native.Mathlib.Numerals.{add-one}
-use lib.ListN.{length, get_or, take, drop, length-drop, drop_of_length-le}
-use lib.Seq.{take-suc, drop-cons, get_or-drop}
-use Rattle.names.specs.Name.{name_byte, word, after_word}
+-- A word is the longest front of letters and digits, which the library's test finds. Assumes nothing.
+use Rattle.std.specs.Prelude.{◌≡◌, refl, Bool, true, false, ◌||◌, cond, List, [], ◌∷◌, ℕ, suc, ◌+◌, ◌-◌, ◌≤◌, length, take, drop}
+use Rattle.std.specs.Char.{is_ascii_alphanumeric}
+use Rattle.std.specs.Int.{is_in_range}
+use Rattle.std.specs.List.{take_while, prefix_len}
+use Rattle.std.proofs.Common.{sym, ◌∙◌, arith, length-drop, drop-drop}
+use Rattle.std.proofs.Math.Seq.{take-length}
+use Rattle.std.proofs.lemmas.List.Folds.{length-prefix_len}
+use Rattle.std.proofs.lemmas.List.Sums.{prefix_len-le-length}
+use Rattle.bits.specs.Logic.{pick}
+use Rattle.names.specs.Name.{name_byte, letter, word, after_word}
 use Rattle.names.specs.Word.{WordEnd}
-use Rattle.names.specs.WordLaws.{word_more, after_more, word-stops, after-stops, word-empty, after-empty}
+use Rattle.text.specs.Number.{numeral}
 
-pub record Passed (s : List ℕ) (at e : ℕ) : Type 0 where
-  pub after-start : at ≤ e
-  pub inside : e ≤ length s
-  pub front : word (drop at s) ≡ take (e - at) (drop at s) ++ word (drop e s)
-  pub rest : after_word (drop at s) ≡ after_word (drop e s)
+any_order : (s c n : Bool) → (n || c) || s ≡ (s || c) || n
+any_order true true true = refl
+any_order true true false = refl
+any_order true false true = refl
+any_order true false false = refl
+any_order false true true = refl
+any_order false true false = refl
+any_order false false true = refl
+any_order false false false = refl
 
-pub passed_none : (s : List ℕ) (at : ℕ) → at ≤ length s → Passed s at at
-passed_none s at h =
-    let none : at - at ≡ 0 = omega arith in
-    record {
-      after-start = omega arith;
-      inside = h;
-      front = ap (λ (k : ℕ). take k (drop at s) ++ word (drop at s)) (sym none);
-      rest = refl;
-    }
+test_is : (b : ℕ) → is_ascii_alphanumeric b ≡ name_byte b
+unfolding name_byte letter numeral
+test_is b = any_order (is_in_range 97 122 b) (is_in_range 65 90 b) (is_in_range 48 57 b)
 
--- the byte at e is the next of the text from at on
-part_more : (s : List ℕ) (at e : ℕ) → at ≤ e → e < length s → take (e + 1 - at) (drop at s) ≡ take (e - at) (drop at s) ++ (get_or s e 0 ∷ [])
-part_more s at e h l =
-    let one : e + 1 - at ≡ suc (e - at) = omega arith in
-    let back : at + (e - at) ≡ e = omega arith in
-    let fits : e - at < length (drop at s) = omega (arith, length-drop at s) in
-    ap (λ (k : ℕ). take k (drop at s)) one
-    ∙ take-suc (drop at s) (e - at) 0 fits
-    ∙ ap (λ (b : ℕ). take (e - at) (drop at s) ++ (b ∷ [])) (get_or-drop at s (e - at) 0 ∙ ap (λ (k : ℕ). get_or s k 0) back)
+module _ (b : ℕ) (t : List ℕ) (k : ℕ) where
+  by_first : (take k t ≡ word t) × (drop k t ≡ after_word t) → (p : Bool) → p ≡ name_byte b
+      → (take (cond p (1 + k) 0) (b ∷ t) ≡ pick (name_byte b) (b ∷ word t) [])
+      × (drop (cond p (1 + k) 0) (b ∷ t) ≡ pick (name_byte b) (after_word t) (b ∷ t))
+  by_first h true e = let one : 1 + k ≡ suc k = omega arith in rw (one, ← e, ← h.0, ← h.1) (refl, refl)
+  by_first h false e = rw (← e) (refl, refl)
 
-next : (s : List ℕ) (e : ℕ) → e < length s → drop e s ≡ get_or s e 0 ∷ drop (e + 1) s
-next s e l = drop-cons s e 0 l ∙ ap (λ (k : ℕ). get_or s e 0 ∷ drop k s) (sym (add-one e))
+front_is : (t : List ℕ) → (take (prefix_len is_ascii_alphanumeric t) t ≡ word t) × (drop (prefix_len is_ascii_alphanumeric t) t ≡ after_word t)
+unfolding word after_word
+front_is [] = (refl, refl)
+front_is (b ∷ t) = by_first b t (prefix_len is_ascii_alphanumeric t) (front_is t) (is_ascii_alphanumeric b) (test_is b)
 
-pub passed_more : {s : List ℕ} {at e : ℕ} → Passed s at e → e < length s → name_byte (get_or s e 0) ≡ true → Passed s at (e + 1)
-passed_more {s} {at} {e} p l t =
+-- the library's text from a place on
+pub from_here : (s : List ℕ) (at : ℕ) → take (length s - at) (drop at s) ≡ drop at s
+from_here s at = rw (← length-drop at s) (take-length (drop at s))
+
+pub word_ends : (s : List ℕ) (at n : ℕ) → at ≤ length s → n ≡ length (take_while is_ascii_alphanumeric (drop at s)) → WordEnd s at (at + n)
+word_ends s at n h e =
+    let k : n ≡ prefix_len is_ascii_alphanumeric (drop at s) = e ∙ length-prefix_len is_ascii_alphanumeric (drop at s) in
+    let few = prefix_len-le-length is_ascii_alphanumeric (drop at s) in
+    let size = length-drop at s in
+    let back : at + n - at ≡ n = omega arith in
     record {
       after-start = omega arith;
       inside = omega arith;
-      front =
-          p.front
-          ∙ ap (λ (x : List ℕ). take (e - at) (drop at s) ++ x) (ap word (next s e l) ∙ word_more (get_or s e 0) (drop (e + 1) s) t)
-          ∙ sym (append_assoc (take (e - at) (drop at s)) (get_or s e 0 ∷ []) (word (drop (e + 1) s)))
-          ∙ ap (λ (x : List ℕ). x ++ word (drop (e + 1) s)) (sym (part_more s at e p.after-start l));
-      rest = p.rest ∙ ap after_word (next s e l) ∙ after_more (get_or s e 0) (drop (e + 1) s) t;
+      is_word = rw (back, k) ((front_is (drop at s)).0);
+      is_rest = sym (drop-drop n at s) ∙ rw k ((front_is (drop at s)).1);
     }
-
--- where no word stands, the one that was read is whole
-ended : {s : List ℕ} {at e : ℕ} → Passed s at e → word (drop e s) ≡ [] → after_word (drop e s) ≡ drop e s → WordEnd s at e
-ended {s} {at} {e} p w r =
-    record {
-      after-start = p.after-start;
-      inside = p.inside;
-      is_word = sym (p.front ∙ ap (λ (x : List ℕ). take (e - at) (drop at s) ++ x) w ∙ append-nil (take (e - at) (drop at s)));
-      is_rest = sym (p.rest ∙ r);
-    }
-
-pub passed_stop : {s : List ℕ} {at e : ℕ} → Passed s at e → e < length s → name_byte (get_or s e 0) ≡ false → WordEnd s at e
-passed_stop {s} {at} {e} p l t =
-    ended p
-    (ap word (next s e l) ∙ word-stops (get_or s e 0) (drop (e + 1) s) t)
-    (ap after_word (next s e l) ∙ after-stops (get_or s e 0) (drop (e + 1) s) t ∙ sym (next s e l))
-
-pub passed_all : {s : List ℕ} {at e : ℕ} → Passed s at e → length s ≤ e → WordEnd s at e
-passed_all {s} {at} {e} p l =
-    let none : drop e s ≡ [] = drop_of_length-le s l in
-    ended p (ap word none ∙ word-empty) (ap after_word none ∙ after-empty ∙ sym none)

@@ -13,34 +13,15 @@ ghost use Rattle.names.specs.Word.{WordEnd, operator_of, PositionIs};
 // A name's bytes are the digits of its number to this base, the first byte lowest.
 pub const BASE: u64 = 256;
 
-// What a small letter is above its capital.
-const CASE: u8 = 32;
-
-// Whether a byte may stand in a name.
-fn name_byte(b: u8) -> bool
-    ensures { result ≡ name_byte b }
-{
-    match b {
-        b'a'..=b'z' => true,
-        b'A'..=b'Z' => true,
-        b'0'..=b'9' => true,
-        _ => false,
-    }
-}
-
 // The place after the word at a place.
 pub fn word_end(s: &[u8], at: usize) -> usize
     requires { at ≤ length s.now }
     ensures { WordEnd s.now at result }
 {
-    let mut e = at;
-    while e < s.len() {
-        if !name_byte(s[e]) {
-            return e;
-        }
-        e += 1;
-    }
-    e
+    at + s[at..]
+        .iter()
+        .take_while(|b| b.is_ascii_alphanumeric())
+        .count()
 }
 
 // The number of the bytes from a up to e.
@@ -49,41 +30,17 @@ pub fn packed(s: &[u8], a: usize, e: usize) -> u64
     ensures { result ≡ pack (take (e - a) (drop a s.now)) }
 {
     let mut v: u64 = 0;
-    let mut i = e;
-    while a < i {
-        i -= 1;
-        v = v * BASE + s[i] as u64;
+    for i in (a..e).rev() {
+        v = v * BASE + u64::from(s[i]);
     }
     v
-}
-
-// A capital as its small letter; any other byte is itself.
-fn lower(b: u8) -> u8
-    ensures { result ≡ letters.lower b }
-{
-    match b {
-        b'A'..=b'Z' => b + CASE,
-        _ => b,
-    }
 }
 
 // Whether two names are the same: byte by byte, letters in either case.
 pub fn same_name(a: u64, b: u64) -> bool
     ensures { result ≡ same_name (name_of a) (name_of b) }
 {
-    let mut x = a;
-    let mut y = b;
-    while x != 0 {
-        if y == 0 {
-            return false;
-        }
-        if lower((x % BASE) as u8) != lower((y % BASE) as u8) {
-            return false;
-        }
-        x = x / BASE;
-        y = y / BASE;
-    }
-    y == 0
+    a.to_le_bytes().eq_ignore_ascii_case(&b.to_le_bytes())
 }
 
 // The operators, each a word in small letters.

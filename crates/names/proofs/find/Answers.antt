@@ -1,17 +1,8 @@
-use mathlib.Core.Path.{sym, ◌∙◌}
-use Rattle.names.proofs.Lookup.{missed_none, missed_more, found_at, found_nowhere}
+use Rattle.std.proofs.Common.{rules}
+use Rattle.std.proofs.lemmas.Iterator.{YieldsList-from_slice}
+use Rattle.std.proofs.lemmas.Iterator.Search.{position_from_yields_List}
+use Rattle.names.proofs.Lookup.{position_is}
 use Rattle.names.proofs.find.Goals as goal
 
-pub loop-i-init : goal.loop-i-init
-loop-i-init c = missed_none c.args.among.now c.args.n
-
-pub returns-then-same_name : goal.returns-then-same_name
-returns-then-same_name c = found_at c.loop-i.invariant c.loop-i-test.true
-    (sym c.same_name.ensures ∙ c.if-same_name.true)
-
-pub loop-i-preserved : goal.loop-i-preserved
-loop-i-preserved c = missed_more c.loop-i.invariant c.loop-i-test.true
-    (sym c.same_name.ensures ∙ c.if-same_name.false)
-
 pub returns : goal.returns
-returns c = found_nowhere c.loop-i.invariant c.loop-i-test.false
+returns c = position_is _ _ _ (position_from_yields_List _ _ _ _ c.position.ensures.ran (YieldsList-from_slice c.args.among.now cc) (λ x b q k. search rules))

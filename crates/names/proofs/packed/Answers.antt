@@ -9,9 +9,6 @@ loop-i-init c = packed_none c.args.s.now c.args.a c.args.e c.requires.0
 pub overflow_mul-v : goal.overflow_mul-v
 overflow_mul-v c = omega (arith, packed_room c.loop-i.invariant c.loop-i-test.true c.requires.1)
 
-pub overflow_cast-v : goal.overflow_cast-v
-overflow_cast-v c = omega (arith, c.type_inv.s (c.loop-i.i - 1))
-
 pub overflow_add-v : goal.overflow_add-v
 overflow_add-v c = omega (
   arith,
@@ -20,8 +17,8 @@ overflow_add-v c = omega (
 )
 
 pub loop-i-preserved : goal.loop-i-preserved
-loop-i-preserved c = packed_more c.loop-i.invariant c.loop-i-test.true c.requires.2
-    (omega (arith, c.type_inv.s (c.loop-i.i - 1)))
+loop-i-preserved c = rw c.from.ensures (packed_more c.loop-i.invariant c.loop-i-test.true c.requires.2
+    (omega (arith, c.type_inv.s (c.loop-i.i - 1))))
 
 pub returns : goal.returns
 returns c = packed_all c.loop-i.invariant c.loop-i-test.false

@@ -1,18 +1,14 @@
-use mathlib.Core.Path.{sym, ◌∙◌}
-use borrow.Author.Tests.{not-true, not-false}
-use Rattle.names.proofs.Words.{passed_none, passed_more, passed_stop, passed_all}
+use Rattle.std.specs.Prelude.{drop}
+use Rattle.std.specs.Char.{is_ascii_alphanumeric}
+use Rattle.std.proofs.Common.{rules, tests, ap, ◌∙◌}
+use Rattle.std.specs.Slice.Iter.{iter_rest}
+use Rattle.std.proofs.lemmas.Iterator.{YieldsList-from_slice}
+use Rattle.std.proofs.lemmas.Iterator.Consumers.{count_from_yields_List}
+use Rattle.std.proofs.lemmas.Iterator.Search.{YieldsList-from_take_while}
+use Rattle.names.proofs.Words.{word_ends, from_here}
 use Rattle.names.proofs.word_end.Goals as goal
 
-pub loop-e-init : goal.loop-e-init
-loop-e-init c = passed_none c.args.s.now c.args.at c.requires
-
-pub returns-then-not-name_byte : goal.returns-then-not-name_byte
-returns-then-not-name_byte c = passed_stop c.loop-e.invariant c.loop-e-test.true
-    (sym c.name_byte.ensures ∙ not-true _ c.if-not-name_byte.true-raw)
-
-pub loop-e-preserved : goal.loop-e-preserved
-loop-e-preserved c = passed_more c.loop-e.invariant c.loop-e-test.true
-    (sym c.name_byte.ensures ∙ not-false _ c.if-not-name_byte.false-raw)
-
 pub returns : goal.returns
-returns c = passed_all c.loop-e.invariant c.loop-e-test.false
+returns c = word_ends _ _ _ c.requires
+    (count_from_yields_List c.take_while.result _ c.count.ensures.ran
+    (YieldsList-from_take_while _ is_ascii_alphanumeric (YieldsList-from_slice (drop c.args.at c.args.s.now) (ap iter_rest c.take_while.ensures.source ∙ c.iter.ensures.rest ∙ from_here c.args.s.now c.args.at)) c.take_while.ensures.closure c.take_while.ensures.done (λ x b q k. search (rules, tests))))
