@@ -18,7 +18,7 @@ NUMBERS = {
     "CELLMAPPER_MAX_TABLE": ("MAX_ROWS", "max_rows"),
     "CELLMAPPER_MAX_BLIF": ("MAX_BLIF", "max_blif"),
 }
-# the crates whose code names the number of the refusal
+# the crates whose code names the question of the refusal
 REFUSALS = {
     "CELLMAPPER_BAD_BYTES": {"design", "panel"},
     "CELLMAPPER_MISSPELLED": {"design", "panel", "sheet"},
@@ -35,8 +35,9 @@ REFUSALS = {
     "CELLMAPPER_PLA_TOO_LARGE": {"panel"},
     "CELLMAPPER_PLA_BAD_DIGIT": {"panel"},
 }
-# a number that is handed on as that of a refusal: refuse(2, ..), bad_board(2, ..), number: 2
-REFUSED = re.compile(r"\b(?:(?:refuse|refused|refusal|bad_board)\(|number: )(\d+)\b")
+# a question that the code names, and the lines of crates/refusal that give each question its number
+ASKED = re.compile(r"\bQuestion::(\w+)")
+NUMBERED = re.compile(r"^ *Question::(\w+) => (\d+),$", re.M)
 COMPILERS = [
     ["gcc", "-x", "c", "-std=c89"],
     ["gcc", "-x", "c", "-std=c99"],
@@ -70,12 +71,13 @@ def size_faults(header):
 
 
 def refusing():
-    """number: the crates whose code names it as that of a refusal"""
+    """number: the crates whose code names its question"""
+    numbers = {name: int(number) for name, number in NUMBERED.findall((ROOT / "crates/refusal/src/lib.rt").read_text())}
     crates = {}
     for path in sorted(ROOT.glob("crates/*/src/*.rt")):
-        for number in map(int, REFUSED.findall(path.read_text())):
-            if number != 0:
-                crates.setdefault(number, set()).add(path.parts[-3])
+        if path.parts[-3] != "refusal":
+            for name in ASKED.findall(re.sub("//.*", "", path.read_text())):
+                crates.setdefault(numbers.get(name, 0), set()).add(path.parts[-3])
     return crates
 
 
