@@ -1,10 +1,11 @@
 -- Questions 1 and 2 on the second text as a walk over its lines: each ends in 0x0A, as the last byte is one. Assumes nothing.
-use Rattle.std.specs.Prelude.{◌≡◌, refl, Bool, true, false, List, [], ◌∷◌, ℕ, ◌+◌, ◌-◌, ◌≤◌, ◌<◌, length, take, drop}
-use Rattle.std.proofs.Common.{sym, ap₂, ◌∙◌, subst, length-drop}
+use Rattle.std.specs.Prelude.{◌≡◌, refl, Bool, true, false, List, [], ◌∷◌, ℕ, ◌+◌, ◌-◌, ◌≤◌, ◌<◌, length, take, drop, Option, Some, None, Result, Ok, Err}
+use Rattle.std.proofs.Common.{sym, ◌∙◌, subst, length-drop}
 use Rattle.std.proofs.Math.Path.{ap}
-use Rattle.std.proofs.Math.Option.{Option, some, none}
+use Rattle.std.proofs.Math.Option as maybe
+use Rattle.std.proofs.Math.Option.{some, none}
 use native.Mathlib.Omega.{arith}
-use Rattle.bits.specs.LogicLaws.{true_false, and_left}
+use Rattle.bits.specs.LogicLaws.{and_left}
 use Rattle.limits.specs.Limits.{max_sheet}
 use Rattle.text.specs.Line.{lines}
 use Rattle.text.specs.LineEnd.{LineEnd}
@@ -16,15 +17,16 @@ use Rattle.sheet.specs.Lines.{read_bound, read_limit}
 use Rattle.sheet.specs.Examine.{sized, plain_lines, within}
 use Rattle.sheet.specs.AskedLaws.{within_low}
 use Rattle.sheet.specs.Known.{LineIs, LimitIs}
-use Rattle.sheet.specs.declared.LimitLine.{LimitLine}
 use Rattle.design.specs.SizeLaws.{sized-last}
 use Rattle.panel.specs.Board.{Board, misspelled, board, bound_line, limit_line, after_limit, after_bound, read_board}
-use Rattle.panel.specs.Held.{BadBoard, BoardIs}
+use Rattle.panel.specs.Held.{BoardIs}
+use Rattle.refusal.specs.Number.{Refuses}
+use Rattle.refusal.specs.declared.Refusal.{Refusal}
 use Rattle.panel.specs.declared.BoardLines.{BoardLines}
 
 -- ---- question 1
-pub board_not_sized : (b : List ℕ) (r : BoardLines) → false ≡ sized b → BadBoard 1 0 r → BoardIs b (sized b) (read_board (lines b)) r
-board_not_sized b r f h = subst (λ (t : Bool). BoardIs b t (read_board (lines b)) r) f h
+pub board_not_sized : (b : List ℕ) (r : Refusal) → false ≡ sized b → Refuses 1 0 r → BoardIs b (sized b) (read_board (lines b)) (Err r)
+board_not_sized b r f h = subst (λ (t : Bool). BoardIs b t (read_board (lines b)) (Err r)) f h
 
 sized-filled : (b : List ℕ) → sized b ≡ true → 1 ≤ length b
 unfolding sized
@@ -48,33 +50,27 @@ after_more : (bs : List Name) (n : ℕ) (ls : List (List ℕ)) → 0 < length ls
 after_more bs n [] h = absurd (omega arith)
 after_more bs n (l ∷ ls) h = refl
 
-bound_missing : (x : Option (List Name)) (w : NameList) → LineIs x w → w.ok ≡ false → x ≡ none
-bound_missing none w h f = refl
-bound_missing (some bs) w h f = absurd (true_false (sym h.good ∙ f))
+bound_missing : (x : maybe.Option (List Name)) → LineIs x None → x ≡ none
+bound_missing none h = refl
+bound_missing (some bs) h = absurd h
 
-bound-found : (x : Option (List Name)) (w : NameList) → LineIs x w → w.ok ≡ true → (bs : List Name) × (x ≡ some bs)
-bound-found none w h f = absurd (true_false (sym f ∙ h))
-bound-found (some bs) w h f = (bs, refl)
+bound-found : (x : maybe.Option (List Name)) (l : NameList) → LineIs x (Some l) → (bs : List Name) × (x ≡ some bs)
+bound-found none l h = absurd h
+bound-found (some bs) l h = (bs, refl)
 
-bad_limit : (n : ℕ) → LimitLine.Bad ≡ LimitLine.Limit n → ⊥
-bad_limit n e =
-    let z : ◌≡◌ {A = ℕ} 0 1 = cc in
-    omega arith
+limit_missing : (x : maybe.Option ℕ) → LimitIs x None → x ≡ none
+limit_missing none h = refl
+limit_missing (some n) h = cc
 
-limit_missing : (x : Option ℕ) (l : LimitLine) → LimitIs x l → l ≡ LimitLine.Bad → x ≡ none
-limit_missing none l h f = refl
-limit_missing (some n) l h f = absurd (bad_limit n (sym f ∙ h))
-
-limit_found : (x : Option ℕ) (l : LimitLine) (n : ℕ) → LimitIs x l → l ≡ LimitLine.Limit n → x ≡ some n
-limit_found none l n h f = absurd (bad_limit n (sym h ∙ f))
-limit_found (some m) l n h f =
-    let s : LimitLine.Limit m ≡ LimitLine.Limit n = sym h ∙ f in
+limit_found : (x : maybe.Option ℕ) (n : ℕ) → LimitIs x (Some n) → x ≡ some n
+limit_found none n h = cc
+limit_found (some m) n h =
     let t : m ≡ n = cc in
     ap some t
 
 module _ (b : List ℕ) (sizes : true ≡ sized b) where
   -- by what the lines say
-  by_lines : (y : Board) (r : BoardLines) → read_board (lines b) ≡ y → BoardIs b true y r → BoardIs b (sized b) (read_board (lines b)) r
+  by_lines : (y : Board) (r : Result BoardLines Refusal) → read_board (lines b) ≡ y → BoardIs b true y r → BoardIs b (sized b) (read_board (lines b)) r
   by_lines y r e h =
       subst (λ (t : Bool). BoardIs b t (read_board (lines b)) r) sizes (subst (λ (z : Board). BoardIs b true z r) (sym e) h)
 
@@ -90,66 +86,61 @@ module _ (b : List ℕ) (sizes : true ≡ sized b) where
         let all : e - 0 ≡ e = omega arith in
         ap read_board h ∙ ap (λ (i : ℕ). after_bound (read_bound (take i b)) (lines (drop (e + 1) b))) all
 
-    module _ (w : NameList) (h : LineIs (read_bound (take e b)) w) where
-      pub no_bound : w.ok ≡ false → (r : BoardLines) → BadBoard 2 bound_line r → BoardIs b (sized b) (read_board (lines b)) r
-      no_bound f r g =
-          by_lines (misspelled bound_line) r
-          (first_read ∙ ap (λ (y : Option (List Name)). after_bound y (lines (drop (e + 1) b))) (bound_missing (read_bound (take e b)) w h f)) g
+    pub no_bound : LineIs (read_bound (take e b)) None → (r : Refusal) → Refuses 2 bound_line r
+        → BoardIs b (sized b) (read_board (lines b)) (Err r)
+    no_bound h r g =
+        by_lines (misspelled bound_line) (Err r)
+        (first_read ∙ ap (λ (y : maybe.Option (List Name)). after_bound y (lines (drop (e + 1) b))) (bound_missing (read_bound (take e b)) h)) g
 
-      module _ (f : w.ok ≡ true) where
-        bound_is : (bs : List Name) × (read_bound (take e b) ≡ some bs)
-        bound_is = bound-found (read_bound (take e b)) w h f
+    module _ (w : NameList) (h : LineIs (read_bound (take e b)) (Some w)) where
+      bound_is : (bs : List Name) × (read_bound (take e b) ≡ some bs)
+      bound_is = bound-found (read_bound (take e b)) w h
 
-        after_first : read_board (lines b) ≡ after_bound (some bound_is.0) (lines (drop (e + 1) b))
-        after_first = first_read ∙ ap (λ (y : Option (List Name)). after_bound y (lines (drop (e + 1) b))) bound_is.1
+      after_first : read_board (lines b) ≡ after_bound (some bound_is.0) (lines (drop (e + 1) b))
+      after_first = first_read ∙ ap (λ (y : maybe.Option (List Name)). after_bound y (lines (drop (e + 1) b))) bound_is.1
 
-        pub no_second : length b ≤ e + 1 → (r : BoardLines) → BadBoard 2 limit_line r → BoardIs b (sized b) (read_board (lines b)) r
-        no_second l r g =
-            by_lines (misspelled limit_line) r (after_first ∙ ap (after_bound (some bound_is.0)) (lines_past b (e + 1) l)) g
+      pub no_second : length b ≤ e + 1 → (r : Refusal) → Refuses 2 limit_line r → BoardIs b (sized b) (read_board (lines b)) (Err r)
+      no_second l r g =
+          by_lines (misspelled limit_line) (Err r) (after_first ∙ ap (after_bound (some bound_is.0)) (lines_past b (e + 1) l)) g
 
-        -- ---- the second line
-        module _ (more : e + 1 < length b) (end : ℕ) (y : LineEnd b (e + 1) end) where
-          abbrev second : List ℕ
-          second = take (end - (e + 1)) (drop (e + 1) b)
+      -- ---- the second line
+      module _ (more : e + 1 < length b) (end : ℕ) (y : LineEnd b (e + 1) end) where
+        abbrev second : List ℕ
+        second = take (end - (e + 1)) (drop (e + 1) b)
 
-          second-inside : end < length b
-          second-inside = (line_at b (e + 1) end more (sym sizes) y).0
+        second-inside : end < length b
+        second-inside = (line_at b (e + 1) end more (sym sizes) y).0
 
-          second-read : read_board (lines b) ≡ after_limit bound_is.0 (read_limit second) (lines (drop (end + 1) b))
-          second-read = after_first ∙ ap (after_bound (some bound_is.0)) (line_at b (e + 1) end more (sym sizes) y).1
+        second-read : read_board (lines b) ≡ after_limit bound_is.0 (read_limit second) (lines (drop (end + 1) b))
+        second-read = after_first ∙ ap (after_bound (some bound_is.0)) (line_at b (e + 1) end more (sym sizes) y).1
 
-          module _ (z : LimitLine) (lim : LimitIs (read_limit second) z) where
-            pub no-limit : z ≡ LimitLine.Bad → (r : BoardLines) → BadBoard 2 limit_line r → BoardIs b (sized b) (read_board (lines b)) r
-            no-limit q r g =
-                by_lines (misspelled limit_line) r
-                (second-read
-                ∙ ap (λ (o : Option ℕ). after_limit bound_is.0 o (lines (drop (end + 1) b))) (limit_missing (read_limit second) z lim q)) g
+        pub no-limit : LimitIs (read_limit second) None → (r : Refusal) → Refuses 2 limit_line r
+            → BoardIs b (sized b) (read_board (lines b)) (Err r)
+        no-limit lim r g =
+            by_lines (misspelled limit_line) (Err r)
+            (second-read
+            ∙ ap (λ (o : maybe.Option ℕ). after_limit bound_is.0 o (lines (drop (end + 1) b))) (limit_missing (read_limit second) lim)) g
 
-            module _ (n : ℕ) (q : z ≡ LimitLine.Limit n) where
-              limit_is : read_limit second ≡ some n
-              limit_is = limit_found (read_limit second) z n lim q
+        module _ (n : ℕ) (lim : LimitIs (read_limit second) (Some n)) where
+          limit_is : read_limit second ≡ some n
+          limit_is = limit_found (read_limit second) n lim
 
-              both_read : read_board (lines b) ≡ after_limit bound_is.0 (some n) (lines (drop (end + 1) b))
-              both_read = second-read ∙ ap (λ (o : Option ℕ). after_limit bound_is.0 o (lines (drop (end + 1) b))) limit_is
+          both_read : read_board (lines b) ≡ after_limit bound_is.0 (some n) (lines (drop (end + 1) b))
+          both_read = second-read ∙ ap (λ (o : maybe.Option ℕ). after_limit bound_is.0 o (lines (drop (end + 1) b))) limit_is
 
-              pub third-line : end + 1 < length b → (r : BoardLines) → BadBoard 2 3 r → BoardIs b (sized b) (read_board (lines b)) r
-              third-line l r g =
-                  by_lines (misspelled 3) r
-                  (both_read ∙ after_more bound_is.0 n (lines (drop (end + 1) b)) (lines_left b (end + 1) l)) g
+          pub third-line : end + 1 < length b → (r : Refusal) → Refuses 2 3 r → BoardIs b (sized b) (read_board (lines b)) (Err r)
+          third-line l r g =
+              by_lines (misspelled 3) (Err r)
+              (both_read ∙ after_more bound_is.0 n (lines (drop (end + 1) b)) (lines_left b (end + 1) l)) g
 
-              pub board-right : length b ≤ end + 1
-                  → (r : BoardLines)
-                  → r.ok ≡ true
-                  → r.bound ≡ e
-                  → r.limit ≡ end
-                  → BoardIs b (sized b) (read_board (lines b)) r
-              board-right l r ok p t =
-                  by_lines (board bound_is.0 n) r
-                  (both_read ∙ ap (after_limit bound_is.0 (some n)) (lines_past b (end + 1) l))
-                  (record {
-                    all_ok = ok;
-                    bound_read = ap (λ (i : ℕ). read_bound (take i b)) p ∙ bound_is.1;
-                    limit_read = ap₂ (λ (i j : ℕ). read_limit (take (j - (i + 1)) (drop (i + 1) b))) p t ∙ limit_is;
-                    ordered = omega (arith, y.after-start);
-                    inside = omega (arith, second-inside);
-                  })
+          pub board-right : length b ≤ end + 1
+              → BoardIs b (sized b) (read_board (lines b)) (Ok (record { bound = e; limit = end }))
+          board-right l =
+              by_lines (board bound_is.0 n) (Ok (record { bound = e; limit = end }))
+              (both_read ∙ ap (after_limit bound_is.0 (some n)) (lines_past b (end + 1) l))
+              (record {
+                bound_read = bound_is.1;
+                limit_read = limit_is;
+                ordered = omega (arith, y.after-start);
+                inside = omega (arith, second-inside);
+              })

@@ -1,5 +1,5 @@
 -- Question 14 as a walk: over the bytes of an output part, and over the cubes, one after another. Assumes nothing.
-use Rattle.std.specs.Prelude.{◌≡◌, Bool, true, false, ◌&&◌, ◌||◌, List, [], ℕ, suc, ◌+◌, ◌-◌, ◌≤◌, ◌<◌, eqb, length, get_or, take, drop}
+use Rattle.std.specs.Prelude.{◌≡◌, Bool, true, false, ◌&&◌, ◌||◌, List, [], ℕ, suc, ◌+◌, ◌-◌, ◌≤◌, ◌<◌, eqb, length, get_or, take, drop, Some, None}
 use Rattle.std.proofs.Math.Path.{refl, sym, ap, subst}
 use Rattle.std.proofs.Common.{◌∙◌, arith, add-one, drop_of_length-le, drop-cons, eq-eqb, ne_eqb}
 use Rattle.std.proofs.Math.Option.{some}
@@ -90,13 +90,13 @@ module _ (s : List ℕ) (i o first cubes at k : ℕ) (w : MarksFrom s i o first 
         → (cs : List Cube) (end : ℕ)
         → Stand s i o first cs end
         → length cs ≡ cubes
-        → OtherIs (first_cube + k) (other_mark first_cube cs)
+        → OtherIs (Some (first_cube + k)) (other_mark first_cube cs)
     mark_found f cs end h n =
-        subst (OtherIs (first_cube + k))
+        subst (OtherIs (Some (first_cube + k)))
         (sym
         (mark_next cs end h n
         ∙ ap (λ (b : Bool). pick b (other_mark (suc (first_cube + k)) (drop (suc k) cs)) (some (first_cube + k))) (sym f)))
-        (refl, omega arith)
+        refl
 
     pub marks_more : true ≡ zeros_and_ones (take (e - m) (drop m s)) → MarksFrom s i o first cubes (e + 1) (k + 1)
     marks_more f =
@@ -114,9 +114,9 @@ module _ (s : List ℕ) (i o first cubes at k : ℕ) (w : MarksFrom s i o first 
       → (cs : List Cube) (end : ℕ)
       → Stand s i o first cs end
       → length cs ≡ cubes
-      → OtherIs 0 (other_mark first_cube cs)
+      → OtherIs None (other_mark first_cube cs)
   unfolding other_mark
   marks_none l cs end h n =
-      subst (OtherIs 0)
+      subst (OtherIs None)
       (sym (w.same cs end h n ∙ ap (other_mark (first_cube + k)) (drop_of_length-le cs {i = k} (omega arith))))
       refl

@@ -1,13 +1,13 @@
 -- The outputs of a PLA text, one after another: a cover is never too deep and names inputs alone, so an output is refused by
 -- question 4 alone, and otherwise its cover's table is the one that its formula has. Assumes nothing.
-use Rattle.std.specs.Prelude.{◌≡◌, refl, Bool, true, false, ℕ, suc, ◌+◌, ◌≤◌, ◌<◌, leb, ltb, length, get_or, take}
+use Rattle.std.specs.Prelude.{◌≡◌, refl, Bool, true, false, ℕ, suc, ◌+◌, ◌≤◌, ◌<◌, leb, ltb, length, get_or, take, Ok, Err}
 use Rattle.std.proofs.Common.{sym, ◌∙◌, arith, add-one, length-append, drop-cons, get_or-take, le-leb, lt-ltb}
-use Rattle.std.proofs.Math.Path.{ap, subst}
+use Rattle.std.proofs.Math.Path.{ap}
 use mathlib.Core.List.{List, [], ◌∷◌}
 use Rattle.std.proofs.Math.Option.{some}
 use Rattle.std.proofs.Math.ListN.{drop, drop_of_length-le, get_or-map}
 use Rattle.bits.specs.Logic.{pick}
-use Rattle.bits.specs.LogicLaws.{true_false, and_both}
+use Rattle.bits.specs.LogicLaws.{and_both}
 use Rattle.limits.specs.Limits.{max_inputs, max_outputs, max_depth}
 use Rattle.names.specs.Name.{Name}
 use Rattle.names.specs.Pack.{name_of}
@@ -22,8 +22,8 @@ use Rattle.sheet.specs.Examine.{Design, refused, Step, no_to, next, at_out, ask_
 use Rattle.sheet.specs.Known.{Holds, table_at}
 use Rattle.sheet.specs.declared.Sheet.{Sheet}
 use Rattle.sheet.specs.declared.Rows.{Rows}
-use Rattle.design.specs.Answer.{RefusedAs}
-use Rattle.design.specs.declared.Examined.{Examined}
+use Rattle.refusal.specs.declared.Question.{Question}
+use Rattle.design.specs.ExamineLaws.{no_at}
 use Rattle.cubes.specs.Terms.{cover_formula}
 use Rattle.cubes.specs.TermsLaws.{cover_value, cover_depth, cover_knows}
 use Rattle.platext.specs.Lines.{output_names_line}
@@ -168,47 +168,34 @@ module _ (start : Sheet) (n : ℕ) (names : List ℕ) (ts : List Rows) where
 
     pub outputs_stopped : o < n
         → ((e : Design) → Holds e k → false ≡ new_name e (name_of (get_or names o 0)))
-        → (a : Examined)
-        → RefusedAs 4 output_names_line a
         → (x : Pla) (d : Design)
         → Ready x d start n names ts
-        → AskedIs (ask_outputs d (outputs_of x)) a
-    outputs_stopped l old a h x d r =
+        → AskedIs (ask_outputs d (outputs_of x)) (Err (no_at Question.NewNames output_names_line))
+    outputs_stopped l old x d r =
         let e = (w.each x d r).known in
         let out = output_of x o in
         let again : new_name e out.name ≡ false
         = ap (new_name e) (sym (named l x d r)) ∙ sym (old e (w.each x d r).holds) in
-        record {
-          there = λ g. absurd (true_false (sym g ∙ h.not_ok));
-          missing = λ g onward.
-              (w.each x d r).is onward
-              ∙ next-output x e o onward (inside l x d r)
-              ∙ ap
-              (λ (t : Step).
-              follow t output_names_line (λ _ f. ask_outputs f (outputs_from x (suc o) (drop (suc o) x.outputs)) onward))
-              (asked_old e out (room l x d r) (shallow l x d r) (knowing l x d r) again)
-              ∙ ap (λ (q : ℕ). refused q output_names_line) (sym h.number)
-              ∙ ap (refused a.number) (sym h.line);
-        }
+        λ onward.
+        (w.each x d r).is onward
+        ∙ next-output x e o onward (inside l x d r)
+        ∙ ap
+        (λ (t : Step).
+        follow t output_names_line (λ _ f. ask_outputs f (outputs_from x (suc o) (drop (suc o) x.outputs)) onward))
+        (asked_old e out (room l x d r) (shallow l x d r) (knowing l x d r) again)
 
     pub outputs_all : n ≤ o
-        → (a : Examined)
-        → (a.ok ≡ true) × (a.sheet ≡ k)
         → (x : Pla) (d : Design)
         → Ready x d start n names ts
-        → AskedIs (ask_outputs d (outputs_of x)) a
+        → AskedIs (ask_outputs d (outputs_of x)) (Ok k)
     unfolding outputs_from ask_outputs
-    outputs_all l a h x d r =
+    outputs_all l x d r =
         let e = (w.each x d r).known in
         let none_left : drop o x.outputs ≡ [] = drop_of_length-le x.outputs {i = o} (omega (arith, r.outputs_kept.counted)) in
         record {
-          there = λ g.
-              record {
-                design = e;
-                holds = subst (Holds e) (sym h.1) (w.each x d r).holds;
-                is = λ onward. (w.each x d r).is onward ∙ ap (λ (ns : List Name). ask_outputs e (outputs_from x o ns) onward) none_left;
-              };
-          missing = λ g. absurd (true_false (sym h.0 ∙ g));
+          design = e;
+          holds = (w.each x d r).holds;
+          is = λ onward. (w.each x d r).is onward ∙ ap (λ (ns : List Name). ask_outputs e (outputs_from x o ns) onward) none_left;
         }
 
 pub ready_few : (k : Sheet) (n : ℕ) (names : List ℕ) (ts : List Rows) → SomeReady k n names ts → n ≤ max_outputs

@@ -1,22 +1,26 @@
 -- The examination of a pair, question by question: 12 to 14 on the PLA text, 1 and 2 on the second, and then the names and the
 -- lines of both. Assumes nothing.
-use Rattle.std.specs.Prelude.{◌≡◌, refl, Bool, List, ℕ, ◌+◌, ◌≤◌, ◌<◌, length}
+use Rattle.std.specs.Prelude.{◌≡◌, refl, Bool, List, ℕ, ◌+◌, ◌≤◌, ◌<◌, length, Option, Some, None, Result, Ok, Err}
 use Rattle.std.proofs.Common.{sym, ◌∙◌, subst, arith}
 use Rattle.std.proofs.Math.Path.{ap}
 use Rattle.std.proofs.Math.Bool.{true, false}
-use Rattle.std.proofs.Math.Option.{Option, some, none}
+use Rattle.std.proofs.Math.Option as maybe
+use Rattle.std.proofs.Math.Option.{some, none}
 use Rattle.std.proofs.Math.Dec.{leb}
 use borrow.Author.Tests.{le-leb, lt-leb}
 use Rattle.bits.specs.Logic.{pick}
-use Rattle.bits.specs.LogicLaws.{true_false}
 use Rattle.limits.specs.Limits.{max_inputs, max_outputs}
 use Rattle.platext.specs.TextReadLaws.{pla_print_of_read}
 use Rattle.text.specs.Line.{lines}
 use Rattle.names.specs.Name.{Name}
 use Rattle.sheet.specs.Examine as sheets
 use Rattle.sheet.specs.Examine.{refused, sized}
-use Rattle.design.specs.Answer.{ExaminedIs, RefusedAs, Examination}
-use Rattle.design.specs.declared.Examined.{Examined}
+use Rattle.sheet.specs.declared.Sheet.{Sheet}
+use Rattle.refusal.specs.Number.{Refuses}
+use Rattle.refusal.specs.declared.Question.{Question}
+use Rattle.refusal.specs.declared.Refusal.{Refusal}
+use Rattle.design.specs.Answer.{ExaminedIs, Examination}
+use Rattle.design.specs.ExamineLaws.{no_at}
 use Rattle.platext.specs.Lines.{inputs_line, outputs_line, first_cube}
 use Rattle.platext.specs.Text.{Pla, Answer, bad_line, pla, read_pla}
 use Rattle.platext.specs.Reading.{ReadAs, TextIs}
@@ -30,10 +34,10 @@ use Rattle.panel.specs.Held.{OtherIs, Readable, BoardRead, BoardIs}
 use Rattle.panel.specs.declared.BoardLines.{BoardLines}
 
 -- ---- what is answered is the answer of an examination
-pub examined : (p b : List ℕ) (r : Examined) → ExaminedIs (examine p b) r → ExaminedIs (examine p b) r × Examination r
+pub examined : (p b : List ℕ) (r : Result Sheet Refusal) → ExaminedIs (examine p b) r → ExaminedIs (examine p b) r × Examination r
 examined p b r h = (h, record { found = examine p b; is = h; right = well_formed_by (λ bs n x. refl) p b })
 
-answered : (p b : List ℕ) (y : sheets.Examined) (r : Examined) → examine p b ≡ y → ExaminedIs y r → ExaminedIs (examine p b) r
+answered : (p b : List ℕ) (y : sheets.Examined) (r : Result Sheet Refusal) → examine p b ≡ y → ExaminedIs y r → ExaminedIs (examine p b) r
 answered p b y r e h = subst (λ (z : sheets.Examined). ExaminedIs z r) (sym e) h
 
 -- ---- question 12
@@ -47,22 +51,17 @@ by_answer : (p b : List ℕ) (y : Answer) → read_pla p ≡ y → examine p b �
 unfolding examine examine_text
 by_answer p b y e = ap (λ (z : Answer). beside_text (further_asked z) b) e
 
-module _ (p : List ℕ) (t : PlaText) (h : TextIs p (read_pla p) t) where
-  pub text_read : t.ok ≡ true → TextRead p t
-  text_read f = go (read_pla p) refl h
+module _ (p : List ℕ) where
+  pub text_read : (t : PlaText) → TextIs p (read_pla p) (Ok t) → TextRead p t
+  text_read t h = go (read_pla p) refl h
     where
-      go : (y : Answer) → read_pla p ≡ y → TextIs p y t → TextRead p t
-      go (bad_line n) e w = absurd (true_false (sym f ∙ w.not_ok))
+      go : (y : Answer) → read_pla p ≡ y → TextIs p y (Ok t) → TextRead p t
+      go (bad_line n) e w = absurd w
       go (pla x) e w = record { text = x; is_read = e; read_as = w }
 
-  pub text-refused : t.ok ≡ false → (b : List ℕ) (r : Examined) → RefusedAs 12 t.line r → ExaminedIs (examine p b) r
-  text-refused f b r g = go (read_pla p) refl h
-    where
-      go : (y : Answer) → read_pla p ≡ y → TextIs p y t → ExaminedIs (examine p b) r
-      go (bad_line n) e w =
-          answered p b (refused 12 n) r (by_answer p b (bad_line n) e)
-          (record { not_ok = g.not_ok; number = g.number; line = g.line ∙ w.line })
-      go (pla x) e w = absurd (true_false (sym w.all_ok ∙ f))
+  pub text-refused : (b : List ℕ) (n : ℕ) → read_pla p ≡ bad_line n → ExaminedIs (examine p b) (Err (no_at Question.PlaSpelling n))
+  text-refused b n e =
+      answered p b (refused 12 n) (Err (no_at Question.PlaSpelling n)) (by_answer p b (bad_line n) e) (record { number = refl; line = refl })
 
 pub text_readable : (p : List ℕ) (t : PlaText) → TextRead p t → t.outputs.count ≤ max_outputs → Readable p t
 text_readable p t w h =
@@ -73,23 +72,29 @@ text_readable p t w h =
       outputs_few = omega (arith, w.read_as.outputs_listed.kept.counted);
     }
 
+some_none : {n : ℕ} → ◌≡◌ {A = Option ℕ} (Some n) None → ⊥
+some_none e =
+    let z : ◌≡◌ {A = ℕ} 0 1 = cc in
+    omega arith
+
 -- ---- questions 13 and 14
-module _ (p : List ℕ) (t : PlaText) (w : TextRead p t) (b : List ℕ) (r : Examined) where
+module _ (p : List ℕ) (t : PlaText) (w : TextRead p t) (b : List ℕ) where
   abbrev marked : text.Examined
   marked = refused_at 14 (other_mark first_cube w.text.cubes) (text.passed w.text)
 
-  by_count : (y : Option ℕ) → too_many w.text ≡ y → examine p b ≡ beside_text (refused_at 13 y marked) b
-  by_count y e = by_answer p b (pla w.text) w.is_read ∙ ap (λ (z : Option ℕ). beside_text (refused_at 13 z marked) b) e
+  by_count : (y : maybe.Option ℕ) → too_many w.text ≡ y → examine p b ≡ beside_text (refused_at 13 y marked) b
+  by_count y e = by_answer p b (pla w.text) w.is_read ∙ ap (λ (z : maybe.Option ℕ). beside_text (refused_at 13 z marked) b) e
 
-  pub many_inputs : max_inputs < t.inputs.count → RefusedAs 13 inputs_line r → ExaminedIs (examine p b) r
+  pub many_inputs : max_inputs < t.inputs.count → ExaminedIs (examine p b) (Err (no_at Question.PlaRanges inputs_line))
   unfolding too_many
-  many_inputs l g =
+  many_inputs l =
       let x = w.text in
       let many : leb (length x.inputs) max_inputs ≡ false
       = lt-leb (length x.inputs) max_inputs (omega (arith, w.read_as.inputs_listed.kept.counted)) in
-      answered p b (refused 13 inputs_line) r
+      answered p b (refused 13 inputs_line) (Err (no_at Question.PlaRanges inputs_line))
       (by_count (some inputs_line)
-      (ap (λ (c : Bool). pick c (pick (leb (length x.outputs) max_outputs) none (some outputs_line)) (some inputs_line)) many)) g
+      (ap (λ (c : Bool). pick c (pick (leb (length x.outputs) max_outputs) none (some outputs_line)) (some inputs_line)) many))
+      (record { number = refl; line = refl })
 
   module _ (few : t.inputs.count ≤ max_inputs) where
     by_outputs : too_many w.text ≡ pick (leb (length w.text.outputs) max_outputs) none (some outputs_line)
@@ -100,16 +105,17 @@ module _ (p : List ℕ) (t : PlaText) (w : TextRead p t) (b : List ℕ) (r : Exa
         = le-leb (length x.inputs) max_inputs (omega (arith, w.read_as.inputs_listed.kept.counted)) in
         ap (λ (c : Bool). pick c (pick (leb (length x.outputs) max_outputs) none (some outputs_line)) (some inputs_line)) fine
 
-    pub many_outputs : max_outputs < t.outputs.count → RefusedAs 13 outputs_line r → ExaminedIs (examine p b) r
-    many_outputs l g =
+    pub many_outputs : max_outputs < t.outputs.count → ExaminedIs (examine p b) (Err (no_at Question.PlaRanges outputs_line))
+    many_outputs l =
         let x = w.text in
         let many : leb (length x.outputs) max_outputs ≡ false
         = lt-leb (length x.outputs) max_outputs (omega (arith, w.read_as.outputs_listed.kept.counted)) in
-        answered p b (refused 13 outputs_line) r
-        (by_count (some outputs_line) (by_outputs ∙ ap (λ (c : Bool). pick c none (some outputs_line)) many)) g
+        answered p b (refused 13 outputs_line) (Err (no_at Question.PlaRanges outputs_line))
+        (by_count (some outputs_line) (by_outputs ∙ ap (λ (c : Bool). pick c none (some outputs_line)) many))
+        (record { number = refl; line = refl })
 
     module _ (least : t.outputs.count ≤ max_outputs) where
-      by_mark : (y : Option ℕ)
+      by_mark : (y : maybe.Option ℕ)
           → other_mark first_cube w.text.cubes ≡ y
           → examine p b ≡ beside_text (refused_at 14 y (text.passed w.text)) b
       by_mark y e =
@@ -117,68 +123,62 @@ module _ (p : List ℕ) (t : PlaText) (w : TextRead p t) (b : List ℕ) (r : Exa
           let fine : leb (length x.outputs) max_outputs ≡ true
           = le-leb (length x.outputs) max_outputs (omega (arith, w.read_as.outputs_listed.kept.counted)) in
           by_count none (by_outputs ∙ ap (λ (c : Bool). pick c none (some outputs_line)) fine)
-          ∙ ap (λ (z : Option ℕ). beside_text (refused_at 14 z (text.passed x)) b) e
+          ∙ ap (λ (z : maybe.Option ℕ). beside_text (refused_at 14 z (text.passed x)) b) e
 
-      module _ (l : ℕ) (h : OtherIs l (other_mark first_cube w.text.cubes)) where
-        pub other-found : 0 < l → RefusedAs 14 l r → ExaminedIs (examine p b) r
-        other-found c g = go (other_mark first_cube w.text.cubes) refl h
+      pub other-found : (l : ℕ) → OtherIs (Some l) (other_mark first_cube w.text.cubes)
+          → ExaminedIs (examine p b) (Err (no_at Question.PlaMarks l))
+      other-found l h = go (other_mark first_cube w.text.cubes) refl h
+        where
+          go : (y : maybe.Option ℕ) → other_mark first_cube w.text.cubes ≡ y → OtherIs (Some l) y
+              → ExaminedIs (examine p b) (Err (no_at Question.PlaMarks l))
+          go none e o = absurd (some_none o)
+          go (some n) e o =
+              let same : l ≡ n = cc in
+              answered p b (refused 14 n) (Err (no_at Question.PlaMarks l)) (by_mark (some n) e) (record { number = refl; line = same })
+
+      -- ---- the second text
+      module _ (h : OtherIs None (other_mark first_cube w.text.cubes)) where
+        passed-text : examine p b ≡ pick (sized b) (with_board (read_board (lines b)) w.text) (refused 1 0)
+        passed-text = go (other_mark first_cube w.text.cubes) refl h
           where
-            go : (y : Option ℕ) → other_mark first_cube w.text.cubes ≡ y → OtherIs l y → ExaminedIs (examine p b) r
-            go none e o = absurd (omega arith)
-            go (some n) e o =
-                answered p b (refused 14 n) r (by_mark (some n) e)
-                (record { not_ok = g.not_ok; number = g.number; line = g.line ∙ o.0 })
+            go : (y : maybe.Option ℕ)
+                → other_mark first_cube w.text.cubes ≡ y
+                → OtherIs None y
+                → examine p b ≡ pick (sized b) (with_board (read_board (lines b)) w.text) (refused 1 0)
+            go none e o = by_mark none e
+            go (some n) e o = absurd (some_none (sym o))
 
-        -- ---- the second text
-        module _ (c : l ≤ 0) where
-          passed-text : examine p b ≡ pick (sized b) (with_board (read_board (lines b)) w.text) (refused 1 0)
-          passed-text = go (other_mark first_cube w.text.cubes) refl h
-            where
-              go : (y : Option ℕ)
-                  → other_mark first_cube w.text.cubes ≡ y
-                  → OtherIs l y
-                  → examine p b ≡ pick (sized b) (with_board (read_board (lines b)) w.text) (refused 1 0)
-              go none e o = by_mark none e
-              go (some n) e o = absurd (omega (arith, o.0, o.1))
+        by_board : (z : Bool) (y : Board)
+            → sized b ≡ z
+            → read_board (lines b) ≡ y
+            → examine p b ≡ pick z (with_board y w.text) (refused 1 0)
+        by_board z y d e =
+            passed-text
+            ∙ ap (λ (k : Bool). pick k (with_board (read_board (lines b)) w.text) (refused 1 0)) d
+            ∙ ap (λ (k : Board). pick z (with_board k w.text) (refused 1 0)) e
 
-          by_board : (z : Bool) (y : Board)
-              → sized b ≡ z
-              → read_board (lines b) ≡ y
-              → examine p b ≡ pick z (with_board y w.text) (refused 1 0)
-          by_board z y d e =
-              passed-text
-              ∙ ap (λ (k : Bool). pick k (with_board (read_board (lines b)) w.text) (refused 1 0)) d
-              ∙ ap (λ (k : Board). pick z (with_board k w.text) (refused 1 0)) e
+        pub board-refused : (q : Refusal) → BoardIs b (sized b) (read_board (lines b)) (Err q) → ExaminedIs (examine p b) (Err q)
+        board-refused q i = go (sized b) (read_board (lines b)) refl refl i
+          where
+            go : (z : Bool) (k : Board) → sized b ≡ z → read_board (lines b) ≡ k → BoardIs b z k (Err q) → ExaminedIs (examine p b) (Err q)
+            go false k d e v = answered p b (refused 1 0) (Err q) (by_board false k d e) v
+            go true (misspelled n) d e v = answered p b (refused 2 n) (Err q) (by_board true (misspelled n) d e) v
+            go true (board bs n) d e v = absurd v
 
-          module _ (y : BoardLines) (i : BoardIs b (sized b) (read_board (lines b)) y) where
-            pub board-refused : y.ok ≡ false → RefusedAs y.number y.line r → ExaminedIs (examine p b) r
-            board-refused f g = go (sized b) (read_board (lines b)) refl refl i
-              where
-                go : (z : Bool) (k : Board) → sized b ≡ z → read_board (lines b) ≡ k → BoardIs b z k y → ExaminedIs (examine p b) r
-                go false k d e v =
-                    answered p b (refused 1 0) r (by_board false k d e)
-                    (record { not_ok = g.not_ok; number = g.number ∙ v.number; line = g.line ∙ v.line })
-                go true (misspelled n) d e v =
-                    answered p b (refused 2 n) r (by_board true (misspelled n) d e)
-                    (record { not_ok = g.not_ok; number = g.number ∙ v.number; line = g.line ∙ v.line })
-                go true (board bs n) d e v = absurd (true_false (sym v.all_ok ∙ f))
-
-            pub panel-answered : y.ok ≡ true
-                → ((bs : List Name) (n : ℕ) → BoardRead b bs n y → ExaminedIs (ask_names w.text (ask_board bs n)) r)
-                → ExaminedIs (examine p b) r
-            panel-answered f g = go (sized b) (read_board (lines b)) refl refl i
-              where
-                go : (z : Bool) (k : Board) → sized b ≡ z → read_board (lines b) ≡ k → BoardIs b z k y → ExaminedIs (examine p b) r
-                go false k d e v = absurd (true_false (sym f ∙ v.not_ok))
-                go true (misspelled n) d e v = absurd (true_false (sym f ∙ v.not_ok))
-                go true (board bs n) d e v =
-                    answered p b (ask_names w.text (ask_board bs n)) r (by_board true (board bs n) d e) (g bs n v)
+        pub panel-answered : (y : BoardLines) → BoardIs b (sized b) (read_board (lines b)) (Ok y) → (r : Result Sheet Refusal)
+            → ((bs : List Name) (n : ℕ) → BoardRead b bs n y → ExaminedIs (ask_names w.text (ask_board bs n)) r)
+            → ExaminedIs (examine p b) r
+        panel-answered y i r g = go (sized b) (read_board (lines b)) refl refl i
+          where
+            go : (z : Bool) (k : Board) → sized b ≡ z → read_board (lines b) ≡ k → BoardIs b z k (Ok y) → ExaminedIs (examine p b) r
+            go false k d e v = absurd v
+            go true (misspelled n) d e v = absurd v
+            go true (board bs n) d e v = answered p b (ask_names w.text (ask_board bs n)) r (by_board true (board bs n) d e) (g bs n v)
 
 -- where the second text is read, its lines lie in it
 pub board_inside : (b : List ℕ) (z : Bool) (k : Board) (y : BoardLines)
-    → BoardIs b z k y
-    → y.ok ≡ true
+    → BoardIs b z k (Ok y)
     → (y.bound + 1 ≤ y.limit) × (y.limit ≤ length b)
-board_inside b false k y v f = absurd (true_false (sym f ∙ v.not_ok))
-board_inside b true (misspelled n) y v f = absurd (true_false (sym f ∙ v.not_ok))
-board_inside b true (board bs n) y v f = (v.ordered, v.inside)
+board_inside b false k y v = absurd v
+board_inside b true (misspelled n) y v = absurd v
+board_inside b true (board bs n) y v = (v.ordered, v.inside)

@@ -103,7 +103,9 @@ fn tables(s: &[u8], t: PlaText) -> [Rows; limits::MAX_OUTPUTS]
     for _ in 0..t.cubes {
         let m = at + t.inputs.count;
         let e = m + 1 + t.outputs.count;
-        tables = added(tables, cubes::covered(&s[at..m]), &s[m + 1..e]);
+        let rows = cubes::covered(&s[at..m]);
+        let next = added(tables, rows, &s[m + 1..e]);
+        tables = next;
         at = e + 1;
     }
     tables

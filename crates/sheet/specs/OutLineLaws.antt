@@ -25,13 +25,8 @@ abbrev of_formula : Name → Read Formula → maybe.Option Output
 of_formula n q = whole (closed (after q (λ f t. found (record { name = n; formula = f }) t)))
 
 module _ (l : List ℕ) (ns : List Name) where
-  no_formula : (q : Read Formula) → PartIs (suc max_depth) l ns q None → q ≡ bad
-  no_formula (found f t) g = absurd g
-  no_formula bad g = refl
-
-  pub out-no-formula : (v : ℕ) (s : List ℕ) → PartIs (suc max_depth) l ns (read_formula s) None
-      → OutIs ns (output_after (name_of v) s) None
-  out-no-formula v s g = rw (no_formula (read_formula s) g) tt
+  pub out-no-formula : (v : ℕ) (s : List ℕ) → bad ≡ read_formula s → OutIs ns (output_after (name_of v) s) None
+  out-no-formula v s e = rw (← e) tt
 
   module _ (p : Part) where
     a_formula : (q : Read Formula) → PartIs (suc max_depth) l ns q (Some p)
