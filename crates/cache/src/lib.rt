@@ -11,6 +11,7 @@ ghost use Rattle.subproblems.specs.Subproblem.{Barred};
 ghost use Rattle.cache.specs.Cache.{entry_count, entry_size, head_at, row_at, Honest};
 
 use limits::SEARCH_OUTPUTS;
+use problem::Answer;
 
 // The entries of a cache, the largest prime below their number, and the numbers that each entry has: its head and a row for
 // each output.
@@ -153,7 +154,7 @@ pub fn clear(mem: &mut [u16])
 // known.
 #[derive(Drop)]
 pub struct Reply {
-    pub ok: bool,
+    pub possible: bool,
     pub nodes: u64,
 }
 
@@ -173,23 +174,30 @@ fn tell(cl: &[u8], given: &[u16], mem: &mut [u16], q: Query, asked: u8) -> Reply
     requires { Classes cl.now × (length given.now ≡ max_vertices) × (q.vertices ≤ max_vertices)
         × Honest cl.now given.now q.kn q.val q.vertices mem.old }
     ensures { Honest cl.now given.now q.kn q.val q.vertices mem.new
-        × (result.ok ≡ false → Barred cl.now given.now q.kn q.val q.vertices asked (item q.rows)) }
+        × (result.possible ≡ false → Barred cl.now given.now q.kn q.val q.vertices asked (item q.rows)) }
 {
     let rows = q.rows;
     let asks = subproblems::question(rows, asked, q.kn != 0);
     if is_bad(mem, asked, asks) {
         return Reply {
-            ok: false,
+            possible: false,
             nodes: 0,
         };
     }
     if holds(mem, place(asked, asks), head(asked, true), asks) {
-        return Reply { ok: true, nodes: 0 };
+        return Reply {
+            possible: true,
+            nodes: 0,
+        };
     }
     let a = subproblems::ask(cl, given, q.vertices, q.kn, q.val, asked, asks, q.limit);
-    let ok = if a.unsure { true } else { a.ok };
-    store(mem, asked, asks, ok);
-    Reply { ok, nodes: a.nodes }
+    // What was given up may have codes.
+    let possible = !matches!(a.answer, Answer::Nothing);
+    store(mem, asked, asks, possible);
+    Reply {
+        possible,
+        nodes: a.nodes,
+    }
 }
 
 // Whether a is a set of some of the outputs of among, those of with among them.
@@ -235,7 +243,7 @@ pub fn settle(
     requires { Classes cl.now × (length given.now ≡ max_vertices) × (q.vertices ≤ max_vertices)
         × Honest cl.now given.now q.kn q.val q.vertices mem.old }
     ensures { Honest cl.now given.now q.kn q.val q.vertices mem.new
-        × (result.ok ≡ false → Barred cl.now given.now q.kn q.val q.vertices among (item q.rows)) }
+        × (result.possible ≡ false → Barred cl.now given.now q.kn q.val q.vertices among (item q.rows)) }
 {
     let mut nodes: u64 = 0;
     let mut a: usize = 1;
@@ -244,14 +252,20 @@ pub fn settle(
             if between(a as u8, with, among) {
                 let t = tell(cl, given, mem, q, a as u8);
                 nodes = std::num::wrapping_add_u64(nodes, t.nodes);
-                if !t.ok {
-                    return Reply { ok: false, nodes };
+                if !t.possible {
+                    return Reply {
+                        possible: false,
+                        nodes,
+                    };
                 }
             }
         }
         a += 1;
     }
-    Reply { ok: true, nodes }
+    Reply {
+        possible: true,
+        nodes,
+    }
 }
 
 // Whether the sets of fewer than n outputs of among may have codes for the rows; smaller sets first, since they are asked
@@ -268,17 +282,23 @@ pub fn settle_smaller(
     requires { Classes cl.now × (length given.now ≡ max_vertices) × (q.vertices ≤ max_vertices)
         × Honest cl.now given.now q.kn q.val q.vertices mem.old }
     ensures { Honest cl.now given.now q.kn q.val q.vertices mem.new
-        × (result.ok ≡ false → Barred cl.now given.now q.kn q.val q.vertices among (item q.rows)) }
+        × (result.possible ≡ false → Barred cl.now given.now q.kn q.val q.vertices among (item q.rows)) }
 {
     let mut nodes: u64 = 0;
     let mut i: u32 = if q.kn != 0 { 1 } else { 2 };
     while i < n {
         let t = settle(cl, given, mem, q, i, 0, among);
         nodes = std::num::wrapping_add_u64(nodes, t.nodes);
-        if !t.ok {
-            return Reply { ok: false, nodes };
+        if !t.possible {
+            return Reply {
+                possible: false,
+                nodes,
+            };
         }
         i += 1;
     }
-    Reply { ok: true, nodes }
+    Reply {
+        possible: true,
+        nodes,
+    }
 }

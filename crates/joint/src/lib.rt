@@ -7,13 +7,15 @@
 ghost use Rattle.std.specs.Prelude.{◌≡◌, true, false, ℕ, ◌+◌, ◌*◌, ◌<◌, ◌≤◌};
 ghost use Rattle.limits.specs.Limits.{search_outputs, max_vertices, label_count};
 ghost use Rattle.problem.specs.Problem.{Labels};
+ghost use Rattle.problem.specs.Answer.{is_found, is_unsure, found_codes};
 ghost use Rattle.coding.specs.Limit.{Sure};
 ghost use Rattle.readers.specs.Masks.{Short, Decided};
 ghost use Rattle.joint.specs.Digits.{vertex_at, known_at, Drawn};
 ghost use Rattle.joint.specs.Merge.{Mergeable, Merged, Copied, Picked, Spread, joint_at};
 
+use coding::Search;
 use limits::{MAX_VERTICES, SEARCH_OUTPUTS, Vertex};
-use problem::LABELS_AND_PARTS;
+use problem::{Answer, LABELS_AND_PARTS};
 
 // The number of a joint class of the outputs in question: vertices that have the same class for each of them, and of which the
 // same is known of cell 0.
@@ -191,9 +193,9 @@ pub fn codes_for(
     kn: u32,
     val: u32,
     limit: u64,
-) -> coding::Search
+) -> Search
     requires { Labels cl.now × (v ≤ max_vertices) × (j ≤ search_outputs) × Short rows j }
-    ensures { Sure limit result.unsure (Decided cl.now v j rows kn val result.ok result.codes) }
+    ensures { Sure limit (is_unsure result.answer) (Decided cl.now v j rows kn val (is_found result.answer) (found_codes result.answer)) }
 {
     let m = merge(cl, v, j, kn, val);
     let n = m.count;
@@ -203,12 +205,11 @@ pub fn codes_for(
     let known = drawn(kn, first, n);
     let digits = drawn(val, first, n);
     let c = readers::codes_for(&labels, n, j, rows, known, digits, limit);
-    let small = c.codes;
-    let codes = expand(small, place, v);
-    coding::Search {
-        ok: c.ok,
-        unsure: c.unsure,
-        codes,
-        nodes: c.nodes,
+    match c.answer {
+        Answer::Found(codes) => Search {
+            answer: Answer::Found(expand(codes, place, v)),
+            nodes: c.nodes,
+        },
+        Answer::Nothing | Answer::Unsure => c,
     }
 }

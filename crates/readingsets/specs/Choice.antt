@@ -1,6 +1,6 @@
 -- A core beside given tables: for each output a row, the open cells and the given tables that it reads (crate subproblems), and
 -- for each vertex a code of the open cells. Rows are chosen output after output, in any order of the outputs. Assumes nothing.
-use Rattle.std.specs.Prelude.{◌≡◌, ℕ, suc, ◌+◌, ◌-◌, ◌*◌, ◌/◌, ◌%◌, ◌^◌, ◌<◌, ◌≤◌, min, Bool, true, false, List, length, ◌≢◌, bit_and, bit_xor}
+use Rattle.std.specs.Prelude.{◌≡◌, ℕ, suc, ◌+◌, ◌-◌, ◌*◌, ◌/◌, ◌%◌, ◌^◌, ◌<◌, ◌≤◌, min, Bool, true, false, List, length, ◌≢◌, bit_and, bit_xor, ⊤, Option, MatchOption}
 use Rattle.limits.specs.Limits.{search_outputs, max_cells, max_codes}
 use Rattle.bits.specs.Digit.{on}
 use Rattle.bits.specs.Count.{count}
@@ -84,17 +84,13 @@ pub record Suits (row want same : ℕ) (ok : Bool) : Type 0 where
   pub right : ok ≡ true → count (on row) row_digits ≡ want
   pub wrong : ok ≡ false → count (on row) row_digits ≡ want → disorder (open_of row) same ≢ 0
 
--- r is one of the first m outputs that is not in the set done, or search_outputs where all are
-pub record Next (m done r : ℕ) : Type 0 where
-  pub room : r ≤ search_outputs
-  pub free : r < search_outputs → (r < m) × (on done r ≡ false)
-  pub none : r ≡ search_outputs → (o : ℕ) → o < m → on done o ≡ true
+-- r is one of the first m outputs that is not in the set done, or there is none since all are
+abbrev pub Next : ℕ → ℕ → Option ℕ → Type 0
+Next m done r = MatchOption r ((o : ℕ) → o < m → on done o ≡ true) (λ o. (o < m) × (on done o ≡ false))
 
--- unless r is past the rows, the row of number r reads as many tables as wanted, and its given tables leave no conflict of
--- output n
-pub record Served (cl given : List ℕ) (v u g n want r : ℕ) : Type 0 where
-  pub full : r < 2 ^ (u + g) → count (on (numbered u r)) row_digits ≡ want
-  pub serves : r < 2 ^ (u + g) → NoneLeft cl given (given_of (numbered u r)) n v
+-- where r is the number of a row, that row reads as many tables as wanted, and its given tables leave no conflict of output n
+abbrev pub Served : List ℕ → List ℕ → ℕ → ℕ → ℕ → ℕ → ℕ → Option ℕ → Type 0
+Served cl given v u g n want r = MatchOption r ⊤ (λ r. (r < 2 ^ (u + g)) × (count (on (numbered u r)) row_digits ≡ want) × NoneLeft cl given (given_of (numbered u r)) n v)
 
 -- the number of a row among u open cells
 abbrev pub number_of : ℕ → ℕ → ℕ

@@ -25,7 +25,7 @@ use Rattle.relation.specs.Relation.{Left}
 use Rattle.subproblems.specs.Subproblem.{open_of, given_of, Barred, Settled}
 use Rattle.subproblems.specs.SubproblemLaws.{on_open}
 use Rattle.cache.specs.CacheLaws.{barred_among}
-use Rattle.readingsets.specs.Choice.{RowFits, numbered, turned, first_outputs, Core, Rows, ReadAlike, Agree, Found, Lost, Chosen, disorder, Suits, still_alike, Next, number_of, Tried}
+use Rattle.readingsets.specs.Choice.{RowFits, numbered, turned, first_outputs, Core, Rows, ReadAlike, Agree, Found, Lost, Chosen, disorder, Suits, still_alike, number_of, Tried}
 
 -- ======== digits of rows
 on-given : (row i : ℕ) → on row (6 + i) ≡ on (row / 64) i
@@ -466,20 +466,3 @@ number_parts u r p h e l = subst (λ (p : ℕ). (0 < p) × (r / p < 1024) × (r 
 
 pub number_room : (u g r end : ℕ) → g ≤ 10 → end ≡ 2 ^ (u + g) → r < end → r < 2 ^ (u + 10)
 number_room u g r end h e l = let p : 2 ^ (u + g) ≤ 2 ^ (u + 10) = pow_mono (omega arith) in omega arith
-
--- ======== the next output
-pub next_start : (done : ℕ) → Next 0 done 8
-next_start done = record { room = omega arith; free = λ h. absurd (omega arith); none = λ e o h. absurd (omega arith) }
-
-pub next_here : (done o : ℕ) → o < 8 → on done o ≡ false → Next (o + 1) done o
-next_here done o h e = record { room = omega arith; free = λ k. (omega arith, e); none = λ d. absurd (let z : o ≡ 8 = d in omega arith) }
-
-pub next-found : (done o best : ℕ) → (best ≢ 8) → Next o done best → Next (o + 1) done best
-next-found done o best h s = record { room = s.room; free = λ k. let f = s.free k in let l = f.0 in (omega arith, f.1); none = λ d. absurd (h d) }
-
-pub next_done : (done o best : ℕ) → on done o ≡ true → Next o done best → Next (o + 1) done best
-next_done done o best h s = record {
-  room = s.room;
-  free = λ k. let f = s.free k in let l = f.0 in (omega arith, f.1);
-  none = λ d q l. ⊎_elim (s.none d q) (λ e. ap (on done) e ∙ h) (less_or_equal q o (omega arith));
-}

@@ -10,7 +10,7 @@ use Rattle.bits.specs.Count.{count}
 use Rattle.problem.specs.Problem.{item}
 use Rattle.relation.specs.Relation.{Left, NoneLeft}
 use Rattle.subproblems.specs.Subproblem.{open_of, given_of}
-use Rattle.readingsets.specs.Choice.{RowFits, Core, Agree, Lost, Chosen, numbered, Served}
+use Rattle.readingsets.specs.Choice.{RowFits, Core, Agree, Lost, Chosen}
 use Rattle.readingsets.specs.ChoiceLaws.{agree_more}
 
 -- ======== one row replaced
@@ -71,14 +71,3 @@ module _ (cl given budgets : List ℕ) (kn val v m u g n row : ℕ) (fits : RowF
         → Chosen cl given budgets kn val v m u g done rows ok rows' codes
     served_chosen rows' codes true s = s
     served_chosen rows' codes false s = served_lost s
-
--- ======== such a row found
-pub served_here : (cl given : List ℕ) (v u g n want r row tables : ℕ) → row ≡ numbered u r → tables ≡ given_of row
-    → count (on row) 16 ≡ want → NoneLeft cl given tables n v → Served cl given v u g n want r
-served_here cl given v u g n want r row tables er et full s = record {
-  full = λ h. subst (λ (z : ℕ). count (on z) 16 ≡ want) er full;
-  serves = λ h. subst (λ (z : ℕ). NoneLeft cl given (given_of z) n v) er (subst (λ (z : ℕ). NoneLeft cl given z n v) et s);
-}
-
-pub served_none : (cl given : List ℕ) (v u g n want r : ℕ) → r ≡ 2 ^ (u + g) → Served cl given v u g n want r
-served_none cl given v u g n want r e = record { full = λ h. absurd (omega arith); serves = λ h. absurd (omega arith) }

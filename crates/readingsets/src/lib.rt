@@ -5,16 +5,20 @@
 #![tactic(auto)]
 
 ghost use Rattle.std.specs.Prelude.{◌≡◌, ◌+◌, ◌*◌, ◌/◌, ◌%◌, ◌^◌, ◌<◌, ◌≤◌, min, true, false, length, bit_or};
+ghost use Rattle.std.specs.Option.{is_some};
 ghost use Rattle.limits.specs.Limits.{search_outputs, max_vertices, max_cells};
 ghost use Rattle.bits.specs.Digit.{on};
 ghost use Rattle.problem.specs.Problem.{item};
+ghost use Rattle.problem.specs.Answer.{is_found, is_unsure};
 ghost use Rattle.relation.specs.Relation.{Classes};
 ghost use Rattle.coding.specs.Limit.{Sure};
 ghost use Rattle.subproblems.specs.Subproblem.{Barred, Settled};
 ghost use Rattle.cache.specs.Cache.{Honest};
 ghost use Rattle.readingsets.specs.Choice.{max_given, row_digits, first_outputs, numbered, turned, Rows, ReadAlike, Chosen, Suits, still_alike, Next, Served};
+ghost use Rattle.readingsets.specs.Answered.{core_rows, core_codes};
 
 use limits::{MAX_VERTICES, SEARCH_OUTPUTS};
+use problem::Answer;
 
 // Given tables that there may be: the bound inputs, and cells but one whose tables are fixed.
 pub const MAX_GIVEN: u8 = 10;
@@ -231,33 +235,38 @@ fn candidates(cl: &[u8], given: &[u16], p: Problem, o: usize, want: u32, same: u
     n
 }
 
-// Where there is no output without a row.
-const NO_OUTPUT: usize = SEARCH_OUTPUTS;
+// Whether n is less than the least number so far.
+fn is_fewer(n: u32, best: Option<(usize, u32)>) -> bool
+    ensures { result ≡ false → is_some best ≡ true }
+{
+    match best {
+        Some((_, least)) => n < least,
+        None => true,
+    }
+}
 
-// An output without a row for which the fewest rows count, the first of several, or NO_OUTPUT where all have rows.
-fn next(cl: &[u8], given: &[u16], p: Problem, done: u8, same: u8) -> usize
+// An output without a row for which the fewest rows count, the first of several, or none where all have rows.
+fn next(cl: &[u8], given: &[u16], p: Problem, done: u8, same: u8) -> Option<usize>
     requires { Classes cl.now × (length given.now ≡ max_vertices) × (p.vertices ≤ max_vertices) × (p.outputs ≤ search_outputs) × (p.cells ≤ max_cells) × (p.tables ≤ max_given) }
     ensures { Next p.outputs done result }
 {
-    let budgets = p.budgets;
-    let m = p.outputs;
-    let mut best: usize = NO_OUTPUT;
-    let mut least: u32 = 0;
-    let mut o: usize = 0;
-    while o < m {
-        if !cells::in_set(done as u64, o as u8) {
-            let n = candidates(cl, given, p, o, wanted(budgets[o], p.cells, p.tables), same);
-            if best == NO_OUTPUT {
-                best = o;
-                least = n;
-            } else if n < least {
-                best = o;
-                least = n;
+    let mut best: Option<(usize, u32)> = None;
+    for o in 0..p.outputs {
+        if !cells::in_set(u64::from(done), o as u8) {
+            let n = candidates(
+                cl,
+                given,
+                p,
+                o,
+                wanted(p.budgets[o], p.cells, p.tables),
+                same,
+            );
+            if is_fewer(n, best) {
+                best = Some((o, n));
             }
         }
-        o += 1;
     }
-    best
+    best.map(|(o, _)| o)
 }
 
 // Whether a count leaves it open that the rows of the outputs of the set done, n among them, have codes. Where there are given
@@ -301,7 +310,7 @@ fn small_questions(
     requires { Classes cl.now × (length given.now ≡ max_vertices) × (p.vertices ≤ max_vertices) × (n < search_outputs)
         × Honest cl.now given.now p.kn p.val p.vertices mem.old }
     ensures { Honest cl.now given.now p.kn p.val p.vertices mem.new
-        × (result.ok ≡ false → Barred cl.now given.now p.kn p.val p.vertices done (item rows)) }
+        × (result.possible ≡ false → Barred cl.now given.now p.kn p.val p.vertices done (item rows)) }
 {
     let last = with(0, n);
     let q = cache::Query {
@@ -317,12 +326,18 @@ fn small_questions(
     while size < end {
         let a = cache::settle(cl, given, mem, q, size, last, done);
         nodes = std::num::wrapping_add_u64(nodes, a.nodes);
-        if !a.ok {
-            return cache::Reply { ok: false, nodes };
+        if !a.possible {
+            return cache::Reply {
+                possible: false,
+                nodes,
+            };
         }
         size += 1;
     }
-    cache::Reply { ok: true, nodes }
+    cache::Reply {
+        possible: true,
+        nodes,
+    }
 }
 
 // Whether the rows of the outputs of the set done, n among them, may go on: nothing rules them out that a count, the cache or a
@@ -339,68 +354,55 @@ fn alive(
     requires { Classes cl.now × (length given.now ≡ max_vertices) × (p.vertices ≤ max_vertices) × (n < search_outputs) × (on done n ≡ true) × (p.cells ≤ max_cells)
         × Honest cl.now given.now p.kn p.val p.vertices mem.old }
     ensures { Honest cl.now given.now p.kn p.val p.vertices mem.new
-        × (result.ok ≡ false → Barred cl.now given.now p.kn p.val p.vertices done (item rows)) }
+        × (result.possible ≡ false → Barred cl.now given.now p.kn p.val p.vertices done (item rows)) }
 {
     if !possible(cl, given, p, rows, done, n) {
         return cache::Reply {
-            ok: false,
+            possible: false,
             nodes: 0,
         };
     }
     if cache::known_bad(mem, rows, with(0, n), done, p.kn != 0) {
         return cache::Reply {
-            ok: false,
+            possible: false,
             nodes: 0,
         };
     }
     small_questions(cl, given, mem, p, rows, done, n)
 }
 
-// Which of the rows, in the order in which they are tried, has given tables that leave no conflict of output n: then codes need
-// not serve it, and no other row has to be tried (specs/ServedLaws). The number of all rows where there is none.
-fn served(cl: &[u8], given: &[u16], p: Problem, n: usize, want: u32, same: u8) -> u32
+// The number of the first row that suits and whose given tables leave no conflict of output n: then codes need not serve it, and
+// no other row has to be tried (specs/ServedLaws). None where there is no such row.
+fn served(cl: &[u8], given: &[u16], p: Problem, n: usize, want: u32, same: u8) -> Option<u32>
     requires { Classes cl.now × (length given.now ≡ max_vertices) × (p.vertices ≤ max_vertices) × (n < search_outputs) × (p.cells ≤ max_cells) × (p.tables ≤ max_given) }
     ensures { Served cl.now given.now p.vertices p.cells p.tables n want result }
 {
-    let end = power(p.cells + p.tables);
     if p.tables == 0 {
-        return end;
+        return None;
     }
-    let mut r: u32 = 0;
-    while r < end {
+    for r in 0..power(p.cells + p.tables) {
         let row = row_of(r, p.cells);
-        if suits(row, want, same) {
-            if relation::none_left(cl, given, n, subproblems::given_of(row), p.vertices) {
-                return r;
-            }
+        if suits(row, want, same)
+            && relation::none_left(cl, given, n, subproblems::given_of(row), p.vertices)
+        {
+            return Some(r);
         }
-        r += 1;
     }
-    end
+    None
 }
 
-// Whether there is a core with the rows given, whether that is unsure since a search was given up, its rows and codes, and the
-// nodes so far: how often the search gave a vertex a code.
-#[derive(Drop)]
-pub struct Choice {
-    pub ok: bool,
-    pub unsure: bool,
+// A core: the rows of the outputs and the codes of the vertices.
+#[derive(Clone, Copy)]
+pub struct Core {
     pub rows: [u16; SEARCH_OUTPUTS],
     pub codes: [u8; MAX_VERTICES],
-    pub nodes: u64,
 }
 
-// No core, and that is sure or not.
-fn none(rows: [u16; SEARCH_OUTPUTS], unsure: bool, nodes: u64) -> Choice
-    ensures { (result.ok ≡ false) × (result.unsure ≡ unsure) × (result.rows ≡ rows) }
-{
-    Choice {
-        ok: false,
-        unsure,
-        rows,
-        codes: [0u8; MAX_VERTICES],
-        nodes,
-    }
+// What a choice of rows comes to, and the nodes so far: how often the search gave a vertex a code.
+#[derive(Clone, Copy)]
+pub struct Choice {
+    pub answer: Answer<Core>,
+    pub nodes: u64,
 }
 
 // Codes for the rows of all outputs, the set all. That there are none is remembered where cell 0 has known digits: with the next
@@ -415,27 +417,29 @@ fn ask_all(
     nodes: u64,
 ) -> Choice
     requires { Classes cl.now × (length given.now ≡ max_vertices) × (p.vertices ≤ max_vertices) × Honest cl.now given.now p.kn p.val p.vertices mem.old }
-    ensures { (result.rows ≡ rows)
-        × Sure p.last result.unsure (Settled cl.now given.now p.kn p.val p.vertices all (item rows) result.ok result.codes)
+    ensures { (is_found result.answer ≡ true → core_rows result.answer ≡ rows)
+        × Sure p.last (is_unsure result.answer) (Settled cl.now given.now p.kn p.val p.vertices all (item rows) (is_found result.answer) (core_codes result.answer))
         × Honest cl.now given.now p.kn p.val p.vertices mem.new }
 {
     if cache::is_bad(mem, all, rows) {
-        return none(rows, false, nodes);
+        return Choice {
+            answer: Answer::Nothing,
+            nodes,
+        };
     }
     let c = subproblems::ask(cl, given, p.vertices, p.kn, p.val, all, rows, p.last);
-    if p.kn != 0 {
-        if !c.ok {
-            if !c.unsure {
+    let answer = match c.answer {
+        Answer::Found(codes) => Answer::Found(Core { rows, codes }),
+        Answer::Nothing => {
+            if p.kn != 0 {
                 cache::store(mem, all, rows, false);
             }
+            Answer::Nothing
         }
-    }
-    let codes = c.codes;
+        Answer::Unsure => Answer::Unsure,
+    };
     Choice {
-        ok: c.ok,
-        unsure: c.unsure,
-        rows,
-        codes,
+        answer,
         nodes: std::num::wrapping_add_u64(nodes, c.nodes),
     }
 }
@@ -451,8 +455,8 @@ fn finish(
 ) -> Choice
     requires { Classes cl.now × (length given.now ≡ max_vertices) × (p.vertices ≤ max_vertices) × (p.outputs ≤ search_outputs)
         × Honest cl.now given.now p.kn p.val p.vertices mem.old }
-    ensures { (result.rows ≡ rows)
-        × Sure p.last result.unsure (Settled cl.now given.now p.kn p.val p.vertices (first_outputs p.outputs) (item rows) result.ok result.codes)
+    ensures { (is_found result.answer ≡ true → core_rows result.answer ≡ rows)
+        × Sure p.last (is_unsure result.answer) (Settled cl.now given.now p.kn p.val p.vertices (first_outputs p.outputs) (item rows) (is_found result.answer) (core_codes result.answer))
         × Honest cl.now given.now p.kn p.val p.vertices mem.new }
 {
     let all = first_outputs(p.outputs);
@@ -466,8 +470,11 @@ fn finish(
     };
     let s = cache::settle_smaller(cl, given, mem, q, m, all);
     let asked = std::num::wrapping_add_u64(nodes, s.nodes);
-    if !s.ok {
-        return none(rows, false, asked);
+    if !s.possible {
+        return Choice {
+            answer: Answer::Nothing,
+            nodes: asked,
+        };
     }
     ask_all(cl, given, mem, p, rows, all, asked)
 }
@@ -487,19 +494,15 @@ pub fn choose(
 ) -> Choice
     requires { Classes cl.now × (length given.now ≡ max_vertices) × (p.vertices ≤ max_vertices) × (p.outputs ≤ search_outputs) × (p.cells ≤ max_cells) × (p.tables ≤ max_given)
         × Rows p.budgets p.outputs p.cells p.tables done rows × ReadAlike p.kn p.cells done rows same × Honest cl.now given.now p.kn p.val p.vertices mem.old }
-    ensures { Sure p.last result.unsure (Chosen cl.now given.now p.budgets p.kn p.val p.vertices p.outputs
-        p.cells p.tables done rows result.ok result.rows result.codes) × Honest cl.now given.now p.kn p.val p.vertices mem.new }
+    ensures { Sure p.last (is_unsure result.answer) (Chosen cl.now given.now p.budgets p.kn p.val p.vertices p.outputs
+        p.cells p.tables done rows (is_found result.answer) (core_rows result.answer) (core_codes result.answer)) × Honest cl.now given.now p.kn p.val p.vertices mem.new }
 {
-    let n = next(cl, given, p, done, same);
-    if n == NO_OUTPUT {
+    let Some(n) = next(cl, given, p, done, same) else {
         return finish(cl, given, mem, p, rows, nodes);
-    }
-    let budgets = p.budgets;
-    let want = wanted(budgets[n], p.cells, p.tables);
+    };
+    let want = wanted(p.budgets[n], p.cells, p.tables);
     let done_now = with(done, n);
-    let end = power(p.cells + p.tables);
-    let s = served(cl, given, p, n, want, same);
-    if s < end {
+    if let Some(s) = served(cl, given, p, n, want, same) {
         let row = row_of(s, p.cells);
         let mut only = rows;
         only[n] = row;
@@ -516,15 +519,15 @@ pub fn choose(
     }
     let mut total = nodes;
     let mut unsure = false;
-    let mut i: u32 = 0;
-    while i < end {
+    let end = power(p.cells + p.tables);
+    for i in 0..end {
         let row = row_of(turn(i, end, p.kn != 0), p.cells);
         if suits(row, want, same) {
             let mut tried = rows;
             tried[n] = row;
             let a = alive(cl, given, mem, p, tried, done_now, n);
             total = std::num::wrapping_add_u64(total, a.nodes);
-            if a.ok {
+            if a.possible {
                 let k = choose(
                     cl,
                     given,
@@ -535,17 +538,27 @@ pub fn choose(
                     still_alike(same, row),
                     total,
                 );
-                if k.ok {
-                    return k;
+                match k.answer {
+                    Answer::Found(_) => return k,
+                    Answer::Nothing => {}
+                    Answer::Unsure => unsure = true,
                 }
                 total = k.nodes;
-                unsure = unsure | k.unsure;
                 if cache::known_bad(mem, rows, 0, done, p.kn != 0) {
-                    return none(rows, false, total);
+                    return Choice {
+                        answer: Answer::Nothing,
+                        nodes: total,
+                    };
                 }
             }
         }
-        i += 1;
     }
-    none(rows, unsure, total)
+    Choice {
+        answer: if unsure {
+            Answer::Unsure
+        } else {
+            Answer::Nothing
+        },
+        nodes: total,
+    }
 }

@@ -4,13 +4,17 @@
 
 ghost use Rattle.std.specs.Prelude.{◌≡◌, true, false, ◌<◌, ◌≤◌, length};
 ghost use Rattle.limits.specs.Limits.{search_outputs, max_vertices, max_cells};
+ghost use Rattle.problem.specs.Answer.{is_found};
 ghost use Rattle.relation.specs.Relation.{Classes};
 ghost use Rattle.coding.specs.Limit.{no_limit};
 ghost use Rattle.cache.specs.Cache.{Honest};
 ghost use Rattle.readingsets.specs.Choice.{max_given};
+ghost use Rattle.readingsets.specs.Answered.{core_rows, core_codes};
 ghost use Rattle.seeking.specs.Seeking.{Begins, Sought, AllFit, SoughtWhere, round_count, Places};
 
-use limits::{MAX_VERTICES, SEARCH_OUTPUTS};
+use limits::SEARCH_OUTPUTS;
+use problem::Answer;
+use readingsets::Choice;
 
 // What is sought: the budgets of the outputs, the numbers of vertices and outputs, of open cells and of given tables, and the
 // vertices where cell 0 has known digits and these digits.
@@ -74,47 +78,60 @@ fn all_nodes(i: u64, known: bool) -> u64
     }
 }
 
+// What round i asks readingsets.
+fn round(p: Problem, i: u64, alone: [u64; SEARCH_OUTPUTS]) -> readingsets::Problem
+    requires { i ≤ round_count }
+    ensures same { (result.budgets ≡ p.budgets) × (result.vertices ≡ p.vertices) × (result.outputs ≡ p.outputs) × (result.cells ≡ p.cells) × (result.tables ≡ p.tables)
+        × (result.kn ≡ p.kn) × (result.val ≡ p.val) }
+    ensures last { round_count ≤ i → result.last ≡ no_limit }
+{
+    readingsets::Problem {
+        budgets: p.budgets,
+        vertices: p.vertices,
+        outputs: p.outputs,
+        cells: p.cells,
+        tables: p.tables,
+        kn: p.kn,
+        val: p.val,
+        limit: some_nodes(i, p.kn != 0),
+        last: all_nodes(i, p.kn != 0),
+        alone,
+    }
+}
+
 // Cells as p says, or there are none. Where a round is unsure since it gave something up, the next one has higher limits. What
 // a round learnt to have no codes stays known.
-pub fn seek(
-    cl: &[u8],
-    given: &[u16],
-    mem: &mut [u16],
-    p: Problem,
-    nodes: u64,
-) -> readingsets::Choice
+pub fn seek(cl: &[u8], given: &[u16], mem: &mut [u16], p: Problem, nodes: u64) -> Choice
     requires { Classes cl.now × (length given.now ≡ max_vertices) × (p.vertices ≤ max_vertices) × (p.outputs ≤ search_outputs) × (p.cells ≤ max_cells) × (p.tables ≤ max_given)
         × Begins p.kn p.val p.cells × Honest cl.now given.now p.kn p.val p.vertices mem.old }
-    ensures { Sought cl.now given.now p.budgets p.kn p.val p.vertices p.outputs p.cells p.tables result.ok result.rows result.codes
+    ensures { Sought cl.now given.now p.budgets p.kn p.val p.vertices p.outputs p.cells p.tables (is_found result.answer)
+        (core_rows result.answer) (core_codes result.answer)
         × Honest cl.now given.now p.kn p.val p.vertices mem.new }
 {
     let none = [0u16; SEARCH_OUTPUTS];
     let same = places(p.cells, p.kn);
-    let budgets = p.budgets;
-    let alone = readingsets::alone(cl, given, budgets, p.vertices, p.outputs, p.cells, p.tables);
+    let alone = readingsets::alone(
+        cl, given, p.budgets, p.vertices, p.outputs, p.cells, p.tables,
+    );
     let mut total = nodes;
-    let mut i: u64 = 0;
-    loop {
-        let round = readingsets::Problem {
-            budgets,
-            vertices: p.vertices,
-            outputs: p.outputs,
-            cells: p.cells,
-            tables: p.tables,
-            kn: p.kn,
-            val: p.val,
-            limit: some_nodes(i, p.kn != 0),
-            last: all_nodes(i, p.kn != 0),
-            alone,
-        };
-        let k = readingsets::choose(cl, given, mem, round, none, 0, same, total);
-        if !k.unsure {
+    for i in 0..ROUNDS {
+        let k = readingsets::choose(cl, given, mem, round(p, i, alone), none, 0, same, total);
+        if !matches!(k.answer, Answer::Unsure) {
             return k;
         }
         cache::forget(mem);
         total = k.nodes;
-        i += 1;
     }
+    readingsets::choose(
+        cl,
+        given,
+        mem,
+        round(p, ROUNDS, alone),
+        none,
+        0,
+        same,
+        total,
+    )
 }
 
 // Whether the first m outputs are all in the set fits.
@@ -122,14 +139,7 @@ pub fn all_fit(fits: u8, m: usize) -> bool
     requires { m ≤ search_outputs }
     ensures { (result ≡ true → AllFit fits m) × (result ≡ false → AllFit fits m → ⊥) }
 {
-    let mut o: usize = 0;
-    while o < m {
-        if !cells::in_set(fits as u64, o as u8) {
-            return false;
-        }
-        o += 1;
-    }
-    true
+    (0..m).all(|o| cells::in_set(u64::from(fits), o as u8))
 }
 
 // The same where the outputs that are not in the set fits have no budget: nothing serves them, and there is nothing to seek.
@@ -140,18 +150,16 @@ pub fn seek_where(
     p: Problem,
     fits: u8,
     nodes: u64,
-) -> readingsets::Choice
+) -> Choice
     requires { Classes cl.now × (length given.now ≡ max_vertices) × (p.vertices ≤ max_vertices) × (p.outputs ≤ search_outputs) × (p.cells ≤ max_cells) × (p.tables ≤ max_given)
         × Begins p.kn p.val p.cells × Honest cl.now given.now p.kn p.val p.vertices mem.old }
-    ensures { SoughtWhere fits cl.now given.now p.budgets p.kn p.val p.vertices p.outputs p.cells p.tables result.ok result.rows result.codes
+    ensures { SoughtWhere fits cl.now given.now p.budgets p.kn p.val p.vertices p.outputs p.cells p.tables (is_found result.answer)
+        (core_rows result.answer) (core_codes result.answer)
         × Honest cl.now given.now p.kn p.val p.vertices mem.new }
 {
     if !all_fit(fits, p.outputs) {
-        return readingsets::Choice {
-            ok: false,
-            unsure: false,
-            rows: [0u16; SEARCH_OUTPUTS],
-            codes: [0u8; MAX_VERTICES],
+        return Choice {
+            answer: Answer::Nothing,
             nodes,
         };
     }

@@ -6,6 +6,7 @@
 ghost use Rattle.std.specs.Prelude.{◌≡◌, true, false, ℕ, ◌<◌, ◌≤◌, ◌/◌, ◌^◌, length};
 ghost use Rattle.limits.specs.Limits.{search_outputs, max_vertices, max_codes, max_cells};
 ghost use Rattle.problem.specs.Problem.{item};
+ghost use Rattle.problem.specs.Answer.{is_found, is_unsure, found_codes};
 ghost use Rattle.relation.specs.Relation.{Classes};
 ghost use Rattle.coding.specs.Limit.{Sure};
 ghost use Rattle.sorting.specs.Order.{Order};
@@ -170,7 +171,7 @@ pub fn ask(
     limit: u64,
 ) -> coding::Search
     requires { Classes cl.now × (length given.now ≡ max_vertices) × (v ≤ max_vertices) }
-    ensures { Sure limit result.unsure (Settled cl.now given.now kn val v asked (item rows) result.ok result.codes) }
+    ensures { Sure limit (is_unsure result.answer) (Settled cl.now given.now kn val v asked (item rows) (is_found result.answer) (found_codes result.answer)) }
 {
     let g = gather(asked, rows);
     let n = g.count;
