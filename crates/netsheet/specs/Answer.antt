@@ -1,6 +1,6 @@
 -- What reading a network sheet answers, by the definitions: the first bad line, or the places in the sheet's text where
 -- the tables of its network stand. Assumes nothing.
-use Rattle.std.specs.Prelude.{◌≡◌, true, false, List, [], ℕ, ◌^◌, ◌≤◌, ◌<◌, length, get_or}
+use Rattle.std.specs.Prelude.{◌≡◌, List, [], ℕ, ◌^◌, ◌≤◌, ◌<◌, length, get_or, Result, Ok, Err}
 use Rattle.limits.specs.Limits.{max_cells}
 use Rattle.sheet.specs.Examine.{Design}
 use Rattle.classes.specs.Columns.{free}
@@ -21,15 +21,12 @@ pub record Held (t : List ℕ) (b f : ℕ) (w : Network) (u : ℕ) (lutat reads 
 abbrev pub frees : Design → ℕ
 frees d = length (free d.inputs d.bound)
 
-pub record BadLine (n : ℕ) (r : NetworkSheet) : Type 0 where
-  pub not_ok : r.ok ≡ false
-  pub line : r.line ≡ n
-
 pub record ReadAs (d : Design) (t : List ℕ) (w : Network) (r : NetworkSheet) : Type 0 where
-  pub all_ok : r.ok ≡ true
   pub nodes-counted : length w.nodes ≡ length d.outputs
   pub held : Held t (length d.bound) (frees d) w r.luts r.lutat r.reads r.nodeat
 
-abbrev pub NetworkIs : Design → List ℕ → Answer → NetworkSheet → Type 0
-NetworkIs d t (bad_line n) r = BadLine n r
-NetworkIs d t (network w) r = ReadAs d t w r
+abbrev pub NetworkIs : Design → List ℕ → Answer → Result NetworkSheet ℕ → Type 0
+NetworkIs d t (bad_line n) (Err m) = m ≡ n
+NetworkIs d t (bad_line n) (Ok r) = ⊥
+NetworkIs d t (network w) (Ok r) = ReadAs d t w r
+NetworkIs d t (network w) (Err m) = ⊥

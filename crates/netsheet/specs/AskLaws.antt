@@ -1,10 +1,11 @@
 -- One line of a network sheet: what the code holds after a line of each kind is what the line comes to. Assumes nothing.
-use Rattle.std.specs.Prelude.{◌≡◌, Bool, ℕ, suc, ◌+◌, ◌^◌, ◌≤◌, ◌<◌, ltb, length, get_or, take}
+use Rattle.std.specs.Prelude.{◌≡◌, Bool, Option, Some, None, ℕ, suc, ◌+◌, ◌^◌, ◌≤◌, ◌<◌, ltb, length, get_or, take}
 use Rattle.std.proofs.Math.Path.{refl, ap, ap₂}
 use Rattle.std.proofs.Common.{sym, subst, ◌∙◌, arith, add-one, length-append, lt-ltb, le-ltb, ltb-true, ltb-false}
 use Rattle.std.proofs.Math.Bool.{true, false}
 use mathlib.Core.List.{List, [], ◌∷◌, ◌++◌, map}
-use Rattle.std.proofs.Math.Option.{Option, some, none}
+use Rattle.std.proofs.Math.Option.{some, none}
+use Rattle.std.proofs.Math.Option as math
 use Rattle.std.proofs.lemmas.List.{length-map}
 use Rattle.bits.specs.Logic.{pick}
 use Rattle.text.specs.Bytes.{same}
@@ -19,10 +20,9 @@ use Rattle.network.specs.Reader.{read_lut, read_node}
 use Rattle.network.specs.Examine as spec
 use Rattle.network.specs.Examine.{Step, misspelled, next, ask_node, ask_lut, ask_line, node_step, lut_step, with_node}
 use Rattle.network.specs.LineAnswer.{TableIs, TableRead, NodeRead, NodeStands, Stands}
-use Rattle.network.specs.declared.Table.{Table}
 use Rattle.netsheet.specs.Answer.{frees}
 use Rattle.netsheet.specs.Named.{NamedIs}
-use Rattle.netsheet.specs.Reading.{place_of, moved, lut_added, after_node, node_added, PlaceFits, Safe, PartOf, HeldBy, Staged, Known, StepIs, maybe_lut}
+use Rattle.netsheet.specs.Reading.{place_of, moved, lut_added, after_node, node_added, PlaceFits, Safe, AnySafe, PartOf, HeldBy, Staged, Known, StepIs, maybe_lut}
 use Rattle.network.specs.HeldNameLaws.{held_name}
 use Rattle.netsheet.specs.HeldLaws.{held_lut, held-node}
 use Rattle.netsheet.specs.declared.Named.{Named}
@@ -30,10 +30,14 @@ use Rattle.netsheet.specs.declared.Place.{Place}
 use Rattle.netsheet.specs.declared.Reading.{Reading}
 
 -- ---- whatever the design, what the code holds stays within its ranges
-pub safe_moved : (s r : Reading) (b : Bool) (p : Place) → r ≡ moved s b p → s.luts ≤ max_cells → PlaceFits p → Safe r
-safe_moved s r b p e h f = rw e (record { few = h; fits = f })
+pub safe_moved : (s : Reading) (r : Option Reading) (b : Bool) (p : Place) → r ≡ moved s b p → s.sheet.luts ≤ max_cells → PlaceFits p → AnySafe r
+safe_moved s r b p e h f = rw e (go b)
+  where
+    go : (b : Bool) → AnySafe (moved s b p)
+    go true = record { few = h; fits = f }
+    go false = tt
 
-pub safe_lut : (s r : Reading) (p : ℕ) → r ≡ lut_added s p → s.luts < max_cells → Safe r
+pub safe_lut : (s r : Reading) (p : ℕ) → r ≡ lut_added s p → s.sheet.luts < max_cells → Safe r
 safe_lut s r p e h = rw e (record { few = omega arith; fits = tt })
 
 next_fits : (o outputs : ℕ) → outputs ≤ max_outputs → PlaceFits (after_node o outputs)
@@ -43,7 +47,7 @@ next_fits o outputs few = go (ltb (o + 1) outputs) refl
     go true e = let h = ltb-true (o + 1) outputs e in omega arith
     go false e = tt
 
-pub safe_node : (s r : Reading) (o mask p outputs : ℕ) → r ≡ node_added s o mask p outputs → s.luts ≤ max_cells → outputs ≤ max_outputs → Safe r
+pub safe_node : (s r : Reading) (o mask p outputs : ℕ) → r ≡ node_added s o mask p outputs → s.sheet.luts ≤ max_cells → outputs ≤ max_outputs → Safe r
 safe_node s r o mask p outputs e h few = rw e (record { few = h; fits = next_fits o outputs few })
 
 -- ---- the place after a node
@@ -65,10 +69,10 @@ next_staged d o w e h = go (ltb (suc o) (length d.outputs)) refl
     go false f = let g = ltb-false (suc o) (length d.outputs) f in omega arith
 
 -- ---- a node line
-module _ (l t : List ℕ) (at : ℕ) (d : Design) (w : Network) (k : Named) (s r : Reading) (q : PartOf t at l) (n : NamedIs d k) (h : HeldBy d t w s) where
+module _ (l t : List ℕ) (at : ℕ) (d : Design) (w : Network) (k : Named) (s : Reading) (q : PartOf t at l) (n : NamedIs d k) (h : HeldBy d t w s) where
   module _ (o : ℕ) (here : length w.nodes ≡ o) (below : o < length d.outputs) where
-    abbrev asked : Option Node
-    asked = read_node (name_of (get_or k.outs o 0)) (map name_of (take k.frees k.free)) s.luts l
+    abbrev asked : math.Option Node
+    asked = read_node (name_of (get_or k.outs o 0)) (map name_of (take k.frees k.free)) s.sheet.luts l
 
     output_name : get_or (output_names d.outputs) o [] ≡ name_of (get_or k.outs o 0)
     output_name =
@@ -80,30 +84,29 @@ module _ (l t : List ℕ) (at : ℕ) (d : Design) (w : Network) (k : Named) (s r
         ap₂ (λ (m : Name) (fs : List Name). node_step d w o (read_node m fs (length w.luts) l)) output_name (sym n.free-named)
         ∙ ap (λ (u : ℕ). node_step d w o (read_node (name_of (get_or k.outs o 0)) (map name_of (take k.frees k.free)) u l)) (sym h.counted)
 
-    pub node_bad : none ≡ asked → (p : Place) → r ≡ moved s false p → StepIs d t (ask_node d w o l) r
-    node_bad e p f = subst (λ (x : Step). StepIs d t x r) (sym (by_names ∙ ap (node_step d w o) (sym e))) (rw f refl)
+    pub node_bad : none ≡ asked → StepIs d t (ask_node d w o l) None
+    node_bad e = subst (λ (x : Step). StepIs d t x None) (sym (by_names ∙ ap (node_step d w o) (sym e))) tt
 
     frees-counted : length (take k.frees k.free) ≡ frees d
     frees-counted = sym (length-map (take k.frees k.free) name_of) ∙ ap length n.free-named
 
-    pub node_good : {mask p : ℕ} → NodeRead l s.luts (length (take k.frees k.free)) mask p asked
-        → r ≡ node_added s o mask (at + p) k.outputs → length s.reads ≡ max_outputs → length s.nodeat ≡ max_outputs → o < max_outputs
-        → StepIs d t (ask_node d w o l) r
-    node_good {mask} {p} x f room place small =
-        let stands : NodeStands l s.luts (frees d) mask p x.node = subst (λ (m : ℕ). NodeStands l s.luts m mask p x.node) frees-counted x.stands in
+    pub node_good : {mask p : ℕ} (r : Reading) → NodeRead l s.sheet.luts (length (take k.frees k.free)) mask p asked
+        → r ≡ node_added s o mask (at + p) k.outputs → length s.sheet.reads ≡ max_outputs → length s.sheet.nodeat ≡ max_outputs → o < max_outputs
+        → StepIs d t (ask_node d w o l) (Some r)
+    node_good {mask} {p} r x f room place small =
+        let stands : NodeStands l s.sheet.luts (frees d) mask p x.node = subst (λ (m : ℕ). NodeStands l s.sheet.luts m mask p x.node) frees-counted x.stands in
         let long : length (w.nodes ++ (x.node ∷ [])) ≡ suc o = length-append w.nodes (x.node ∷ []) ∙ ap (λ (m : ℕ). m + 1) here ∙ add-one o in
-        subst (λ (y : Step). StepIs d t y r) (sym (by_names ∙ ap (node_step d w o) (sym x.is)))
+        subst (λ (y : Step). StepIs d t y (Some r)) (sym (by_names ∙ ap (node_step d w o) (sym x.is)))
         (rw f
         (record {
-          all_ok = refl;
           placed = next_placed d o k.outputs n.outs_counted;
           staged = next_staged d o (with_node w x.node) long below;
           held = held-node h q stands here (omega arith) (omega arith);
         }))
 
   -- ---- a lut line, or the first node
-  abbrev lut_asked : Option (List Bool)
-  lut_asked = maybe_lut (map name_of (take k.bounds k.bound)) s.luts l
+  abbrev lut_asked : math.Option (List Bool)
+  lut_asked = maybe_lut (map name_of (take k.bounds k.bound)) s.sheet.luts l
 
   by_lut : ask_lut d w l ≡ lut_step w lut_asked (ask_node d w 0 l)
   unfolding ask_lut
@@ -117,24 +120,24 @@ module _ (l t : List ℕ) (at : ℕ) (d : Design) (w : Network) (k : Named) (s r
       go true = refl
       go false = refl
 
-  pub lut_bad : none ≡ lut_asked → StepIs d t (ask_node d w 0 l) r → StepIs d t (ask_lut d w l) r
-  lut_bad e f = subst (λ (x : Step). StepIs d t x r) (sym (by_lut ∙ ap (λ (x : Option (List Bool)). lut_step w x (ask_node d w 0 l)) (sym e))) f
+  pub lut_bad : (r : Option Reading) → none ≡ lut_asked → StepIs d t (ask_node d w 0 l) r → StepIs d t (ask_lut d w l) r
+  lut_bad r e f = subst (λ (x : Step). StepIs d t x r) (sym (by_lut ∙ ap (λ (x : math.Option (List Bool)). lut_step w x (ask_node d w 0 l)) (sym e))) f
 
-  pub lut_good : {p : ℕ} → TableRead l (2 ^ k.bounds) p lut_asked → r ≡ lut_added s (at + p) → s.luts < max_cells
-      → length s.lutat ≡ max_cells → length w.nodes ≡ 0 → StepIs d t (ask_lut d w l) r
-  lut_good {p} x f few room none_yet =
+  pub lut_good : {p : ℕ} (r : Reading) → TableRead l (2 ^ k.bounds) p lut_asked → r ≡ lut_added s (at + p) → s.sheet.luts < max_cells
+      → length s.sheet.lutat ≡ max_cells → length w.nodes ≡ 0 → StepIs d t (ask_lut d w l) (Some r)
+  lut_good {p} r x f few room none_yet =
       let stands : Stands l (2 ^ length d.bound) p x.digits = subst (λ (m : ℕ). Stands l (2 ^ m) p x.digits) n.bound-counted x.stands in
-      subst (λ (y : Step). StepIs d t y r) (sym (by_lut ∙ ap (λ (y : Option (List Bool)). lut_step w y (ask_node d w 0 l)) (sym x.is)))
-      (rw f (record { all_ok = refl; placed = refl; staged = none_yet; held = held_lut h q stands few room none_yet }))
+      subst (λ (y : Step). StepIs d t y (Some r)) (sym (by_lut ∙ ap (λ (y : math.Option (List Bool)). lut_step w y (ask_node d w 0 l)) (sym x.is)))
+      (rw f (record { placed = refl; staged = none_yet; held = held_lut h q stands few room none_yet }))
 
 -- ---- where there may be one more lut line
 pub no_more_luts : (bs : List Name) (u : ℕ) (l : List ℕ) → max_cells ≤ u → none ≡ maybe_lut bs u l
 no_more_luts bs u l h = ap (λ (b : Bool). pick b (read_lut bs u l) none) (sym (le-ltb u max_cells h))
 
-pub one_more_lut : (bs : List Name) (u : ℕ) (l : List ℕ) (r : Table) (n m : ℕ) → u < max_cells → n ≡ m
+pub one_more_lut : (bs : List Name) (u : ℕ) (l : List ℕ) (r : Option ℕ) (n m : ℕ) → u < max_cells → n ≡ m
     → TableIs l (2 ^ n) r (read_lut bs u l) → TableIs l (2 ^ m) r (maybe_lut bs u l)
 one_more_lut bs u l r n m h e f =
-    subst (λ (x : Option (List Bool)). TableIs l (2 ^ m) r x) (ap (λ (b : Bool). pick b (read_lut bs u l) none) (sym (lt-ltb u max_cells h)))
+    subst (λ (x : math.Option (List Bool)). TableIs l (2 ^ m) r x) (ap (λ (b : Bool). pick b (read_lut bs u l) none) (sym (lt-ltb u max_cells h)))
     (subst (λ (k : ℕ). TableIs l (2 ^ k) r (read_lut bs u l)) e f)
 
 pub lut_few : (bs : List Name) (u : ℕ) (l : List ℕ) {n p : ℕ} → TableRead l n p (maybe_lut bs u l) → u < max_cells
@@ -145,10 +148,10 @@ lut_few bs u l x = go (ltb u max_cells) refl x.is
     go false e f = let z : ◌≡◌ {A = ℕ} 0 1 = cc in omega arith
 
 -- ---- a line that is always the same
-module _ (l t : List ℕ) (d : Design) (w : Network) (s r : Reading) (kn : Known d t w s) where
+module _ (l t : List ℕ) (d : Design) (w : Network) (s : Reading) (r : Option Reading) (kn : Known d t w s) where
   fixed_line : (b : Bool) (p : Place) → r ≡ moved s b p → Staged d (place_of p) w → StepIs d t (pick b (next (place_of p) w) misspelled) r
-  fixed_line true p e g = rw e (record { all_ok = refl; placed = refl; staged = g; held = kn.held })
-  fixed_line false p e g = rw e refl
+  fixed_line true p e g = rw e (record { placed = refl; staged = g; held = kn.held })
+  fixed_line false p e g = rw e tt
 
   staged_at : (p : Place) → s.place ≡ p → Staged d (place_of p) w
   staged_at p e = subst (λ (x : Place). Staged d (place_of x) w) e kn.staged
@@ -157,20 +160,20 @@ module _ (l t : List ℕ) (d : Design) (w : Network) (s r : Reading) (kn : Known
   unfolding ask_line
   network_line_lem e f = rw e (fixed_line (same l network_line) Place.Luts f (staged_at Place.Network e))
 
-  pub count_line : s.place ≡ Place.Count → r ≡ moved s (same l (print_count s.luts)) Place.End → StepIs d t (ask_line d (place_of s.place) w l) r
+  pub count_line : s.place ≡ Place.Count → r ≡ moved s (same l (print_count s.sheet.luts)) Place.End → StepIs d t (ask_line d (place_of s.place) w l) r
   unfolding ask_line
   count_line e f =
       rw e
       (subst (λ (u : ℕ). StepIs d t (pick (same l (print_count u)) (next spec.at_end_lem w) misspelled) r) kn.held.counted
-      (fixed_line (same l (print_count s.luts)) Place.End f (staged_at Place.Count e)))
+      (fixed_line (same l (print_count s.sheet.luts)) Place.End f (staged_at Place.Count e)))
 
   pub end_line_lem : s.place ≡ Place.End → r ≡ moved s (same l end_line) Place.Over → StepIs d t (ask_line d (place_of s.place) w l) r
   unfolding ask_line
   end_line_lem e f = rw e (fixed_line (same l end_line) Place.Over f (staged_at Place.End e))
 
-  pub over_line : s.place ≡ Place.Over → (p : Place) → r ≡ moved s false p → StepIs d t (ask_line d (place_of s.place) w l) r
+  pub over_line : s.place ≡ Place.Over → StepIs d t (ask_line d (place_of s.place) w l) None
   unfolding ask_line
-  over_line e p f = rw e (rw f refl)
+  over_line e = rw e tt
 
   -- ---- a lut line and a node line
   pub luts_line : s.place ≡ Place.Luts → (length w.nodes ≡ 0 → StepIs d t (ask_lut d w l) r) → StepIs d t (ask_line d (place_of s.place) w l) r

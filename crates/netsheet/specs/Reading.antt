@@ -1,6 +1,7 @@
 -- What the code holds of a network sheet between its lines, and what one line changes of it. Assumes nothing.
-use Rattle.std.specs.Prelude.{◌≡◌, Bool, true, false, List, ◌++◌, ℕ, ◌+◌, ◌≤◌, ◌<◌, ltb, length, drop, set, replicate}
-use Rattle.std.proofs.Math.Option.{Option, none}
+use Rattle.std.specs.Prelude.{◌≡◌, Bool, Option, Some, None, List, ◌++◌, ℕ, ◌+◌, ◌≤◌, ◌<◌, ltb, length, drop, set, replicate}
+use Rattle.std.proofs.Math.Option.{none}
+use Rattle.std.proofs.Math.Option as math
 use Rattle.bits.specs.Logic.{pick}
 use Rattle.limits.specs.Limits.{max_cells, max_outputs}
 use Rattle.names.specs.Name.{Name}
@@ -21,39 +22,34 @@ place_of Place.Count = spec.at_count
 place_of Place.End = spec.at_end_lem
 place_of Place.Over = spec.over
 
--- whether every line was read
-abbrev pub is_over : Place → Bool
-is_over Place.Network = false
-is_over Place.Luts = false
-is_over (Place.Node o) = false
-is_over Place.Count = false
-is_over Place.End = false
-is_over Place.Over = true
-
 -- ---- what the code holds at first, and after a line of each kind
 abbrev pub fresh : Reading
 fresh =
     record {
-      ok = true;
       place = Place.Network;
-      luts = 0;
-      lutat = replicate max_cells 0;
-      reads = replicate max_outputs 0;
-      nodeat = replicate max_outputs 0;
+      sheet =
+          record {
+            luts = 0;
+            lutat = replicate max_cells 0;
+            reads = replicate max_outputs 0;
+            nodeat = replicate max_outputs 0;
+          };
     }
 
-abbrev pub moved : Reading → Bool → Place → Reading
-moved s good p = record { ok = good; place = p; luts = s.luts; lutat = s.lutat; reads = s.reads; nodeat = s.nodeat }
+abbrev pub moved : Reading → Bool → Place → Option Reading
+moved s good p = pick good (Some (record { place = p; sheet = s.sheet })) None
 
 abbrev pub lut_added : Reading → ℕ → Reading
 lut_added s p =
     record {
-      ok = true;
       place = Place.Luts;
-      luts = s.luts + 1;
-      lutat = set s.lutat s.luts p;
-      reads = s.reads;
-      nodeat = s.nodeat;
+      sheet =
+          record {
+            luts = s.sheet.luts + 1;
+            lutat = set s.sheet.lutat s.sheet.luts p;
+            reads = s.sheet.reads;
+            nodeat = s.sheet.nodeat;
+          };
     }
 
 abbrev pub after_node : ℕ → ℕ → Place
@@ -62,16 +58,18 @@ after_node o outputs = pick (ltb (o + 1) outputs) (Place.Node (o + 1)) Place.Cou
 abbrev pub node_added : Reading → ℕ → ℕ → ℕ → ℕ → Reading
 node_added s o mask p outputs =
     record {
-      ok = true;
       place = after_node o outputs;
-      luts = s.luts;
-      lutat = s.lutat;
-      reads = set s.reads o mask;
-      nodeat = set s.nodeat o p;
+      sheet =
+          record {
+            luts = s.sheet.luts;
+            lutat = s.sheet.lutat;
+            reads = set s.sheet.reads o mask;
+            nodeat = set s.sheet.nodeat o p;
+          };
     }
 
 -- a lut line, where there may be one more
-abbrev pub maybe_lut : List Name → ℕ → List ℕ → Option (List Bool)
+abbrev pub maybe_lut : List Name → ℕ → List ℕ → math.Option (List Bool)
 maybe_lut bs u l = pick (ltb u max_cells) (read_lut bs u l) none
 
 -- ---- what holds of it, whatever the design
@@ -84,8 +82,13 @@ PlaceFits Place.End = Unit {0}
 PlaceFits Place.Over = Unit {0}
 
 pub record Safe (s : Reading) : Type 0 where
-  pub few : s.luts ≤ max_cells
+  pub few : s.sheet.luts ≤ max_cells
   pub fits : PlaceFits s.place
+
+-- the same of what a line that may be bad leaves
+abbrev pub AnySafe : Option Reading → Type 0
+AnySafe (Some s) = Safe s
+AnySafe None = Unit {0}
 
 -- ---- what it says beside a design d, of the text t
 -- l stands in t from a place on
@@ -95,7 +98,7 @@ pub record PartOf (t : List ℕ) (at : ℕ) (l : List ℕ) : Type 0 where
   pub is : drop at t ≡ l ++ later
 
 abbrev pub HeldBy : Design → List ℕ → Network → Reading → Type 0
-HeldBy d t w s = Held t (length d.bound) (frees d) w s.luts s.lutat s.reads s.nodeat
+HeldBy d t w s = Held t (length d.bound) (frees d) w s.sheet.luts s.sheet.lutat s.sheet.reads s.sheet.nodeat
 
 -- how many nodes were read before the line at a place
 abbrev pub Staged : Design → spec.Place → Network → Type 0
@@ -111,12 +114,13 @@ pub record Known (d : Design) (t : List ℕ) (w : Network) (s : Reading) : Type 
   pub held : HeldBy d t w s
 
 pub record Onward (d : Design) (t : List ℕ) (p : spec.Place) (w : Network) (s : Reading) : Type 0 where
-  pub all_ok : s.ok ≡ true
   pub placed : place_of s.place ≡ p
   pub staged : Staged d p w
   pub held : HeldBy d t w s
 
 -- what a line comes to
-abbrev pub StepIs : Design → List ℕ → Step → Reading → Type 0
-StepIs d t misspelled s = s.ok ≡ false
-StepIs d t (next p w) s = Onward d t p w s
+abbrev pub StepIs : Design → List ℕ → Step → Option Reading → Type 0
+StepIs d t misspelled None = Unit {0}
+StepIs d t misspelled (Some s) = ⊥
+StepIs d t (next p w) (Some s) = Onward d t p w s
+StepIs d t (next p w) None = ⊥

@@ -1,6 +1,6 @@
 -- A network sheet line after line: while every line is spelled right, the lines that are left are asked as the whole
 -- sheet is, beside every design whose names the code holds. Assumes nothing.
-use Rattle.std.specs.Prelude.{◌≡◌, refl, Bool, true, false, ◌&&◌, ℕ, suc, ◌+◌, ◌-◌, ◌≤◌, ◌<◌, leb, length, take, drop}
+use Rattle.std.specs.Prelude.{◌≡◌, refl, Bool, true, false, Option, Some, None, Result, Ok, Err, ◌&&◌, ℕ, suc, ◌+◌, ◌-◌, ◌≤◌, ◌<◌, leb, length, take, drop}
 use Rattle.std.proofs.Common.{sym, ◌∙◌, arith, add-one, length-drop, take-append-drop, length-take-le, le-leb}
 use Rattle.std.proofs.Math.Path.{ap, ap₂, subst}
 use mathlib.Core.List.{List}
@@ -16,9 +16,9 @@ use Rattle.sheet.specs.Examine.{Design}
 use Rattle.network.specs.Network.{Network}
 use Rattle.network.specs.Examine as spec
 use Rattle.network.specs.Examine.{Answer, bad_line, Step, misspelled, next, ask_line, ask_lines, at_end, follow, nothing, read_network}
-use Rattle.netsheet.specs.Answer.{BadLine, NetworkIs}
+use Rattle.netsheet.specs.Answer.{NetworkIs}
 use Rattle.netsheet.specs.Named.{NamedIs}
-use Rattle.netsheet.specs.Reading.{place_of, is_over, fresh, Safe, PartOf, Known, StepIs, Staged}
+use Rattle.netsheet.specs.Reading.{place_of, fresh, Safe, PartOf, Known, StepIs, Staged}
 use Rattle.netsheet.specs.declared.Named.{Named}
 use Rattle.netsheet.specs.declared.NetworkSheet.{NetworkSheet}
 use Rattle.netsheet.specs.declared.Place.{Place}
@@ -44,8 +44,8 @@ module _ (d : Design) (t : List ℕ) where
   sized : 1 ≤ length t → length t ≤ max_network → read_network d t ≡ ask_lines d (ends_line t) spec.at_network nothing 1 (lines t)
   sized h g = by_size true true (le-leb 1 (length t) h) (le-leb (length t) max_network g)
 
-pub refused_at : (d : Design) (t : List ℕ) (n : ℕ) (r : NetworkSheet) → read_network d t ≡ bad_line n → BadLine n r → NetworkIs d t (read_network d t) r
-refused_at d t n r e b = subst (λ (x : Answer). NetworkIs d t x r) (sym e) b
+pub refused_at : (d : Design) (t : List ℕ) (n : ℕ) → read_network d t ≡ bad_line n → NetworkIs d t (read_network d t) (Err n)
+refused_at d t n e = subst (λ (x : Answer). NetworkIs d t x (Err n)) (sym e) refl
 
 -- ---- the line at a place
 module _ (t : List ℕ) (at e : ℕ) (h : at < length t) (x : LineEnd t at e) where
@@ -109,14 +109,13 @@ module _ {t : List ℕ} {k : Named} {s : Reading} {at n : ℕ} (v : Walk t k s a
         let m = v.size in
         omega arith
 
-    pub walk_open : e ≡ length t → (r : NetworkSheet) → BadLine n r → (d : Design) → NamedIs d k → 1 ≤ length d.outputs → NetworkIs d t (read_network d t) r
+    pub walk_open : e ≡ length t → (d : Design) → NamedIs d k → 1 ≤ length d.outputs → NetworkIs d t (read_network d t) (Err n)
     unfolding ask_lines
-    walk_open g r b d m o =
+    walk_open g d m o =
         let a = v.asked d m o in
-        refused_at d t n r
+        refused_at d t n
         (a.here
         ∙ ap₂ (λ (y : Bool) (ls : List (List ℕ)). ask_lines d y (place_of s.place) a.says n ls) (not-ended t at e h x g) (last_line t at e h x g))
-        b
 
     module _ (g : e ≡ length t → ⊥) where
       abbrev line : List ℕ
@@ -133,25 +132,25 @@ module _ {t : List ℕ} {k : Named} {s : Reading} {at n : ℕ} (v : Walk t k s a
           (is_ended t at e h x g)
 
       -- what the code says of the line, beside every design
-      abbrev Asked : Reading → Type 0
+      abbrev Asked : Option Reading → Type 0
       Asked r = (u : List ℕ) (d : Design) (w : Network) → PartOf u at line → NamedIs d k → Known d u w s → 0 < length d.outputs
           → StepIs d u (ask_line d (place_of s.place) w line) r
 
-      module _ (r : Reading) (q : Asked r) where
+      module _ (r : Option Reading) (q : Asked r) where
         comes_to : (d : Design) → NamedIs d k → (o : 1 ≤ length d.outputs) → (a : Along d t s at n) → StepIs d t (ask_line d (place_of s.place) a.says line) r
         comes_to d m o a = q t d a.says (part-here t at e h x) m a.known o
 
-        pub walk-bad : r.ok ≡ false → (b : NetworkSheet) → BadLine n b → (d : Design) → NamedIs d k → 1 ≤ length d.outputs → NetworkIs d t (read_network d t) b
-        walk-bad f b c d m o =
+        pub walk-bad : r ≡ None → (d : Design) → NamedIs d k → 1 ≤ length d.outputs → NetworkIs d t (read_network d t) (Err n)
+        walk-bad f d m o =
             let a = v.asked d m o in
-            go (ask_line d (place_of s.place) a.says line) (comes_to d m o a) (by_line d a)
+            go (ask_line d (place_of s.place) a.says line) (subst (StepIs d t (ask_line d (place_of s.place) a.says line)) f (comes_to d m o a)) (by_line d a)
           where
-            go : (z : Step) → StepIs d t z r → read_network d t ≡ follow z n (λ p w. ask_lines d (ends_line t) p w (suc n) (lines (drop (e + 1) t))) → NetworkIs d t (read_network d t) b
-            go misspelled y i = refused_at d t n b i c
-            go (next p w) y i = absurd (true_false (sym y.all_ok ∙ f))
+            go : (z : Step) → StepIs d t z None → read_network d t ≡ follow z n (λ p w. ask_lines d (ends_line t) p w (suc n) (lines (drop (e + 1) t))) → NetworkIs d t (read_network d t) (Err n)
+            go misspelled y i = refused_at d t n i
+            go (next p w) y i = absurd y
 
-        pub walk_more : r.ok ≡ true → Safe r → Walk t k r (e + 1) (n + 1)
-        walk_more f y =
+        pub walk_more : (u : Reading) → r ≡ Some u → Safe u → Walk t k u (e + 1) (n + 1)
+        walk_more u f y =
             let i = x.inside in
             let j = x.after-start in
             let l = v.few in
@@ -163,11 +162,11 @@ module _ {t : List ℕ} {k : Named} {s : Reading} {at n : ℕ} (v : Walk t k s a
               size = v.size;
               asked = λ d m o.
                   let a = v.asked d m o in
-                  go d (ask_line d (place_of s.place) a.says line) (comes_to d m o a) (by_line d a);
+                  go d (ask_line d (place_of s.place) a.says line) (subst (StepIs d t (ask_line d (place_of s.place) a.says line)) f (comes_to d m o a)) (by_line d a);
             }
           where
-            go : (d : Design) (z : Step) → StepIs d t z r → read_network d t ≡ follow z n (λ p w. ask_lines d (ends_line t) p w (suc n) (lines (drop (e + 1) t))) → Along d t r (e + 1) (n + 1)
-            go d misspelled c i = absurd (true_false (sym f ∙ c))
+            go : (d : Design) (z : Step) → StepIs d t z (Some u) → read_network d t ≡ follow z n (λ p w. ask_lines d (ends_line t) p w (suc n) (lines (drop (e + 1) t))) → Along d t u (e + 1) (n + 1)
+            go d misspelled c i = absurd c
             go d (next p w) c i =
                 record {
                   says = w;
@@ -177,7 +176,7 @@ module _ {t : List ℕ} {k : Named} {s : Reading} {at n : ℕ} (v : Walk t k s a
                       ∙ ap₂ (λ (z : spec.Place) (j : ℕ). ask_lines d (ends_line t) z w j (lines (drop (e + 1) t))) (sym c.placed) (sym (add-one n));
                 }
 
-  pub walk_end : length t ≤ at → (r : NetworkSheet)
+  pub walk_end : length t ≤ at → (r : Result NetworkSheet ℕ)
       → ((u : List ℕ) (d : Design) (w : Network) → Known d u w s → NetworkIs d u (at_end (place_of s.place) w n) r)
       → (d : Design) → NamedIs d k → 1 ≤ length d.outputs → NetworkIs d t (read_network d t) r
   unfolding ask_lines
@@ -188,30 +187,19 @@ module _ {t : List ℕ} {k : Named} {s : Reading} {at n : ℕ} (v : Walk t k s a
       (q t d a.says a.known)
 
 -- ---- after the last line
-module _ {t : List ℕ} {d : Design} {w : Network} {s : Reading} (kn : Known d t w s) (n : ℕ) (r : NetworkSheet) where
-  pub ended_early : is_over s.place ≡ false → BadLine n r → NetworkIs d t (at_end (place_of s.place) w n) r
-  ended_early e b = go s.place e
+module _ {t : List ℕ} {d : Design} {w : Network} {s : Reading} (kn : Known d t w s) (n : ℕ) where
+  pub ended_early : (s.place ≡ Place.Over → ⊥) → NetworkIs d t (at_end (place_of s.place) w n) (Err n)
+  ended_early e = go s.place e
     where
-      go : (p : Place) → is_over p ≡ false → NetworkIs d t (at_end (place_of p) w n) r
-      go Place.Network f = b
-      go Place.Luts f = b
-      go (Place.Node o) f = b
-      go Place.Count f = b
-      go Place.End f = b
-      go Place.Over f = absurd (true_false f)
+      go : (p : Place) → (p ≡ Place.Over → ⊥) → NetworkIs d t (at_end (place_of p) w n) (Err n)
+      go Place.Network f = refl
+      go Place.Luts f = refl
+      go (Place.Node o) f = refl
+      go Place.Count f = refl
+      go Place.End f = refl
+      go Place.Over f = absurd (f refl)
 
-  is_over_lem : (p : Place) → is_over p ≡ true → p ≡ Place.Over
-  is_over_lem Place.Network f = absurd (true_false (sym f))
-  is_over_lem Place.Luts f = absurd (true_false (sym f))
-  is_over_lem (Place.Node o) f = absurd (true_false (sym f))
-  is_over_lem Place.Count f = absurd (true_false (sym f))
-  is_over_lem Place.End f = absurd (true_false (sym f))
-  is_over_lem Place.Over f = refl
-
-  pub ended_over : is_over s.place ≡ true
-      → r ≡ record { ok = true; line = 0; luts = s.luts; lutat = s.lutat; reads = s.reads; nodeat = s.nodeat }
-      → NetworkIs d t (at_end (place_of s.place) w n) r
-  ended_over e f =
-      let over = is_over_lem s.place e in
+  pub ended_over : s.place ≡ Place.Over → NetworkIs d t (at_end (place_of s.place) w n) (Ok s.sheet)
+  ended_over over =
       let staged : Staged d spec.over w = subst (λ (p : Place). Staged d (place_of p) w) over kn.staged in
-      rw (over, f) (record { all_ok = refl; nodes-counted = staged; held = kn.held })
+      rw over (record { nodes-counted = staged; held = kn.held })

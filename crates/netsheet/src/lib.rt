@@ -2,7 +2,7 @@
 // the answer holds their places. Rests on network for what a line says.
 #![tactic(auto)]
 
-ghost use Rattle.std.specs.Prelude.{◌≡◌, List, map, ℕ, ◌+◌, ◌≤◌, ◌<◌, ◌^◌, length, take};
+ghost use Rattle.std.specs.Prelude.{◌≡◌, Some, List, map, ℕ, ◌+◌, ◌≤◌, ◌<◌, ◌^◌, length, take};
 ghost use Rattle.limits.specs.Limits.{max_outputs, max_cells, max_network};
 ghost use Rattle.names.specs.Pack.{name_of};
 ghost use Rattle.sheet.specs.Examine.{Design};
@@ -11,19 +11,16 @@ ghost use Rattle.classes.specs.Proper.{Proper};
 ghost use Rattle.network.specs.Network.{Network};
 ghost use Rattle.network.specs.LineAnswer.{TableIs};
 ghost use Rattle.network.specs.Examine as spec;
-ghost use Rattle.netsheet.specs.Answer.{BadLine, NetworkIs};
+ghost use Rattle.netsheet.specs.Answer.{NetworkIs};
 ghost use Rattle.netsheet.specs.Named.{Ranged, Counts, NamedFor, NamedIs};
-ghost use Rattle.netsheet.specs.Reading.{place_of, is_over, fresh, moved, lut_added, after_node, node_added, Safe, PartOf, HeldBy, Known, StepIs, maybe_lut};
+ghost use Rattle.netsheet.specs.Reading.{place_of, fresh, moved, lut_added, after_node, node_added, Safe, AnySafe, PartOf, HeldBy, Known, StepIs, maybe_lut};
 
-use network::{NodeLine, Table};
 use sheet::Sheet;
 
-// What a network sheet says: its first bad line, or how many shared tables there are, where the digits of each stand, the
-// shared tables that each output reads, as a mask, and where the digits of its own table stand.
+// What a network sheet says: how many shared tables there are, where the digits of each stand, the shared tables that each
+// output reads, as a mask, and where the digits of its own table stand.
 #[derive(Clone, Copy)]
 pub struct NetworkSheet {
-    pub ok: bool,
-    pub line: usize,
     pub luts: usize,
     pub lutat: [usize; limits::MAX_CELLS],
     pub reads: [u8; limits::MAX_OUTPUTS],
@@ -41,15 +38,11 @@ enum Place {
     Over,
 }
 
-// What the lines so far say, and the place of the next; after a bad line it is not ok.
+// The place of the next line, and what the lines before it say.
 #[derive(Clone, Copy)]
 struct Reading {
-    ok: bool,
     place: Place,
-    luts: usize,
-    lutat: [usize; limits::MAX_CELLS],
-    reads: [u8; limits::MAX_OUTPUTS],
-    nodeat: [usize; limits::MAX_OUTPUTS],
+    sheet: NetworkSheet,
 }
 
 // The names of a design that the lines of a network sheet repeat: bound inputs, free inputs and outputs.
@@ -68,10 +61,9 @@ fn names_of(k: Sheet) -> Named
     requires { Ranged k }
     ensures { NamedFor k result }
 {
-    let names = k.names;
-    let places = k.bound;
-    let bs = network::bound_names(names, places, k.bounds);
-    let fs = network::free_names(names, k.inputs, bs);
+    let bs = network::bound_names(k.names, k.bound, k.bounds);
+    let fs = network::free_names(k.names, k.inputs, bs);
+    // The prover follows an array from field to field by way of a local.
     let bound = bs.list;
     let free = fs.list;
     let outs = k.outs;
@@ -90,49 +82,38 @@ fn blank() -> Reading
     ensures { result ≡ fresh }
 {
     Reading {
-        ok: true,
         place: Place::Network,
-        luts: 0,
-        lutat: [0; limits::MAX_CELLS],
-        reads: [0; limits::MAX_OUTPUTS],
-        nodeat: [0; limits::MAX_OUTPUTS],
+        sheet: NetworkSheet {
+            luts: 0,
+            lutat: [0; limits::MAX_CELLS],
+            reads: [0; limits::MAX_OUTPUTS],
+            nodeat: [0; limits::MAX_OUTPUTS],
+        },
     }
 }
 
 // The place p next, where the line is as it must be.
-fn onward(s: Reading, good: bool, p: Place) -> Reading
+fn onward(s: Reading, good: bool, p: Place) -> Option<Reading>
     ensures { result ≡ moved s good p }
 {
-    let lutat = s.lutat;
-    let reads = s.reads;
-    let nodeat = s.nodeat;
-    Reading {
-        ok: good,
-        place: p,
-        luts: s.luts,
-        lutat,
-        reads,
-        nodeat,
+    if good {
+        Some(Reading { place: p, ..s })
+    } else {
+        None
     }
 }
 
 // One shared table more, whose digits stand at p.
 fn with_lut(s: Reading, p: usize) -> Reading
-    requires { s.luts < max_cells }
+    requires { s.sheet.luts < max_cells }
     ensures { result ≡ lut_added s p }
 {
-    let u = s.luts;
-    let mut lutat = s.lutat;
-    lutat[u] = p;
-    let reads = s.reads;
-    let nodeat = s.nodeat;
+    let mut sheet = s.sheet;
+    sheet.lutat[sheet.luts] = p;
+    sheet.luts += 1;
     Reading {
-        ok: true,
         place: Place::Luts,
-        luts: u + 1,
-        lutat,
-        reads,
-        nodeat,
+        sheet,
     }
 }
 
@@ -153,154 +134,93 @@ fn with_node(s: Reading, o: usize, mask: u8, p: usize, outputs: usize) -> Readin
     requires { o < max_outputs }
     ensures { result ≡ node_added s o mask p outputs }
 {
-    let lutat = s.lutat;
-    let mut reads = s.reads;
-    let mut nodeat = s.nodeat;
-    reads[o] = mask;
-    nodeat[o] = p;
-    let place = after_node(o, outputs);
+    let mut sheet = s.sheet;
+    sheet.reads[o] = mask;
+    sheet.nodeat[o] = p;
     Reading {
-        ok: true,
-        place,
-        luts: s.luts,
-        lutat,
-        reads,
-        nodeat,
+        place: after_node(o, outputs),
+        sheet,
     }
 }
 
 // The node line of output o, which stands from at on.
-fn ask_node(l: &[u8], at: usize, k: Named, s: Reading, o: usize) -> Reading
-    requires { Counts k × (s.luts ≤ max_cells) × (o < max_outputs) × (at + length l.now ≤ max_network) }
-    ensures { (Safe result) × ((t : List ℕ) (d : Design) (w : Network)
+fn ask_node(l: &[u8], at: usize, k: Named, s: Reading, o: usize) -> Option<Reading>
+    requires { Counts k × (s.sheet.luts ≤ max_cells) × (o < max_outputs) × (at + length l.now ≤ max_network) }
+    ensures { (AnySafe result) × ((t : List ℕ) (d : Design) (w : Network)
         → PartOf t at l.now → NamedIs d k → HeldBy d t w s → length w.nodes ≡ o → o < length d.outputs → StepIs d t (spec.ask_node d w o l.now) result) }
 {
-    let f = k.frees;
-    let free = k.free;
-    let outs = k.outs;
-    let r = network::read_node(l, outs[o], &free[..f], s.luts);
-    match r {
-        NodeLine::At(mask, p) => with_node(s, o, mask, at + p, k.outputs),
-        NodeLine::Bad => onward(s, false, Place::Over),
-    }
+    let r = network::read_node(l, k.outs[o], &k.free[..k.frees], s.sheet.luts)?;
+    Some(with_node(s, o, r.mask, at + r.at, k.outputs))
 }
 
 // A lut line, where there may be one more.
-fn lut_line(l: &[u8], k: Named, u: usize) -> Table
+fn lut_line(l: &[u8], k: Named, u: usize) -> Option<usize>
     requires { Counts k }
     ensures { TableIs l.now (2 ^ k.bounds) result (maybe_lut (map name_of (take k.bounds k.bound)) u l.now) }
 {
     if limits::MAX_CELLS <= u {
-        return Table::Bad;
+        return None;
     }
-    let b = k.bounds;
-    let bound = k.bound;
-    network::read_lut(l, &bound[..b], u)
+    network::read_lut(l, &k.bound[..k.bounds], u)
 }
 
 // A lut line or the first node, which stands from at on.
-fn ask_lut(l: &[u8], at: usize, k: Named, s: Reading) -> Reading
-    requires { Counts k × (s.luts ≤ max_cells) × (at + length l.now ≤ max_network) }
-    ensures { (Safe result) × ((t : List ℕ) (d : Design) (w : Network)
+fn ask_lut(l: &[u8], at: usize, k: Named, s: Reading) -> Option<Reading>
+    requires { Counts k × (s.sheet.luts ≤ max_cells) × (at + length l.now ≤ max_network) }
+    ensures { (AnySafe result) × ((t : List ℕ) (d : Design) (w : Network)
         → PartOf t at l.now → NamedIs d k → HeldBy d t w s → length w.nodes ≡ 0 → 0 < length d.outputs → StepIs d t (spec.ask_lut d w l.now) result) }
 {
-    let r = lut_line(l, k, s.luts);
-    match r {
-        Table::At(p) => with_lut(s, at + p),
-        Table::Bad => ask_node(l, at, k, s, 0),
+    match lut_line(l, k, s.sheet.luts) {
+        Some(p) => Some(with_lut(s, at + p)),
+        None => ask_node(l, at, k, s, 0),
     }
 }
 
 // One line by the place that it stands at; it stands from at on.
-fn ask_line(l: &[u8], at: usize, k: Named, s: Reading) -> Reading
+fn ask_line(l: &[u8], at: usize, k: Named, s: Reading) -> Option<Reading>
     requires { Counts k × Safe s × (at + length l.now ≤ max_network) }
-    ensures { (Safe result) × ((t : List ℕ) (d : Design) (w : Network)
+    ensures { (AnySafe result) × ((t : List ℕ) (d : Design) (w : Network)
         → PartOf t at l.now → NamedIs d k → Known d t w s → 0 < length d.outputs → StepIs d t (spec.ask_line d (place_of s.place) w l.now) result) }
 {
-    let p = s.place;
-    match p {
+    match s.place {
         Place::Network => onward(s, text::equal(l, b"(network 1)"), Place::Luts),
         Place::Luts => ask_lut(l, at, k, s),
         Place::Node(o) => ask_node(l, at, k, s, o),
-        Place::Count => onward(s, network::is_count(l, s.luts), Place::End),
+        Place::Count => onward(s, network::is_count(l, s.sheet.luts), Place::End),
         Place::End => onward(s, text::equal(l, b"(end)"), Place::Over),
-        Place::Over => onward(s, false, Place::Over),
-    }
-}
-
-// A refusal: the first bad line has the number n.
-fn bad_line(n: usize) -> NetworkSheet
-    ensures { BadLine n result }
-{
-    NetworkSheet {
-        ok: false,
-        line: n,
-        luts: 0,
-        lutat: [0; limits::MAX_CELLS],
-        reads: [0; limits::MAX_OUTPUTS],
-        nodeat: [0; limits::MAX_OUTPUTS],
-    }
-}
-
-// Whether every line was read.
-fn is_over(p: Place) -> bool
-    ensures { result ≡ is_over p }
-{
-    match p {
-        Place::Network => false,
-        Place::Luts => false,
-        Place::Node(_) => false,
-        Place::Count => false,
-        Place::End => false,
-        Place::Over => true,
+        Place::Over => None,
     }
 }
 
 // The answer after the last line, where n is the number of the line after it.
-fn ended(s: Reading, n: usize) -> NetworkSheet
+fn ended(s: Reading, n: usize) -> Result<NetworkSheet, usize>
     ensures { (t : List ℕ) (d : Design) (w : Network) → Known d t w s → NetworkIs d t (spec.at_end (place_of s.place) w n) result }
 {
-    let p = s.place;
-    if !is_over(p) {
-        return bad_line(n);
-    }
-    let lutat = s.lutat;
-    let reads = s.reads;
-    let nodeat = s.nodeat;
-    NetworkSheet {
-        ok: true,
-        line: 0,
-        luts: s.luts,
-        lutat,
-        reads,
-        nodeat,
+    match s.place {
+        Place::Over => Ok(s.sheet),
+        _ => Err(n),
     }
 }
 
-// Question 10.
-pub fn read_network(t: &[u8], k: Sheet) -> NetworkSheet
+// Question 10: the network sheet, or the number of its first bad line, 0 where the sheet has no byte or too many.
+pub fn read_network(t: &[u8], k: Sheet) -> Result<NetworkSheet, usize>
     requires { Ranged k }
     ensures { (d : Design) → Holds d k → Proper d → 1 ≤ length d.outputs → NetworkIs d t.now (spec.read_network d t.now) result }
 {
-    if t.len() < 1 {
-        return bad_line(0);
-    }
-    if limits::MAX_NETWORK < t.len() {
-        return bad_line(0);
+    if t.is_empty() || limits::MAX_NETWORK < t.len() {
+        return Err(0);
     }
     let names = names_of(k);
     let mut s = blank();
     let mut at = 0;
     let mut n = 1;
+    // A `while`: it goes from line to line, and a line says where the next begins.
     while at < t.len() {
         let e = text::line_end(t, at);
         if e == t.len() {
-            return bad_line(n);
+            return Err(n);
         }
-        s = ask_line(&t[at..e], at, names, s);
-        if !s.ok {
-            return bad_line(n);
-        }
+        s = ask_line(&t[at..e], at, names, s).ok_or(n)?;
         at = e + 1;
         n += 1;
     }

@@ -1,12 +1,11 @@
 -- A text read in parts: where the first part stands, the whole is read as what is left of it; where it does not, the whole
 -- is not there. A fixed text may be read so as well. Assumes nothing.
-use Rattle.std.specs.Prelude.{◌≡◌, refl, Bool, true, false, List, [], ◌∷◌, ◌++◌, ℕ, eqb}
+use Rattle.std.specs.Prelude.{◌≡◌, refl, Bool, true, false, List, [], ◌∷◌, ◌++◌, ℕ, eqb, Option}
 use Rattle.std.proofs.Common.{ap, subst}
 use Rattle.bits.specs.Logic.{pick}
 use Rattle.text.specs.Bytes.{Read, found, bad, after, eat}
 use Rattle.cursor.specs.Item.{At, MovedIs, from}
 use Rattle.cursor.specs.declared.Cursor.{Cursor}
-use Rattle.cursor.specs.declared.Moved.{Moved}
 
 module _ (r : Read (Unit {0})) (onward : List ℕ → Read (Unit {0})) where
   abbrev in_parts : Read (Unit {0})
@@ -21,7 +20,7 @@ module _ (r : Read (Unit {0})) (onward : List ℕ → Read (Unit {0})) where
   pub part_read : {s : List ℕ} {c : Cursor} → At s tt c r → onward (from s c) ≡ in_parts
   part_read h = ap (λ (q : Read (Unit {0})). after q (λ _ t. onward t)) h.is
 
-  pub part_then : {s : List ℕ} {c : Cursor} → At s tt c r → (m : Moved) → MovedIs s m (onward (from s c)) → MovedIs s m in_parts
+  pub part_then : {s : List ℕ} {c : Cursor} → At s tt c r → (m : Option Cursor) → MovedIs s m (onward (from s c)) → MovedIs s m in_parts
   part_then {s} h m f = subst (λ (q : Read (Unit {0})). MovedIs s m q) (part_read h) f
 
 -- ---- a fixed text

@@ -1,5 +1,5 @@
 -- The free inputs, one input after the other. Assumes nothing.
-use Rattle.std.specs.Prelude.{◌≡◌, refl, Bool, true, false, ℕ, ◌+◌, ◌≤◌, ◌<◌, length, take, get_or}
+use Rattle.std.specs.Prelude.{◌≡◌, refl, Bool, true, false, ℕ, ◌+◌, ◌≤◌, ◌<◌, length, take, get_or, Option, Some, None}
 use Rattle.std.proofs.Math.Path.{sym, ap}
 use Rattle.std.proofs.Common.{subst, ◌∙◌, arith}
 use mathlib.Core.List.{List, [], ◌∷◌, ◌++◌, map, append-nil}
@@ -8,8 +8,6 @@ use Rattle.names.specs.Name.{Name, among}
 use Rattle.names.specs.Pack.{name_of}
 use Rattle.names.specs.Word.{PositionIs}
 use Rattle.names.specs.LookupLaws.{found_among, nowhere_among}
-use Rattle.names.specs.declared.Position.{Position}
-use Rattle.names.specs.declared.Position.TheVariants.{At, Nowhere}
 use Rattle.classes.specs.Columns.{free}
 use Rattle.network.specs.ShownLaws.{front_more}
 
@@ -63,15 +61,15 @@ module _ {names : List ℕ} {bs : List Name} {n i count : ℕ} {now : List Name}
       }
 
 module _ (vs : List ℕ) {names : List ℕ} {n i count : ℕ} {now : List Name} (g : Freeing names (map name_of vs) n i count now) (l : i < n) (few : n ≤ length names)
-    {p : Position} (h : PositionIs vs (get_or names i 0) p) where
-  pub freeing_bound : {k : ℕ} → p ≡ At k → Freeing names (map name_of vs) n (i + 1) count now
+    {p : Option ℕ} (h : PositionIs vs (get_or names i 0) p) where
+  pub freeing_bound : {k : ℕ} → p ≡ Some k → Freeing names (map name_of vs) n (i + 1) count now
   freeing_bound {k} e =
-      bound_more g l few (found_among vs (get_or names i 0) k (subst (λ (q : Position). PositionIs vs (get_or names i 0) q) e h))
+      bound_more g l few (found_among vs (get_or names i 0) k (subst (λ (q : Option ℕ). PositionIs vs (get_or names i 0) q) e h))
 
-  pub freeing_free : {later : List Name} {more : ℕ} → p ≡ Nowhere → later ≡ now ++ (name_of (get_or names i 0) ∷ [])
+  pub freeing_free : {later : List Name} {more : ℕ} → p ≡ None → later ≡ now ++ (name_of (get_or names i 0) ∷ [])
       → more ≡ count + 1 → Freeing names (map name_of vs) n (i + 1) more later
   freeing_free e w s =
-      free_more g l few (nowhere_among vs (get_or names i 0) (subst (λ (q : Position). PositionIs vs (get_or names i 0) q) e h)) w s
+      free_more g l few (nowhere_among vs (get_or names i 0) (subst (λ (q : Option ℕ). PositionIs vs (get_or names i 0) q) e h)) w s
 
 pub freeing_all : {names : List ℕ} {bs : List Name} {n i count : ℕ} {now : List Name} → Freeing names bs n i count now → n ≤ i
     → (now ≡ free (map name_of (take n names)) bs) × (count ≤ n)

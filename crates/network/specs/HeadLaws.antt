@@ -1,6 +1,6 @@
 -- The name of a shared table and the count line as the code spells them, and a lut line and a node line part by part up to
 -- their digits and their list. Assumes nothing.
-use Rattle.std.specs.Prelude.{◌≡◌, Bool, true, false, ℕ, ◌+◌, ◌<◌}
+use Rattle.std.specs.Prelude.{◌≡◌, Bool, true, false, ℕ, ◌+◌, ◌<◌, Option, None}
 use Rattle.std.proofs.Common.{sym, ap}
 use mathlib.Core.List.{List, [], ◌∷◌, ◌++◌}
 use Rattle.text.specs.Bytes.{bytes, Read, bad, after, eat, space, close_bracket}
@@ -8,7 +8,6 @@ use Rattle.text.specs.FigureLaws.{print_digit}
 use Rattle.names.specs.Name.{Name}
 use Rattle.cursor.specs.Item.{At, MovedIs, from}
 use Rattle.cursor.specs.declared.Cursor.{Cursor}
-use Rattle.cursor.specs.declared.Moved.{Moved}
 use Rattle.network.specs.Printer.{led, lut_name, print_count}
 use Rattle.network.specs.Given.{read_given, read_givens}
 use Rattle.network.specs.Reader.{read_inputs, read_lut_head, read_node_head}
@@ -35,7 +34,7 @@ module _ (first : Bool) (ns : List Name) (t : List ℕ) where
   unfolding read_inputs
   inputs_no_names e = part_missing (read_givens first ns t) (eat (bytes ") ")) e
 
-  pub inputs_end : {s : List ℕ} {c : Cursor} → At s tt c (read_givens first ns t) → (m : Moved)
+  pub inputs_end : {s : List ℕ} {c : Cursor} → At s tt c (read_givens first ns t) → (m : Option Cursor)
       → MovedIs s m (eat (bytes ") ") (from s c)) → MovedIs s m (read_inputs first ns t)
   unfolding read_inputs
   inputs_end h m f = part_then (read_givens first ns t) (eat (bytes ") ")) h m f
@@ -53,21 +52,21 @@ module _ (l : List ℕ) (bs : List Name) (i : ℕ) where
   lut_no_word e = part_missing (eat (bytes "(lut ") l) after-word e
 
   module _ {a : Cursor} (f : At l tt a (eat (bytes "(lut ") l)) where
-    word_then : (m : Moved) → MovedIs l m (after-word (from l a)) → MovedIs l m (read_lut_head bs i l)
+    word_then : (m : Option Cursor) → MovedIs l m (after-word (from l a)) → MovedIs l m (read_lut_head bs i l)
     unfolding read_lut_head
     word_then m g = part_then (eat (bytes "(lut ") l) after-word f m g
 
     pub lut_no_number : bad ≡ eat (led true (lut_name i)) (from l a) → bad ≡ read_lut_head bs i l
-    lut_no_number e = word_then Moved.Bad (part_missing (eat (lut_name i) (from l a)) after-number e)
+    lut_no_number e = word_then None (part_missing (eat (lut_name i) (from l a)) after-number e)
 
     module _ {b : Cursor} (g : At l tt b (eat (led true (lut_name i)) (from l a))) where
-      number-then : (m : Moved) → MovedIs l m (after-number (from l b)) → MovedIs l m (read_lut_head bs i l)
+      number-then : (m : Option Cursor) → MovedIs l m (after-number (from l b)) → MovedIs l m (read_lut_head bs i l)
       number-then m h = word_then m (part_then (eat (lut_name i) (from l a)) after-number g m h)
 
       pub lut-no-list : bad ≡ eat (bytes " (") (from l b) → bad ≡ read_lut_head bs i l
-      lut-no-list e = number-then Moved.Bad (part_missing (eat (bytes " (") (from l b)) (read_inputs true bs) e)
+      lut-no-list e = number-then None (part_missing (eat (bytes " (") (from l b)) (read_inputs true bs) e)
 
-      pub lut_list : {d : Cursor} → At l tt d (eat (bytes " (") (from l b)) → (m : Moved)
+      pub lut_list : {d : Cursor} → At l tt d (eat (bytes " (") (from l b)) → (m : Option Cursor)
           → MovedIs l m (read_inputs true bs (from l d)) → MovedIs l m (read_lut_head bs i l)
       lut_list h m k = number-then m (part_then (eat (bytes " (") (from l b)) (read_inputs true bs) h m k)
 
@@ -81,13 +80,13 @@ module _ (l : List ℕ) (n : Name) where
   node_no_word e = part_missing (eat (bytes "(node ") l) after-node e
 
   module _ {a : Cursor} (f : At l tt a (eat (bytes "(node ") l)) where
-    node_then : (m : Moved) → MovedIs l m (after-node (from l a)) → MovedIs l m (read_node_head n l)
+    node_then : (m : Option Cursor) → MovedIs l m (after-node (from l a)) → MovedIs l m (read_node_head n l)
     unfolding read_node_head
     node_then m g = part_then (eat (bytes "(node ") l) after-node f m g
 
     pub node_no_name : bad ≡ read_given n (from l a) → bad ≡ read_node_head n l
-    node_no_name e = node_then Moved.Bad (part_missing (read_given n (from l a)) (eat (bytes " (")) e)
+    node_no_name e = node_then None (part_missing (read_given n (from l a)) (eat (bytes " (")) e)
 
-    pub node_list : {b : Cursor} → At l tt b (read_given n (from l a)) → (m : Moved)
+    pub node_list : {b : Cursor} → At l tt b (read_given n (from l a)) → (m : Option Cursor)
         → MovedIs l m (eat (bytes " (") (from l b)) → MovedIs l m (read_node_head n l)
     node_list g m h = node_then m (part_then (read_given n (from l a)) (eat (bytes " (")) g m h)

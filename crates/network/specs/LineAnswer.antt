@@ -1,14 +1,14 @@
 -- What the readers of a line answer, by the definitions: a line's digits are told by the place where they stand.
 -- Assumes nothing.
-use Rattle.std.specs.Prelude.{◌≡◌, Bool, List, [], ◌∷◌, ℕ, ◌+◌, ◌^◌, ◌≤◌, length, take, drop}
-use Rattle.std.proofs.Math.Option.{Option, some, none}
+use Rattle.std.specs.Prelude.{◌≡◌, Bool, List, [], ◌∷◌, ℕ, ◌+◌, ◌^◌, ◌≤◌, length, take, drop, Option, Some, None}
+use Rattle.std.proofs.Math.Option.{some, none}
+use Rattle.std.proofs.Math.Option as math
 use Rattle.text.specs.Bytes.{Read, found, after, eat}
 use Rattle.cursor.specs.Item.{from}
 use Rattle.network.specs.Network.{Node}
 use Rattle.network.specs.Printer.{print_digits}
 use Rattle.network.specs.Reader.{read_digits, first_found}
 use Rattle.network.specs.Numbers.{numbers_of}
-use Rattle.network.specs.declared.Table.{Table}
 use Rattle.network.specs.declared.NodeLine.{NodeLine}
 use Rattle.network.specs.declared.Reads.{Reads}
 
@@ -26,14 +26,14 @@ pub record Stands (s : List ℕ) (n at : ℕ) (ds : List Bool) : Type 0 where
   pub printed : take n (drop at s) ≡ print_digits ds
 
 -- a line whose digits were read
-pub record TableRead (l : List ℕ) (n at : ℕ) (x : Option (List Bool)) : Type 0 where
+pub record TableRead (l : List ℕ) (n at : ℕ) (x : math.Option (List Bool)) : Type 0 where
   pub digits : List Bool
   pub is : some digits ≡ x
   pub stands : Stands l n at digits
 
-abbrev pub TableIs : List ℕ → ℕ → Table → Option (List Bool) → Type 0
-TableIs l n (Table.At at) x = TableRead l n at x
-TableIs l n Table.Bad x = none ≡ x
+abbrev pub TableIs : List ℕ → ℕ → Option ℕ → math.Option (List Bool) → Type 0
+TableIs l n (Some at) x = TableRead l n at x
+TableIs l n None x = none ≡ x
 
 -- the shared tables of a node's list, of those below u
 pub record ReadsAre (s : List ℕ) (u : ℕ) (r : Reads) (x : Read (List ℕ)) : Type 0 where
@@ -47,11 +47,11 @@ pub record NodeStands (s : List ℕ) (u f mask at : ℕ) (x : Node) : Type 0 whe
   pub reading : numbers_of u mask ≡ x.reads
   pub stands : Stands s (2 ^ (length x.reads + f)) at x.digits
 
-pub record NodeRead (l : List ℕ) (u f mask at : ℕ) (x : Option Node) : Type 0 where
+pub record NodeRead (l : List ℕ) (u f mask at : ℕ) (x : math.Option Node) : Type 0 where
   pub node : Node
   pub is : some node ≡ x
   pub stands : NodeStands l u f mask at node
 
-abbrev pub NodeIs : List ℕ → ℕ → ℕ → NodeLine → Option Node → Type 0
-NodeIs l u f (NodeLine.At mask at) x = NodeRead l u f mask at x
-NodeIs l u f NodeLine.Bad x = none ≡ x
+abbrev pub NodeIs : List ℕ → ℕ → ℕ → Option NodeLine → math.Option Node → Type 0
+NodeIs l u f (Some r) x = NodeRead l u f r.mask r.at x
+NodeIs l u f None x = none ≡ x

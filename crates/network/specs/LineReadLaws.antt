@@ -1,9 +1,10 @@
 -- A lut line and a node line, part after part: the head, what a node reads, the inputs, and the digits up to the line's
 -- end. Assumes nothing.
-use Rattle.std.specs.Prelude.{◌≡◌, Bool, true, List, [], ◌∷◌, ℕ, ◌+◌, ◌^◌, eqb}
+use Rattle.std.specs.Prelude.{◌≡◌, Bool, true, List, [], ◌∷◌, ℕ, ◌+◌, ◌^◌, eqb, Option}
 use Rattle.std.proofs.Math.Path.{refl, ap, subst}
 use Rattle.std.proofs.Common.{sym, ◌∙◌, arith, ne_eqb}
-use Rattle.std.proofs.Math.Option.{Option, some, none}
+use Rattle.std.proofs.Math.Option.{some, none}
+use Rattle.std.proofs.Math.Option as math
 use Rattle.std.proofs.Math.ListN.{length}
 use Rattle.text.specs.Bytes.{Read, found, bad, after, eat, whole, close_bracket}
 use Rattle.names.specs.Name.{Name}
@@ -14,7 +15,6 @@ use Rattle.network.specs.Network.{Node}
 use Rattle.network.specs.Reader.{read_digits, read_inputs, read_lut_head, read_reads, read_lut, read_node_head, read_node, read_node_rest, none_of}
 use Rattle.network.specs.Numbers.{numbers_of}
 use Rattle.network.specs.LineAnswer.{Stands, TableIs, TableRead, ReadsAre, NodeRead}
-use Rattle.network.specs.declared.Table.{Table}
 use Rattle.network.specs.declared.Reads.{Reads}
 
 -- ---- a lut line
@@ -23,11 +23,11 @@ module _ (l : List ℕ) (bs : List Name) (i : ℕ) where
   unfolding read_lut
   lut_no_head e = rw (← e) refl
 
-  pub lut_digits : {c : Cursor} → At l tt c (read_lut_head bs i l) → (r : Table) (n k : ℕ) → n ≡ 2 ^ k → k ≡ length bs
+  pub lut_digits : {c : Cursor} → At l tt c (read_lut_head bs i l) → (r : Option ℕ) (n k : ℕ) → n ≡ 2 ^ k → k ≡ length bs
       → TableIs l n r (whole (closed (read_digits n (from l c)))) → TableIs l (2 ^ k) r (read_lut bs i l)
   unfolding read_lut
   lut_digits {c} h r n k e f t =
-      subst (λ (x : Option (List Bool)). TableIs l (2 ^ k) r x)
+      subst (λ (x : math.Option (List Bool)). TableIs l (2 ^ k) r x)
       (ap (λ (m : ℕ). whole (closed (read_digits (2 ^ m) (from l c)))) f
       ∙ ap (λ (x : Read (Unit {0})). whole (closed (after x (λ _ s. read_digits (2 ^ length bs) s)))) h.is)
       (subst (λ (m : ℕ). TableIs l m r (whole (closed (read_digits m (from l c))))) e t)
@@ -38,7 +38,7 @@ none_counted [] = refl
 none_counted (i ∷ is) = sym (ne_eqb (length (i ∷ is)) 0 (λ e. omega arith))
 
 -- digits as a node's
-abbrev as_node : List ℕ → Option (List Bool) → Option Node
+abbrev as_node : List ℕ → math.Option (List Bool) → math.Option Node
 as_node is none = none
 as_node is (some ds) = some (record { reads = is; digits = ds })
 

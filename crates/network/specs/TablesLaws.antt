@@ -1,9 +1,10 @@
 -- Digits 0 and 1 that stand in a line: so many are read digit by digit, and the line's end follows where the closing bracket
 -- is the last byte. Assumes nothing.
-use Rattle.std.specs.Prelude.{◌≡◌, refl, Bool, true, false, List, [], ◌∷◌, ◌++◌, ℕ, suc, ◌+◌, ◌-◌, ◌≤◌, ◌<◌, eqb, leb, length, take, drop}
+use Rattle.std.specs.Prelude.{◌≡◌, refl, Bool, true, false, List, [], ◌∷◌, ◌++◌, ℕ, suc, ◌+◌, ◌-◌, ◌≤◌, ◌<◌, eqb, leb, length, take, drop, Option}
 use Rattle.std.proofs.Math.Path.{sym, ap}
 use Rattle.std.proofs.Common.{subst, ◌∙◌, length-drop, length-append, drop_of_length-le, drop-cons, eq-eqb, eqb-true, leb-true, leb-false}
-use Rattle.std.proofs.Math.Option.{Option, none}
+use Rattle.std.proofs.Math.Option.{none}
+use Rattle.std.proofs.Math.Option as math
 use native.Mathlib.Omega.{arith}
 use Rattle.std.proofs.lemmas.List.{length-map}
 use Rattle.bits.specs.Logic.{pick}
@@ -14,7 +15,6 @@ use Rattle.sheet.specs.Lines.{closed}
 use Rattle.classes.specs.Cases.{same_test}
 use Rattle.cursor.specs.Item.{At, MovedIs, from}
 use Rattle.cursor.specs.declared.Cursor.{Cursor}
-use Rattle.cursor.specs.declared.Moved.{Moved}
 use Rattle.network.specs.Printer.{print_digits}
 use Rattle.network.specs.Reader.{read_digits, first_found}
 use Rattle.network.specs.LineAnswer.{eat_digit, eat_digits, TableRead}
@@ -26,7 +26,7 @@ pub digit_zero : {s : List ℕ} {c : Cursor} (t : List ℕ) → At s tt c (eat (
 digit_zero t h =
     record { inside = h.inside; is = ap (λ (r : Read (Unit {0})). first_found r (eat (0x31 ∷ []) t)) h.is }
 
-pub digit_one : (s t : List ℕ) (m : Moved) → bad ≡ eat (0x30 ∷ []) t → MovedIs s m (eat (0x31 ∷ []) t) → MovedIs s m (eat_digit t)
+pub digit_one : (s t : List ℕ) (m : Option Cursor) → bad ≡ eat (0x30 ∷ []) t → MovedIs s m (eat (0x31 ∷ []) t) → MovedIs s m (eat_digit t)
 digit_one s t m e f =
     subst (λ (r : Read (Unit {0})). MovedIs s m r) (ap (λ (r : Read (Unit {0})). first_found r (eat (0x31 ∷ []) t)) e) f
 
@@ -114,7 +114,7 @@ unfolding print_digits
 printed_length ds t = length-append (print_digits ds) t ∙ ap (λ (k : ℕ). k + length t) (length-map ds digit)
 
 module _ (l : List ℕ) (at n : ℕ) where
-  abbrev ends : Option (List Bool)
+  abbrev ends : math.Option (List Bool)
   ends = whole (closed (read_digits n (drop at l)))
 
   pub no_digits : bad ≡ eat_digits n (drop at l) → none ≡ ends
