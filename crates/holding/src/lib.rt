@@ -22,18 +22,13 @@ fn without_cell(i: u8) -> u64
     requires { i < max_cells }
     ensures { (k : ℕ) → k < max_codes → on result k ≡ not (on k i) }
 {
-    if i == 0 {
-        0x5555_5555_5555_5555
-    } else if i == 1 {
-        0x3333_3333_3333_3333
-    } else if i == 2 {
-        0x0f0f_0f0f_0f0f_0f0f
-    } else if i == 3 {
-        0x00ff_00ff_00ff_00ff
-    } else if i == 4 {
-        0x0000_ffff_0000_ffff
-    } else {
-        0x0000_0000_ffff_ffff
+    match i {
+        0 => 0x5555_5555_5555_5555,
+        1 => 0x3333_3333_3333_3333,
+        2 => 0x0f0f_0f0f_0f0f_0f0f,
+        3 => 0x00ff_00ff_00ff_00ff,
+        4 => 0x0000_ffff_0000_ffff,
+        _ => 0x0000_0000_ffff_ffff,
     }
 }
 
@@ -52,12 +47,10 @@ fn spread(mask: u8, d: u64) -> u64
     ensures { Spans mask d result }
 {
     let mut r = d;
-    let mut i: u8 = 0;
-    while i < cells::MAX_CELLS {
+    for i in 0..cells::MAX_CELLS {
         if !cells::in_set(mask as u64, i) {
             r = joined(r, i);
         }
-        i += 1;
     }
     r
 }
@@ -76,9 +69,7 @@ pub fn blocks(ms: [u8; SEARCH_OUTPUTS], n: usize) -> [u64; BLOCKS]
     ensures { Table ms (n * max_codes) result }
 {
     let mut r = [0u64; BLOCKS];
-    let end = n * MAX_CODES;
-    let mut i: usize = 0;
-    while i < end {
+    for i in 0..n * MAX_CODES {
         let m = ms[i / MAX_CODES];
         let c = (i % MAX_CODES) as u8;
         let first = c & m;
@@ -87,7 +78,6 @@ pub fn blocks(ms: [u8; SEARCH_OUTPUTS], n: usize) -> [u64; BLOCKS]
         } else {
             r[i] = r[i / MAX_CODES * MAX_CODES + first as usize];
         }
-        i += 1;
     }
     r
 }
@@ -109,17 +99,15 @@ fn held(
         × ((l : ℕ) → l < max_vertices → item own.old l ≡ 0) × ((l : ℕ) → l < max_vertices → item owns.old l ≡ 0) }
     ensures { Held cl.now codes.now o (item ms o) v own.new owns.new }
 {
-    let mut y = 0;
-    while y < v {
+    for y in 0..v {
         let c = codes[y];
         if c < problem::NO_CODE {
             let l = problem::label(cl, o, y) as usize;
             if !cells::in_set(own[l], c) {
-                own[l] = own[l] | bs[o * MAX_CODES + c as usize];
-                owns[l] = owns[l] + 1;
+                own[l] |= bs[o * MAX_CODES + c as usize];
+                owns[l] += 1;
             }
         }
-        y += 1;
     }
 }
 
@@ -156,24 +144,14 @@ fn wanted(
         × (length meet.old ≡ max_vertices) × ((l : ℕ) → l < max_vertices → item meet.old l ≡ 2 ^ 64 - 1) }
     ensures { Wanted cl.now o mask v dom.now own.now owns.now wants.new meet.new }
 {
-    let mut y = 0;
-    while y < v {
+    for y in 0..v {
         let l = problem::label(cl, o, y) as usize;
         if dom[y] & own[l] == 0 {
-            let t = spread(mask, dom[y]);
-            let m = meet[l] & t;
+            let m = meet[l] & spread(mask, dom[y]);
             meet[l] = m;
             wants[l] = more(owns[l], m);
         }
-        y += 1;
     }
-}
-
-// The larger of two numbers.
-fn larger(a: u8, b: u8) -> u8
-    ensures { (result ≡ max a b) × (result ≤ 255) }
-{
-    if a < b { b } else { a }
 }
 
 // The blocks that the classes of each part of o hold, or need where that is more.
@@ -182,28 +160,23 @@ fn totals(cl: &[u8], base: &[u8], o: usize, owns: &[u8]) -> [usize; MAX_VERTICES
     ensures { Totals cl.now owns.now base.now o max_vertices result }
 {
     let mut t = [0usize; MAX_VERTICES];
-    let mut l = 0;
-    while l < MAX_VERTICES {
+    for l in 0..MAX_VERTICES {
         let p = problem::class_part(cl, o, l) as usize;
-        let n = larger(owns[l], problem::label(base, o, l)) as usize;
-        t[p] = t[p] + n;
-        l += 1;
+        t[p] += owns[l].max(problem::label(base, o, l)) as usize;
     }
     t
 }
 
-// The place of the largest of the numbers.
+// The place of the largest of the numbers, the first of equally large ones: an iterator's max_by_key gives the last.
 fn largest(t: &[usize]) -> usize
     requires { length t.now ≡ max_vertices }
     ensures { result < max_vertices }
 {
     let mut m: usize = 0;
-    let mut i = 1;
-    while i < MAX_VERTICES {
+    for i in 1..MAX_VERTICES {
         if t[m] < t[i] {
             m = i;
         }
-        i += 1;
     }
     m
 }
@@ -212,21 +185,16 @@ fn largest(t: &[usize]) -> usize
 fn inside(b: u64, c: u8) -> bool
     ensures { result ≡ true → (c < no_code) × (on b c ≡ true) }
 {
-    if c < problem::NO_CODE {
-        cells::in_set(b, c)
-    } else {
-        false
-    }
+    c < problem::NO_CODE && cells::in_set(b, c)
 }
 
-// The same for the part where it is most.
+// The blocks that the classes of a part of o hold, or need where that is more, for the part where it is most.
 pub fn total(cl: &[u8], base: &[u8], o: usize, owns: &[u8]) -> usize
     requires { Labels cl.now × (length base.now ≡ label_count) × (o < search_outputs) × (length owns.now ≡ max_vertices) }
     ensures { (p : ℕ) × (result ≡ needed cl.now owns.now base.now o p) }
 {
     let ts = totals(cl, base, o, owns);
-    let p = largest(&ts);
-    ts[p]
+    ts[largest(&ts)]
 }
 
 // The most classes that an output has.
@@ -238,30 +206,23 @@ fn others(cl: &[u8], o: usize, p: u8) -> u64
     ensures { Others cl.now o p max_vertices result }
 {
     let mut r: u64 = 0;
-    let mut l: u8 = 0;
-    while l < CLASSES {
-        let q = problem::class_part(cl, o, l as usize);
-        if q != p {
+    for l in 0..CLASSES {
+        if problem::class_part(cl, o, l as usize) != p {
             r = cells::with(r, l);
         }
-        l += 1;
     }
     r
 }
 
-// Whether all classes of output o are of part p.
+// Whether all classes of output o are of part p. They mostly are, so the loop does not stop early, as an iterator's all would:
+// then several classes are compared at a time.
 fn one_part(cl: &[u8], o: usize, p: u8) -> bool
     requires { Labels cl.now × (o < search_outputs) }
     ensures { result ≡ true → (l : ℕ) → l < max_vertices → part_at cl.now o l ≡ p }
 {
     let mut all = true;
-    let mut l = 0;
-    while l < MAX_VERTICES {
-        let q = problem::class_part(cl, o, l);
-        if q != p {
-            all = false;
-        }
-        l += 1;
+    for l in 0..MAX_VERTICES {
+        all &= problem::class_part(cl, o, l) == p;
     }
     all
 }
@@ -291,8 +252,7 @@ fn classes_in(cl: &[u8], v: usize, o: usize, p: u8, codes: &[u8], b: u64) -> Cla
 {
     let mut seen = strangers(cl, o, p);
     let mut count: u8 = 0;
-    let mut y = 0;
-    while y < v {
+    for y in 0..v {
         if inside(b, codes[y]) {
             let l = problem::label(cl, o, y);
             if !cells::in_set(seen, l) {
@@ -300,7 +260,6 @@ fn classes_in(cl: &[u8], v: usize, o: usize, p: u8, codes: &[u8], b: u64) -> Cla
                 count += 1;
             }
         }
-        y += 1;
     }
     Classes { seen, count }
 }
@@ -312,15 +271,9 @@ pub fn crowd(cl: &[u8], v: usize, o: usize, x: usize, cap: u8, codes: &[u8], b: 
     ensures { Crowd cl.now codes.now o (part_of cl.now o x) b v result.seen result.count }
 {
     let p = problem::part(cl, o, x);
-    if cap <= 1 {
-        if x < v {
-            if inside(b, codes[x]) {
-                let others = strangers(cl, o, p);
-                let l = problem::label(cl, o, x);
-                let seen = cells::with(others, l);
-                return Classes { seen, count: 1 };
-            }
-        }
+    if cap <= 1 && x < v && inside(b, codes[x]) {
+        let seen = cells::with(strangers(cl, o, p), problem::label(cl, o, x));
+        return Classes { seen, count: 1 };
     }
     classes_in(cl, v, o, p, codes, b)
 }
@@ -346,15 +299,11 @@ fn lacks(cl: &[u8], base: &[u8], o: usize, p: u8, owns: &[u8], wants: &[u8]) -> 
 {
     let mut total: u16 = 0;
     let mut news: u16 = 0;
-    let mut l = 0;
-    while l < MAX_VERTICES {
+    for l in 0..MAX_VERTICES {
         let q = problem::class_part(cl, o, l);
-        let n = larger(wants[l], problem::label(base, o, l));
-        let t = counted(q, p, n);
-        let s = counted(q, p, n - owns[l]);
-        total = total + t as u16;
-        news = news + s as u16;
-        l += 1;
+        let n = wants[l].max(problem::label(base, o, l));
+        total += counted(q, p, n) as u16;
+        news += counted(q, p, n - owns[l]) as u16;
     }
     Lack { total, news }
 }
@@ -373,12 +322,10 @@ fn tight_parts(ts: &[usize], spot: usize) -> u64
     ensures { TightBelow ts.now spot max_vertices result }
 {
     let mut r: u64 = 0;
-    let mut p: u8 = 0;
-    while p < CLASSES {
+    for p in 0..CLASSES {
         if ts[p as usize] == spot {
             r = cells::with(r, p);
         }
-        p += 1;
     }
     r
 }
@@ -399,14 +346,10 @@ fn others_of(ts: &[usize], q: u8) -> u64
     requires { length ts.now ≡ max_vertices }
 {
     let mut r: u64 = 0;
-    let mut p: u8 = 0;
-    while p < CLASSES {
-        if p != q {
-            if ts[p as usize] != 0 {
-                r = cells::with(r, p);
-            }
+    for p in 0..CLASSES {
+        if p != q && ts[p as usize] != 0 {
+            r = cells::with(r, p);
         }
-        p += 1;
     }
     r
 }
@@ -420,24 +363,22 @@ fn busiest(cl: &[u8], base: &[u8], o: usize, owns: &[u8], wants: &[u8], spot: us
     let p = problem::class_part(cl, o, 0);
     if one_part(cl, o, p) {
         let a = lacks(cl, base, o, p, owns, wants);
-        let one = tight_part(p, a.total as usize, spot);
         return Busy {
             part: p,
             total: a.total,
             news: a.news,
-            tight: one,
+            tight: tight_part(p, a.total as usize, spot),
             others: 0,
         };
     }
     let ts = totals(cl, base, o, wants);
     let q = largest(&ts) as u8;
     let b = lacks(cl, base, o, q, owns, wants);
-    let tight = tight_parts(&ts, spot);
     Busy {
         part: q,
         total: b.total,
         news: b.news,
-        tight,
+        tight: tight_parts(&ts, spot),
         others: others_of(&ts, q),
     }
 }
@@ -447,12 +388,7 @@ fn lacking(cl: &[u8], base: &[u8], o: usize, p: u8, l: usize, has: u8, wants: u8
     requires { Labels cl.now × (length base.now ≡ label_count) × (o < search_outputs) × (l < max_vertices) }
     ensures { result ≡ false → part_at cl.now o l ≡ p → max wants (label_at base.now o l) ≤ has }
 {
-    let q = problem::class_part(cl, o, l);
-    if q != p {
-        return false;
-    }
-    let n = larger(wants, problem::label(base, o, l));
-    has < n
+    problem::class_part(cl, o, l) == p && has < wants.max(problem::label(base, o, l))
 }
 
 // How many blocks each class holds, and how many it needs.
@@ -487,20 +423,14 @@ fn reach(
         × (length own.now ≡ max_vertices) × (length codes.now ≡ max_vertices) }
     ensures { Reached cl.now base.now n.owns n.wants codes.now dom.now own.now t.number p t.vertices result }
 {
-    let v = t.vertices;
-    let o = t.number;
-    let owns = n.owns;
-    let wants = n.wants;
     let mut r: u64 = 0;
-    let mut y = 0;
-    while y < v {
+    for y in 0..t.vertices {
         if codes[y] >= problem::NO_CODE {
-            let l = problem::label(cl, o, y) as usize;
-            if lacking(cl, base, o, p, l, owns[l], wants[l]) {
-                r = r | minus(dom[y], own[l]);
+            let l = problem::label(cl, t.number, y) as usize;
+            if lacking(cl, base, t.number, p, l, n.owns[l], n.wants[l]) {
+                r |= minus(dom[y], own[l]);
             }
         }
-        y += 1;
     }
     r
 }
@@ -512,13 +442,13 @@ fn fewer_blocks(bs: &[u64], o: usize, d: u64, n: u16) -> bool
 {
     let mut rest = d;
     let mut k: u16 = 0;
+    // The blocks of a set of codes are taken off one by one.
     while rest != 0 {
         if n <= k {
             return false;
         }
         let c = cells::lowest(rest);
-        let b = bs[o * MAX_CODES + c as usize];
-        rest = minus(cells::without(rest, c), b);
+        rest = minus(cells::without(rest, c), bs[o * MAX_CODES + c as usize]);
         k += 1;
     }
     k < n
@@ -543,14 +473,15 @@ fn out_of_reach(
     ensures { result ≡ true → (t.cap ≤ 1) × ((mask : ℕ) → ((c : ℕ) → c < max_codes → Block mask c (get_or bs.now (t.number * max_codes + c) 0))
         → Lost cl.now base.now n.owns n.wants codes.now dom.now own.now t.number p mask t.vertices news) }
 {
-    if 1 < t.cap {
+    if t.cap > 1 || news == 0 {
         return false;
     }
-    if news == 0 {
-        return false;
-    }
-    let d = reach(cl, base, t, p, n, codes, dom, own);
-    fewer_blocks(bs, t.number, d, news)
+    fewer_blocks(
+        bs,
+        t.number,
+        reach(cl, base, t, p, n, codes, dom, own),
+        news,
+    )
 }
 
 // Whether that is so of some part of the set others.
@@ -575,13 +506,12 @@ fn others_out_of_reach(
     if t.cap != 1 {
         return false;
     }
-    let owns = n.owns;
-    let wants = n.wants;
     let mut rest = others;
+    // The parts of a set are taken off one by one.
     while rest != 0 {
         let p = cells::lowest(rest);
         rest = cells::without(rest, p);
-        let a = lacks(cl, base, t.number, p, &owns, &wants);
+        let a = lacks(cl, base, t.number, p, &n.owns, &n.wants);
         if out_of_reach(cl, base, bs, t, p, a.news, n, codes, dom, own) {
             return true;
         }
@@ -594,16 +524,13 @@ fn keep(own: u64, meet: u64, has: u8, wants: u8, need: u8) -> u64
     requires { has ≤ max_vertices }
     ensures { (k : ℕ) → k < max_codes → Keeps own meet has wants need k → on result k ≡ true }
 {
-    if wants == has {
-        if need <= has {
-            return own;
-        }
-    } else if wants == has + 1 {
-        if need <= has + 1 {
-            return own | meet;
-        }
+    if wants == has && need <= has {
+        own
+    } else if wants == has + 1 && need <= has + 1 {
+        own | meet
+    } else {
+        cells::ALL_CODES
     }
-    cells::ALL_CODES
 }
 
 // The sets of the vertices without a code are narrowed where no place is left: in the parts of tight.
@@ -624,21 +551,14 @@ fn narrow(
     ensures { Narrowed (Stays cl.now base.now t.number tight own.now meet.now n.owns n.wants)
         dom.old t.vertices dom.new }
 {
-    let v = t.vertices;
-    let o = t.number;
-    let owns = n.owns;
-    let wants = n.wants;
-    let mut y = 0;
-    while y < v {
+    for y in 0..t.vertices {
         if codes[y] >= problem::NO_CODE {
-            let l = problem::label(cl, o, y) as usize;
-            let p = problem::class_part(cl, o, l);
-            if cells::in_set(tight, p) {
-                let need = problem::label(base, o, l);
-                dom[y] = dom[y] & keep(own[l], meet[l], owns[l], wants[l], need);
+            let l = problem::label(cl, t.number, y) as usize;
+            if cells::in_set(tight, problem::class_part(cl, t.number, l)) {
+                let need = problem::label(base, t.number, l);
+                dom[y] &= keep(own[l], meet[l], n.owns[l], n.wants[l], need);
             }
         }
-        y += 1;
     }
 }
 
@@ -647,15 +567,10 @@ pub fn shut(cl: &[u8], v: usize, o: usize, seen: u64, codes: &[u8], dom: &mut [u
     requires { Labels cl.now × (v ≤ max_vertices) × (o < search_outputs) × (length codes.now ≡ max_vertices) × (length dom.old ≡ max_vertices) }
     ensures { Narrowed (Free cl.now o seen b) dom.old v dom.new }
 {
-    let mut y = 0;
-    while y < v {
-        if codes[y] >= problem::NO_CODE {
-            let l = problem::label(cl, o, y);
-            if !cells::in_set(seen, l) {
-                dom[y] = minus(dom[y], b);
-            }
+    for y in 0..v {
+        if codes[y] >= problem::NO_CODE && !cells::in_set(seen, problem::label(cl, o, y)) {
+            dom[y] = minus(dom[y], b);
         }
-        y += 1;
     }
 }
 
@@ -679,14 +594,9 @@ fn no_room(
     ensures { result ≡ true → NoRoom cl.now base.now n.owns n.wants codes.now dom.now own.now bs.now
         t.number t.vertices t.cap t.spot }
 {
-    let total = b.total as usize;
-    if t.spot < total {
-        return true;
-    }
-    if out_of_reach(cl, base, bs, t, b.part, b.news, n, codes, dom, own) {
-        return true;
-    }
-    others_out_of_reach(cl, base, bs, t, b.others, n, codes, dom, own)
+    t.spot < b.total as usize
+        || out_of_reach(cl, base, bs, t, b.part, b.news, n, codes, dom, own)
+        || others_out_of_reach(cl, base, bs, t, b.others, n, codes, dom, own)
 }
 
 // The sets are narrowed by what the classes of output o hold, own, and need, meet, and by how many blocks these are. False where
@@ -711,20 +621,14 @@ fn narrow_by(
         × (length dom.new ≡ max_vertices)
         × (result ≡ false → (kn val : ℕ) → Hopeless cl.now base.now p.ms p.caps p.spots p.vertices p.outputs kn val codes.now dom.old) }
 {
-    let caps = p.caps;
-    let spots = p.spots;
-    let owns = n.owns;
-    let wants = n.wants;
-    let spot = spots[o] as usize;
-    let cap = caps[o];
-    let b = busiest(cl, base, o, &owns, &wants, spot);
-    let tight = b.tight;
     let t = Output {
         number: o,
-        cap,
-        spot,
+        cap: p.caps[o],
+        spot: p.spots[o] as usize,
         vertices: p.vertices,
     };
+    let b = busiest(cl, base, o, &n.owns, &n.wants, t.spot);
+    let tight = b.tight;
     if no_room(cl, base, bs, t, b, n, codes, dom, own) {
         return false;
     }
@@ -751,14 +655,16 @@ pub fn settle(
         × (length dom.new ≡ max_vertices)
         × (result ≡ false → (kn val : ℕ) → Hopeless cl.now base.now p.ms p.caps p.spots p.vertices p.outputs kn val codes.now dom.old) }
 {
-    let ms = p.ms;
-    let v = p.vertices;
     let mut own = [0u64; MAX_VERTICES];
     let mut owns = [0u8; MAX_VERTICES];
-    held(cl, bs, ms, v, p.outputs, o, codes, &mut own, &mut owns);
+    held(
+        cl, bs, p.ms, p.vertices, p.outputs, o, codes, &mut own, &mut owns,
+    );
     let mut wants = owns;
     let mut meet = [cells::ALL_CODES; MAX_VERTICES];
-    wanted(cl, ms[o], v, o, dom, &own, &owns, &mut wants, &mut meet);
+    wanted(
+        cl, p.ms[o], p.vertices, o, dom, &own, &owns, &mut wants, &mut meet,
+    );
     let n = Counts { owns, wants };
     narrow_by(cl, base, bs, p, o, &own, &meet, n, codes, dom)
 }

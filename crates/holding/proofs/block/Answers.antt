@@ -1,9 +1,6 @@
 use Rattle.holding.specs.BlocksLaws.{spans_block}
 use Rattle.holding.proofs.block.Goals as goal
 
-pub single-requires : goal.single-requires
-single-requires c = c.requires
-
 pub returns : goal.returns
 returns c = let args = c.args in
     spans_block args.mask args.c c.single.result c.spread.result c.requires c.single.ensures c.spread.ensures

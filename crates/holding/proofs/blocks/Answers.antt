@@ -7,23 +7,13 @@ use Rattle.holding.specs.BlocksLaws.{table_more, entry_again}
 use Rattle.holding.proofs.blocks.Goals as goal
 use Rattle.holding.proofs.blocks.Goals.{then-first-c, else-first-c}
 
-pub loop-i-init : goal.loop-i-init
-loop-i-init c = (omega arith, refl, record { long = refl; filled = λ k h. absurd (omega arith) })
-
 pub loop-i-preserved : goal.loop-i-preserved
 loop-i-preserved c = let args = c.args in
     let pre = c.requires in
     let h = c.loop-i-test.true in
-    let e = c.loop-i.invariant.1 in
-    let Next : List ℕ → Type 0 = Table args.ms (c.loop-i.i + 1) in (
-      omega arith,
-      e,
-      elim c.if-first-c.branch [
-        | then-first-c w ↦ subst Next (sym w.r-is) (table_more args.ms c.loop-i.i c.loop-i.r _ (omega arith) w.block.ensures c.loop-i.invariant.2)
-        | else-first-c w ↦ subst Next (sym w.r-is) (table_more args.ms c.loop-i.i c.loop-i.r _ (omega arith)
-            (entry_again args.ms c.loop-i.i c.loop-i.r _ _ refl refl w.if-first-c.false c.loop-i.invariant.2) c.loop-i.invariant.2)
-      ],
-    )
-
-pub returns : goal.returns
-returns c = subst (λ (z : ℕ). Table c.args.ms z c.loop-i.r) (let h = c.loop-i-test.false in let z = c.loop-i.invariant.0 in let e = c.loop-i.invariant.1 in omega arith) c.loop-i.invariant.2
+    let Next : List ℕ → Type 0 = Table args.ms (c.loop-i.i + 1) in
+    elim c.if-first-c.branch [
+      | then-first-c w ↦ subst Next (sym w.r-is) (table_more args.ms c.loop-i.i c.loop-i.r _ (omega arith) w.block.ensures c.loop-i.invariant)
+      | else-first-c w ↦ subst Next (sym w.r-is) (table_more args.ms c.loop-i.i c.loop-i.r _ (omega arith)
+          (entry_again args.ms c.loop-i.i c.loop-i.r _ _ refl refl w.if-first-c.false c.loop-i.invariant) c.loop-i.invariant)
+    ]

@@ -14,9 +14,6 @@ step_is i h = rw one-mul (mod-eq_of_lt (pow-lt {i = i} {j = 32} (omega arith)))
 step-low : (i : ℕ) → i < 6 → 1 * 2 ^ i % 2 ^ 32 < 64
 step-low i h = let e = step_is i h in let l = pow-lt {i = i} {j = 6} h in omega arith
 
-pub without_cell-low-requires : goal.without_cell-low-requires
-without_cell-low-requires c = c.requires
-
 pub returns : goal.returns
 returns c = let args = c.args in
     joined_of args.d args.i _ c.without_cell-low.result (step_is args.i c.requires) c.without_cell-low.ensures

@@ -1,8 +1,6 @@
-use Prim.Native.Nat.{◌<◌, ◌≤◌, ◌-◌}
+-- The place is one of the places.
+use Prim.Native.Nat.{◌<◌}
 use Rattle.holding.proofs.largest.Given as goal
 
 abbrev pub invariant-loop-i : goal.invariant-loop-i
-invariant-loop-i l = (l.i ≤ 32) × (l.m < 32)
-
-abbrev pub decreases-loop-i : goal.decreases-loop-i
-decreases-loop-i l = 32 - l.i
+invariant-loop-i l = l.m < 32

@@ -1,10 +1,7 @@
-use Prim.Native.Nat.{◌≤◌, ◌-◌}
+-- The first y sets are narrowed.
 use Rattle.holding.specs.Full.{Free}
 use Rattle.holding.specs.Narrow.{Narrowed}
 use Rattle.holding.proofs.shut.Given as goal
 
 abbrev pub invariant-loop-y : goal.invariant-loop-y
-invariant-loop-y l = (l.y ≤ l.v) × Narrowed (Free l.cl l.o l.seen l.b) l.initial.dom l.y l.dom
-
-abbrev pub decreases-loop-y : goal.decreases-loop-y
-decreases-loop-y l = l.v - l.y
+invariant-loop-y l = Narrowed (Free l.cl l.o l.seen l.b) l.initial.dom l.y l.dom

@@ -3,13 +3,9 @@ use Rattle.bits.specs.Logic.{orb}
 use Rattle.bits.specs.LogicLaws.{never_both}
 use borrow.Author.Tests.{eqb-true}
 use lib.Dec.{eqb}
-use native.Mathlib.Omega.{arith}
 use mathlib.Core.Bool.{Bool}
 use mathlib.Core.Path.{sym, ap, ◌∙◌}
 use Rattle.holding.proofs.tight_part.Goals as goal
-
-pub with-requires : goal.with-requires
-with-requires c = let h = c.requires in omega arith
 
 pub returns-then-t-spot : goal.returns-then-t-spot
 returns-then-t-spot c = λ q e. (eqb-true q c.args.p (sym (ap (λ (b : Bool). orb b (eqb q c.args.p)) (on_zero q)) ∙ sym (c.with.ensures q) ∙ e), c.if-t-spot.true)

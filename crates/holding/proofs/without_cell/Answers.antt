@@ -11,34 +11,28 @@ use Rattle.holding.proofs.without_cell.Goals as goal
 at-cell : (s n i : ℕ) → i ≡ n → without_cell s n ≡ true → (k : ℕ) → k < 64 → on s k ≡ not (on k i)
 at-cell s n i q e = subst (λ (z : ℕ). (k : ℕ) → k < 64 → on s k ≡ not (on k z)) (sym q) (without_cell_on s n e)
 
-pub returns-then-i-eq0 : goal.returns-then-i-eq0
+pub returns-in-0 : goal.returns-in-0
 unfolding on digit every without_cell
-returns-then-i-eq0 c = at-cell 0x5555555555555555 0 c.args.i c.if-i-eq0.true refl
+returns-in-0 c = at-cell 0x5555555555555555 0 c.args.i c.in-0.is refl
 
-pub returns-then-i-eq1 : goal.returns-then-i-eq1
+pub returns-in-1 : goal.returns-in-1
 unfolding on digit every without_cell
-returns-then-i-eq1 c = at-cell 0x3333333333333333 1 c.args.i c.if-i-eq1.true refl
+returns-in-1 c = at-cell 0x3333333333333333 1 c.args.i c.in-1.is refl
 
-pub returns-then-i-eq2 : goal.returns-then-i-eq2
+pub returns-in-2 : goal.returns-in-2
 unfolding on digit every without_cell
-returns-then-i-eq2 c = at-cell 0x0f0f0f0f0f0f0f0f 2 c.args.i c.if-i-eq2.true refl
+returns-in-2 c = at-cell 0x0f0f0f0f0f0f0f0f 2 c.args.i c.in-2.is refl
 
-pub returns-then-i-eq3 : goal.returns-then-i-eq3
+pub returns-in-3 : goal.returns-in-3
 unfolding on digit every without_cell
-returns-then-i-eq3 c = at-cell 0x00ff00ff00ff00ff 3 c.args.i c.if-i-eq3.true refl
+returns-in-3 c = at-cell 0x00ff00ff00ff00ff 3 c.args.i c.in-3.is refl
 
-pub returns-then-i-eq4 : goal.returns-then-i-eq4
+pub returns-in-4 : goal.returns-in-4
 unfolding on digit every without_cell
-returns-then-i-eq4 c = at-cell 0x0000ffff0000ffff 4 c.args.i c.if-i-eq4.true refl
+returns-in-4 c = at-cell 0x0000ffff0000ffff 4 c.args.i c.in-4.is refl
 
-pub returns-else-i-eq4 : goal.returns-else-i-eq4
+pub returns-in_default : goal.returns-in_default
 unfolding on digit every without_cell
-returns-else-i-eq4 c = let i = c.args.i in
-    let h = c.requires in
-    let n0 = c.if-i-eq0.false in
-    let n1 = c.if-i-eq1.false in
-    let n2 = c.if-i-eq2.false in
-    let n3 = c.if-i-eq3.false in
-    let n4 = c.if-i-eq4.false in
-    let last : i ≡ 5 = omega arith in
-    at-cell 0x00000000ffffffff 5 i last refl
+returns-in_default c = let h = c.requires in
+    let last : c.args.i ≡ 5 = omega arith in
+    at-cell 0x00000000ffffffff 5 c.args.i last refl
