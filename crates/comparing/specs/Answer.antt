@@ -1,9 +1,8 @@
--- The answers of Check (clause 11.4), by the definitions. Assumes nothing.
+-- The answers of the comparison (clause 11.4), by the definitions. Assumes nothing.
 use Rattle.network.specs.Check as spec
-use Rattle.comparing.specs.declared.Checked.{Checked}
+use Rattle.comparing.specs.declared.Comparison.{Comparison}
 
 -- the definition's answer for each case of the code's
-abbrev pub checked_of : Checked → spec.Checked
-checked_of (Checked.Refused q l) = spec.refused_by q l
-checked_of Checked.Same = spec.same
-checked_of (Checked.Differs o r) = spec.differs o r
+abbrev pub comparison_of : Comparison → spec.Checked
+comparison_of Comparison.Same = spec.same
+comparison_of (Comparison.Differs o r) = spec.differs o r

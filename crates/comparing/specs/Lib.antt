@@ -1,4 +1,4 @@
--- Check's answer, and laws that the comparison is proved by.
+-- The comparison's answer, and laws that the comparison is proved by.
 pub mod Answer
 pub mod Code
 pub mod Filling

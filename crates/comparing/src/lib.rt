@@ -10,8 +10,8 @@ ghost use Rattle.rows.specs.Words.{row_on};
 ghost use Rattle.sheet.specs.Examine.{Design};
 ghost use Rattle.network.specs.Network.{Network};
 ghost use Rattle.network.specs.Check.{compared};
-ghost use Rattle.comparing.specs.Answer.{checked_of};
-ghost use Rattle.comparing.specs.Code.{one_at, code_at, is_one};
+ghost use Rattle.comparing.specs.Answer.{comparison_of};
+ghost use Rattle.comparing.specs.Code.{one_at, code_at};
 ghost use Rattle.comparing.specs.Filling.{Room, Put, Ready, Filled};
 ghost use Rattle.comparing.specs.Drawing.{places_of, Drawing, SomeDrawing};
 
@@ -20,19 +20,11 @@ use limits::Vertex;
 use netsheet::NetworkSheet;
 use sheet::Sheet;
 
-// What Check says: the question that was answered "no" and its line, or how the network compares with the design.
-#[derive(Drop)]
-pub enum Checked {
-    Refused { number: usize, line: usize },
+// How a network compares with a design: the lowest output with a wrong value, and the lowest row that shows it.
+#[derive(Clone, Copy, Debug, PartialEq, Eq)]
+pub enum Comparison {
     Same,
     Differs { output: usize, row: usize },
-}
-
-// The digit of a byte, 1 or 0.
-fn one(b: u8) -> usize
-    ensures { result ≡ logic.bit (is_one b) }
-{
-    if b == b'1' { 1 } else { 0 }
 }
 
 // The code of vertex x in the shared tables of a mask: their digits there, the lowest table first.
@@ -40,15 +32,11 @@ fn code(t: &[u8], lutat: [usize; limits::MAX_CELLS], mask: u8, luts: usize, x: V
     requires { (luts ≤ max_cells) × ((i : ℕ) → i < luts → get_or lutat i 0 + x.0 < length t.now) }
     ensures { result ≡ code_at t.now lutat mask x.0 luts }
 {
-    let v = x.0;
     let mut c: usize = 0;
-    let mut i: usize = 0;
-    while i < luts {
+    for i in 0..luts {
         if bits::has(mask as u64, i as u32) {
-            let p = lutat[i];
-            c = 2 * c + one(t[p + v]);
+            c = 2 * c + usize::from(t[lutat[i] + x.0] == b'1');
         }
-        i += 1;
     }
     c
 }
@@ -60,16 +48,9 @@ fn put_vertex(digits: &mut [u8], t: &[u8], at: usize, shape: Shape, x: Vertex)
     ensures { Put t.now at (get_or shape.vertex x.0 0) shape.free shape.frees
         digits.old digits.new }
 {
-    let v = x.0;
-    let vertex = shape.vertex;
-    let row = vertex[v];
-    let free = shape.free;
-    let frees = shape.frees;
-    let mut y = 0;
-    while y < frees {
-        let f = free[y];
-        digits[row + f] = t[at + y];
-        y += 1;
+    let row = shape.vertex[x.0];
+    for y in 0..shape.frees {
+        digits[row + shape.free[y]] = t[at + y];
     }
 }
 
@@ -86,14 +67,10 @@ fn in_rows(
     requires { Ready t.now lutat mask luts at shape }
     ensures { Filled t.now lutat mask luts at shape shape.vertices result }
 {
-    let vertices = shape.vertices;
-    let frees = shape.frees;
     let mut digits = [b'0'; limits::MAX_ROWS];
-    let mut x = 0;
-    while x < vertices {
+    for x in 0..shape.vertices {
         let c = code(t, lutat, mask, luts, Vertex(x));
-        put_vertex(&mut digits, t, at + c * frees, shape, Vertex(x));
-        x += 1;
+        put_vertex(&mut digits, t, at + c * shape.frees, shape, Vertex(x));
     }
     digits
 }
@@ -106,34 +83,19 @@ fn differs(words: &[u64; limits::TABLE_WORDS], digits: &[u8; limits::MAX_ROWS], 
     rows::row(words, r) != (digits[r] == b'1')
 }
 
-// The comparison: the lowest output with a wrong value, and the lowest row that shows it.
-pub fn compare(t: &[u8], k: Sheet, n: NetworkSheet, shape: Shape) -> Checked
+// The comparison, output by output and row by row, to the first difference.
+pub fn compare(t: &[u8], k: Sheet, n: NetworkSheet, shape: Shape) -> Comparison
     requires { SomeDrawing t.now k (places_of n) shape }
-    ensures { (d : Design) (w : Network) → Drawing d w t.now k (places_of n) shape → checked_of result ≡ compared d w }
+    ensures { (d : Design) (w : Network) → Drawing d w t.now k (places_of n) shape → comparison_of result ≡ compared d w }
 {
     let rows = bits::power(k.inputs);
-    let outputs = k.outputs;
-    let luts = n.luts;
-    let lutat = n.lutat;
-    let reads = n.reads;
-    let nodeat = n.nodeat;
-    let mut o = 0;
-    let mut r = 0;
-    'outputs: while o < outputs {
-        let table = k.tables[o];
-        let words = table.words;
-        let digits = in_rows(t, lutat, reads[o], luts, nodeat[o], shape);
-        r = 0;
-        while r < rows {
-            if differs(&words, &digits, r) {
-                break 'outputs;
+    for o in 0..k.outputs {
+        let digits = in_rows(t, n.lutat, n.reads[o], n.luts, n.nodeat[o], shape);
+        for r in 0..rows {
+            if differs(&k.tables[o].words, &digits, r) {
+                return Comparison::Differs { output: o, row: r };
             }
-            r += 1;
         }
-        o += 1;
     }
-    if o < outputs {
-        return Checked::Differs { output: o, row: r };
-    }
-    Checked::Same
+    Comparison::Same
 }

@@ -1,55 +1,39 @@
-use mathlib.Core.Path.{refl, sym, ◌∙◌}
-use native.Mathlib.Omega.{arith}
+use Rattle.std.proofs.Common.{refl, sym, ◌∙◌, arith}
 use Rattle.sheet.specs.Known.{table_at}
-use Rattle.comparing.specs.Drawing.{places_of}
-use Rattle.comparing.specs.CompareLaws.{Ended, rows_few, agreed_none, rows_none, agreed_more}
-use Rattle.comparing.specs.CompareLaws.{ended_agreed, answer_differs, answer_same, some_ready}
+use Rattle.comparing.specs.CompareLaws.{rows_few, agreed_none, rows_none, agreed_more, ended_agreed}
+use Rattle.comparing.specs.CompareLaws.{answer_differs, answer_same, some_ready}
 use Rattle.comparing.proofs.RowLaws.{rows_more, ended_differs}
 use Rattle.comparing.proofs.compare.Goals as goal
-use Rattle.comparing.proofs.compare.Goals.{Left-outputs, else-outputs-test, then-outputs-test+then-loop-r-test+then-differs}
 
-pub outputs-init : goal.outputs-init
-outputs-init c = agreed_none
+pub loop-o-init : goal.loop-o-init
+loop-o-init c = agreed_none
 
 pub in_rows-digits-requires : goal.in_rows-digits-requires
-in_rows-digits-requires c = some_ready c.requires c.outputs.o c.outputs-test.true
+in_rows-digits-requires c = some_ready c.requires c.loop-o.o c.loop-o-test.true
 
 pub loop-r-init : goal.loop-r-init
-loop-r-init c = rows_none c.outputs.o
+loop-r-init c = rows_none c.loop-o.o
 
 pub differs-requires : goal.differs-requires
 differs-requires c = omega (arith, rows_few c.requires c.power-rows.result c.power-rows.ensures, c.loop-r-test.true)
 
-pub overflow_add-r : goal.overflow_add-r
-overflow_add-r c = omega (arith, rows_few c.requires c.power-rows.result c.power-rows.ensures, c.loop-r-test.true)
-
 pub loop-r-preserved : goal.loop-r-preserved
-loop-r-preserved c = rows_more c.outputs.o c.loop-r.r c.power-rows.result
-    (table_at c.args.k.tables c.outputs.o) c.in_rows-digits.result
-    c.outputs-test.true c.loop-r-test.true c.power-rows.ensures (rows_few c.requires c.power-rows.result c.power-rows.ensures)
+loop-r-preserved c = rows_more c.loop-o.o c.loop-r.r c.power-rows.result
+    (table_at c.args.k.tables c.loop-o.o) c.in_rows-digits.result
+    c.loop-o-test.true c.loop-r-test.true c.power-rows.ensures (rows_few c.requires c.power-rows.result c.power-rows.ensures)
     refl c.in_rows-digits.ensures c.loop-r.invariant (sym c.differs.ensures ∙ c.if-differs.false)
 
-pub outputs-preserved : goal.outputs-preserved
-outputs-preserved c = agreed_more c.outputs.o c.loop-r.r c.power-rows.result c.outputs.invariant
-    c.outputs-test.true c.power-rows.ensures c.loop-r.invariant c.loop-r-test.false
+pub loop-o-preserved : goal.loop-o-preserved
+loop-o-preserved c = agreed_more c.loop-o.o c.loop-r.r c.power-rows.result c.loop-o.invariant
+    c.loop-o-test.true c.power-rows.ensures c.loop-r.invariant c.loop-r-test.false
 
--- what is known where the ways out of the loops meet
-ended : (c : Left-outputs)
-    → Ended c.args.t.now c.args.k (places_of c.args.n) c.args.shape c.outputs.o c.outputs-test.r
-ended c =
-    elim c.outputs-test.branch [
-      | else-outputs-test w ↦ rw w.r-is (ended_agreed c.outputs.o c.outputs.r c.outputs.invariant w.outputs-test.false)
-      | then-outputs-test+then-loop-r-test+then-differs w ↦
-          rw w.r-is
-          (ended_differs c.outputs.o w.loop-r.r c.power-rows.result
-          (table_at c.args.k.tables c.outputs.o) w.in_rows-digits.result
-          w.outputs-test.true w.loop-r-test.true c.power-rows.ensures (rows_few c.requires c.power-rows.result c.power-rows.ensures)
-          refl w.in_rows-digits.ensures c.outputs.invariant w.loop-r.invariant (sym w.differs.ensures ∙ w.if-differs.true))
-    ]
-
-pub returns-then-o-outputs : goal.returns-then-o-outputs
-returns-then-o-outputs c =
-    answer_differs c.outputs.o c.outputs-test.r (ended (goal.at.returns-then-o-outputs c).Left-outputs) c.if-o-outputs.true
+pub returns-then-differs : goal.returns-then-differs
+returns-then-differs c =
+    let e = ended_differs c.loop-o.o c.loop-r.r c.power-rows.result
+    (table_at c.args.k.tables c.loop-o.o) c.in_rows-digits.result
+    c.loop-o-test.true c.loop-r-test.true c.power-rows.ensures (rows_few c.requires c.power-rows.result c.power-rows.ensures)
+    refl c.in_rows-digits.ensures c.loop-o.invariant c.loop-r.invariant (sym c.differs.ensures ∙ c.if-differs.true) in
+    answer_differs c.loop-o.o c.loop-r.r e c.loop-o-test.true
 
 pub returns : goal.returns
-returns c = answer_same c.outputs.o c.outputs-test.r (ended (goal.at.returns c).Left-outputs) c.if-o-outputs.false
+returns c = answer_same c.loop-o.o 0 (ended_agreed c.loop-o.o 0 c.loop-o.invariant c.loop-o-test.false) c.loop-o-test.false
