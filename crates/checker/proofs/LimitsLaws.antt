@@ -1,5 +1,5 @@
 -- Question 11, output by output: the line that the code finds is the first that offends. Assumes nothing.
-use Rattle.std.specs.Prelude.{◌≡◌, List, ℕ, ◌+◌, ◌≤◌, ◌<◌, length, get_or}
+use Rattle.std.specs.Prelude.{◌≡◌, List, ℕ, ◌+◌, ◌≤◌, ◌<◌, length, get_or, Some, None}
 use Rattle.std.proofs.Common.{sym, ap, arith, below_more}
 use Rattle.std.proofs.Math.Decide.{dec_le}
 use Rattle.limits.specs.Limits.{first_lut}
@@ -13,16 +13,13 @@ use Rattle.checker.specs.Limits.{LimitsAre, Judged}
 
 module _ {d : Design} {w : Network} {limit luts outputs : ℕ} {reads widths : List ℕ}
     (h : LimitsAre d w limit luts outputs reads widths) where
-  pub luts_judged : limit < luts → Judged d w (limit + first_lut)
+  pub luts_judged : limit < luts → Judged d w (Some (limit + first_lut))
   luts_judged l =
       let a = h.limit_is in
       let b = h.luts-counted in
       let e : d.limit + first_lut ≡ limit + first_lut = omega arith in
       let s : Offends d w (d.limit + first_lut) = lut_over d.limit (omega arith) (omega arith) in
-      record {
-        at_line = λ _. some-offending d w (limit + first_lut) (record { offends = rw e at s; first = go });
-        at_none = λ z. absurd (omega arith);
-      }
+      some-offending d w (limit + first_lut) (record { offends = rw e at s; first = go })
     where
       go : (m : ℕ) → Offends d w m → limit + first_lut ≤ m
       go m (lut_over i a b) = omega (arith, h.limit_is)
@@ -37,7 +34,7 @@ module _ {d : Design} {w : Network} {limit luts outputs : ℕ} {reads widths : L
       → ((p : ℕ) → p < o → length (numbers_of luts (get_or reads p 0)) ≤ get_or widths p 0)
       → n ≡ length (numbers_of luts (get_or reads o 0))
       → get_or widths o 0 < n
-      → Judged d w (luts + first_lut + o)
+      → Judged d w (Some (luts + first_lut + o))
   node_judged o n s l f e g =
       let b = h.luts-counted in
       let c = h.nodes-counted in
@@ -45,10 +42,7 @@ module _ {d : Design} {w : Network} {limit luts outputs : ℕ} {reads widths : L
       let y = count_is o l in
       let q : length w.luts + first_lut + o ≡ luts + first_lut + o = omega arith in
       let k : Offends d w (length w.luts + first_lut + o) = node_over o (omega arith) (omega arith) in
-      record {
-        at_line = λ _. some-offending d w (luts + first_lut + o) (record { offends = rw q at k; first = go });
-        at_none = λ z. absurd (omega arith);
-      }
+      some-offending d w (luts + first_lut + o) (record { offends = rw q at k; first = go })
     where
       below : (p : ℕ) → budget d d.bound p < read_count w p → p < o → ⊥
       below p i j =
@@ -65,19 +59,15 @@ module _ {d : Design} {w : Network} {limit luts outputs : ℕ} {reads widths : L
 
   pub none_judged : luts ≤ limit
       → ((p : ℕ) → p < outputs → length (numbers_of luts (get_or reads p 0)) ≤ get_or widths p 0)
-      → Judged d w 0
+      → Judged d w None
   none_judged s f =
-      record {
-        at_line = λ z. absurd (omega arith);
-        at_none = λ _.
-            none_offending d w
-            (record {
-              luts-within = omega (arith, h.limit_is, h.luts-counted);
-              reads-within = λ o l.
-                  let i : o < outputs = omega (arith, h.nodes-counted) in
-                  omega (arith, f o i, h.wide o i, count_is o i);
-            });
-      }
+      none_offending d w
+      (record {
+        luts-within = omega (arith, h.limit_is, h.luts-counted);
+        reads-within = λ o l.
+            let i : o < outputs = omega (arith, h.nodes-counted) in
+            omega (arith, f o i, h.wide o i, count_is o i);
+      })
 
 -- what the code knows after some outputs
 abbrev pub Kept : ℕ → List ℕ → List ℕ → ℕ → Type 0

@@ -1,7 +1,8 @@
 -- Question 11 on what the code read: its limits are those of the design and the network, and so the code's line is the
 -- definition's. Assumes nothing.
-use Rattle.std.specs.Prelude.{◌≡◌, refl, true, List, ℕ, ◌≤◌, ◌<◌}
+use Rattle.std.specs.Prelude.{refl, List, ℕ, ◌<◌, Option, Some, None, Ok, Err}
 use Rattle.std.proofs.Common.{◌∙◌, arith}
+use Rattle.refusal.specs.declared.Question.{Question}
 use Rattle.sheet.specs.Examine as sheets
 use Rattle.sheet.specs.Examine.{Design}
 use Rattle.sheet.specs.Known.{Holds}
@@ -14,9 +15,9 @@ use Rattle.network.specs.Network.{Network}
 use Rattle.network.specs.Check.{refused_pair, pair, examine_pair}
 use Rattle.network.specs.CheckLaws.{pair_offending, drawn_pair}
 use Rattle.netsheet.specs.declared.NetworkSheet.{NetworkSheet}
-use Rattle.checker.specs.Beside.{RefusedPair, BesideIs}
+use Rattle.checker.specs.Beside.{BesideIs}
 use Rattle.checker.specs.Limits.{LimitsAre, Judged}
-use Rattle.checker.specs.CheckLaws.{pair_is, Designed, examined_as, Networked, classes_are, drawing_here}
+use Rattle.checker.specs.CheckLaws.{no_at, pair_is, Designed, examined_as, Networked, classes_are, drawing_here}
 use Rattle.checker.specs.declared.Beside.{Beside}
 
 module _ {x : sheets.Examined} {k : Sheet} (g : Designed x k) {t : List ℕ} {n : NetworkSheet} (w : Networked g t n) (c : Classes)
@@ -34,27 +35,21 @@ module _ {x : sheets.Examined} {k : Sheet} (g : Designed x k) {t : List ℕ} {n 
         wide = λ o l. ((classes_are g w c known).widths o (omega arith)).is;
       }
 
-  abbrev JudgedBy : ℕ → Type 0
+  abbrev JudgedBy : Option ℕ → Type 0
   JudgedBy l =
       (d : Design) (v : Network) → LimitsAre d v k.limit n.luts k.outputs n.reads c.widths → Judged d v l
 
-  pub refused_limits : (r : Beside) (l : ℕ)
-      → JudgedBy l
-      → 0 < l
-      → RefusedPair 11 l r
-      → BesideIs t (examine_pair x t) r
-  refused_limits r l j h =
-      pair_is t r (examine_pair x t) (refused_pair 11 l)
-      (examined_as g t
-      ∙ pair_offending t g.design w.said l w.is-network ((j g.design w.said limits_are).at_line h))
+  pub refused_limits : (l : ℕ) → JudgedBy (Some l) → BesideIs t (examine_pair x t) (Err (no_at Question.NetworkLimits l))
+  refused_limits l j =
+      pair_is t (Err (no_at Question.NetworkLimits l)) (examine_pair x t) (refused_pair 11 l)
+      (examined_as g t ∙ pair_offending t g.design w.said l w.is-network (j g.design w.said limits_are))
+      (record { number = refl; line = refl })
 
-  pub passed_pair : (r : Beside) (l : ℕ)
-      → JudgedBy l
-      → l ≤ 0
-      → r ≡ record { ok = true; number = 0; line = 0; sheet = k; network = n; shape = c.shape }
-      → BesideIs t (examine_pair x t) r
-  passed_pair r l j h e =
-      pair_is t r (examine_pair x t) (pair g.design w.said)
-      (drawn_pair t x g.design w.said g.is_valid
-      (record { is_read = w.is-network; passes = (j g.design w.said limits_are).at_none (omega arith) }))
-      (rw e (record { all_ok = refl; drawing = drawing_here g w c known }))
+  abbrev beside : Beside
+  beside = record { sheet = k; network = n; shape = c.shape }
+
+  pub passed_pair : JudgedBy None → BesideIs t (examine_pair x t) (Ok beside)
+  passed_pair j =
+      pair_is t (Ok beside) (examine_pair x t) (pair g.design w.said)
+      (drawn_pair t x g.design w.said g.is_valid (record { is_read = w.is-network; passes = j g.design w.said limits_are }))
+      (drawing_here g w c known)

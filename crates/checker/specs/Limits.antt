@@ -1,5 +1,5 @@
 -- What question 11 is asked of, as the code holds it, and its answer as a line. Assumes nothing.
-use Rattle.std.specs.Prelude.{◌≡◌, List, ℕ, ◌≤◌, ◌<◌, length, get_or}
+use Rattle.std.specs.Prelude.{◌≡◌, List, ℕ, ◌≤◌, ◌<◌, length, get_or, Option, Some, None}
 use Rattle.std.proofs.Math.Option.{some, none}
 use Rattle.limits.specs.Limits.{max_limit, max_cells, max_outputs}
 use Rattle.sheet.specs.Examine.{Design}
@@ -22,7 +22,7 @@ pub record LimitsAre (d : Design) (w : Network) (limit luts outputs : ℕ) (read
   pub reading : (o : ℕ) → o < outputs → numbers_of luts (get_or reads o 0) ≡ (node_at w.nodes o).reads
   pub wide : (o : ℕ) → o < outputs → get_or widths o 0 ≡ budget d d.bound o
 
--- question 11's answer: a line, or 0 for none
-pub record Judged (d : Design) (w : Network) (l : ℕ) : Type 0 where
-  pub at_line : 0 < l → offending d w ≡ some l
-  pub at_none : l ≡ 0 → offending d w ≡ none
+-- question 11's answer: the first line that offends, or none
+abbrev pub Judged : Design → Network → Option ℕ → Type 0
+Judged d w (Some l) = offending d w ≡ some l
+Judged d w None = offending d w ≡ none

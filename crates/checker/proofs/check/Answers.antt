@@ -1,6 +1,6 @@
 -- `check`: Check on what the design sheet's examination answers. Assumes nothing.
 use Rattle.sheet.specs.Examine as sheets
-use Rattle.comparing.specs.Answer.{checked_of}
+use Rattle.checker.specs.Answer.{checked_of}
 use Rattle.checker.specs.CheckLaws.{sheet_right, answer_of_sheet}
 use Rattle.checker.proofs.check.Goals as goal
 

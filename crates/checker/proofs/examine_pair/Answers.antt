@@ -1,64 +1,82 @@
 -- `examine_pair`: one law for each way out. Assumes nothing.
-use mathlib.Core.Path.{refl}
-use borrow.Author.Tests.{not-true, not-false}
+use Rattle.std.proofs.Common.{◌≡◌, ℕ, refl, Result, Ok, Err, rules}
+use Rattle.std.specs.Result.{MatchResult, IsErrAnd}
+use Rattle.std.proofs.lemmas.Result.{err_from_is_err_and}
+use Rattle.refusal.specs.declared.Question.{Question}
+use Rattle.refusal.specs.declared.Refusal.{Refusal}
 use Rattle.sheet.specs.Examine as sheets
 use Rattle.design.specs.Answer.{ExaminedIs, Right}
-use Rattle.checker.specs.CheckLaws.{refused-design, Designed, designed, designed_ranged, designed_counts, refused_line, Networked, networked, small}
+use Rattle.netsheet.specs.declared.NetworkSheet.{NetworkSheet}
+use Rattle.checker.specs.CheckLaws.{no_at, refused-design, Designed, designed, designed_ranged, designed_counts, refused_line, Networked, networked, small}
 use Rattle.checker.proofs.PassedLaws.{refused_limits, passed_pair}
 use Rattle.checker.proofs.examine_pair.Goals as goal
-use Rattle.checker.proofs.examine_pair.Goals.{Else-not-e, Else-not-n}
+use Rattle.checker.proofs.examine_pair.Goals.{In_ok-sheet, In_ok-network}
+
+-- ---- what `map_err` made of what was read
+read_ok : (r : Result NetworkSheet ℕ) (m : Result NetworkSheet Refusal) (Q : ℕ → Refusal → Type 0)
+    → MatchResult r (λ x. m ≡ Ok x) (λ l. IsErrAnd m (Q l))
+    → (n : NetworkSheet)
+    → m ≡ Ok n
+    → r ≡ Ok n
+read_ok (Ok x) m Q a n e = cc
+read_ok (Err l) m Q a n e =
+    let p = (err_from_is_err_and m a).1 in
+    cc
+
+read_err : (r : Result NetworkSheet ℕ) (m : Result NetworkSheet Refusal) (Q : ℕ → Refusal → Type 0)
+    → MatchResult r (λ x. m ≡ Ok x) (λ l. IsErrAnd m (Q l))
+    → ((l : ℕ) (f : Refusal) → Q l f → f ≡ no_at Question.NetworkSpelling l)
+    → (f : Refusal)
+    → m ≡ Err f
+    → (l : ℕ) × (r ≡ Err l) × (f ≡ no_at Question.NetworkSpelling l)
+read_err (Ok x) m Q a q f e = absurd (cc)
+read_err (Err l) m Q a q f e =
+    let p = err_from_is_err_and m a in
+    let made = q l p.0 p.2 in
+    let same = p.1 in
+    (l, refl, cc)
 
 -- ---- what is known where the design's examination passed, of each answer that it holds
-module _ (c : Else-not-e) where
-  says : (x : sheets.Examined)
-      → ExaminedIs x c.args.e
-      → Right x
-      → Designed x c.args.e.sheet
-  says x h g = designed x c.args.e h g (not-false _ c.if-not-e.false)
+module _ (c : In_ok-sheet) where
+  says : (x : sheets.Examined) → ExaminedIs x c.args.e → Right x → Designed x c.in_ok-sheet.sheet
+  says x h g = designed x c.in_ok-sheet.sheet (rw c.in_ok-sheet.was at h) g
 
-  found : Designed c.requires.found c.args.e.sheet
-  found =
-      let pre = c.requires in
-      says pre.found pre.is pre.right
+  found : Designed c.requires.found c.in_ok-sheet.sheet
+  found = says c.requires.found c.requires.is c.requires.right
 
--- ---- what is known where the network sheet is read
-read : (c : Else-not-n) {x : sheets.Examined}
-    (g : Designed x c.args.e.sheet)
-    → Networked g c.args.network.now c.read_network-n.result
-read c g =
-    networked g c.args.network.now c.read_network-n.result
-    c.read_network-n.ensures (not-false _ c.if-not-n.false)
+pub returns-in_err-sheet : goal.returns-in_err-sheet
+returns-in_err-sheet c = λ x h g.
+    let p = err_from_is_err_and c.from_residual.result c.from_residual.ensures.1 in
+    rw (p.1, p.2) (refused-design c.args.network.now x c.in_err-sheet.field-0.0 (rw c.in_err-sheet.was at h))
 
-pub returns-then-not-e : goal.returns-then-not-e
-returns-then-not-e c = λ x h g.
-    refused-design c.args.network.now c.refusal.result x c.args.e h (not-true _ c.if-not-e.true) c.refusal.ensures
-
-pub read_network-n-requires : goal.read_network-n-requires
-read_network-n-requires c = designed_ranged (found c)
-
-pub returns-then-not-n : goal.returns-then-not-n
-returns-then-not-n c = λ x h g.
-    refused_line (says (goal.at.returns-then-not-n c).Else-not-e x h g) c.refusal-then-not-n.result c.args.network.now c.read_network-n.result
-    c.read_network-n.ensures (not-true _ c.if-not-n.true) c.refusal-then-not-n.ensures
+pub returns-in_err-network : goal.returns-in_err-network
+returns-in_err-network c = λ x h g.
+    let p = err_from_is_err_and c.from_residual-in_err-network.result c.from_residual-in_err-network.ensures.1 in
+    let d = says (goal.at.returns-in_err-network c).In_ok-sheet x h g in
+    let r = read_err c.read_network.result c.map_err.result _ c.map_err.ensures.cases (λ l f k. search rules) c.in_err-network.field-0.0 c.in_err-network.was in
+    rw (p.1, p.2, r.2) (refused_line d c.args.network.now r.0 (λ e i j k. rw r.1 at (c.read_network.ensures e i j k)))
 
 pub classes_of-c-requires : goal.classes_of-c-requires
-classes_of-c-requires c = designed_counts (found (goal.at.classes_of-c-requires c).Else-not-e)
+classes_of-c-requires c = designed_counts (found (goal.at.classes_of-c-requires c).In_ok-sheet)
 
-pub offending-line-requires : goal.offending-line-requires
-offending-line-requires c = let passed = (goal.at.offending-line-requires c).Else-not-n in
-    let g = found (goal.at.offending-line-requires c).Else-not-e in
-    small g (read passed g) c.classes_of-c.result c.classes_of-c.ensures
+-- ---- what is known where the network sheet is read
+read : (c : In_ok-network) {x : sheets.Examined} (g : Designed x c.in_ok-sheet.sheet)
+    → Networked g c.args.network.now c.in_ok-network.network
+read c g =
+    let r = read_ok c.read_network.result c.map_err.result _ c.map_err.ensures.cases c.in_ok-network.network c.in_ok-network.was in
+    networked g c.args.network.now c.in_ok-network.network (λ e i j k. rw r at (c.read_network.ensures e i j k))
 
-pub returns-then-line-gt0 : goal.returns-then-line-gt0
-returns-then-line-gt0 c = let passed = (goal.at.returns-then-line-gt0 c).Else-not-n in
-    λ x h g.
-    let d = says (goal.at.returns-then-line-gt0 c).Else-not-e x h g in
-    refused_limits d (read passed d) c.classes_of-c.result c.classes_of-c.ensures c.refusal-then-line-gt0.result
-    c.offending-line.result c.offending-line.ensures c.if-line-gt0.true c.refusal-then-line-gt0.ensures
+pub offending-requires : goal.offending-requires
+offending-requires c =
+    let g = found (goal.at.offending-requires c).In_ok-sheet in
+    small g (read (goal.at.offending-requires c).In_ok-network g) c.classes_of-c.result c.classes_of-c.ensures
+
+pub returns-in-Some : goal.returns-in-Some
+returns-in-Some c = λ x h g.
+    let d = says (goal.at.returns-in-Some c).In_ok-sheet x h g in
+    refused_limits d (read (goal.at.returns-in-Some c).In_ok-network d) c.classes_of-c.result c.classes_of-c.ensures c.in-Some.line c.in-Some.ensures
 
 pub returns : goal.returns
-returns c = let passed = (goal.at.returns c).Else-not-n in
-    λ x h g.
-    let d = says (goal.at.returns c).Else-not-e x h g in
-    passed_pair d (read passed d) c.classes_of-c.result c.classes_of-c.ensures _
-    c.offending-line.result c.offending-line.ensures c.if-line-gt0.false refl
+returns c = λ x h g.
+    let d = says (goal.at.returns c).In_ok-sheet x h g in
+    passed_pair d (read (goal.at.returns c).In_ok-network d) c.classes_of-c.result c.classes_of-c.ensures c.in_default.ensures
