@@ -47,29 +47,12 @@ pub struct NameList {
     pub names: [u64; limits::MAX_INPUTS],
 }
 
-// Whether a byte is a digit.
-fn is_numeral(b: u8) -> bool
-    ensures { result ≡ numeral b }
-{
-    match b {
-        b'0'..=b'9' => true,
-        _ => false,
-    }
-}
-
 // The place after the digits at a place.
 fn numerals_end(s: &[u8], at: usize) -> usize
     requires { at ≤ length s.now }
     ensures { NumeralsEnd s.now at result }
 {
-    let mut e = at;
-    while e < s.len() {
-        if !is_numeral(s[e]) {
-            return e;
-        }
-        e += 1;
-    }
-    e
+    at + s[at..].iter().take_while(|b| b.is_ascii_digit()).count()
 }
 
 // Whether the digits from a up to e are a number of at most so many digits: a 0 stands only alone.
@@ -77,25 +60,10 @@ fn is_number(s: &[u8], a: usize, e: usize, digits: usize) -> bool
     requires { (a ≤ e) × (e ≤ length s.now) }
     ensures { result ≡ is_number_of digits (take (e - a) (drop a s.now)) }
 {
-    let n = e - a;
-    if n == 0 {
-        return false;
+    match e - a {
+        0 => false,
+        n => n <= digits && (n == 1 || s[a] != b'0'),
     }
-    if digits < n {
-        return false;
-    }
-    if n == 1 {
-        return true;
-    }
-    s[a] != b'0'
-}
-
-// What a digit counts.
-fn digit_value(b: u8) -> usize
-    requires { numeral b ≡ true }
-    ensures { (result ≡ b - 0x30) × (result < 10) }
-{
-    (b - b'0') as usize
 }
 
 // The value of the digits from a up to e.
@@ -104,16 +72,14 @@ fn value(s: &[u8], a: usize, e: usize) -> usize
     ensures { result ≡ value_from 0 (take (e - a) (drop a s.now)) }
 {
     let mut n: usize = 0;
-    let mut i = a;
-    while i < e {
-        n = n * 10 + digit_value(s[i]);
-        i += 1;
+    for &b in &s[a..e] {
+        n = n * 10 + usize::from(b - b'0');
     }
     n
 }
 
 // The kinds of items, by the byte that opens them.
-#[derive(Drop)]
+#[derive(Clone, Copy)]
 enum First {
     Letter,
     Digit,
@@ -125,8 +91,7 @@ fn first_of(b: u8) -> First
     ensures { result ≡ first_of b }
 {
     match b {
-        b'a'..=b'z' => First::Letter,
-        b'A'..=b'Z' => First::Letter,
+        b'a'..=b'z' | b'A'..=b'Z' => First::Letter,
         b'0'..=b'9' => First::Digit,
         b'(' => First::Bracket,
         _ => First::Other,

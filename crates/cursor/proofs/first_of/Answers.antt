@@ -10,11 +10,11 @@ returns-in-40 c = first_bracket _ c.in-40.is
 pub returns-in-48-to-57 : goal.returns-in-48-to-57
 returns-in-48-to-57 c = first_digit _ (omega arith) (omega arith)
 
-pub returns-in-65-to-90 : goal.returns-in-65-to-90
-returns-in-65-to-90 c = first_letter _ (letter-capital _ (omega arith) (omega arith))
-
 pub returns-in-97-to-122 : goal.returns-in-97-to-122
-returns-in-97-to-122 c = first_letter _ (letter-small _ (omega arith) (omega arith))
+returns-in-97-to-122 c = first_letter _ (letter-capital _ (omega arith) (omega arith))
+
+pub returns-in-97-to-122-2 : goal.returns-in-97-to-122-2
+returns-in-97-to-122-2 c = first_letter _ (letter-small _ (omega arith) (omega arith))
 
 pub returns-in_default : goal.returns-in_default
 returns-in_default c = first_other _ (letter_below _ (omega arith)) (numeral_below _ (omega arith)) (omega arith)

@@ -9,6 +9,10 @@ use Rattle.names.proofs.Words.{word_ends, from_here}
 use Rattle.names.proofs.word_end.Goals as goal
 
 pub returns : goal.returns
-returns c = word_ends _ _ _ c.requires
+returns c =
+    word_ends _ _ _ c.requires
     (count_from_yields_List c.take_while.result _ c.count.ensures.ran
-    (YieldsList-from_take_while _ is_ascii_alphanumeric (YieldsList-from_slice (drop c.args.at c.args.s.now) (ap iter_rest c.take_while.ensures.source ∙ c.iter.ensures.rest ∙ from_here c.args.s.now c.args.at)) c.take_while.ensures.closure c.take_while.ensures.done (λ x b q k. search (rules, tests))))
+    (YieldsList-from_take_while _ is_ascii_alphanumeric
+    (YieldsList-from_slice (drop c.args.at c.args.s.now)
+    (ap iter_rest c.take_while.ensures.source ∙ c.iter.ensures.rest ∙ from_here c.args.s.now c.args.at))
+    c.take_while.ensures.closure c.take_while.ensures.done (λ x b q k. search (rules, tests))))

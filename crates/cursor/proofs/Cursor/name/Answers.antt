@@ -4,7 +4,7 @@ use Rattle.cursor.specs.NamedLaws.{no_letter_bad}
 use Rattle.cursor.proofs.Cursor.name.Goals as goal
 
 pub named-requires : goal.named-requires
-named-requires c = (c.requires, sym c.kind-f.ensures ∙ c.in-Letter.is)
+named-requires c = (c.requires, sym c.kind.ensures ∙ c.in-Letter.is)
 
 pub returns-in_default : goal.returns-in_default
-returns-in_default c = no_letter_bad _ (λ q. c.in_default.not-Letter (c.kind-f.ensures ∙ q))
+returns-in_default c = no_letter_bad _ (λ q. c.in_default.not-Letter (c.kind.ensures ∙ q))

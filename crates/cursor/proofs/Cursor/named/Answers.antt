@@ -4,8 +4,8 @@ use native.Mathlib.Omega.{arith}
 use Rattle.cursor.specs.NamedLaws.{long_bad, named_there, operator_bad}
 use Rattle.cursor.proofs.Cursor.named.Goals as goal
 
-pub returns-then-e-at-gt-MAX_NAME : goal.returns-then-e-at-gt-MAX_NAME
-returns-then-e-at-gt-MAX_NAME c = long_bad _ _ _ c.word_end-e.ensures (omega arith)
+pub returns-then-e-self-gt-MAX_NAME : goal.returns-then-e-self-gt-MAX_NAME
+returns-then-e-self-gt-MAX_NAME c = long_bad _ _ _ c.word_end-e.ensures (omega arith)
 
 pub returns-then-is_operator_word : goal.returns-then-is_operator_word
 returns-then-is_operator_word c = operator_bad _ _ _ c.word_end-e.ensures _ (omega arith) c.packed-v.ensures

@@ -5,7 +5,7 @@ use Rattle.cursor.specs.GatheredLaws.{Gathered}
 use Rattle.cursor.proofs.Cursor.names.Given as goal
 
 abbrev pub invariant-loop-v : goal.invariant-loop-v
-invariant-loop-v l = Gathered l.s l.self.at l.c.at l.count l.names
+invariant-loop-v l = Gathered l.s l.fn.self.at l.c.at l.count l.names
 
 abbrev pub decreases-loop-v : goal.decreases-loop-v
 decreases-loop-v l = length l.s - l.c.at

@@ -2,17 +2,17 @@
 use Rattle.cursor.specs.NextNameLaws.{bracket_ends, name_next, no_name_bad, other_bad}
 use Rattle.cursor.proofs.Cursor.next_name.Goals as goal
 
-pub name-r-requires : goal.name-r-requires
-name-r-requires c = c.in-To-g.ensures.inside
+pub name-requires : goal.name-requires
+name-requires c = c.in_ok-first.ensures.inside
 
-pub returns-in-To : goal.returns-in-To
-returns-in-To c = bracket_ends _ _ c.in-To.next c.in-To.ensures
+pub returns-in-Some : goal.returns-in-Some
+returns-in-Some c = bracket_ends _ _ c.in-Some.next c.in-Some.ensures
 
-pub returns-in-Name : goal.returns-in-Name
-returns-in-Name c = name_next _ _ c.in-To-g.first c.in-To-g.ensures _ c.in-Name.next c.in-Name.ensures
+pub returns-in_err-first : goal.returns-in_err-first
+returns-in_err-first c = rw c.from_residual.ensures (other_bad _ c.in_default.ensures c.in_err-first.ensures)
 
-pub returns-in-Bad-r : goal.returns-in-Bad-r
-returns-in-Bad-r c = no_name_bad _ _ c.in-To-g.first c.in-To-g.ensures c.in-Bad-r.ensures
+pub returns-in_err-v : goal.returns-in_err-v
+returns-in_err-v c = rw c.from_residual-in_err-v.ensures (no_name_bad _ _ c.in_ok-first.first c.in_ok-first.ensures c.in_err-v.ensures)
 
-pub returns-in-Bad-g : goal.returns-in-Bad-g
-returns-in-Bad-g c = other_bad _ c.in-Bad.ensures c.in-Bad-g.ensures
+pub returns : goal.returns
+returns c = name_next _ _ c.in_ok-first.first c.in_ok-first.ensures _ _ c.in_ok-v.ensures

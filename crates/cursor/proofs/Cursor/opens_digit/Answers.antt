@@ -2,11 +2,11 @@
 use Rattle.cursor.specs.OpenedLaws.{zero_opened, one_opened, digit_bad}
 use Rattle.cursor.proofs.Cursor.opens_digit.Goals as goal
 
-pub returns-in-To : goal.returns-in-To
-returns-in-To c = zero_opened _ _ c.requires c.in-To.next c.in-To.ensures
+pub returns-in-Some : goal.returns-in-Some
+returns-in-Some c = zero_opened _ _ c.requires c.in-Some.next c.in-Some.ensures
 
-pub returns-in-To-one : goal.returns-in-To-one
-returns-in-To-one c = one_opened _ _ c.requires c.in-To-one.next c.in-To-one.ensures
+pub returns-in_err-next : goal.returns-in_err-next
+returns-in_err-next c = rw c.from_residual.ensures (digit_bad _ c.requires c.in_default.ensures c.in_err-next.ensures)
 
-pub returns-in-Bad-one : goal.returns-in-Bad-one
-returns-in-Bad-one c = digit_bad _ c.requires c.in-Bad.ensures c.in-Bad-one.ensures
+pub returns : goal.returns
+returns c = one_opened _ _ c.requires c.in_ok-next.next c.in_ok-next.ensures
