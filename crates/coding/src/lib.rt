@@ -34,14 +34,7 @@ fn empty(dom: &[u64], v: usize) -> bool
     requires { (v ≤ max_vertices) × (length dom.now ≡ max_vertices) }
     ensures { result ≡ true → Empty dom.now v }
 {
-    let mut y = 0;
-    while y < v {
-        if dom[y] == 0 {
-            return true;
-        }
-        y += 1;
-    }
-    false
+    dom[..v].contains(&0)
 }
 
 // The sets lose full blocks, output by output, after vertex x took code c.
@@ -60,17 +53,12 @@ fn bar_all(
         → Kept cl.now base ms p.caps spots p.vertices p.outputs codes.now dom.old dom.new)
         × (length dom.new ≡ max_vertices) }
 {
-    let caps = p.caps;
-    let v = p.vertices;
-    let j = p.outputs;
-    let mut o = 0;
-    while o < j {
+    for o in 0..p.outputs {
         let b = bs[o * MAX_CODES + c as usize];
-        let k = holding::crowd(cl, v, o, x, caps[o], codes, b);
-        if caps[o] <= k.count {
-            holding::shut(cl, v, o, k.seen, codes, dom, b);
+        let k = holding::crowd(cl, p.vertices, o, x, p.caps[o], codes, b);
+        if p.caps[o] <= k.count {
+            holding::shut(cl, p.vertices, o, k.seen, codes, dom, b);
         }
-        o += 1;
     }
 }
 
@@ -93,19 +81,12 @@ pub fn settle_all(
         × (result ≡ false → (kn val : ℕ) → Hopeless cl.now base.now p.ms p.caps p.spots p.vertices p.outputs kn val codes.now dom.old) }
 {
     bar_all(cl, bs, p, codes, dom, c, x);
-    let v = p.vertices;
-    let j = p.outputs;
-    let mut o = 0;
-    while o < j {
-        if empty(dom, v) {
+    for o in 0..p.outputs {
+        if empty(dom, p.vertices) || !holding::settle(cl, base, bs, p, o, codes, dom) {
             return false;
         }
-        if !holding::settle(cl, base, bs, p, o, codes, dom) {
-            return false;
-        }
-        o += 1;
     }
-    !empty(dom, v)
+    !empty(dom, p.vertices)
 }
 
 // The classes that vertices with codes have, output by output, once x has one.
@@ -113,11 +94,8 @@ pub fn meet(cl: &[u8], j: usize, met: [u64; SEARCH_OUTPUTS], x: usize) -> [u64; 
     requires { Labels cl.now × (j ≤ search_outputs) × (x < max_vertices) }
 {
     let mut r = met;
-    let mut o = 0;
-    while o < j {
-        let l = problem::label(cl, o, x);
-        r[o] = cells::with(r[o], l);
-        o += 1;
+    for o in 0..j {
+        r[o] = cells::with(r[o], problem::label(cl, o, x));
     }
     r
 }
@@ -128,13 +106,10 @@ fn unmet(cl: &[u8], j: usize, met: &[u64], x: usize) -> u32
     ensures { result ≤ search_outputs }
 {
     let mut n: u32 = 0;
-    let mut o = 0;
-    while o < j {
-        let l = problem::label(cl, o, x);
-        if !cells::in_set(met[o], l) {
+    for o in 0..j {
+        if !cells::in_set(met[o], problem::label(cl, o, x)) {
             n += 1;
         }
-        o += 1;
     }
     n
 }
@@ -157,10 +132,7 @@ fn rank(left: u32, classes: u32, known: bool) -> u64
 fn better(best: Option<(usize, u64)>, n: u64) -> bool
     ensures { result ≡ false → is_some best ≡ true }
 {
-    match best {
-        Some((_, least)) => n < least,
-        None => true,
-    }
+    best.is_none_or(|(_, least)| n < least)
 }
 
 // A vertex without a code that has the fewest codes left in can, or none where all have a code. Among those with equally
@@ -200,8 +172,7 @@ fn fresh(gb: &[u64], k: usize, a: u64) -> u64
     if rest == 0 {
         return 0;
     }
-    let c = cells::lowest(rest);
-    gb[k * MAX_CODES + c as usize]
+    gb[k * MAX_CODES + cells::lowest(rest) as usize]
 }
 
 // The codes of all that the next vertex may be asked to take: of each group a value in use, or one new one.
@@ -210,12 +181,8 @@ fn allowed(gb: &[u64], all: u64, used: [u64; GROUPS]) -> u64
     ensures { (gs : List ℕ) (sh : ℕ) → Over sh all → Blocks gs gb.now group_count → Groups gs sh → Marks gs used → Canon gs used sh group_count result }
 {
     let mut can = all;
-    let mut k = 0;
-    while k < GROUPS {
-        let a = used[k];
-        let b = fresh(gb, k, a);
-        can = can & (a | b);
-        k += 1;
+    for k in 0..GROUPS {
+        can &= used[k] | fresh(gb, k, used[k]);
     }
     can
 }
@@ -226,10 +193,8 @@ pub fn mark(gb: &[u64], used: [u64; GROUPS], c: u8) -> [u64; GROUPS]
     ensures { (gs : List ℕ) → Blocks gs gb.now group_count → Marked gs used c group_count result }
 {
     let mut r = used;
-    let mut k = 0;
-    while k < GROUPS {
-        r[k] = r[k] | gb[k * MAX_CODES + c as usize];
-        k += 1;
+    for k in 0..GROUPS {
+        r[k] |= gb[k * MAX_CODES + c as usize];
     }
     r
 }
@@ -241,9 +206,8 @@ pub fn fitting(kn: u32, val: u32, x: usize) -> u64
     ensures { Fitting kn val x result }
 {
     if !cells::in_set(kn as u64, x as u8) {
-        return cells::ALL_CODES;
-    }
-    if cells::in_set(val as u64, x as u8) {
+        cells::ALL_CODES
+    } else if cells::in_set(val as u64, x as u8) {
         ODD_CODES
     } else {
         EVEN_CODES
@@ -254,11 +218,7 @@ pub fn fitting(kn: u32, val: u32, x: usize) -> u64
 fn spent(limit: u64, nodes: u64) -> bool
     ensures { limit ≡ no_limit → result ≡ false }
 {
-    if limit == NO_LIMIT {
-        false
-    } else {
-        limit <= nodes
-    }
+    limit != NO_LIMIT && limit <= nodes
 }
 
 // What a search came to, with the codes of the vertices where it found some, and how often a vertex was given a code.
@@ -335,10 +295,10 @@ pub fn find(
                 met: meet(cl, p.outputs, s.met, x),
             };
             let r = find(cl, base, bs, gb, all, p, after, limit, total);
-            if !matches!(r.answer, Answer::Nothing) {
-                return r;
+            match r.answer {
+                Answer::Nothing => total = r.nodes,
+                Answer::Found(_) | Answer::Unsure => return r,
             }
-            total = r.nodes;
         }
     }
     Search {

@@ -13,10 +13,10 @@ decreases-find l = uncoded l.s.codes l.p.vertices
 
 abbrev pub invariant-loop-left : goal.invariant-loop-left
 invariant-loop-left l = record {
-  long : length l.codes ≡ max_vertices;
+  long : length l.s.codes ≡ max_vertices;
   inside : l.x < l.p.vertices;
-  without : no_code ≤ item l.codes l.x;
-  trying : Trying l.cl l.base l.p.ms l.p.caps l.p.spots l.p.vertices l.p.outputs l.p.kn l.p.val l.codes l.dom l.x l.can l.left;
+  without : no_code ≤ item l.s.codes l.x;
+  trying : Trying l.cl l.base l.p.ms l.p.caps l.p.spots l.p.vertices l.p.outputs l.p.kn l.p.val l.s.codes l.s.dom l.x l.can l.left;
 }
 
 abbrev pub decreases-loop-left : goal.decreases-loop-left

@@ -8,5 +8,5 @@ returns-then-rest-eq0 c = λ gs b. fresh_none (item gs c.args.k) c.args.a _ _ c.
 
 pub returns : goal.returns
 returns c = let a = c.args in
-    λ gs b. fresh-some (item gs a.k) a.a _ c.lowest-c.result _ c.ranges.a.fits refl c.lowest-c.ensures.0 c.lowest-c.ensures.1
-    (b.each a.k c.lowest-c.result c.requires.1 c.lowest-c.ensures.0)
+    λ gs b. fresh-some (item gs a.k) a.a _ c.lowest.result _ c.ranges.a.fits refl c.lowest.ensures.0 c.lowest.ensures.1
+    (b.each a.k c.lowest.result c.requires.1 c.lowest.ensures.0)

@@ -1,9 +1,7 @@
-use Rattle.holding.specs.Search.{Seeking}
-use Rattle.std.proofs.Common.{◌-◌, ◌≤◌}
+-- Of the first y vertices the best without a code is kept.
+use Rattle.std.proofs.Common.{ℕ, ◌<◌, ◌≤◌, MatchOption}
+use Rattle.problem.specs.Problem.{no_code, item}
 use Rattle.coding.proofs.pick.Given as goal
 
 abbrev pub invariant-loop-y : goal.invariant-loop-y
-invariant-loop-y l = (l.y ≤ l.v) × Seeking l.codes l.y l.best
-
-abbrev pub decreases-loop-y : goal.decreases-loop-y
-decreases-loop-y l = l.v - l.y
+invariant-loop-y l = MatchOption l.best ((x : ℕ) → x < l.y → item l.codes x < no_code) (λ b. (b.0 < l.y) × (no_code ≤ item l.codes b.0))

@@ -1,8 +1,6 @@
-use Rattle.std.proofs.Common.{◌-◌, ◌≤◌}
+-- Of the first o outputs no more than o are counted.
+use Rattle.std.proofs.Common.{◌≤◌}
 use Rattle.coding.proofs.unmet.Given as goal
 
 abbrev pub invariant-loop-o : goal.invariant-loop-o
-invariant-loop-o l = (l.o ≤ l.j) × (l.n ≤ l.o)
-
-abbrev pub decreases-loop-o : goal.decreases-loop-o
-decreases-loop-o l = l.j - l.o
+invariant-loop-o l = l.n ≤ l.o
