@@ -3,7 +3,7 @@ use Rattle.std.specs.Prelude.{◌≡◌, refl, true, List, ℕ, ◌+◌, ◌-◌
 use Rattle.std.specs.Char.{is_ascii_digit}
 use Rattle.std.specs.List.{take_while, prefix_len}
 use Rattle.std.proofs.Common.{sym, ap, ◌∙◌, arith, length-drop}
-use Rattle.std.proofs.Math.Seq.{take-length, get_or-take, get_or-drop}
+use Rattle.std.proofs.Math.Seq.{get_or-take, get_or-drop}
 use Rattle.std.proofs.lemmas.List.Folds.{length-prefix_len}
 use Rattle.std.proofs.lemmas.List.Sums.{prefix_len-le-length, prefix_len_passes, prefix_len_stops}
 use Rattle.text.specs.Number.{numeral, value_from}
@@ -15,10 +15,6 @@ use Rattle.cursor.specs.NumeralsEnd.{Numerals, NumeralsEnd}
 test_is : (b : ℕ) → is_ascii_digit b ≡ numeral b
 unfolding numeral
 test_is b = refl
-
--- the library's text from a place on
-pub from_here : (s : List ℕ) (at : ℕ) → take (length s - at) (drop at s) ≡ drop at s
-from_here s at = rw (← length-drop at s) (take-length (drop at s))
 
 pub numerals_end_at : (s : List ℕ) (at n : ℕ) → at ≤ length s → n ≡ length (take_while is_ascii_digit (drop at s)) → NumeralsEnd s at (at + n)
 numerals_end_at s at n h e =

@@ -6,7 +6,7 @@ use Rattle.text.specs.Bytes.{found, bad, eat}
 use Rattle.bits.specs.Logic.{pick}
 use Rattle.cursor.specs.declared.Cursor.{Cursor}
 use Rattle.cursor.specs.Item.{At}
-use Rattle.cursor.proofs.Digits.{from_here}
+use Rattle.text.specs.BytesLaws.{from_here}
 
 -- what reading the text w finds, by the library's test
 by_test : (w t : List ℕ) → pick (starts_with nat_eq t w) (found tt (drop (length w) t)) bad ≡ eat w t

@@ -4,7 +4,6 @@ use Rattle.std.specs.Char.{is_ascii_alphanumeric}
 use Rattle.std.specs.Int.{is_in_range}
 use Rattle.std.specs.List.{take_while, prefix_len}
 use Rattle.std.proofs.Common.{sym, ◌∙◌, arith, length-drop, drop-drop}
-use Rattle.std.proofs.Math.Seq.{take-length}
 use Rattle.std.proofs.lemmas.List.Folds.{length-prefix_len}
 use Rattle.std.proofs.lemmas.List.Sums.{prefix_len-le-length}
 use Rattle.bits.specs.Logic.{pick}
@@ -37,10 +36,6 @@ front_is : (t : List ℕ) → (take (prefix_len is_ascii_alphanumeric t) t ≡ w
 unfolding word after_word
 front_is [] = (refl, refl)
 front_is (b ∷ t) = by_first b t (prefix_len is_ascii_alphanumeric t) (front_is t) (is_ascii_alphanumeric b) (test_is b)
-
--- the library's text from a place on
-pub from_here : (s : List ℕ) (at : ℕ) → take (length s - at) (drop at s) ≡ drop at s
-from_here s at = rw (← length-drop at s) (take-length (drop at s))
 
 pub word_ends : (s : List ℕ) (at n : ℕ) → at ≤ length s → n ≡ length (take_while is_ascii_alphanumeric (drop at s)) → WordEnd s at (at + n)
 word_ends s at n h e =

@@ -1,6 +1,7 @@
--- `same` tells whether two texts are equal. Assumes nothing.
-use Rattle.std.specs.Prelude.{◌≡◌, refl, true, false, List, [], ◌∷◌, ℕ, eqb}
-use Rattle.std.proofs.Common.{sym, ap₂, eq-eqb, eqb-true}
+-- `same` tells whether two texts are equal, and the text from a place on has no more bytes than are left. Assumes nothing.
+use Rattle.std.specs.Prelude.{◌≡◌, refl, true, false, List, [], ◌∷◌, ℕ, ◌-◌, eqb, length, take, drop}
+use Rattle.std.proofs.Common.{sym, ap₂, eq-eqb, eqb-true, length-drop}
+use Rattle.std.proofs.Math.Seq.{take-length}
 use Rattle.bits.specs.LogicLaws.{true_false, and_left, and_right, false_unless}
 use Rattle.text.specs.Bytes.{same}
 
@@ -24,3 +25,7 @@ same_equal (a ∷ s) (b ∷ t) e =
 
 pub differ_same : (a b : List ℕ) → (a ≡ b → ⊥) → same a b ≡ false
 differ_same a b h = false_unless (same a b) (λ e. h (same_equal a b e))
+
+-- a slice from a place to the end
+pub from_here : (s : List ℕ) (at : ℕ) → take (length s - at) (drop at s) ≡ drop at s
+from_here s at = rw (← length-drop at s) (take-length (drop at s))

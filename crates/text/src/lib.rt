@@ -10,17 +10,7 @@ ghost use Rattle.text.specs.LineEnd.{LineEnd};
 pub fn equal(a: &[u8], b: &[u8]) -> bool
     ensures { result ≡ same a.now b.now }
 {
-    if a.len() != b.len() {
-        return false;
-    }
-    let mut i = 0;
-    while i < a.len() {
-        if a[i] != b[i] {
-            return false;
-        }
-        i += 1;
-    }
-    true
+    a == b
 }
 
 // The place of the first 0x0A from a place on, or the text's length.
@@ -28,12 +18,5 @@ pub fn line_end(s: &[u8], at: usize) -> usize
     requires { at ≤ length s.now }
     ensures { LineEnd s.now at result }
 {
-    let mut e = at;
-    while e < s.len() {
-        if s[e] == b'\n' {
-            return e;
-        }
-        e += 1;
-    }
-    e
+    at + s[at..].iter().take_while(|b| **b != b'\n').count()
 }

@@ -5,7 +5,8 @@ use Rattle.std.specs.Slice.Iter.{iter_rest}
 use Rattle.std.proofs.lemmas.Iterator.{YieldsList-from_slice}
 use Rattle.std.proofs.lemmas.Iterator.Consumers.{count_from_yields_List}
 use Rattle.std.proofs.lemmas.Iterator.Search.{YieldsList-from_take_while}
-use Rattle.cursor.proofs.Digits.{numerals_end_at, from_here}
+use Rattle.text.specs.BytesLaws.{from_here}
+use Rattle.cursor.proofs.Digits.{numerals_end_at}
 use Rattle.cursor.proofs.numerals_end.Goals as goal
 
 pub returns : goal.returns

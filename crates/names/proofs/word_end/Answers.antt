@@ -5,7 +5,8 @@ use Rattle.std.specs.Slice.Iter.{iter_rest}
 use Rattle.std.proofs.lemmas.Iterator.{YieldsList-from_slice}
 use Rattle.std.proofs.lemmas.Iterator.Consumers.{count_from_yields_List}
 use Rattle.std.proofs.lemmas.Iterator.Search.{YieldsList-from_take_while}
-use Rattle.names.proofs.Words.{word_ends, from_here}
+use Rattle.text.specs.BytesLaws.{from_here}
+use Rattle.names.proofs.Words.{word_ends}
 use Rattle.names.proofs.word_end.Goals as goal
 
 pub returns : goal.returns
