@@ -1,9 +1,10 @@
 -- The free inputs, one input after the other. Assumes nothing.
-use Rattle.std.specs.Prelude.{◌≡◌, refl, Bool, true, false, ℕ, ◌+◌, ◌≤◌, ◌<◌, length, take, get_or, Option, Some, None}
+use Rattle.std.specs.Prelude.{◌≡◌, refl, Bool, true, false, ℕ, ◌+◌, ◌≤◌, ◌<◌, length, take, get_or, is_some, Option, Some, None}
 use Rattle.std.proofs.Math.Path.{sym, ap}
 use Rattle.std.proofs.Common.{subst, ◌∙◌, arith}
 use mathlib.Core.List.{List, [], ◌∷◌, ◌++◌, map, append-nil}
 use Rattle.bits.specs.Logic.{pick}
+use Rattle.bits.specs.LogicLaws.{true_false}
 use Rattle.names.specs.Name.{Name, among}
 use Rattle.names.specs.Pack.{name_of}
 use Rattle.names.specs.Word.{PositionIs}
@@ -62,14 +63,20 @@ module _ {names : List ℕ} {bs : List Name} {n i count : ℕ} {now : List Name}
 
 module _ (vs : List ℕ) {names : List ℕ} {n i count : ℕ} {now : List Name} (g : Freeing names (map name_of vs) n i count now) (l : i < n) (few : n ≤ length names)
     {p : Option ℕ} (h : PositionIs vs (get_or names i 0) p) where
-  pub freeing_bound : {k : ℕ} → p ≡ Some k → Freeing names (map name_of vs) n (i + 1) count now
-  freeing_bound {k} e =
-      bound_more g l few (found_among vs (get_or names i 0) k (subst (λ (q : Option ℕ). PositionIs vs (get_or names i 0) q) e h))
+  pub freeing_bound : is_some p ≡ true → Freeing names (map name_of vs) n (i + 1) count now
+  freeing_bound e = bound_more g l few (go p h e)
+    where
+      go : (q : Option ℕ) → PositionIs vs (get_or names i 0) q → is_some q ≡ true → among (name_of (get_or names i 0)) (map name_of vs) ≡ true
+      go (Some k) f e = found_among vs (get_or names i 0) k f
+      go None f e = absurd (true_false (sym e))
 
-  pub freeing_free : {later : List Name} {more : ℕ} → p ≡ None → later ≡ now ++ (name_of (get_or names i 0) ∷ [])
+  pub freeing_free : {later : List Name} {more : ℕ} → is_some p ≡ false → later ≡ now ++ (name_of (get_or names i 0) ∷ [])
       → more ≡ count + 1 → Freeing names (map name_of vs) n (i + 1) more later
-  freeing_free e w s =
-      free_more g l few (nowhere_among vs (get_or names i 0) (subst (λ (q : Option ℕ). PositionIs vs (get_or names i 0) q) e h)) w s
+  freeing_free e w s = free_more g l few (go p h e) w s
+    where
+      go : (q : Option ℕ) → PositionIs vs (get_or names i 0) q → is_some q ≡ false → among (name_of (get_or names i 0)) (map name_of vs) ≡ false
+      go (Some k) f e = absurd (true_false e)
+      go None f e = nowhere_among vs (get_or names i 0) f
 
 pub freeing_all : {names : List ℕ} {bs : List Name} {n i count : ℕ} {now : List Name} → Freeing names bs n i count now → n ≤ i
     → (now ≡ free (map name_of (take n names)) bs) × (count ≤ n)

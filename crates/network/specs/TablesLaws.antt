@@ -62,32 +62,34 @@ digits_step k (b ∷ s) =
     rw (eqb_turn 0x30 b, eqb_turn 0x31 b)
     (one-digit (eqb b 0x30) (eqb b 0x31) s (read_digits k s) (λ t. eat_digits k t) refl)
 
--- of n digits, which are to stand from start on, so many are left
-pub record Skipping (s : List ℕ) (n start : ℕ) (next : Cursor) (left : ℕ) : Type 0 where
+-- of n digits, which are to stand from start on, the first i are read
+pub record Skipping (s : List ℕ) (n start : ℕ) (next : Cursor) (i : ℕ) : Type 0 where
   pub inside : next.at ≤ length s
-  pub to_come : eat_digits n (drop start s) ≡ eat_digits left (from s next)
+  pub to_come : eat_digits n (drop start s) ≡ eat_digits (n - i) (from s next)
 
-pub skipping_none : (s : List ℕ) (n : ℕ) (c : Cursor) → c.at ≤ length s → Skipping s n c.at c n
-skipping_none s n c h = record { inside = h; to_come = refl }
+pub skipping_none : (s : List ℕ) (n : ℕ) (c : Cursor) → c.at ≤ length s → Skipping s n c.at c 0
+skipping_none s n c h =
+    let all : n ≡ n - 0 = omega arith in
+    record { inside = h; to_come = ap (λ (k : ℕ). eat_digits k (from s c)) all }
 
-module _ {s : List ℕ} {n start : ℕ} {next : Cursor} {left : ℕ} (p : Skipping s n start next left) where
-  module _ (more : 0 < left) where
-    by_digit : eat_digits n (drop start s) ≡ after (eat_digit (from s next)) (λ _ t. eat_digits (left - 1) t)
+module _ {s : List ℕ} {n start : ℕ} {next : Cursor} {i : ℕ} (p : Skipping s n start next i) where
+  module _ (more : i < n) where
+    by_digit : eat_digits n (drop start s) ≡ after (eat_digit (from s next)) (λ _ t. eat_digits (n - (i + 1)) t)
     by_digit =
-        let e : left ≡ suc (left - 1) = omega arith in
-        p.to_come ∙ ap (λ (k : ℕ). eat_digits k (from s next)) e ∙ digits_step (left - 1) (from s next)
+        let e : n - i ≡ suc (n - (i + 1)) = omega arith in
+        p.to_come ∙ ap (λ (k : ℕ). eat_digits k (from s next)) e ∙ digits_step (n - (i + 1)) (from s next)
 
     pub skipping_missing : bad ≡ eat_digit (from s next) → bad ≡ eat_digits n (drop start s)
-    skipping_missing e = part_missing (eat_digit (from s next)) (eat_digits (left - 1)) e ∙ sym by_digit
+    skipping_missing e = part_missing (eat_digit (from s next)) (eat_digits (n - (i + 1))) e ∙ sym by_digit
 
-    pub skipping_more : {c : Cursor} → At s tt c (eat_digit (from s next)) → Skipping s n start c (left - 1)
+    pub skipping_more : {c : Cursor} → At s tt c (eat_digit (from s next)) → Skipping s n start c (i + 1)
     skipping_more h =
-        record { inside = h.inside; to_come = by_digit ∙ sym (part_read (eat_digit (from s next)) (eat_digits (left - 1)) h) }
+        record { inside = h.inside; to_come = by_digit ∙ sym (part_read (eat_digit (from s next)) (eat_digits (n - (i + 1))) h) }
 
-  pub skipping_all : left ≤ 0 → At s tt next (eat_digits n (drop start s))
+  pub skipping_all : n ≤ i → At s tt next (eat_digits n (drop start s))
   unfolding eat_digits read_digits
   skipping_all h =
-      let e : left ≡ 0 = omega arith in
+      let e : n - i ≡ 0 = omega arith in
       record { inside = p.inside; is = sym (p.to_come ∙ ap (λ (k : ℕ). eat_digits k (from s next)) e) }
 
 -- ---- the digits that end a line

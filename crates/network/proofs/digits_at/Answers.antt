@@ -1,17 +1,16 @@
+use Rattle.std.proofs.Common.{arith}
 use Rattle.network.specs.TablesLaws.{skipping_none, skipping_missing, skipping_more, skipping_all}
 use Rattle.network.proofs.digits_at.Goals as goal
 
-pub loop-left-init : goal.loop-left-init
-loop-left-init c = let a = c.args in
-    skipping_none a.s.now a.n a.c c.requires
+pub loop-init : goal.loop-init
+loop-init c = skipping_none c.args.s.now c.args.n c.args.c c.requires
 
-pub returns-in_default : goal.returns-in_default
-returns-in_default c = let digit = rw c.in_default.is at c.digit_at-m.ensures in
-    skipping_missing c.loop-left.invariant c.loop-left-test.true digit
+pub returns-in_err-next : goal.returns-in_err-next
+returns-in_err-next c =
+    rw c.from_residual.ensures (skipping_missing c.loop.invariant (omega arith) c.in_err-next.ensures)
 
-pub loop-left-preserved : goal.loop-left-preserved
-loop-left-preserved c = let digit = rw c.in-To.is at c.digit_at-m.ensures in
-    skipping_more c.loop-left.invariant c.loop-left-test.true digit
+pub loop-preserved : goal.loop-preserved
+loop-preserved c = skipping_more c.loop.invariant (omega arith) c.in_ok-next.ensures
 
 pub returns : goal.returns
-returns c = skipping_all c.loop-left.invariant c.loop-left-test.false
+returns c = skipping_all c.loop.invariant (omega arith)

@@ -2,8 +2,5 @@
 use Rattle.network.specs.TablesLaws.{Skipping}
 use Rattle.network.proofs.digits_at.Given as goal
 
-abbrev pub invariant-loop-left : goal.invariant-loop-left
-invariant-loop-left l = Skipping l.s l.n l.initial.next.at l.next l.left
-
-abbrev pub decreases-loop-left : goal.decreases-loop-left
-decreases-loop-left l = l.left
+abbrev pub invariant-loop : goal.invariant-loop
+invariant-loop l = Skipping l.s l.n l.initial.next.at l.next l.counter

@@ -1,6 +1,5 @@
 -- `free_names`: each turn looks one name up among those left out, and adds it where it is none of them. Assumes nothing.
 use mathlib.Core.List.{map}
-use Prim.Native.Nat.{◌-◌}
 use lib.ListN.{take}
 use Rattle.names.specs.Pack.{name_of}
 use Rattle.network.specs.FreeNameLaws.{Freeing}
@@ -8,7 +7,4 @@ use Rattle.network.specs.Shown.{shown}
 use Rattle.network.proofs.free_names.Given as goal
 
 abbrev pub invariant-loop-i : goal.invariant-loop-i
-invariant-loop-i l = Freeing l.names (map name_of (take l.count l.list)) l.n l.i l.r.count (shown l.r)
-
-abbrev pub decreases-loop-i : goal.decreases-loop-i
-decreases-loop-i l = l.n - l.i
+invariant-loop-i l = Freeing l.names (map name_of (take l.bs.count l.bs.list)) l.n l.i l.r.count (shown l.r)

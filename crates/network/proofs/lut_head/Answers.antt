@@ -1,48 +1,34 @@
 -- `lut_head`: each part where the one before ends. Assumes nothing.
-use mathlib.Core.List.{map}
+use Rattle.std.proofs.Common.{map}
 use Rattle.names.specs.Pack.{name_of}
 use Rattle.network.specs.HeadLaws.{lut_no_word, lut_no_number, lut-no-list, lut_list}
 use Rattle.network.proofs.lut_head.Goals as goal
 
-pub returns-in_default : goal.returns-in_default
-returns-in_default c = let a = c.args in
-    let word = rw (c.in_default.is, c.start.ensures) at c.text-m.ensures in
-    lut_no_word a.l.now (map name_of a.bs.now) a.i word
+pub returns-in_err-a : goal.returns-in_err-a
+returns-in_err-a c = let a = c.args in
+    rw c.from_residual.ensures
+    (lut_no_word a.l.now (map name_of a.bs.now) a.i (rw c.start.ensures at c.in_err-a.ensures))
 
-pub lut_at-m-requires : goal.lut_at-m-requires
-lut_at-m-requires c = let word = rw (c.in-To.is, c.start.ensures) at c.text-m.ensures in
-    (word.inside, c.requires)
+pub lut_at-requires : goal.lut_at-requires
+lut_at-requires c = (c.in_ok-a.ensures.inside, c.requires)
 
-pub returns-in_default-m : goal.returns-in_default-m
-returns-in_default-m c = let a = c.args in
-    let word = rw (c.in-To.is, c.start.ensures) at c.text-m.ensures in
-    let number = rw c.in_default-m.is at c.lut_at-m.ensures in
-    lut_no_number a.l.now (map name_of a.bs.now) a.i word number
+pub returns-in_err-b : goal.returns-in_err-b
+returns-in_err-b c = let a = c.args in
+    rw c.from_residual.ensures
+    (lut_no_number a.l.now (map name_of a.bs.now) a.i (rw c.start.ensures at c.in_ok-a.ensures) c.in_err-b.ensures)
 
-pub text-m-requires-2 : goal.text-m-requires-2
-text-m-requires-2 c = let number = rw c.in-To-m.is at c.lut_at-m.ensures in
-    number.inside
+pub text-requires-2 : goal.text-requires-2
+text-requires-2 c = c.in_ok-b.ensures.inside
 
-pub returns-in_default-m-2 : goal.returns-in_default-m-2
-returns-in_default-m-2 c = let start-here = c.start in
-    let args = c.args in
-    let a = args in
-    let start = start-here in
-    let word = rw (c.in-To.is, start.ensures) at c.text-m.ensures in
-    let number = rw c.in-To-m.is at c.lut_at-m.ensures in
-    let list = rw c.in_default-m-2.is at c.text-m-2.ensures in
-    lut-no-list a.l.now (map name_of a.bs.now) a.i word number list
+pub returns-in_err-d : goal.returns-in_err-d
+returns-in_err-d c = let a = c.args in
+    rw c.from_residual.ensures
+    (lut-no-list a.l.now (map name_of a.bs.now) a.i (rw c.start.ensures at c.in_ok-a.ensures) c.in_ok-b.ensures c.in_err-d.ensures)
 
 pub inputs_at-requires : goal.inputs_at-requires
-inputs_at-requires c = let list = rw c.in-To-m-2.is at c.text-m-2.ensures in
-    list.inside
+inputs_at-requires c = c.in_ok-d.ensures.inside
 
 pub returns : goal.returns
-returns c = let start-here = c.start in
-    let args = c.args in
-    let a = args in
-    let start = start-here in
-    let word = rw (c.in-To.is, start.ensures) at c.text-m.ensures in
-    let number = rw c.in-To-m.is at c.lut_at-m.ensures in
-    let list = rw c.in-To-m-2.is at c.text-m-2.ensures in
-    lut_list a.l.now (map name_of a.bs.now) a.i word number list c.inputs_at.result c.inputs_at.ensures
+returns c = let a = c.args in
+    lut_list a.l.now (map name_of a.bs.now) a.i (rw c.start.ensures at c.in_ok-a.ensures) c.in_ok-b.ensures c.in_ok-d.ensures c.inputs_at.result
+    c.inputs_at.ensures

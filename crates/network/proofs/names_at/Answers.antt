@@ -1,18 +1,17 @@
-use mathlib.Core.Path.{refl}
+use Rattle.std.proofs.Common.{refl, arith}
 use Rattle.network.specs.ListedLaws.{listed_none, listed_missing, listed_more, listed_all}
 use Rattle.network.proofs.names_at.Goals as goal
 
-pub loop-i-init : goal.loop-i-init
-loop-i-init c = let a = c.args in
+pub loop-v-init : goal.loop-v-init
+loop-v-init c = let a = c.args in
     listed_none a.s.now a.ns.now a.first a.c.at c.requires
 
-pub returns-in_default : goal.returns-in_default
-returns-in_default c = let item = rw c.in_default.is at c.led_name-m.ensures in
-    listed_missing c.loop-i.invariant c.loop-i-test.true item
+pub returns-in_err-next : goal.returns-in_err-next
+returns-in_err-next c =
+    rw c.from_residual.ensures (listed_missing c.loop-v.invariant (omega arith) c.in_err-next.ensures)
 
-pub loop-i-preserved : goal.loop-i-preserved
-loop-i-preserved c = let item = rw c.in-To.is at c.led_name-m.ensures in
-    listed_more c.loop-i.invariant c.loop-i-test.true item
+pub loop-v-preserved : goal.loop-v-preserved
+loop-v-preserved c = listed_more c.loop-v.invariant (omega arith) c.in_ok-next.ensures
 
 pub returns : goal.returns
-returns c = listed_all c.loop-i.invariant _ refl c.loop-i-test.false
+returns c = listed_all c.loop-v.invariant _ refl (omega arith)

@@ -3,30 +3,20 @@ use Rattle.names.specs.Pack.{name_of}
 use Rattle.network.specs.HeadLaws.{node_no_word, node_no_name, node_list}
 use Rattle.network.proofs.node_head.Goals as goal
 
-pub returns-in_default : goal.returns-in_default
-returns-in_default c = let a = c.args in
-    let word = rw (c.in_default.is, c.start.ensures) at c.text-m.ensures in
-    node_no_word a.l.now (name_of a.name) word
+pub returns-in_err-a : goal.returns-in_err-a
+returns-in_err-a c =
+    rw c.from_residual.ensures (node_no_word c.args.l.now (name_of c.args.name) (rw c.start.ensures at c.in_err-a.ensures))
 
-pub name_at-m-requires : goal.name_at-m-requires
-name_at-m-requires c = let word = rw (c.in-To.is, c.start.ensures) at c.text-m.ensures in
-    word.inside
+pub name_at-requires : goal.name_at-requires
+name_at-requires c = c.in_ok-a.ensures.inside
 
-pub returns-in_default-m : goal.returns-in_default-m
-returns-in_default-m c = let a = c.args in
-    let word = rw (c.in-To.is, c.start.ensures) at c.text-m.ensures in
-    let name = rw c.in_default-m.is at c.name_at-m.ensures in
-    node_no_name a.l.now (name_of a.name) word name
+pub returns-in_err-b : goal.returns-in_err-b
+returns-in_err-b c =
+    rw c.from_residual.ensures (node_no_name c.args.l.now (name_of c.args.name) (rw c.start.ensures at c.in_ok-a.ensures) c.in_err-b.ensures)
 
-pub text-requires : goal.text-requires
-text-requires c = let name = rw c.in-To-m.is at c.name_at-m.ensures in
-    name.inside
+pub text-requires-2 : goal.text-requires-2
+text-requires-2 c = c.in_ok-b.ensures.inside
 
 pub returns : goal.returns
-returns c = let start-here = c.start in
-    let args = c.args in
-    let a = args in
-    let start = start-here in
-    let word = rw (c.in-To.is, start.ensures) at c.text-m.ensures in
-    let name = rw c.in-To-m.is at c.name_at-m.ensures in
-    node_list a.l.now (name_of a.name) word name c.text.result c.text.ensures
+returns c =
+    node_list c.args.l.now (name_of c.args.name) (rw c.start.ensures at c.in_ok-a.ensures) c.in_ok-b.ensures c.text-2.result c.text-2.ensures

@@ -1,25 +1,18 @@
 -- `read_lut`: the head, and the digits up to the line's end. Assumes nothing.
-use mathlib.Core.List.{map}
-use mathlib.Core.Path.{sym}
-use lib.ListN.{length, length-map}
+use Rattle.std.proofs.Common.{map, sym, length}
+use Rattle.std.proofs.lemmas.List.{length-map}
 use Rattle.names.specs.Pack.{name_of}
 use Rattle.network.specs.LineReadLaws.{lut_no_head, lut_digits}
 use Rattle.network.proofs.read_lut.Goals as goal
 
-pub returns-in_default : goal.returns-in_default
-returns-in_default c = let a = c.args in
-    let head = rw c.in_default.is at c.lut_head-m.ensures in
-    lut_no_head a.l.now (map name_of a.bs.now) a.i head
+pub returns-in_err-c : goal.returns-in_err-c
+returns-in_err-c c =
+    rw c.from_residual.ensures (lut_no_head c.args.l.now (map name_of c.args.bs.now) c.args.i c.in_err-c.ensures)
 
 pub table_at-requires : goal.table_at-requires
-table_at-requires c = let head = rw c.in-To.is at c.lut_head-m.ensures in
-    head.inside
+table_at-requires c = c.in_ok-c.ensures.inside
 
 pub returns : goal.returns
-returns c = let power = c.power in
-    let args = c.args in
-    let a = args in
-    let rows = power in
-    let head = rw c.in-To.is at c.lut_head-m.ensures in
-    lut_digits a.l.now (map name_of a.bs.now) a.i head c.table_at.result rows.result (length a.bs.now) rows.ensures (sym (length-map a.bs.now name_of))
-    c.table_at.ensures
+returns c = let a = c.args in
+    lut_digits a.l.now (map name_of a.bs.now) a.i c.in_ok-c.ensures c.table_at.result c.power.result (length a.bs.now) c.power.ensures
+    (sym (length-map a.bs.now name_of)) c.table_at.ensures

@@ -1,29 +1,26 @@
-use native.Mathlib.Omega.{arith}
+use Rattle.std.proofs.Common.{arith}
 use Rattle.network.specs.NumbersLaws.{shifted_byte, mask_fits}
 use Rattle.network.specs.GatherLaws.{gathered_none, gathered_with, gathered-without, gathered_all}
 use Rattle.network.proofs.reads_at.Goals as goal
-use Rattle.network.proofs.reads_at.Goals.{in-To, in-Bad}
+use Rattle.network.proofs.reads_at.Goals.{in-Some, in_default}
 
 pub loop-i-init : goal.loop-i-init
-loop-i-init c = let a = c.args in
-    gathered_none a.s.now a.u a.c.at c.requires.0
+loop-i-init c = gathered_none c.args.s.now c.args.u c.args.c.at c.requires.0
 
 pub overflow_add-mask : goal.overflow_add-mask
-overflow_add-mask c = let pre = c.requires in
-    let h = c.loop-i-test.true in
-    record { fits = omega (arith, shifted_byte c.loop-i.i (omega (arith, pre.1)), mask_fits c.loop-i.i c.loop-i.mask (omega (arith, pre.1)) c.loop-i.invariant.small) }
+overflow_add-mask c =
+    record { fits = omega (arith, shifted_byte c.loop-i.i (omega (arith, c.requires.1)), mask_fits c.loop-i.i c.loop-i.mask (omega (arith, c.requires.1)) c.loop-i.invariant.small) }
 
 pub loop-i-preserved : goal.loop-i-preserved
-loop-i-preserved c = let below = c.requires.1 in
-    let turn = c.loop-i-test.true in
-    elim c.match-m.branch [
-      | in-To w ↦
-          let there = rw w.in-To.is at c.lut_at-m.ensures in
-          rw (w.next-is, w.mask-is, w.count-is, shifted_byte c.loop-i.i (omega arith)) (gathered_with c.loop-i.invariant turn there)
-      | in-Bad w ↦
-          let missing = rw w.in-Bad.is at c.lut_at-m.ensures in
-          rw (w.next-is, w.mask-is, w.count-is) (gathered-without c.loop-i.invariant turn missing)
+loop-i-preserved c =
+    elim c.match-lut_at.branch [
+      in-Some w ↦
+          rw (w.next-is, w.mask-is, w.count-is, shifted_byte c.loop-i.i (omega (arith, c.requires.1)))
+          (gathered_with c.loop-i.invariant (omega arith) (rw w.in-Some.is at c.lut_at.ensures))
+    | in_default w ↦
+          rw (w.next-is, w.mask-is, w.count-is)
+          (gathered-without c.loop-i.invariant (omega arith) (rw w.in_default.is at c.lut_at.ensures))
     ]
 
 pub returns : goal.returns
-returns c = gathered_all c.loop-i.invariant c.loop-i-test.false
+returns c = gathered_all c.loop-i.invariant (omega arith)
