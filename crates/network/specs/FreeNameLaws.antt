@@ -62,7 +62,7 @@ module _ {names : List ℕ} {bs : List Name} {n i count : ℕ} {now : List Name}
       }
 
 module _ (vs : List ℕ) {names : List ℕ} {n i count : ℕ} {now : List Name} (g : Freeing names (map name_of vs) n i count now) (l : i < n) (few : n ≤ length names)
-    {p : Option ℕ} (h : PositionIs vs (get_or names i 0) p) where
+    (p : Option ℕ) (h : PositionIs vs (get_or names i 0) p) where
   pub freeing_bound : is_some p ≡ true → Freeing names (map name_of vs) n (i + 1) count now
   freeing_bound e = bound_more g l few (go p h e)
     where

@@ -11,11 +11,11 @@ loop-i-preserved c =
     let vs = take c.args.bs.count c.args.bs.list in
     let few : c.args.n ≤ length c.args.names = omega (arith, c.requires.0) in
     elim c.if-is_none.branch [
-      then-is_none w ↦ rw w.r-is
-          (freeing_free vs c.loop-i.invariant (omega arith) few c.find.ensures (c.is_none.ensures ∙ ap not w.if-is_none.true)
+      | then-is_none w ↦ rw w.r-is
+          (freeing_free vs c.loop-i.invariant (omega arith) few c.find.result c.find.ensures (c.is_none.ensures ∙ ap not w.if-is_none.true)
           w.pushed-r.ensures.0 w.pushed-r.ensures.1)
-    | else-is_none w ↦ rw w.r-is
-          (freeing_bound vs c.loop-i.invariant (omega arith) few c.find.ensures (c.is_none.ensures ∙ ap not w.if-is_none.false))
+      | else-is_none w ↦ rw w.r-is
+          (freeing_bound vs c.loop-i.invariant (omega arith) few c.find.result c.find.ensures (c.is_none.ensures ∙ ap not w.if-is_none.false))
     ]
 
 pub returns : goal.returns

@@ -14,7 +14,7 @@ lut_at-requires c = (c.in_ok-a.ensures.inside, c.requires)
 
 pub returns-in_err-b : goal.returns-in_err-b
 returns-in_err-b c = let a = c.args in
-    rw c.from_residual.ensures
+    rw c.from_residual-in_err-b.ensures
     (lut_no_number a.l.now (map name_of a.bs.now) a.i (rw c.start.ensures at c.in_ok-a.ensures) c.in_err-b.ensures)
 
 pub text-requires-2 : goal.text-requires-2
@@ -22,7 +22,7 @@ text-requires-2 c = c.in_ok-b.ensures.inside
 
 pub returns-in_err-d : goal.returns-in_err-d
 returns-in_err-d c = let a = c.args in
-    rw c.from_residual.ensures
+    rw c.from_residual-in_err-d.ensures
     (lut-no-list a.l.now (map name_of a.bs.now) a.i (rw c.start.ensures at c.in_ok-a.ensures) c.in_ok-b.ensures c.in_err-d.ensures)
 
 pub inputs_at-requires : goal.inputs_at-requires

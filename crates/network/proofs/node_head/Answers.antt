@@ -12,7 +12,7 @@ name_at-requires c = c.in_ok-a.ensures.inside
 
 pub returns-in_err-b : goal.returns-in_err-b
 returns-in_err-b c =
-    rw c.from_residual.ensures (node_no_name c.args.l.now (name_of c.args.name) (rw c.start.ensures at c.in_ok-a.ensures) c.in_err-b.ensures)
+    rw c.from_residual-in_err-b.ensures (node_no_name c.args.l.now (name_of c.args.name) (rw c.start.ensures at c.in_ok-a.ensures) c.in_err-b.ensures)
 
 pub text-requires-2 : goal.text-requires-2
 text-requires-2 c = c.in_ok-b.ensures.inside

@@ -15,7 +15,7 @@ reads_at-w-requires c = (c.in_ok-a.ensures.inside, c.requires.1)
 
 pub returns-in_err-d : goal.returns-in_err-d
 returns-in_err-d c = let a = c.args in
-    rw c.from_residual.ensures
+    rw c.from_residual-in_err-d.ensures
     (node_no_inputs a.l.now (name_of a.name) (map name_of a.fs.now) a.u c.in_ok-a.ensures c.reads_at-w.result c.reads_at-w.ensures c.in_err-d.ensures)
 
 pub table_at-requires : goal.table_at-requires
@@ -23,7 +23,7 @@ table_at-requires c = c.in_ok-d.ensures.inside
 
 pub returns-in_err-at : goal.returns-in_err-at
 returns-in_err-at c = let a = c.args in
-    rw c.from_residual.ensures
+    rw c.from_residual-in_err-at.ensures
     (node-no-digits a.l.now (name_of a.name) (map name_of a.fs.now) a.u c.in_ok-a.ensures c.reads_at-w.result c.reads_at-w.ensures c.in_ok-d.ensures
     (length a.fs.now) c.power.result (sym (length-map a.fs.now name_of)) c.power.ensures c.in_err-at.ensures)
 

@@ -14,10 +14,10 @@ overflow_add-mask c =
 pub loop-i-preserved : goal.loop-i-preserved
 loop-i-preserved c =
     elim c.match-lut_at.branch [
-      in-Some w ↦
+      | in-Some w ↦
           rw (w.next-is, w.mask-is, w.count-is, shifted_byte c.loop-i.i (omega (arith, c.requires.1)))
           (gathered_with c.loop-i.invariant (omega arith) (rw w.in-Some.is at c.lut_at.ensures))
-    | in_default w ↦
+      | in_default w ↦
           rw (w.next-is, w.mask-is, w.count-is)
           (gathered-without c.loop-i.invariant (omega arith) (rw w.in_default.is at c.lut_at.ensures))
     ]

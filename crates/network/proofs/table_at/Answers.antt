@@ -9,7 +9,7 @@ returns-in_err-d c =
 
 pub returns-in_err-e : goal.returns-in_err-e
 returns-in_err-e c =
-    rw c.from_residual.ensures (no_bracket c.args.l.now c.args.c.at c.args.n c.in_ok-d.ensures c.in_err-e.ensures)
+    rw c.from_residual-in_err-e.ensures (no_bracket c.args.l.now c.args.c.at c.args.n c.in_ok-d.ensures c.in_err-e.ensures)
 
 pub returns-then-at_end : goal.returns-then-at_end
 returns-then-at_end c =
