@@ -1,39 +1,24 @@
--- A loop that stores one word after the other makes the table of f, if each word is right: one law for every such loop.
--- Assumes nothing.
-use mathlib.Core.Path.{◌≡◌, subst, sym, ◌∙◌}
-use mathlib.Core.Bool.{Bool}
-use mathlib.Core.List.{List}
-use Prim.Native.Nat.{ℕ, ◌+◌, ◌≤◌, ◌<◌}
-use native.Mathlib.Omega.{arith}
-use borrow.Author.Count.{below_more}
-use lib.ListN.{length, get_or, set, length-set}
-use lib.Seq.{get_or-set_same, get_or-set_other}
+-- An array filled by a function makes the table of f, if the function gives each word as it is in that table. Assumes nothing.
+use Rattle.std.specs.Prelude.{◌≡◌, Bool, List, ℕ, zero, suc, ◌+◌, ◌≤◌, ◌<◌, get_or}
+use Rattle.std.specs.Array.{IsFromFnResult, IsFromFnResultFrom}
+use denote.Param.Members.{Mut, Called}
+use Rattle.std.proofs.Common.{arith}
+use native.Mathlib.Decide.{ℕ_discrete}
 use Rattle.limits.specs.Limits.{table_words}
 use Rattle.rows.specs.Words.{Rowwise, WordOf}
 use Rattle.rows.specs.WordLaws.{rowwise}
 
--- the words of a table, of which the first i are right
-pub record Filled (f : ℕ → Bool) (ws : List ℕ) (i : ℕ) : Type 0 where
-  pub size : length ws ≡ table_words
-  pub within : i ≤ table_words
-  pub right : (w : ℕ) → w < i → WordOf f w (get_or ws w 0)
+-- P is what the function says of each word
+module _ {F : Type 0} (g : Mut F (ℕ × Unit {0}) ℕ) (P : ℕ → ℕ → Type 0) (f : ℕ → Bool) (right : (w x : ℕ) → P w x → WordOf f w x) (c : F)
+    (called : (w x : ℕ) (d : F) → Called g c (w, tt) x d → (d ≡ c) × P w x) where
+  each_word : (ws : List ℕ) (i n w : ℕ) → IsFromFnResultFrom g c ws i n → i ≤ w → w < i + n → WordOf f w (get_or ws w 0)
+  each_word ws i zero w h a b = absurd (omega arith)
+  each_word ws i (suc n) w (d, x, at, call, rest) a b =
+      let k = called i x d call in
+      elim (ℕ_discrete w i) as (λ _. WordOf f w (get_or ws w 0)) [
+        | yes e ↦ rw (e, at.1 0) (right i x k.1)
+        | no e ↦ each_word ws (i + 1) n w (rw k.0 at rest) (omega arith) (omega arith)
+      ]
 
-pub filled_none : {f : ℕ → Bool} {ws : List ℕ} → length ws ≡ table_words → Filled f ws 0
-filled_none e = record { size = e; within = omega arith; right = λ w h. absurd (omega arith) }
-
-pub filled_more : {f : ℕ → Bool} {ws : List ℕ} {i v : ℕ}
-    → Filled f ws i → i < table_words → WordOf f i v → Filled f (set ws i v) (i + 1)
-filled_more {f} {ws} {i} {v} p h r =
-    let s : length ws ≡ table_words = p.size in
-    record {
-      size = length-set ws i v ∙ s;
-      within = omega arith;
-      right =
-          below_more (λ (w : ℕ). WordOf f w (get_or (set ws i v) w 0)) i
-          (λ w b.
-          subst (λ (x : ℕ). WordOf f w x) (sym (get_or-set_other ws i w v 0 (λ q. let z : w ≡ i = q in omega arith))) (p.right w b))
-          (subst (λ (x : ℕ). WordOf f i x) (sym (get_or-set_same ws i v 0 (omega arith))) r);
-    }
-
-pub filled_all : {f : ℕ → Bool} {ws : List ℕ} {i : ℕ} → Filled f ws i → table_words ≤ i → Rowwise f ws
-filled_all {f} {ws} {i} p h = rowwise f ws (λ w b. p.right w (omega arith))
+  pub filled : (ws : List ℕ) → IsFromFnResult g c ws table_words → Rowwise f ws
+  filled ws h = rowwise f ws (λ w b. each_word ws 0 table_words w h.each (omega arith) (omega arith))

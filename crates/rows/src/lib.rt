@@ -11,6 +11,8 @@ ghost use Rattle.rows.specs.Words.{row_on, Rowwise, WordOf};
 ghost use Rattle.rows.specs.Digits.{digit, digits_upto};
 ghost use Rattle.rows.specs.Step.{stepped};
 
+use std::array;
+
 // The lowest digits of a row's number say which digit of a word it is.
 const WORD_DIGITS: usize = 6;
 
@@ -28,10 +30,7 @@ const MASKS: [u64; WORD_DIGITS] = [
 pub fn constant(b: bool) -> [u64; limits::TABLE_WORDS]
     ensures { Rowwise (λ (r : ℕ). b) result }
 {
-    if b {
-        return [u64::MAX; limits::TABLE_WORDS];
-    }
-    [0; limits::TABLE_WORDS]
+    [if b { u64::MAX } else { 0 }; limits::TABLE_WORDS]
 }
 
 // Word w of the table of digit p. A word's own digits are the same in every word; the others are the word's number.
@@ -55,13 +54,7 @@ fn input_word(p: usize, w: usize) -> u64
 pub fn input(p: usize) -> [u64; limits::TABLE_WORDS]
     ensures { Rowwise (λ (r : ℕ). on r p) result }
 {
-    let mut t = [0u64; limits::TABLE_WORDS];
-    let mut i = 0;
-    while i < limits::TABLE_WORDS {
-        t[i] = input_word(p, i);
-        i += 1;
-    }
-    t
+    array::from_fn(|w| input_word(p, w))
 }
 
 // Where both hold.
@@ -71,13 +64,7 @@ pub fn both(
 ) -> [u64; limits::TABLE_WORDS]
     ensures { Rowwise (λ (r : ℕ). andb (row_on a r) (row_on b r)) result }
 {
-    let mut t = [0u64; limits::TABLE_WORDS];
-    let mut i = 0;
-    while i < limits::TABLE_WORDS {
-        t[i] = a[i] & b[i];
-        i += 1;
-    }
-    t
+    array::from_fn(|w| a[w] & b[w])
 }
 
 // Where at least one of the two holds.
@@ -87,13 +74,7 @@ pub fn either(
 ) -> [u64; limits::TABLE_WORDS]
     ensures { Rowwise (λ (r : ℕ). orb (row_on a r) (row_on b r)) result }
 {
-    let mut t = [0u64; limits::TABLE_WORDS];
-    let mut i = 0;
-    while i < limits::TABLE_WORDS {
-        t[i] = a[i] | b[i];
-        i += 1;
-    }
-    t
+    array::from_fn(|w| a[w] | b[w])
 }
 
 // Where just one of the two holds.
@@ -103,13 +84,7 @@ pub fn differ(
 ) -> [u64; limits::TABLE_WORDS]
     ensures { Rowwise (λ (r : ℕ). xorb (row_on a r) (row_on b r)) result }
 {
-    let mut t = [0u64; limits::TABLE_WORDS];
-    let mut i = 0;
-    while i < limits::TABLE_WORDS {
-        t[i] = a[i] ^ b[i];
-        i += 1;
-    }
-    t
+    array::from_fn(|w| a[w] ^ b[w])
 }
 
 // Where it does not hold.
@@ -139,10 +114,8 @@ pub fn put_digits(buf: &mut [u8], a: [u64; limits::TABLE_WORDS], n: usize)
     requires { (n ≤ max_rows) × (n ≤ length buf.old) }
     ensures { buf.new ≡ sets buf.old 0 (digits_upto (row_on a) n) }
 {
-    let mut i = 0;
-    while i < n {
-        buf[i] = digit_of(row(&a, i));
-        i += 1;
+    for (r, b) in buf[..n].iter_mut().enumerate() {
+        *b = digit_of(row(&a, r));
     }
 }
 

@@ -7,5 +7,5 @@ use Rattle.rows.proofs.constant.Goals as goal
 pub returns-then-b : goal.returns-then-b
 returns-then-b c = repeated 0xFFFFFFFFFFFFFFFF _ (λ k l. on-ones 64 k l ∙ sym c.if-b.true)
 
-pub returns : goal.returns
-returns c = repeated 0 _ (λ k l. on_zero k ∙ sym c.if-b.false)
+pub returns-else-b : goal.returns-else-b
+returns-else-b c = repeated 0 _ (λ k l. on_zero k ∙ sym c.if-b.false)

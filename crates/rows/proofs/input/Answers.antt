@@ -1,12 +1,8 @@
-use borrow.Author.Rules.{rules}
-use Rattle.rows.proofs.Fill.{filled_none, filled_more, filled_all}
+use Rattle.std.proofs.Common.{rules}
+use Rattle.bits.specs.Digit.{on}
+use Rattle.rows.specs.Words.{WordOf}
+use Rattle.rows.proofs.Fill.{filled}
 use Rattle.rows.proofs.input.Goals as goal
 
-pub loop-i-init : goal.loop-i-init
-loop-i-init c = filled_none (search rules)
-
-pub loop-i-preserved : goal.loop-i-preserved
-loop-i-preserved c = filled_more c.loop-i.invariant c.loop-i-test.true c.input_word.ensures
-
 pub returns : goal.returns
-returns c = filled_all c.loop-i.invariant c.loop-i-test.false
+returns c = filled _ (WordOf (λ r. on r c.args.p)) _ (λ w x h. h) _ (λ w x d h. search rules) _ c.from_fn.ensures.items
