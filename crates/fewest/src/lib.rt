@@ -3,24 +3,23 @@
 // has more cells than the limit: the contract of `fewest` is Theorem B.
 #![tactic(auto)]
 
-ghost use Rattle.std.specs.Prelude.{◌≡◌, ◌*◌, ◌≤◌, length};
+ghost use Rattle.std.specs.Prelude.{◌≡◌, ◌*◌, ◌≤◌, length, is_some};
 ghost use Rattle.limits.specs.Limits.{search_outputs, max_vertices, max_cells};
 ghost use Rattle.relation.specs.Relation.{Classes};
 ghost use Rattle.cache.specs.Cache.{entry_count, entry_size};
 ghost use Rattle.fewest.specs.Count.{Zeroed, Opened, Answered};
+ghost use Rattle.fewest.specs.Found.{core_count, core_rows, core_codes};
 
 use limits::{MAX_VERTICES, SEARCH_OUTPUTS};
+use problem::Answer;
 
 // Every table complemented where it is 1 at vertex 0.
 fn zero_first(codes: [u8; MAX_VERTICES]) -> [u8; MAX_VERTICES]
     ensures { Zeroed codes max_vertices result }
 {
-    let first = codes[0];
     let mut r = [0u8; MAX_VERTICES];
-    let mut x = 0;
-    while x < MAX_VERTICES {
-        r[x] = codes[x] ^ first;
-        x += 1;
+    for x in 0..MAX_VERTICES {
+        r[x] = codes[x] ^ codes[0];
     }
     r
 }
@@ -29,7 +28,6 @@ fn zero_first(codes: [u8; MAX_VERTICES]) -> [u8; MAX_VERTICES]
 // the search for it gave a vertex a code.
 #[derive(Drop)]
 pub struct Core {
-    pub found: bool,
     pub count: u8,
     pub rows: [u8; SEARCH_OUTPUTS],
     pub codes: [u8; MAX_VERTICES],
@@ -41,10 +39,8 @@ fn opened(rows: [u16; SEARCH_OUTPUTS]) -> [u8; SEARCH_OUTPUTS]
     ensures { Opened rows search_outputs result }
 {
     let mut r = [0u8; SEARCH_OUTPUTS];
-    let mut o: usize = 0;
-    while o < SEARCH_OUTPUTS {
+    for o in 0..SEARCH_OUTPUTS {
         r[o] = subproblems::open_of(rows[o]);
-        o += 1;
     }
     r
 }
@@ -58,18 +54,16 @@ pub fn fewest(
     m: usize,
     limit: u8,
     mem: &mut [u16],
-) -> Core
+) -> Option<Core>
     requires { Classes cl.now × (v ≤ max_vertices) × (m ≤ search_outputs) × (limit ≤ max_cells) × (length mem.old ≡ entry_count * entry_size) }
-    ensures { Answered cl.now budgets v m limit result.found result.count result.rows result.codes × (length mem.new ≡ entry_count * entry_size) }
+    ensures { Answered cl.now budgets v m limit (is_some result) (core_count result) (core_rows result) (core_codes result) × (length mem.new ≡ entry_count * entry_size) }
 {
     let kept = dominance::kept(cl, budgets, v, m);
     let asked = kept.budgets;
-    let by = kept.by;
     let given = [0u16; MAX_VERTICES];
     cache::clear(mem);
     let mut nodes: u64 = 0;
-    let mut u: u8 = 0;
-    while u <= limit {
+    for u in 0..=limit {
         let p = seeking::Problem {
             budgets: asked,
             vertices: v,
@@ -81,26 +75,16 @@ pub fn fewest(
         };
         let k = seeking::seek(&kept.labels, &given, mem, p, nodes);
         nodes = k.nodes;
-        if k.ok {
-            let rows = k.rows;
-            let codes = k.codes;
-            let reads = opened(dominance::placed(rows, by, m));
-            let zeroed = zero_first(codes);
-            return Core {
-                found: true,
+        if let Answer::Found(core) = k.answer {
+            let rows = opened(dominance::placed(core.rows, kept.by, m));
+            let codes = zero_first(core.codes);
+            return Some(Core {
                 count: u,
-                rows: reads,
-                codes: zeroed,
+                rows,
+                codes,
                 nodes,
-            };
+            });
         }
-        u += 1;
     }
-    Core {
-        found: false,
-        count: 0,
-        rows: [0u8; SEARCH_OUTPUTS],
-        codes: [0u8; MAX_VERTICES],
-        nodes,
-    }
+    None
 }

@@ -4,15 +4,18 @@
 // what is asked, on order for why the digits found are those of the first tables, and on picking for the reading sets.
 #![tactic(auto)]
 
-ghost use Rattle.std.specs.Prelude.{◌≡◌, ◌+◌, ◌*◌, ◌<◌, ◌≤◌, length};
+ghost use Rattle.std.specs.Prelude.{◌≡◌, ◌+◌, ◌*◌, ◌<◌, ◌≤◌, length, is_some};
 ghost use Rattle.limits.specs.Limits.{search_outputs, max_vertices, max_cells};
+ghost use Rattle.problem.specs.Answer.{some_codes};
 ghost use Rattle.relation.specs.Relation.{Classes};
 ghost use Rattle.cache.specs.Cache.{entry_count, entry_size};
+ghost use Rattle.fewest.specs.Found.{core_count, core_rows, core_codes};
 ghost use Rattle.witness.specs.Witness.{Witness};
 ghost use Rattle.first.specs.First.{Answered};
 ghost use Rattle.first.specs.Drawn.{Lowest, Upto, Stands, Remembers, Replied};
 
 use limits::{MAX_VERTICES, SEARCH_OUTPUTS};
+use problem::Answer;
 
 // What is asked about: the outputs' budgets, the numbers of vertices, outputs and cells.
 #[derive(Clone, Copy)]
@@ -23,11 +26,10 @@ struct Problem {
     cells: u8,
 }
 
-// Whether there are such cells, their codes, and how often the search gave a vertex a code so far.
+// The codes of such cells, where there are some, and how often the search gave a vertex a code so far.
 #[derive(Drop)]
 struct Reply {
-    ok: bool,
-    codes: [u8; MAX_VERTICES],
+    codes: Option<[u8; MAX_VERTICES]>,
     nodes: u64,
 }
 
@@ -61,7 +63,7 @@ fn ask(
     requires { Classes cl.now × (p.vertices ≤ max_vertices) × (p.outputs ≤ search_outputs) × (p.cells ≤ max_cells) × (i < p.cells) × (x < p.vertices)
         × Witness cl.now p.budgets p.vertices p.outputs p.cells codes × Stands codes i p.vertices given.now
         × Remembers cl.now given.now p.vertices mem.old }
-    ensures { Replied cl.now p.budgets p.vertices p.outputs p.cells codes i x result.ok result.codes
+    ensures { Replied cl.now p.budgets p.vertices p.outputs p.cells codes i x (is_some result.codes) (some_codes result.codes)
         × Remembers cl.now given.now p.vertices mem.new }
 {
     cache::keep_unread(mem);
@@ -76,18 +78,15 @@ fn ask(
         val: witness::digits(codes, i, x),
     };
     let k = seeking::seek(cl, given, mem, q, nodes);
-    if !k.ok {
+    let Answer::Found(core) = k.answer else {
         return Reply {
-            ok: false,
-            codes,
+            codes: None,
             nodes: k.nodes,
         };
-    }
-    let opened = k.codes;
-    let found = witness::joined(codes, opened, i);
+    };
+    let found = witness::joined(codes, core.codes, i);
     Reply {
-        ok: true,
-        codes: found,
+        codes: Some(found),
         nodes: k.nodes,
     }
 }
@@ -114,13 +113,12 @@ fn least_digit(
         return Tables { codes, nodes };
     }
     let a = ask(cl, given, mem, p, codes, i, x, nodes);
-    if !a.ok {
+    let Some(found) = a.codes else {
         return Tables {
             codes,
             nodes: a.nodes,
         };
-    }
-    let found = a.codes;
+    };
     let least = witness::sorted(found, i, p.cells, x + 1, p.vertices);
     Tables {
         codes: least,
@@ -146,12 +144,10 @@ fn least_table(
     let given = witness::front(least, i);
     cache::clear(mem);
     let mut total = nodes;
-    let mut x: usize = 0;
-    while x < p.vertices {
+    for x in 0..p.vertices {
         let t = least_digit(cl, &given, mem, p, least, i, x, total);
         least = t.codes;
         total = t.nodes;
-        x += 1;
     }
     Tables {
         codes: least,
@@ -173,12 +169,10 @@ fn least_tables(
 {
     let mut least = codes;
     let mut total = nodes;
-    let mut i: u8 = 0;
-    while i < p.cells {
+    for i in 0..p.cells {
         let t = least_table(cl, mem, p, least, i, total);
         least = t.codes;
         total = t.nodes;
-        i += 1;
     }
     Tables {
         codes: least,
@@ -193,15 +187,12 @@ pub fn first(
     v: usize,
     m: usize,
     limit: u8,
-) -> fewest::Core
+) -> Option<fewest::Core>
     requires { Classes cl.now × (v ≤ max_vertices) × (m ≤ search_outputs) × (limit ≤ max_cells) }
-    ensures { Answered cl.now budgets v m limit result.found result.count result.rows result.codes }
+    ensures { Answered cl.now budgets v m limit (is_some result) (core_count result) (core_rows result) (core_codes result) }
 {
     let mut mem = [0u16; cache::SIZE];
-    let core = fewest::fewest(cl, budgets, v, m, limit, &mut mem);
-    if !core.found {
-        return core;
-    }
+    let core = fewest::fewest(cl, budgets, v, m, limit, &mut mem)?;
     let kept = dominance::kept(cl, budgets, v, m);
     let asked = kept.budgets;
     let p = Problem {
@@ -210,15 +201,13 @@ pub fn first(
         outputs: kept.outputs,
         cells: core.count,
     };
-    let witnesses = core.codes;
-    let t = least_tables(&kept.labels, &mut mem, p, witnesses, core.nodes);
+    let t = least_tables(&kept.labels, &mut mem, p, core.codes, core.nodes);
     let codes = t.codes;
     let rows = picking::first_rows(cl, codes, budgets, v, m, core.count);
-    fewest::Core {
-        found: true,
+    Some(fewest::Core {
         count: core.count,
         rows,
         codes,
         nodes: t.nodes,
-    }
+    })
 }

@@ -3,7 +3,7 @@
 // laws of fewest.
 #![tactic(auto)]
 
-ghost use Rattle.std.specs.Prelude.{◌≡◌, ◌*◌, ◌≤◌, length};
+ghost use Rattle.std.specs.Prelude.{◌≡◌, ◌*◌, ◌<◌, ◌≤◌, length, IfSome, unwrap_or};
 ghost use Rattle.limits.specs.Limits.{search_outputs, max_vertices, max_cells};
 ghost use Rattle.relation.specs.Relation.{Classes};
 ghost use Rattle.cache.specs.Cache.{entry_count, entry_size};
@@ -11,6 +11,7 @@ ghost use Rattle.unserved.specs.Unserved.{Answered};
 ghost use Rattle.unserved.specs.Asking.{FitBelow, Stand, Decided, Sifted};
 
 use limits::{MAX_VERTICES, SEARCH_OUTPUTS};
+use problem::Answer;
 
 // The outputs that stand for those of the set.
 fn kept_of(
@@ -24,9 +25,8 @@ fn kept_of(
     ensures { Stand cl.now budgets v m set result.labels result.budgets result.outputs }
 {
     let l = subsets::members(set, m);
-    let from = l.from;
-    let labels = dominance::labels(cl, from);
-    let taken = dominance::picked(budgets, from);
+    let labels = dominance::labels(cl, l.from);
+    let taken = dominance::picked(budgets, l.from);
     dominance::kept(&labels, taken, v, l.count)
 }
 
@@ -48,11 +48,10 @@ fn served(kept: dominance::Asked, v: usize, limit: u8, mem: &mut [u16]) -> bool
         kn: 0,
         val: 0,
     };
-    let k = seeking::seek(&kept.labels, &given, mem, p, 0);
-    k.ok
+    matches!(seeking::seek(&kept.labels, &given, mem, p, 0).answer, Answer::Found(_))
 }
 
-// The first of the sets of k outputs that is not served, or 0 where all are. A set in which one output dominates another is served
+// The first of the sets of k outputs that is not served. A set in which one output dominates another is served
 // as the smaller sets are, and is not asked about.
 fn first_of(
     cl: &[u8],
@@ -62,45 +61,43 @@ fn first_of(
     limit: u8,
     k: usize,
     mem: &mut [u16],
-) -> u8
+) -> Option<u8>
     requires { Classes cl.now × (v ≤ max_vertices) × (m ≤ search_outputs) × (limit ≤ max_cells) × (length mem.old ≡ entry_count * entry_size) × FitBelow cl.now budgets v m limit k }
-    ensures { Sifted cl.now budgets v m limit k result × (length mem.new ≡ entry_count * entry_size) }
+    ensures { Sifted cl.now budgets v m limit k (unwrap_or result 0) × IfSome result (λ s. 0 < s) × (length mem.new ≡ entry_count * entry_size) }
 {
-    let mut r = readingsets::first_outputs(m);
-    while r > 0 {
+    for r in (1..=readingsets::first_outputs(m)).rev() {
         let s = subsets::of_rank(r, m);
-        let l = subsets::members(s, m);
-        if l.count == k {
+        if subsets::members(s, m).count == k {
             let kept = kept_of(cl, budgets, v, m, s);
-            if kept.outputs >= k {
-                if !served(kept, v, limit, mem) {
-                    return s;
-                }
+            if kept.outputs >= k && !served(kept, v, limit, mem) {
+                return Some(s);
             }
         }
-        r -= 1;
     }
-    0
+    None
 }
 
-// The first set of outputs that no cells within the limit serve, of m outputs with these classes of v vertices and these budgets,
-// or 0 where all outputs together are served.
-pub fn unserved(cl: &[u8], budgets: [u8; SEARCH_OUTPUTS], v: usize, m: usize, limit: u8) -> u8
+// The first set of outputs that no cells within the limit serve, of m outputs with these classes of v vertices and these budgets:
+// none where all outputs together are served.
+pub fn unserved(
+    cl: &[u8],
+    budgets: [u8; SEARCH_OUTPUTS],
+    v: usize,
+    m: usize,
+    limit: u8,
+) -> Option<u8>
     requires { Classes cl.now × (v ≤ max_vertices) × (m ≤ search_outputs) × (limit ≤ max_cells) }
-    ensures { Answered cl.now budgets v m limit result }
+    ensures { Answered cl.now budgets v m limit (unwrap_or result 0) × IfSome result (λ s. 0 < s) }
 {
     let mut mem = [0u16; cache::SIZE];
     let all = readingsets::first_outputs(m);
     if served(kept_of(cl, budgets, v, m, all), v, limit, &mut mem) {
-        return 0;
+        return None;
     }
-    let mut k: usize = 1;
-    while k < m {
-        let s = first_of(cl, budgets, v, m, limit, k, &mut mem);
-        if s != 0 {
-            return s;
+    for k in 1..m {
+        if let Some(s) = first_of(cl, budgets, v, m, limit, k, &mut mem) {
+            return Some(s);
         }
-        k += 1;
     }
-    all
+    Some(all)
 }
