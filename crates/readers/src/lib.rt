@@ -26,12 +26,9 @@ fn shared(rows: [u8; SEARCH_OUTPUTS], j: usize) -> u8
 {
     let mut once: u8 = 0;
     let mut many: u8 = 0;
-    let mut o = 0;
-    while o < j {
-        let r = rows[o];
-        many = many | (once & r);
-        once = once | r;
-        o += 1;
+    for o in 0..j {
+        many |= once & rows[o];
+        once |= rows[o];
     }
     many & cells::ALL_CELLS
 }
@@ -61,30 +58,18 @@ fn asked(rows: [u8; SEARCH_OUTPUTS], j: usize, kn: u32) -> u32
     requires { j ≤ search_outputs }
     ensures { Asked rows j kn result }
 {
-    if kn == 0 {
-        return kn;
+    if rows[..j].iter().any(|r| cells::in_set(*r as u64, 0)) {
+        kn
+    } else {
+        0
     }
-    let mut o = 0;
-    while o < j {
-        if cells::in_set(rows[o] as u64, 0) {
-            return kn;
-        }
-        o += 1;
-    }
-    0
 }
 
 // Whether vertex 0 is one of the v vertices and its digit of cell 0 is known to be 1.
 fn contrary(v: usize, kn: u32, val: u32) -> bool
     ensures { (result ≡ true → (0 < v) × (on kn 0 ≡ true) × (on val 0 ≡ true)) × (result ≡ false → Zero kn val v) }
 {
-    if v == 0 {
-        return false;
-    }
-    if !cells::in_set(kn as u64, 0) {
-        return false;
-    }
-    cells::in_set(val as u64, 0)
+    v != 0 && cells::in_set(kn as u64, 0) && cells::in_set(val as u64, 0)
 }
 
 // The code c with the digit d of cell 0 where that is known.
@@ -92,9 +77,12 @@ fn with_digit(c: u8, known: bool, d: bool) -> u8
     ensures { Digit c known d result }
 {
     if !known {
-        return c;
+        c
+    } else if d {
+        c | CELL_0
+    } else {
+        c & !CELL_0
     }
-    if d { c | CELL_0 } else { c & !CELL_0 }
 }
 
 // The codes of the first v vertices with the known digits of cell 0.
@@ -103,12 +91,10 @@ fn written(kn: u32, val: u32, v: usize, codes: [u8; MAX_VERTICES]) -> [u8; MAX_V
     ensures { Wrote kn val codes v result }
 {
     let mut r = codes;
-    let mut x = 0;
-    while x < v {
+    for x in 0..v {
         let known = cells::in_set(kn as u64, x as u8);
         let d = cells::in_set(val as u64, x as u8);
         r[x] = with_digit(r[x], known, d);
-        x += 1;
     }
     r
 }
@@ -129,18 +115,12 @@ fn plan(
     let mut ps = [0u8; SEARCH_OUTPUTS];
     let mut caps = [0u8; SEARCH_OUTPUTS];
     let mut spots = [0u8; SEARCH_OUTPUTS];
-    let mut o = 0;
-    while o < j {
+    for o in 0..j {
         let r = rows[o];
-        let m = r & sh;
-        let p = r & !sh;
-        ms[o] = m;
-        ps[o] = p;
-        let a = cells::power(cells::size(p));
-        caps[o] = a;
-        let b = cells::power(cells::size(r));
-        spots[o] = b;
-        o += 1;
+        ms[o] = r & sh;
+        ps[o] = r & !sh;
+        caps[o] = cells::power(cells::size(r & !sh));
+        spots[o] = cells::power(cells::size(r));
     }
     problem::Problem {
         ms,
@@ -154,23 +134,13 @@ fn plan(
     }
 }
 
-// The last output and the last cell as sets.
-const LAST_OUTPUT: u8 = 1 << (SEARCH_OUTPUTS - 1);
-
-const LAST_CELL: u8 = 1 << (limits::MAX_CELLS - 1);
-
 // Which of the first j outputs read cell i, as a set.
 fn read_by(rows: [u8; SEARCH_OUTPUTS], j: usize, i: u8) -> u8
     requires { (j ≤ search_outputs) × (i < max_cells) }
 {
     let mut r: u8 = 0;
-    let mut o = 0;
-    while o < j {
-        r = r / 2;
-        if cells::in_set(rows[o] as u64, i) {
-            r = r | LAST_OUTPUT;
-        }
-        o += 1;
+    for o in 0..j {
+        r |= u8::from(cells::in_set(rows[o] as u64, i)) << o;
     }
     r
 }
@@ -181,13 +151,8 @@ fn twins(rows: [u8; SEARCH_OUTPUTS], j: usize, i: u8) -> u8
 {
     let own = read_by(rows, j, i);
     let mut r: u8 = 0;
-    let mut k: u8 = 0;
-    while k < cells::MAX_CELLS {
-        r = r / 2;
-        if read_by(rows, j, k) == own {
-            r = r | LAST_CELL;
-        }
-        k += 1;
+    for k in 0..cells::MAX_CELLS {
+        r |= u8::from(read_by(rows, j, k) == own) << k;
     }
     r
 }
@@ -197,17 +162,7 @@ fn uniform(rows: [u8; SEARCH_OUTPUTS], j: usize, g: u8) -> bool
     requires { j ≤ search_outputs }
     ensures { result ≡ true → (o : ℕ) → o < j → Uniform (item rows o) g }
 {
-    let mut o = 0;
-    while o < j {
-        let m = rows[o] & g;
-        if m != g {
-            if m != 0 {
-                return false;
-            }
-        }
-        o += 1;
-    }
-    true
+    rows[..j].iter().all(|r| *r & g == g || *r & g == 0)
 }
 
 // Whether g is a group of two cells or more of which none is in done.
@@ -215,13 +170,7 @@ fn useful(rows: [u8; SEARCH_OUTPUTS], j: usize, g: u8, done: u8) -> bool
     requires { j ≤ search_outputs }
     ensures { result ≡ true → (bit_and g done ≡ 0) × ((o : ℕ) → o < j → Uniform (item rows o) g) }
 {
-    if g & done != 0 {
-        return false;
-    }
-    if cells::size(g) < 2 {
-        return false;
-    }
-    uniform(rows, j, g)
+    g & done == 0 && cells::size(g) >= 2 && uniform(rows, j, g)
 }
 
 // The groups of two or more cells of sh with the same readers; the others are empty.
@@ -232,17 +181,13 @@ fn groups(rows: [u8; SEARCH_OUTPUTS], j: usize, sh: u8) -> [u8; SEARCH_OUTPUTS]
     let mut gs = [0u8; SEARCH_OUTPUTS];
     let mut done: u8 = 0;
     let mut n: usize = 0;
-    let mut i: u8 = 0;
-    while i < cells::MAX_CELLS {
+    for i in 0..cells::MAX_CELLS {
         let g = twins(rows, j, i) & sh;
-        if n < GROUPS {
-            if useful(rows, j, g, done) {
-                gs[n] = g;
-                done = done | g;
-                n += 1;
-            }
+        if n < GROUPS && useful(rows, j, g, done) {
+            gs[n] = g;
+            done |= g;
+            n += 1;
         }
-        i += 1;
     }
     gs
 }
@@ -255,10 +200,8 @@ fn fitting_sets(kn: u32, val: u32) -> [u64; MAX_VERTICES]
     if kn == 0 {
         return r;
     }
-    let mut x = 0;
-    while x < MAX_VERTICES {
+    for x in 0..MAX_VERTICES {
         r[x] = coding::fitting(kn, val, x);
-        x += 1;
     }
     r
 }
@@ -275,8 +218,10 @@ fn begin(kn: u32, val: u32) -> State
 {
     let mut codes = [problem::NO_CODE; MAX_VERTICES];
     codes[0] = 0;
-    let dom = fitting_sets(kn, val);
-    State { codes, dom }
+    State {
+        codes,
+        dom: fitting_sets(kn, val),
+    }
 }
 
 // Whether each of the first j outputs has as many blocks as its classes cannot do without. Where one has not, there are no
@@ -287,15 +232,12 @@ pub fn possible(cl: &[u8], v: usize, j: usize, rows: [u8; SEARCH_OUTPUTS]) -> bo
 {
     let sh = shared(rows, j);
     let p = plan(v, j, rows, 0, 0, sh);
-    let spots = p.spots;
     let base = lowerbounds::bases(cl, v, j, rows);
-    let mut o = 0;
-    while o < j {
+    for o in 0..j {
         let t = holding::total(cl, &base, o, &[0u8; MAX_VERTICES]);
-        if (spots[o] as usize) < t {
+        if (p.spots[o] as usize) < t {
             return false;
         }
-        o += 1;
     }
     true
 }
@@ -315,13 +257,11 @@ fn search(
 {
     let sh = searched(rows, j, kn);
     let p = plan(v, j, rows, kn, val, sh);
-    let ms = p.ms;
-    let bs = holding::blocks(ms, p.outputs);
+    let bs = holding::blocks(p.ms, p.outputs);
     let base = lowerbounds::bases(cl, p.vertices, p.outputs, rows);
     let b = begin(p.kn, p.val);
-    let codes = b.codes;
     let mut d = b.dom;
-    if !coding::settle_all(cl, &base, &bs, p, &codes, &mut d, 0, 0) {
+    if !coding::settle_all(cl, &base, &bs, p, &b.codes, &mut d, 0, 0) {
         return Search {
             answer: Answer::Nothing,
             nodes: 0,
@@ -336,15 +276,13 @@ fn search(
         }
     }
     let rest = groupable(sh, p.kn);
-    let gb = holding::blocks(groups(ms, p.outputs, rest), GROUPS);
-    let used = coding::mark(&gb, [0u64; GROUPS], 0);
+    let gb = holding::blocks(groups(p.ms, p.outputs, rest), GROUPS);
     let all = holding::block(!sh, 0);
-    let met = coding::meet(cl, p.outputs, [0u64; SEARCH_OUTPUTS], 0);
     let s = coding::State {
-        codes,
+        codes: b.codes,
         dom: d,
-        used,
-        met,
+        used: coding::mark(&gb, [0u64; GROUPS], 0),
+        met: coding::meet(cl, p.outputs, [0u64; SEARCH_OUTPUTS], 0),
     };
     coding::find(cl, &base, &bs, &gb, all, p, s, limit, 0)
 }

@@ -1,11 +1,9 @@
-use mathlib.Core.Path.{refl, subst}
-use Prim.Native.Nat.{ℕ}
-use Rattle.readers.specs.Masks.{Decided}
+use mathlib.Core.Path.{refl}
+use mathlib.Core.Logic.{⊎_elim}
+use Rattle.bits.specs.LogicLaws.{true_false}
+use mathlib.Core.Bool.{true}
 use Rattle.readers.specs.KnownLaws.{decided_contrary, decided_asked, decided_written}
 use Rattle.readers.proofs.codes_for.Goals as goal
-
-pub asked-k-requires : goal.asked-k-requires
-asked-k-requires c = c.requires.2
 
 pub returns-then-contrary : goal.returns-then-contrary
 returns-then-contrary c = let a = c.args in
@@ -16,22 +14,18 @@ returns-then-contrary c = let a = c.args in
       never = λ e. refl;
     }
 
-pub search-s-requires : goal.search-s-requires
-search-s-requires c = let p = c.requires in
-    (p.0, p.1, p.2, p.3, c.contrary.ensures.1 c.if-contrary.false)
-
-pub returns-then-k-kn : goal.returns-then-k-kn
-returns-then-k-kn c = let a = c.args in
+pub returns-in-Found : goal.returns-in-Found
+returns-in-Found c = let a = c.args in
+    let s = rw c.in-Found.is at c.search-s.ensures in
     record {
-      sure = λ e. subst (λ (k : ℕ). Decided a.cl.now a.v a.j a.rows k a.val c.search-s.result.ok c.search-s.result.codes) c.if-k-kn.true (c.search-s.ensures.sure e);
-      never = c.search-s.ensures.never;
+      sure = λ e. decided_written a.cl.now a.v a.j a.rows a.kn a.val c.in-Found.codes c.written.result
+          c.requires.3 c.asked-k.result c.if-k-kn.false c.asked-k.ensures c.written.ensures true (s.sure refl);
+      never = λ e. refl;
     }
 
-pub written-codes-requires : goal.written-codes-requires
-written-codes-requires c = c.requires.1
-
-pub returns : goal.returns
-returns c = let a = c.args in
-    let written = decided_written a.cl.now a.v a.j a.rows a.kn a.val c.search-s.result.codes c.written-codes.result
-    c.requires.3 c.asked-k.result c.if-k-kn.false c.asked-k.ensures c.written-codes.ensures in
-    record { sure = λ e. written c.search-s.result.ok (c.search-s.ensures.sure e); never = c.search-s.ensures.never }
+pub returns-in-Nothing : goal.returns-in-Nothing
+returns-in-Nothing c = let a = c.args in
+    ⊎_elim (λ e. rw e (record {
+      sure = λ u. decided_asked a.cl.now a.v a.j a.rows c.asked-k.result a.kn a.val a.rows c.asked-k.ensures ((rw e at c.search-s.ensures).sure refl);
+      never = λ u. refl;
+    })) (λ e. rw e (record { sure = λ u. absurd (true_false u); never = (rw e at c.search-s.ensures).never })) c.in-Nothing.is

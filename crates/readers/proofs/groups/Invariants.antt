@@ -1,9 +1,6 @@
-use Prim.Native.Nat.{◌≤◌, ◌-◌}
+-- The groups so far are groups, and done has their cells.
 use Rattle.readers.specs.Groups.{Grouping}
 use Rattle.readers.proofs.groups.Given as goal
 
 abbrev pub invariant-loop-i : goal.invariant-loop-i
-invariant-loop-i l = (l.n ≤ 3) × Grouping l.rows l.gs l.sh l.j l.done
-
-abbrev pub decreases-loop-i : goal.decreases-loop-i
-decreases-loop-i l = 6 - l.i
+invariant-loop-i l = Grouping l.rows l.gs l.sh l.j l.done

@@ -1,9 +1,6 @@
 use Rattle.readers.specs.KnownLaws.{public_none, public_more, common_more}
 use Rattle.readers.proofs.searched.Goals as goal
 
-pub shared-sh-requires : goal.shared-sh-requires
-shared-sh-requires c = c.requires
-
 pub returns-then-kn-eq0 : goal.returns-then-kn-eq0
 returns-then-kn-eq0 c = let a = c.args in (c.shared-sh.ensures, public_none a.kn c.shared-sh.result c.if-kn-eq0.true)
 

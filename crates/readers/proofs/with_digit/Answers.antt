@@ -1,8 +1,5 @@
-use Rattle.readers.specs.KnownLaws.{digit_unknown, digit_one, digit_zero}
+use Rattle.readers.specs.KnownLaws.{digit_one, digit_zero}
 use Rattle.readers.proofs.with_digit.Goals as goal
-
-pub returns-then-not-known : goal.returns-then-not-known
-returns-then-not-known c = let a = c.args in digit_unknown a.c a.known a.d c.if-not-known.true
 
 pub returns-then-d : goal.returns-then-d
 returns-then-d c = let a = c.args in digit_one a.c a.known a.d c.if-d.true

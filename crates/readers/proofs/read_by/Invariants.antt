@@ -1,8 +1,0 @@
-use Prim.Native.Nat.{◌≤◌, ◌-◌}
-use Rattle.readers.proofs.read_by.Given as goal
-
-abbrev pub invariant-loop-o : goal.invariant-loop-o
-invariant-loop-o l = l.o ≤ l.j
-
-abbrev pub decreases-loop-o : goal.decreases-loop-o
-decreases-loop-o l = l.j - l.o
