@@ -10,7 +10,7 @@ ghost use Rattle.subsets.specs.Listed.{Lists};
 use limits::SEARCH_OUTPUTS;
 
 // The members of a set: so many, in the first places of from.
-#[derive(Drop)]
+#[derive(Clone, Copy)]
 pub struct Listed {
     pub count: usize,
     pub from: [u8; SEARCH_OUTPUTS],
@@ -23,13 +23,11 @@ pub fn members(set: u8, m: usize) -> Listed
 {
     let mut from = [0u8; SEARCH_OUTPUTS];
     let mut n: usize = 0;
-    let mut o: usize = 0;
-    while o < m {
-        if bits::has(set as u64, o as u32) {
+    for o in 0..m {
+        if bits::has(u64::from(set), o as u32) {
             from[n] = o as u8;
             n += 1;
         }
-        o += 1;
     }
     Listed { count: n, from }
 }
@@ -40,13 +38,8 @@ pub fn of_rank(r: u8, m: usize) -> u8
     ensures { result ≡ rank m r }
 {
     let mut s: u8 = 0;
-    let mut i: usize = 0;
-    while i < m {
-        s = s * 2;
-        if bits::has(r as u64, i as u32) {
-            s += 1;
-        }
-        i += 1;
+    for i in 0..m {
+        s = s * 2 + u8::from(bits::has(u64::from(r), i as u32));
     }
     s
 }
