@@ -1,7 +1,13 @@
 -- What the code answers: a part by where it starts and ends, the part itself, and the part by its start and its length (clause 11.8). Assumes nothing.
-use Rattle.std.specs.Prelude.{◌≡◌, Bool, List, ℕ, ◌+◌, ◌≤◌, length, take, drop}
+use Rattle.std.specs.Prelude.{◌≡◌, Bool, true, false, List, ℕ, ◌+◌, ◌≤◌, length, take, drop}
 use Rattle.std.specs.Borrow.{Bor}
+use Rattle.locate.specs.declared.Sheet.{Sheet}
 use Rattle.locate.specs.Located.{Part, start_of, text_of, sheet_of}
+
+-- whether a sheet is the second one
+abbrev pub is_network : Sheet → Bool
+is_network Sheet.Design = false
+is_network Sheet.Network = true
 
 -- line l of a text
 pub record SpanIs (t : List ℕ) (l start end : ℕ) : Type 0 where

@@ -2,76 +2,51 @@
 #![tactic(auto)]
 
 ghost use Rattle.locate.specs.Located.{located};
-ghost use Rattle.locate.specs.Places.{SpanIs, RangeIs, LineIs, PlaceIs};
+ghost use Rattle.locate.specs.Places.{is_network, SpanIs, RangeIs, LineIs, PlaceIs};
 
-// A part of a text: where it starts, and the place after it.
-#[derive(Drop)]
-struct Span {
-    start: usize,
-    end: usize,
+use std::ops::Range;
+
+// The two sheets.
+#[derive(Clone, Copy, PartialEq, Eq)]
+pub enum Sheet {
+    Design,
+    Network,
 }
 
-// A part of the design sheet, or of the second one, the network sheet.
-#[derive(Drop)]
-struct Range {
-    second: bool,
-    start: usize,
-    end: usize,
-}
-
-// Such a part by its length, for a caller who cannot be handed the part itself.
-#[derive(Drop)]
+// A part of a sheet by its length, for a caller who cannot be handed the part itself.
+#[derive(Clone, Copy)]
 pub struct Place {
-    pub second: bool,
+    pub sheet: Sheet,
     pub start: usize,
     pub length: usize,
 }
 
 // A line of a text without its 0x0A; where there is no such line, the empty part at the text's end.
-fn span_of(s: &[u8], line: usize) -> Span
+fn span_of(s: &[u8], line: usize) -> Range<usize>
     ensures { SpanIs s.now line result.start result.end }
 {
-    let n = s.len();
     let mut at = 0;
     let mut number = 1;
-    while at < n {
+    // The walk goes from line to line until the text ends: it is no range of places or of numbers.
+    while at < s.len() {
         let e = text::line_end(s, at);
-        let next = e + 1;
         if number == line {
-            return Span { start: at, end: e };
+            return at..e;
         }
-        at = next;
+        at = e + 1;
         number += 1;
     }
-    Span { start: n, end: n }
+    s.len()..s.len()
 }
 
-// Which part the line of a refusal is: the number says of which sheet.
-fn range_of(design: &[u8], network: &[u8], number: usize, line: usize) -> Range
-    ensures { RangeIs (located design.now network.now number line) result.second result.start result.end }
+// Which part of which sheet the line of a refusal is: the number says of which sheet.
+fn range_of(design: &[u8], network: &[u8], number: usize, line: usize) -> (Sheet, Range<usize>)
+    ensures { RangeIs (located design.now network.now number line) (is_network result.0) result.1.start result.1.end }
 {
     match number {
-        2..=5 => {
-            let p = span_of(design, line);
-            Range {
-                second: false,
-                start: p.start,
-                end: p.end,
-            }
-        }
-        10..=11 => {
-            let p = span_of(network, line);
-            Range {
-                second: true,
-                start: p.start,
-                end: p.end,
-            }
-        }
-        _ => Range {
-            second: false,
-            start: design.len(),
-            end: design.len(),
-        },
+        2..=5 => (Sheet::Design, span_of(design, line)),
+        10..=11 => (Sheet::Network, span_of(network, line)),
+        _ => (Sheet::Design, design.len()..design.len()),
     }
 }
 
@@ -79,24 +54,21 @@ fn range_of(design: &[u8], network: &[u8], number: usize, line: usize) -> Range
 pub fn line_at<'a>(design: &'a [u8], network: &'a [u8], number: usize, line: usize) -> &'a [u8]
     ensures { LineIs (located design.now network.now number line) design.entry network.entry result }
 {
-    let p = range_of(design, network, number, line);
-    let start = p.start;
-    let end = p.end;
-    if p.second {
-        return &network[start..end];
+    let (sheet, span) = range_of(design, network, number, line);
+    match sheet {
+        Sheet::Design => &design[span],
+        Sheet::Network => &network[span],
     }
-    &design[start..end]
 }
 
 // Where the line of a refusal stands.
 pub fn place_of<'a>(design: &'a [u8], network: &'a [u8], number: usize, line: usize) -> Place
-    ensures { PlaceIs (located design.now network.now number line) result.second result.start result.length }
+    ensures { PlaceIs (located design.now network.now number line) (is_network result.sheet) result.start result.length }
 {
-    let part = line_at(design, network, number, line);
-    let p = range_of(design, network, number, line);
+    let (sheet, span) = range_of(design, network, number, line);
     Place {
-        second: p.second,
-        start: p.start,
-        length: part.len(),
+        sheet,
+        start: span.start,
+        length: span.end - span.start,
     }
 }

@@ -6,8 +6,8 @@ use Rattle.locate.proofs.span_of.Goals as goal
 pub loop-at-init : goal.loop-at-init
 loop-at-init c = (reached_start c.args.s.now, λ h. h)
 
-pub overflow_add-next : goal.overflow_add-next
-overflow_add-next c = let i = c.line_end-e.ensures.inside in
+pub overflow_add-at : goal.overflow_add-at
+overflow_add-at c = let i = c.line_end-e.ensures.inside in
     let g = c.type_inv.s in
     search rules
 

@@ -1,9 +1,0 @@
--- `place_of`: the place of the line, with the length of the line itself. Assumes nothing.
-use Rattle.locate.specs.Located.{located}
-use Rattle.locate.specs.PlaceLaws.{line_place}
-use Rattle.locate.proofs.place_of.Goals as goal
-
-pub returns : goal.returns
-returns c = let a = c.args in
-    line_place (located a.design.now a.network.now a.number a.line) a.design a.network c.line_at-part.result
-    c.range_of-p.result.second c.range_of-p.result.start c.range_of-p.result.end c.line_at-part.ensures c.range_of-p.ensures
