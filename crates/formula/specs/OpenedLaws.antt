@@ -1,12 +1,10 @@
 -- A formula by what opens it: what the reader's definition comes to, and that less of the text is left. Assumes nothing.
-use Rattle.std.specs.Prelude.{◌≡◌, Bool, false, List, ℕ, suc, ◌≤◌, ◌<◌, length, drop, Option, Some}
+use Rattle.std.specs.Prelude.{◌≡◌, Bool, List, ℕ, suc, ◌≤◌, ◌<◌, length, drop, Option, Some}
 use Rattle.std.proofs.Math.Path.{refl, subst}
 use Rattle.std.proofs.Common.{sym, ap, ◌∙◌, arith}
 use Rattle.std.proofs.Math.Bool.{true}
-use Rattle.limits.specs.Limits.{max_depth}
 use Rattle.text.specs.Bytes.{Read, bad, after}
 use Rattle.names.specs.Name.{Name, among}
-use Rattle.names.specs.Pack.{name_of}
 use Rattle.rows.specs.WordLaws.{rowwise_same}
 use Rattle.cursor.specs.Opening as spec
 use Rattle.cursor.specs.Opening.{read_opening}
@@ -17,8 +15,7 @@ use Rattle.formula.specs.Tree.{Formula, input, constant, depth, knows}
 use Rattle.formula.specs.Reader.{read_formula, close_not}
 use Rattle.formula.specs.ReaderLaws.{formula_opened, formula_unopened}
 use Rattle.formula.specs.Value.{value, on_row}
-use Rattle.formula.specs.Part.{Good, PartIs, Atom, Closed, Negated, gate_on}
-use Rattle.formula.specs.WalkLaws.{negation_is}
+use Rattle.formula.specs.Part.{Good, PartIs, Atom, gate_on}
 use Rattle.formula.specs.declared.Part.{Part}
 
 pub opened_falls : (s : List ℕ) (at : ℕ) (i : spec.Opening) (c : Cursor) → At s i c (read_opening (drop at s))
@@ -54,11 +51,9 @@ module _ (k : ℕ) (s : List ℕ) (ns : List Name) (at : ℕ) (c : Cursor) (r : 
 
 -- one bracket more than the inner formula
 module _ (k l : ℕ) (one : suc k ≡ l) (s : List ℕ) (ns : List Name) (at : ℕ) (c : Cursor) (r : Option Part) where
-  pub not_is : (p n : Part) → k ≤ max_depth → At s spec.not-opens c (read_opening (drop at s)) → PartIs k s ns (read_formula (from s c)) (Some p)
-      → Negated p n → Closed s n r → PartIs l s ns (read_formula (drop at s)) r
-  not_is p n z h q m x =
-      rw (← one, formula_opened (drop at s) spec.not-opens (from s c) (sym h.is))
-      (negation_is k s ns (read_formula (from s c)) p n r z q m x)
+  pub not_is : At s spec.not-opens c (read_opening (drop at s)) → PartIs (suc k) s ns (after (read_formula (from s c)) (λ f u. close_not f u)) r
+      → PartIs l s ns (read_formula (drop at s)) r
+  not_is h q = rw (← one, formula_opened (drop at s) spec.not-opens (from s c) (sym h.is)) q
 
   pub gate_is : (g : spec.Gate) → At s (spec.gate_opens g) c (read_opening (drop at s)) → PartIs (suc k) s ns (gate_on g (read_formula (from s c))) r
       → PartIs l s ns (read_formula (drop at s)) r

@@ -1,11 +1,12 @@
 -- The loop over the operands of a gate, by the definitions: what the loop knows after each operand. k is how many brackets are
 -- looked into. Assumes nothing.
-use Rattle.std.specs.Prelude.{◌≡◌, Bool, true, false, List, [], ◌∷◌, ℕ, ◌<◌, min, max, drop}
+use Rattle.std.specs.Prelude.{◌≡◌, Bool, true, false, List, [], ◌∷◌, ℕ, ◌≤◌, ◌<◌, min, max, length, drop}
 use Rattle.bits.specs.Logic.{andb}
-use Rattle.text.specs.Bytes.{Read, found, bad}
+use Rattle.text.specs.Bytes.{Read, found, bad, eat, space}
 use Rattle.names.specs.Name.{Name}
 use Rattle.rows.specs.Words.{Rowwise}
 use Rattle.cursor.specs.Opening.{Gate}
+use Rattle.cursor.specs.declared.Cursor.{Cursor}
 use Rattle.formula.specs.Tree.{Formula, Operands, none, depth, depths, knows, knows_all}
 use Rattle.formula.specs.Reader.{read_operands}
 use Rattle.formula.specs.Value.{value, values, on_row, combine}
@@ -36,3 +37,10 @@ pub data Walk (k : ℕ) (s : List ℕ) (ns : List Name) (g : Gate) (e : Formula)
 abbrev pub WalkOf : ℕ → List ℕ → List Name → Gate → Read Formula → Part → Bool → Type 0
 WalkOf k s ns g (found e u) p enough = Walk k s ns g e u p enough
 WalkOf k s ns g bad p enough = ⊥
+
+-- a further operand stands at a cursor, after a space
+pub record Further (k : ℕ) (s : List ℕ) (ns : List Name) (g : Gate) (y : Read Formula) (p : Part) (c : Cursor) : Type 0 where
+  pub inside : c.at ≤ length s
+  pub spaced : found tt (drop c.at s) ≡ eat (space ∷ []) (drop p.next.at s)
+  pub enough : Bool
+  pub walked : WalkOf k s ns g y p enough

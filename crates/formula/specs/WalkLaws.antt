@@ -15,14 +15,14 @@ use Rattle.cursor.specs.Opening.{Gate}
 use Rattle.cursor.specs.Item.{At, from}
 use Rattle.cursor.specs.declared.Cursor.{Cursor}
 use Rattle.formula.specs.Tree.{Formula, negation, gate, Operands, none, depth, depths, knows, knows_all}
-use Rattle.formula.specs.Reader.{read_operands, close_gate, close_not}
+use Rattle.formula.specs.Reader.{read_formula, read_operands, close_gate, close_not}
 use Rattle.formula.specs.Value.{value, on_row}
 use Rattle.formula.specs.Onto.{onto}
 use Rattle.formula.specs.GateLaws.{combine_one}
-use Rattle.formula.specs.Part.{Good, PartIs, Skimmed, ClosedBy, Closed, Negated, deepened, gate_on}
+use Rattle.formula.specs.Part.{PartIs, Skimmed, ClosedBy, Closed, Negated, Joined, deepened, gate_on}
 use Rattle.formula.specs.Skim.{spelling}
 use Rattle.formula.specs.Walk.{before, Going, going, WalkOf}
-use Rattle.formula.specs.TurnLaws.{no_operand_after}
+use Rattle.formula.specs.TurnLaws.{formula_left, no_operand_after}
 use Rattle.formula.specs.declared.Part.{Part}
 
 -- ---- the loop
@@ -157,3 +157,7 @@ pub part_read : (k : ℕ) (s : List ℕ) (ns : List Name) (q : Read Formula) (p 
     → found tt (from s p.next) ≡ spelling q
 part_read k s ns (found f t) p h = ap (λ (l : List ℕ). found tt l) h.rest
 part_read k s ns bad p h = absurd h
+
+pub joined_falls : (k : ℕ) (s : List ℕ) (ns : List Name) (g : Gate) (v : List ℕ) (p q r : Part) → PartIs k s ns (read_formula v) (Some q)
+    → Joined g p q r → length (from s r.next) < length v
+joined_falls k s ns g v p q r h j = rw j.moved (formula_left v (from s q.next) (part_read k s ns (read_formula v) q h))

@@ -5,14 +5,14 @@
 
 ghost use Rattle.std.specs.Prelude.{map, true, ℕ, suc, ◌≤◌, length, drop, Some};
 ghost use Rattle.limits.specs.Limits.{max_depth};
-ghost use Rattle.text.specs.Bytes.{Read};
+ghost use Rattle.text.specs.Bytes.{Read, after};
 ghost use Rattle.names.specs.Name.{among};
 ghost use Rattle.names.specs.Pack.{name_of};
 ghost use Rattle.cursor.specs.Opening as spec;
 ghost use Rattle.cursor.specs.Item.{MovedIs, gate_of};
 ghost use Rattle.rows.specs.Words.{Rowwise, row_on};
 ghost use Rattle.formula.specs.Tree.{Formula};
-ghost use Rattle.formula.specs.Reader.{read_formula};
+ghost use Rattle.formula.specs.Reader.{read_formula, close_not};
 ghost use Rattle.formula.specs.Value.{on_row};
 ghost use Rattle.formula.specs.Gates.{two};
 ghost use Rattle.formula.specs.Part.{PartIs, Atom, Skimmed, Closed, Negated, Joined, gate_on};
@@ -127,16 +127,9 @@ fn skim(s: &[u8], c: Cursor) -> Option<Cursor>
     ensures { MovedIs s.now result (spelling (read_formula (drop c.at s.now))) }
 {
     match c.opening(s)? {
-        Opening::Name(_, next) => Some(next),
-        Opening::Digit(_, next) => Some(next),
-        Opening::Not(next) => {
-            let inner = skim(s, next)?;
-            inner.byte(s, b')')
-        }
-        Opening::Gate(_, next) => {
-            let first = skim(s, next)?;
-            skim_operands(s, first)
-        }
+        Opening::Name(_, next) | Opening::Digit(_, next) => Some(next),
+        Opening::Not(next) => skim(s, next)?.byte(s, b')'),
+        Opening::Gate(_, next) => skim_operands(s, skim(s, next)?),
     }
 }
 
@@ -155,42 +148,49 @@ fn skim_operands(s: &[u8], first: Cursor) -> Option<Cursor>
 
 // The formula at a place, of which the inputs' names are given. Past `left` brackets it is only skimmed, so that the stack
 // holds no more tables than the deepest formula that is allowed needs.
-#[cycle(nested_operands)]
+#[cycle(nested_negation_gate)]
 fn nested(s: &[u8], inputs: &[u64], c: Cursor, left: usize) -> Option<Part>
     requires { (c.at ≤ length s.now) × (left ≤ suc max_depth) }
     ensures { PartIs left s.now (map name_of inputs.now) (read_formula (drop c.at s.now)) result }
 {
     if left == 0 {
-        let next = skim(s, c)?;
-        return Some(unread(next));
+        return Some(unread(skim(s, c)?));
     }
     match c.opening(s)? {
         Opening::Name(n, next) => Some(input(inputs, n, next)),
         Opening::Digit(b, next) => Some(constant(b, next)),
-        Opening::Not(next) => {
-            let inner = nested(s, inputs, next, left - 1)?;
-            closed(s, negated(inner))
-        }
-        Opening::Gate(g, next) => {
-            let first = nested(s, inputs, next, left - 1)?;
-            operands(s, inputs, g, first, left - 1)
-        }
+        Opening::Not(next) => negation(s, inputs, next, left - 1),
+        Opening::Gate(g, next) => gate(s, inputs, g, next, left - 1),
     }
 }
 
-// The operands of a gate after the first, of which there is at least one, and its closing bracket.
-#[cycle(nested_operands)]
-fn operands(s: &[u8], inputs: &[u64], g: Gate, first: Part, left: usize) -> Option<Part>
-    requires { left ≤ max_depth }
-    ensures { (q : Read Formula) → PartIs left s.now (map name_of inputs.now) q (Some first)
-        → PartIs (suc left) s.now (map name_of inputs.now) (gate_on (gate_of g) q) result }
+// The formula at a place, negated, and its closing bracket. Inlined, as `gate` is: the tables of the two then take the same
+// place on the stack.
+#[cycle(nested_negation_gate)]
+#[inline(always)]
+fn negation(s: &[u8], inputs: &[u64], c: Cursor, left: usize) -> Option<Part>
+    requires { (c.at ≤ length s.now) × (left ≤ max_depth) }
+    ensures { PartIs (suc left) s.now (map name_of inputs.now) (after (read_formula (drop c.at s.now)) (λ f u. close_not f u)) result }
 {
-    let second = first.next.byte(s, b' ')?;
-    let mut sum = joined(g, first, nested(s, inputs, second, left)?);
-    while let Some(next) = sum.next.byte(s, b' ') {
+    closed(s, negated(nested(s, inputs, c, left)?))
+}
+
+// The operands of a gate, of which there are at least two, and its closing bracket.
+#[cycle(nested_negation_gate)]
+#[inline(always)]
+fn gate(s: &[u8], inputs: &[u64], g: Gate, c: Cursor, left: usize) -> Option<Part>
+    requires { (c.at ≤ length s.now) × (left ≤ max_depth) }
+    ensures { PartIs (suc left) s.now (map name_of inputs.now) (gate_on (gate_of g) (read_formula (drop c.at s.now))) result }
+{
+    let mut sum = nested(s, inputs, c, left)?;
+    let mut next = sum.next.byte(s, b' ')?;
+    loop {
         sum = joined(g, sum, nested(s, inputs, next, left)?);
+        match sum.next.byte(s, b' ') {
+            Some(further) => next = further,
+            None => return closed(s, sum),
+        }
     }
-    closed(s, sum)
 }
 
 // The formula at a place, of which the inputs' names are given.
