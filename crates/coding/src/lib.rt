@@ -21,7 +21,8 @@ use problem::Answer;
 // Groups of cells with the same readers that are looked at: more groups of two or more cells there are not.
 pub const GROUPS: usize = MAX_CELLS / 2;
 
-// The limit of a search that is not given up.
+// The limit of a search that is not given up. It is a number and no None: Sure and the laws of the crates above say of each limit, as
+// a number, what a search with it says.
 pub const NO_LIMIT: u64 = 0xffff_ffff_ffff_ffff;
 
 // The codes with the digit of cell 0 on, and those with it off.

@@ -18,6 +18,7 @@ ghost use Rattle.readers.specs.Known.{Public, Zero, Asked, Groupable, Fitted, Di
 use coding::{GROUPS, Search};
 use limits::{MAX_VERTICES, SEARCH_OUTPUTS};
 use problem::Answer;
+use std::array;
 
 // The cells that two of the first j outputs read.
 fn shared(rows: [u8; SEARCH_OUTPUTS], j: usize) -> u8
@@ -196,14 +197,11 @@ fn groups(rows: [u8; SEARCH_OUTPUTS], j: usize, sh: u8) -> [u8; SEARCH_OUTPUTS]
 fn fitting_sets(kn: u32, val: u32) -> [u64; MAX_VERTICES]
     ensures { Fitted kn val max_vertices result }
 {
-    let mut r = [cells::ALL_CODES; MAX_VERTICES];
     if kn == 0 {
-        return r;
+        [cells::ALL_CODES; MAX_VERTICES]
+    } else {
+        array::from_fn(|x| coding::fitting(kn, val, x))
     }
-    for x in 0..MAX_VERTICES {
-        r[x] = coding::fitting(kn, val, x);
-    }
-    r
 }
 
 // Where the search starts: vertex 0 has code 0, and any code with the known digit may be taken.
