@@ -69,6 +69,6 @@ pub fn place_of<'a>(design: &'a [u8], network: &'a [u8], number: usize, line: us
     Place {
         sheet,
         start: span.start,
-        length: span.end - span.start,
+        length: line_at(design, network, number, line).len(),
     }
 }
