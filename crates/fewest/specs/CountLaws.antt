@@ -15,6 +15,9 @@ use Rattle.cells.specs.FullSizeLaws.{xor_same}
 use Rattle.cells.specs.CodesLaws.{cells-length, cells_zero}
 use Rattle.cells.specs.Core.{Cell, Apart, reading, Differ, Serves, cells_from, core_of}
 use Rattle.cells.specs.FullSize.{read_by}
+use Rattle.problem.specs.declared.Answer as problem
+use Rattle.problem.specs.declared.Answer.TheVariants.{Found, Nothing, Unsure}
+use Rattle.problem.specs.Answer.{is_found}
 use Rattle.problem.specs.Problem.{label_at, item}
 use Rattle.relation.specs.Relation.{Conflict}
 use Rattle.subproblems.specs.Subproblem.{open_of}
@@ -134,3 +137,9 @@ answer_none cl given budgets v m u limit rows codes h a = record {
   low = λ e. absurd (true_false (sym e));
   full = λ e. absurd (true_false (sym e));
 }
+
+-- what is not an answer found
+pub not_found : {T : Type 0} (a : problem.Answer T) → ((x : T) → a ≡ Found x → ⊥) → is_found a ≡ false
+not_found (Found x) h = absurd (h x refl)
+not_found Nothing h = refl
+not_found Unsure h = refl
