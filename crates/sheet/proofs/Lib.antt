@@ -1,3 +1,3 @@
 -- The laws that the proofs cite.
 pub mod Arrays
-pub mod Lists
+pub mod Exits

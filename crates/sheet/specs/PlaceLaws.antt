@@ -71,21 +71,17 @@ module _ {ns inputs list : List ℕ} {i : ℕ} (p : Placed ns inputs list i) (l 
       ∙ sym (map-append place (map name_of (take i ns)) (name_of (get_or ns i 0) ∷ []))
       ∙ ap (map place) (sym (names_before ns i l))
 
-  module _ {r : Option ℕ} (h : PositionIs inputs (get_or ns i 0) r) where
-    found : (q : Option ℕ) → r ≡ q → PositionIs inputs (get_or ns i 0) q
-    found q e = subst (λ (s : Option ℕ). PositionIs inputs (get_or ns i 0) s) e h
+  pub place_missing : PositionIs inputs (get_or ns i 0) None → PlacesAre (map name_of ns) (map name_of inputs) None
+  place_missing h = decided false (nowhere_among inputs (get_or ns i 0) h)
 
-    pub place_missing : r ≡ None → PlacesAre (map name_of ns) (map name_of inputs) None
-    place_missing e = decided false (nowhere_among inputs (get_or ns i 0) (found None e))
-
-    pub placed_more : {k : ℕ} → r ≡ Some k → length ns ≤ max_bound → Placed ns inputs (set list i k) (i + 1)
-    placed_more {k} e few =
-        record {
-          inside = omega arith;
-          room = length-set list i k ∙ p.room;
-          decides = decided true (found_among inputs (get_or ns i 0) k (found (Some k) e));
-          listed = listed_more k (omega (arith, p.room)) (position-found inputs (get_or ns i 0) k (found (Some k) e));
-        }
+  pub placed_more : (k : ℕ) → PositionIs inputs (get_or ns i 0) (Some k) → length ns ≤ max_bound → Placed ns inputs (set list i k) (i + 1)
+  placed_more k h few =
+      record {
+        inside = omega arith;
+        room = length-set list i k ∙ p.room;
+        decides = decided true (found_among inputs (get_or ns i 0) k h);
+        listed = listed_more k (omega (arith, p.room)) (position-found inputs (get_or ns i 0) k h);
+      }
 
 pub placed_all : {ns inputs list : List ℕ} {i : ℕ} → Placed ns inputs list i → length ns ≤ i
     → PlacesAre (map name_of ns) (map name_of inputs) (Some list)

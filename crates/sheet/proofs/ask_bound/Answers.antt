@@ -1,47 +1,41 @@
 -- `ask_bound`: the first question with the answer "no", or the design with the bound inputs. Assumes nothing.
 use Rattle.std.proofs.Common.{arith}
 use Rattle.std.proofs.lemmas.Grind.{common_steps}
-use borrow.Author.Tests.{not-true, not-false}
+use Rattle.std.proofs.lemmas.Result.{err_from_is_err_and}
 use Rattle.sheet.specs.BoundLaws.{bound_asks, bound-reads, bound_unknown, bound-onward}
 use Rattle.sheet.specs.ListLaws.{counted_few, list_refused, list_good}
-use Rattle.sheet.proofs.Lists.{list_sized}
+use Rattle.sheet.proofs.Exits.{stopped_at, went_on}
 use Rattle.sheet.proofs.ask_bound.Goals as goal
 
-pub returns-then-q-ne0 : goal.returns-then-q-ne0
-returns-then-q-ne0 c = λ d h.
-    list_refused (bound_asks d) c.names_line-w.result c.refuse.result c.first_no-q.result c.first_no-q.ensures _ (bound-reads _ c.names_line-w.result c.names_line-w.ensures)
-    c.if-q-ne0.true c.refuse.ensures
+pub returns-in_err-w : goal.returns-in_err-w
+returns-in_err-w c = λ d h.
+    let p = err_from_is_err_and c.from_residual.result c.from_residual.ensures.1 in
+    rw (p.1, p.2)
+    (list_refused (bound_asks d) _ c.names_line.result c.in_err-w.field-0.0 (bound-reads _ c.names_line.result c.names_line.ensures) c.in_err-w.ensures)
 
-pub slice_bounds-ns-end : goal.slice_bounds-ns-end
-slice_bounds-ns-end c =
-    let few = counted_few 5 c.names_line-w.result c.first_no-q.result c.first_no-q.ensures c.if-q-ne0.false in
-    omega (arith, list_sized c.names_line-w.result c.names_line-w.type_inv)
+pub shared_ref_as_front-placed : goal.shared_ref_as_front-placed
+shared_ref_as_front-placed c =
+    omega (arith, counted_few 5 c.names_line.result c.in_ok-w.w c.in_ok-w.ensures)
 
-pub slice_bounds-placed-end : goal.slice_bounds-placed-end
-slice_bounds-placed-end c =
-    let few = counted_few 5 c.names_line-w.result c.first_no-q.result c.first_no-q.ensures c.if-q-ne0.false in
-    let sized = list_sized c.names_line-w.result c.names_line-w.type_inv in
-    grind (arith, common_steps)
-
-pub placed-p-requires : goal.placed-p-requires
-placed-p-requires c =
-    let few = counted_few 5 c.names_line-w.result c.first_no-q.result c.first_no-q.ensures c.if-q-ne0.false in
+pub placed-requires : goal.placed-requires
+placed-requires c =
+    let few = counted_few 5 c.names_line.result c.in_ok-w.w c.in_ok-w.ensures in
     grind (arith, common_steps)
 
 -- the line comes to what question 5 comes to
-pub returns-then-not-p : goal.returns-then-not-p
-returns-then-not-p c = λ d h.
-    let w = c.names_line-w.result in
-    list_good (bound_asks d) w c.refuse-then-not-p.result c.first_no-q.result c.first_no-q.ensures _ (bound-reads _ w c.names_line-w.ensures) c.if-q-ne0.false
-    (λ ns counted named.
-    bound_unknown h w.count w.names c.placed-p.result c.placed-p.ensures ns counted named c.refuse-then-not-p.result
-    (not-true _ c.if-not-p.true) c.refuse-then-not-p.ensures)
+pub returns-in_err-bound : goal.returns-in_err-bound
+returns-in_err-bound c = λ d h.
+    let w = c.in_ok-w.w in
+    let p = err_from_is_err_and c.from_residual-in_err-bound.result c.from_residual-in_err-bound.ensures.1 in
+    let s = stopped_at c.placed.result _ _ c.in_err-bound.ensures.value in
+    rw (p.1, p.2, s.1)
+    (list_good (bound_asks d) _ c.names_line.result w _ (bound-reads _ c.names_line.result c.names_line.ensures) c.in_ok-w.ensures
+    (λ ns counted named. bound_unknown h w.count w.names ns counted named (rw s.0 at c.placed.ensures)))
 
 pub returns : goal.returns
 returns c = λ d h.
-    let w = c.names_line-w.result in
-    let few = counted_few 5 w c.first_no-q.result c.first_no-q.ensures c.if-q-ne0.false in
-    list_good (bound_asks d) w c.onward.result c.first_no-q.result c.first_no-q.ensures _ (bound-reads _ w c.names_line-w.ensures) c.if-q-ne0.false
-    (λ ns counted named.
-    bound-onward h w.count w.names c.placed-p.result c.placed-p.ensures ns counted named c.onward.result
-    few (not-false _ c.if-not-p.false) c.onward.ensures)
+    let w = c.in_ok-w.w in
+    let few = counted_few 5 c.names_line.result w c.in_ok-w.ensures in
+    let is = went_on c.placed.result _ _ c.in_ok-bound.ensures.value in
+    list_good (bound_asks d) _ c.names_line.result w _ (bound-reads _ c.names_line.result c.names_line.ensures) c.in_ok-w.ensures
+    (λ ns counted named. bound-onward h w.count w.names ns counted named c.in_ok-bound.bound (rw is at c.placed.ensures) few)

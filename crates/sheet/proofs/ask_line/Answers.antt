@@ -1,13 +1,13 @@
 -- `ask_line`: each place has its line. Assumes nothing.
-use mathlib.Core.Path.{sym, ◌∙◌}
+use Rattle.std.proofs.Common.{sym, ◌∙◌}
 use Rattle.sheet.specs.AskLineLaws.{line_design, line_no_design, line_in, line_bound, line_limit, line_end, line_out, line_over}
 use Rattle.sheet.proofs.ask_line.Goals as goal
 
 pub returns-then-equal : goal.returns-then-equal
-returns-then-equal c = λ d h f. line_design d c.args.l.now c.onward.result c.in-Design.is (sym c.equal.ensures ∙ c.if-equal.true) c.onward.ensures h
+returns-then-equal c = λ d h f. line_design d c.args.l.now c.in-Design.is (sym c.equal.ensures ∙ c.if-equal.true) c.args.k h
 
 pub returns-else-equal : goal.returns-else-equal
-returns-else-equal c = λ d h f. line_no_design d c.args.l.now c.refuse.result c.in-Design.is (sym c.equal.ensures ∙ c.if-equal.false) c.refuse.ensures
+returns-else-equal c = λ d h f. line_no_design d c.args.l.now c.in-Design.is (sym c.equal.ensures ∙ c.if-equal.false)
 
 pub returns-in-In : goal.returns-in-In
 returns-in-In c = λ d h f. line_in d c.args.l.now c.ask_in.result c.in-In.is (c.ask_in.ensures d h) f
@@ -25,4 +25,4 @@ pub returns-else-equal-2 : goal.returns-else-equal-2
 returns-else-equal-2 c = λ d h f. line_out d c.args.l.now c.ask_out.result c.in-Out.is (sym c.equal-in-Out.ensures ∙ c.if-equal-2.false) (c.ask_out.ensures d h)
 
 pub returns-in-Over : goal.returns-in-Over
-returns-in-Over c = λ d h f. line_over d c.args.l.now c.refuse-in-Over.result c.in-Over.is c.refuse-in-Over.ensures
+returns-in-Over c = λ d h f. line_over d c.args.l.now c.in-Over.is

@@ -1,22 +1,29 @@
 -- `first_no`: each return rewrites with the tests before it. Assumes nothing.
 use Rattle.std.proofs.Common.{sym, ◌∙◌}
-use borrow.Author.Tests.{not-true, not-false}
+use Rattle.std.proofs.lemmas.Result.{err_from_is_err_and}
 use Rattle.sheet.specs.ListLaws.{no_to_two, no_to_three, no_to_four, no_to_none}
+use Rattle.sheet.proofs.Exits.{stopped_at, went_on}
 use Rattle.sheet.proofs.first_no.Goals as goal
 
-pub returns-then-not-w : goal.returns-then-not-w
-returns-then-not-w c = no_to_two c.args.high c.args.w (not-true _ c.if-not-w.true)
+pub returns-in_err-l : goal.returns-in_err-l
+returns-in_err-l c =
+    let p = err_from_is_err_and c.from_residual.result c.from_residual.ensures.1 in
+    let s = stopped_at c.args.w _ _ c.in_err-l.ensures.value in
+    rw (p.1, p.2, s.1, s.0) (no_to_two c.args.high)
 
 pub returns-then-not-in_range : goal.returns-then-not-in_range
 returns-then-not-in_range c =
-    no_to_three c.args.high c.args.w (not-false _ c.if-not-w.false) (sym c.in_range.ensures ∙ c.if-not-in_range.true)
+    let is = went_on c.args.w _ _ c.in_ok-l.ensures.value in
+    rw is (no_to_three c.args.high c.in_ok-l.l (sym c.if-not-in_range.ensures))
 
 pub returns-then-not-distinct : goal.returns-then-not-distinct
 returns-then-not-distinct c =
-    no_to_four c.args.high c.args.w (not-false _ c.if-not-w.false) (sym c.in_range.ensures ∙ c.if-not-in_range.false)
-    (sym c.distinct.ensures ∙ c.if-not-distinct.true)
+    let is = went_on c.args.w _ _ c.in_ok-l.ensures.value in
+    rw is
+    (no_to_four c.args.high c.in_ok-l.l (sym c.if-not-in_range.ensures) (sym c.if-not-distinct.ensures))
 
 pub returns : goal.returns
 returns c =
-    no_to_none c.args.high c.args.w (not-false _ c.if-not-w.false) (sym c.in_range.ensures ∙ c.if-not-in_range.false)
-    (sym c.distinct.ensures ∙ c.if-not-distinct.false)
+    let is = went_on c.args.w _ _ c.in_ok-l.ensures.value in
+    rw is
+    (no_to_none c.args.high c.in_ok-l.l (sym c.if-not-in_range.ensures) (sym c.if-not-distinct.ensures))

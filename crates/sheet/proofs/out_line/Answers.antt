@@ -1,51 +1,53 @@
--- `out_line`: the head of the line, the name and the space, each where the one before ends. Assumes nothing.
-use mathlib.Core.List.{[], ◌∷◌, map}
-use native.Mathlib.Omega.{arith}
-use Rattle.text.specs.Bytes.{bytes, eat, space}
+-- `out_line`: the head of the line, the name, the space, the formula and the bracket, each where the one before ends. Assumes nothing.
+use Rattle.std.proofs.Common.{map, sym, Some, None}
+use Rattle.text.specs.Bytes.{bytes}
 use Rattle.names.specs.Pack.{name_of}
+use Rattle.cursor.specs.MovedLaws.{moved-start}
 use Rattle.cursor.specs.Item.{from}
-use Rattle.cursor.specs.MovedLaws.{moved-start, moved_to, moved_nowhere}
-use Rattle.sheet.specs.OutLineLaws.{out_no_head, out_no_name, out-no-space, out-after}
+use Rattle.sheet.specs.OutLineLaws.{out_no_head, out_no_name, out-no-space, out-after, out-no-formula, out-unclosed, out-closed}
 use Rattle.sheet.proofs.out_line.Goals as goal
 
-pub text-m-requires : goal.text-m-requires
-text-m-requires c = omega (arith, c.start.ensures)
+pub returns-in_err-c : goal.returns-in_err-c
+returns-in_err-c c =
+    let l = c.args.l.now in
+    let ns = map name_of c.args.inputs.now in
+    rw c.from_residual.ensures (out_no_head l ns (moved-start l (bytes "(out ") None c.start.result c.start.ensures c.in_err-c.ensures))
 
-pub returns-in_default : goal.returns-in_default
-returns-in_default c = let a = c.args in
-    let h = moved-start a.l.now (bytes "(out ") c.text-m.result c.start.result c.start.ensures c.text-m.ensures in
-    out_no_head a.l.now (map name_of a.inputs.now) c.no_out.result
-    (moved_nowhere a.l.now c.text-m.result (eat (bytes "(out ") a.l.now) h c.in_default.is) c.no_out.ensures
+pub returns-in_err-name : goal.returns-in_err-name
+returns-in_err-name c =
+    let l = c.args.l.now in
+    let ns = map name_of c.args.inputs.now in
+    let head = moved-start l (bytes "(out ") (Some c.in_ok-c.c) c.start.result c.start.ensures c.in_ok-c.ensures in
+    rw c.from_residual-in_err-name.ensures (out_no_name l ns head c.in_err-name.ensures)
 
-pub name-w-requires : goal.name-w-requires
-name-w-requires c = let a = c.args in
-    let h = moved-start a.l.now (bytes "(out ") c.text-m.result c.start.result c.start.ensures c.text-m.ensures in
-    let head = moved_to a.l.now c.text-m.result (eat (bytes "(out ") a.l.now) h c.in-To.c c.in-To.is in
-    head.inside
+pub returns-in_err-f : goal.returns-in_err-f
+returns-in_err-f c =
+    let l = c.args.l.now in
+    let ns = map name_of c.args.inputs.now in
+    let head = moved-start l (bytes "(out ") (Some c.in_ok-c.c) c.start.result c.start.ensures c.in_ok-c.ensures in
+    rw c.from_residual-in_err-f.ensures (out-no-space l ns head c.in_ok-name.ensures c.in_err-f.ensures)
 
-pub returns-in_default-w : goal.returns-in_default-w
-returns-in_default-w c = let a = c.args in
-    let h = moved-start a.l.now (bytes "(out ") c.text-m.result c.start.result c.start.ensures c.text-m.ensures in
-    let head = moved_to a.l.now c.text-m.result (eat (bytes "(out ") a.l.now) h c.in-To.c c.in-To.is in
-    out_no_name a.l.now (map name_of a.inputs.now) c.no_out-in_default-w.result head
-    (rw c.in_default-w.is at c.name-w.ensures) c.no_out-in_default-w.ensures
+pub returns-in_err-p : goal.returns-in_err-p
+returns-in_err-p c =
+    let l = c.args.l.now in
+    let ns = map name_of c.args.inputs.now in
+    let head = moved-start l (bytes "(out ") (Some c.in_ok-c.c) c.start.result c.start.ensures c.in_ok-c.ensures in
+    rw c.from_residual-in_err-p.ensures
+    (out-after l ns head c.in_ok-name.ensures None c.in_ok-f.ensures
+    (out-no-formula l ns c.in_ok-name.name (from l c.in_ok-f.f) c.in_err-p.ensures))
 
-pub returns-in_default-g : goal.returns-in_default-g
-returns-in_default-g c = let a = c.args in
-    let h = moved-start a.l.now (bytes "(out ") c.text-m.result c.start.result c.start.ensures c.text-m.ensures in
-    let head = moved_to a.l.now c.text-m.result (eat (bytes "(out ") a.l.now) h c.in-To.c c.in-To.is in
-    out-no-space a.l.now (map name_of a.inputs.now) c.no_out-in_default-g.result head (rw c.in-Name.is at c.name-w.ensures)
-    (moved_nowhere a.l.now c.byte-g.result (eat (space ∷ []) (from a.l.now c.in-Name.e)) c.byte-g.ensures c.in_default-g.is)
-    c.no_out-in_default-g.ensures
-
-pub out_formula-requires : goal.out_formula-requires
-out_formula-requires c = let l = c.args.l.now in
-    (moved_to l c.byte-g.result (eat (space ∷ []) (from l c.in-Name.e)) c.byte-g.ensures c.in-To-g.f c.in-To-g.is).inside
+pub returns-then-not-closes : goal.returns-then-not-closes
+returns-then-not-closes c =
+    let l = c.args.l.now in
+    let ns = map name_of c.args.inputs.now in
+    let head = moved-start l (bytes "(out ") (Some c.in_ok-c.c) c.start.result c.start.ensures c.in_ok-c.ensures in
+    out-after l ns head c.in_ok-name.ensures None c.in_ok-f.ensures
+    (out-unclosed l ns c.in_ok-p.p c.in_ok-name.name (from l c.in_ok-f.f) c.in_ok-p.ensures (sym c.if-not-closes.ensures))
 
 pub returns : goal.returns
-returns c = let a = c.args in
-    let h = moved-start a.l.now (bytes "(out ") c.text-m.result c.start.result c.start.ensures c.text-m.ensures in
-    let head = moved_to a.l.now c.text-m.result (eat (bytes "(out ") a.l.now) h c.in-To.c c.in-To.is in
-    out-after a.l.now (map name_of a.inputs.now) c.out_formula.result head (rw c.in-Name.is at c.name-w.ensures)
-    (moved_to a.l.now c.byte-g.result (eat (space ∷ []) (from a.l.now c.in-Name.e)) c.byte-g.ensures c.in-To-g.f c.in-To-g.is)
-    c.out_formula.ensures
+returns c =
+    let l = c.args.l.now in
+    let ns = map name_of c.args.inputs.now in
+    let head = moved-start l (bytes "(out ") (Some c.in_ok-c.c) c.start.result c.start.ensures c.in_ok-c.ensures in
+    out-after l ns head c.in_ok-name.ensures _ c.in_ok-f.ensures
+    (out-closed l ns c.in_ok-p.p c.in_ok-name.name (from l c.in_ok-f.f) c.in_ok-p.ensures (sym c.if-not-closes.ensures))
