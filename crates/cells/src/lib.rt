@@ -57,14 +57,14 @@ pub fn lowest(s: u64) -> u8
     requires { s ≡ 0 → ⊥ }
     ensures { (result < set_room) × (on s result ≡ true) }
 {
-    u64::trailing_zeros(s) as u8
+    s.trailing_zeros() as u8
 }
 
 // How many cells a set of cells has.
 pub fn size(x: u8) -> u8
     ensures { (result ≡ count (on x) max_cells) × (result ≤ max_cells) }
 {
-    u32::count_ones((x & ALL_CELLS) as u32) as u8
+    (x & ALL_CELLS).count_ones() as u8
 }
 
 // How many codes there are over k cells: 2 to the power k, as a byte. A cast of bits::power would need this contract at each

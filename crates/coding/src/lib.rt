@@ -155,7 +155,7 @@ fn pick(
     let mut best: Option<(usize, u64)> = None;
     for y in 0..v {
         if codes[y] >= problem::NO_CODE {
-            let n = rank(u64::count_ones(dom[y] & can), unmet(cl, j, met, y), known);
+            let n = rank((dom[y] & can).count_ones(), unmet(cl, j, met, y), known);
             if better(best, n) {
                 best = Some((y, n));
             }
@@ -284,7 +284,7 @@ pub fn find(
         }
         let c = cells::lowest(left);
         left = cells::without(left, c);
-        total = std::num::wrapping_add_u64(total, 1);
+        total = total.wrapping_add(1);
         let mut next = s.codes;
         next[x] = c;
         let mut d = s.dom;
