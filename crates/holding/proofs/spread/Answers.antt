@@ -12,7 +12,8 @@ loop-i-init c = spreading_start c.args.mask c.args.d
 pub loop-i-preserved : goal.loop-i-preserved
 loop-i-preserved c = let args = c.args in
     elim c.if-not-in_set.branch [
-      | then-not-in_set w ↦ spreading_more args.mask args.d c.loop-i.i c.loop-i.r _ w.joined-r.result c.loop-i-test.true (sym c.in_set.ensures ∙ w.if-not-in_set.true) w.joined-r.ensures w.r-is c.loop-i.invariant
+      | then-not-in_set w ↦ spreading_more args.mask args.d c.loop-i.i c.loop-i.r _ w.joined-r.result c.loop-i-test.true
+          (sym c.in_set.ensures ∙ w.if-not-in_set.true) w.joined-r.ensures w.r-is c.loop-i.invariant
       | else-not-in_set w ↦ spreading_same args.mask args.d c.loop-i.i c.loop-i.r _ (sym c.in_set.ensures ∙ w.if-not-in_set.false) w.r-is c.loop-i.invariant
     ]
 
