@@ -64,9 +64,15 @@ module _ (cl budgets : List ℕ) (v m limit : ℕ) where
               let w : limit < 0 = lacking.none [] (record { tells = λ o x y b. absurd (omega arith); within = λ o b. absurd (omega arith) }) in
               absurd (omega arith)
 
+      all_outputs : SomeOf m all
+      all_outputs = subst (SomeOf m) (sym every) (all-some m some-outputs)
+
+      pub all_some : 0 < all
+      all_some = all_outputs.filled
+
       pub answer-all : (k : ℕ) → m ≤ k → FitBelow cl budgets v m limit k → Answered cl budgets v m limit all
       answer-all k b f = answer-first all (record {
-        outputs = subst (SomeOf m) (sym every) (all-some m some-outputs);
+        outputs = all_outputs;
         lacking = lacking;
         smaller = λ t h c. let z = every-size in f.fits t h (omega arith);
         earlier = λ t h c a. absurd (never_earlier m t h (subst (Earlier t) every a));

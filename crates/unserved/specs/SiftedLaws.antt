@@ -35,6 +35,12 @@ module _ (cl budgets : List ℕ) (v m limit k : ℕ) where
     sift_fewer labels budgets' n d h w = sift_next (λ c. d.fewer limit (subst (λ (s : ℕ). s < 2 ^ m) (sym e) (rank_below m r)) (omega arith)
         (subst (FitBelow cl budgets v m limit) (sym c) w))
 
+    its_outputs : 1 ≤ r → SomeOf m s
+    its_outputs some = subst (SomeOf m) (sym e) (rank-some m r (record { inside = few; filled = some }))
+
+    pub sift_some : 1 ≤ r → 0 < s
+    sift_some some = (its_outputs some).filled
+
     pub sift_found : 1 ≤ r → size m s ≡ k → Lacking cl budgets v m limit s → Sifted cl budgets v m limit k s
     sift_found some c w = record {
       all = λ q. let z = outputs.filled in absurd (omega arith);
@@ -47,7 +53,7 @@ module _ (cl budgets : List ℕ) (v m limit k : ℕ) where
     }
       where
         outputs : SomeOf m s
-        outputs = subst (SomeOf m) (sym e) (rank-some m r (record { inside = few; filled = some }))
+        outputs = its_outputs some
 
         back : rank m s ≡ r
         back = ap (rank m) e ∙ rank-rank m r few

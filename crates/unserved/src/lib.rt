@@ -48,7 +48,10 @@ fn served(kept: dominance::Asked, v: usize, limit: u8, mem: &mut [u16]) -> bool
         kn: 0,
         val: 0,
     };
-    matches!(seeking::seek(&kept.labels, &given, mem, p, 0).answer, Answer::Found(_))
+    matches!(
+        seeking::seek(&kept.labels, &given, mem, p, 0).answer,
+        Answer::Found(_)
+    )
 }
 
 // The first of the sets of k outputs that is not served. A set in which one output dominates another is served
