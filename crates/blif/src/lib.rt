@@ -28,17 +28,10 @@ ghost use Rattle.blif.specs.Room.{head_room, cells_room, row_room, rows_room, bl
 ghost use Rattle.blif.specs.Texts.{cell_text, digits_at, rows_text, block_text, lut_text, node_text, head_text};
 ghost use Rattle.blif.specs.Ready.{LutsReady, NodeReady, NodesReady, SomePassed, Passed};
 
-use design::Examined;
 use netsheet::NetworkSheet;
 use network::Names;
+use refusal::{Question, Refusal};
 use sheet::Sheet;
-
-// Export's answer: the refusal, or how many bytes were written.
-#[derive(Drop)]
-pub enum Exported {
-    Refused { number: usize, line: usize },
-    Written(usize),
-}
 
 // The bytes of a cell's name: `C` twice, an underscore, and that of cell 0's number.
 const CAPITAL_C: u64 = b'C' as u64;
@@ -72,10 +65,8 @@ fn put_items(buf: &mut [u8], at: usize, ns: &[u64]) -> usize
         (print_names (map name_of ns.now)) }
 {
     let mut p = at;
-    let mut i = 0;
-    while i < ns.len() {
-        p = put_item(buf, p, ns[i]);
-        i += 1;
+    for v in ns {
+        p = put_item(buf, p, *v);
     }
     p
 }
@@ -85,9 +76,7 @@ fn put_listed(buf: &mut [u8], at: usize, ns: Names) -> usize
     requires { (at + item_room * max_inputs ≤ reach) × (ns.count ≤ max_inputs) }
     ensures { Written (item_room * max_inputs) buf.old buf.new at result (print_names (shown ns)) }
 {
-    let list = ns.list;
-    let n = ns.count;
-    put_items(buf, at, &list[..n])
+    put_items(buf, at, &ns.list[..ns.count])
 }
 
 // Cell i after a space, where it is in the mask.
@@ -95,10 +84,11 @@ fn put_cell(buf: &mut [u8], at: usize, mask: u8, i: usize) -> usize
     requires { (at + item_room ≤ reach) × (i < one_digit) }
     ensures { Written item_room buf.old buf.new at result (cell_text mask i) }
 {
-    if !bits::has(netnames::wide(mask), i as u32) {
-        return at;
+    if bits::has(mask as u64, i as u32) {
+        put_item(buf, at, cell_name(i))
+    } else {
+        at
     }
-    put_item(buf, at, cell_name(i))
 }
 
 // The names of the cells below u that are in the mask, each after a space.
@@ -107,10 +97,8 @@ fn put_cells(buf: &mut [u8], at: usize, u: usize, mask: u8) -> usize
     ensures { Written cells_room buf.old buf.new at result (print_names (map cell_name (numbers_of u mask))) }
 {
     let mut p = at;
-    let mut i = 0;
-    while i < u {
+    for i in 0..u {
         p = put_cell(buf, p, mask, i);
-        i += 1;
     }
     p
 }
@@ -121,9 +109,7 @@ fn put_inputs(buf: &mut [u8], at: usize, n: usize, r: usize) -> usize
     ensures { Written max_inputs buf.old buf.new at result (print_digits (values_of n r)) }
 {
     let mut p = at;
-    let mut i = n;
-    while 0 < i {
-        i -= 1;
+    for i in (0..n).rev() {
         p = emit::put_digit(buf, p, bits::has(r as u64, i as u32));
     }
     p
@@ -152,10 +138,8 @@ fn put_rows(buf: &mut [u8], at: usize, t: &[u8], place: usize, n: usize) -> usiz
 {
     let rows = bits::power(n);
     let mut p = at;
-    let mut r = 0;
-    while r < rows {
+    for r in 0..rows {
         p = put_row(buf, p, n, r, t[place + r]);
-        r += 1;
     }
     p
 }
@@ -179,13 +163,9 @@ fn put_luts(buf: &mut [u8], at: usize, t: &[u8], bs: Names, n: NetworkSheet) -> 
     ensures { Written luts_room buf.old buf.new at result
         (texts_upto (lut_text t.now (shown bs) n.lutat) n.luts) }
 {
-    let luts = n.luts;
-    let lutat = n.lutat;
     let mut p = at;
-    let mut i = 0;
-    while i < luts {
-        p = put_lut(buf, p, t, bs, i, lutat[i]);
-        i += 1;
+    for i in 0..n.luts {
+        p = put_lut(buf, p, t, bs, i, n.lutat[i]);
     }
     p
 }
@@ -222,16 +202,9 @@ fn put_nodes(buf: &mut [u8], at: usize, t: &[u8], fs: Names, k: Sheet, n: Networ
     ensures { Written nodes_room buf.old buf.new at result
         (texts_upto (node_text t.now (shown fs) k.outs n.luts n.reads n.nodeat) k.outputs) }
 {
-    let outputs = k.outputs;
-    let outs = k.outs;
-    let luts = n.luts;
-    let reads = n.reads;
-    let nodeat = n.nodeat;
     let mut p = at;
-    let mut o = 0;
-    while o < outputs {
-        p = put_node(buf, p, t, fs, luts, reads[o], outs[o], nodeat[o]);
-        o += 1;
+    for o in 0..k.outputs {
+        p = put_node(buf, p, t, fs, n.luts, n.reads[o], k.outs[o], n.nodeat[o]);
     }
     p
 }
@@ -242,14 +215,10 @@ fn put_head(buf: &mut [u8], at: usize, k: Sheet) -> usize
     ensures { Written head_room buf.old buf.new at result
         (head_text (map name_of (take k.inputs k.names)) (map name_of (take k.outputs k.outs))) }
 {
-    let names = k.names;
-    let outs = k.outs;
-    let inputs = k.inputs;
-    let outputs = k.outputs;
     let p = emit::put_text(buf, at, b".model panel\n.inputs");
-    let q = put_items(buf, p, &names[..inputs]);
+    let q = put_items(buf, p, &k.names[..k.inputs]);
     let r = emit::put_text(buf, q, b"\n.outputs");
-    let s = put_items(buf, r, &outs[..outputs]);
+    let s = put_items(buf, r, &k.outs[..k.outputs]);
     emit::put_byte(buf, s, b'\n')
 }
 
@@ -259,42 +228,38 @@ fn put_blif(buf: &mut [u8], t: &[u8], k: Sheet, n: NetworkSheet) -> usize
     ensures { (d : Design) (w : Network) → Passed t.now k n d w
         → Written text_room buf.old buf.new 0 result (print_blif d w) }
 {
-    let names = k.names;
-    let places = k.bound;
-    let bs = network::bound_names(names, places, k.bounds);
-    let fs = network::free_names(names, k.inputs, bs);
+    let bs = network::bound_names(k.names, k.bound, k.bounds);
+    let fs = network::free_names(k.names, k.inputs, bs);
     let p = put_head(buf, 0, k);
     let q = put_luts(buf, p, t, bs, n);
     let r = put_nodes(buf, q, t, fs, k, n);
     emit::put_text(buf, r, b".end\n")
 }
 
-// Export, after what the examination of a design answered. A first pass into no buffer gives the length.
-pub fn export_of(e: Examined, network: &[u8], buffer: &mut [u8]) -> Exported
+// Export, after what the examination of a design answered: how many bytes were written. A first pass into no buffer gives the
+// length.
+pub fn export_of(
+    e: Result<Sheet, Refusal>,
+    network: &[u8],
+    buffer: &mut [u8],
+) -> Result<usize, Refusal>
     requires { Examination e }
     ensures { (x : sheets.Examined) → ExaminedIs x e → Right x
         → record { answer = export_answer result; buffer = buffer.new } ≡ spec.export_of x network.now buffer.old }
 {
-    let b = checker::examine_pair(e, network);
-    if !b.ok {
-        return Exported::Refused {
-            number: b.number,
-            line: b.line,
-        };
-    }
-    let k = b.sheet;
-    let n = b.network;
-    let mut nothing = [0u8; 1];
-    let length = put_blif(&mut nothing[..0], network, k, n);
+    let b = checker::examine_pair(e, network)?;
+    let length = put_blif(&mut [], network, b.sheet, b.network);
     if buffer.len() < length {
-        return Exported::Refused { number: 9, line: 0 };
+        return Err(Refusal {
+            question: Question::BufferLength,
+            line: 0,
+        });
     }
-    let written = put_blif(buffer, network, k, n);
-    Exported::Written(written)
+    Ok(put_blif(buffer, network, b.sheet, b.network))
 }
 
 // Export on a design sheet, a network sheet and a buffer.
-pub fn export(sheet: &[u8], network: &[u8], buffer: &mut [u8]) -> Exported
+pub fn export(sheet: &[u8], network: &[u8], buffer: &mut [u8]) -> Result<usize, Refusal>
     ensures { record { answer = export_answer result; buffer = buffer.new }
         ≡ spec.export sheet.now network.now buffer.old }
 {

@@ -5,16 +5,13 @@
 ghost use Rattle.std.specs.Prelude.{◌≤◌, length};
 ghost use Rattle.limits.specs.Limits.{max_blif};
 
-use blif::Exported;
-
 // Exports a network, with a buffer for its text. Answers whether the answer was written.
 fn answer(sheet: &[u8], network: &[u8], buffer: &mut [u8]) -> bool
     requires { max_blif ≤ length buffer.old }
 {
-    let r = blif::export(sheet, network, buffer);
-    match r {
-        Exported::Refused { number, line } => console::two(b"refused ", number, b" line ", line),
-        Exported::Written(length) => console::show(buffer, length),
+    match blif::export(sheet, network, buffer) {
+        Ok(length) => console::show(buffer, length),
+        Err(r) => console::two(b"refused ", r.question.number() as usize, b" line ", r.line),
     }
 }
 
@@ -23,9 +20,7 @@ fn both(s: &[u8], buffer: &mut [u8]) -> bool
     requires { max_blif ≤ length buffer.old }
 {
     let p = console::two_sheets(s);
-    let end = p.end;
-    let start = p.start;
-    answer(&s[..end], &s[start..], buffer)
+    answer(&s[..p.end], &s[p.start..], buffer)
 }
 
 fn main() {

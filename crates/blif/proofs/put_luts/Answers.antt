@@ -7,12 +7,12 @@ use Rattle.blif.proofs.put_luts.Goals as goal
 pub loop-i-init : goal.loop-i-init
 loop-i-init c = texts_none _ _ _ _ _
 
-pub offset_bounds-lutat-i : goal.offset_bounds-lutat-i
-offset_bounds-lutat-i c = let pre = c.requires in
+pub offset_bounds-n-i : goal.offset_bounds-n-i
+offset_bounds-n-i c = let pre = c.requires in
     omega (arith, pre.2.few, c.loop-i-test.true)
 
-pub bounds-lutat-i : goal.bounds-lutat-i
-bounds-lutat-i c = let pre = c.requires in
+pub bounds-n-i : goal.bounds-n-i
+bounds-n-i c = let pre = c.requires in
     omega (arith, pre.2.few, c.loop-i-test.true)
 
 pub put_lut-p-requires : goal.put_lut-p-requires

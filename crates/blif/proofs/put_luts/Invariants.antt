@@ -1,5 +1,4 @@
 -- `put_luts`: each turn puts one block more. Assumes nothing.
-use Prim.Native.Nat.{◌-◌}
 use Rattle.emit.specs.UptoLaws.{Texts}
 use Rattle.network.specs.Shown.{shown}
 use Rattle.blif.specs.Texts.{lut_text}
@@ -7,7 +6,4 @@ use Rattle.blif.specs.Room.{block_room}
 use Rattle.blif.proofs.put_luts.Given as goal
 
 abbrev pub invariant-loop-i : goal.invariant-loop-i
-invariant-loop-i l = Texts (lut_text l.t (shown l.bs) l.lutat) block_room l.luts l.initial.buf l.buf l.at l.p l.i
-
-abbrev pub decreases-loop-i : goal.decreases-loop-i
-decreases-loop-i l = l.luts - l.i
+invariant-loop-i l = Texts (lut_text l.t (shown l.bs) l.n.lutat) block_room l.n.luts l.initial.buf l.buf l.at l.p l.i
