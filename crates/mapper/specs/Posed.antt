@@ -1,6 +1,6 @@
 -- What a design asks of the search, as the code holds it: plain numbers that say the design's classes, widths and limit. Assumes
 -- nothing.
-use Rattle.std.specs.Prelude.{◌≡◌, true, false, List, ℕ, ◌≤◌, ◌<◌, length}
+use Rattle.std.specs.Prelude.{◌≡◌, List, ℕ, ◌≤◌, ◌<◌, length, Option, Some, None}
 use Rattle.limits.specs.Limits.{max_classes, max_cells, max_vertices, search_outputs}
 use Rattle.sheet.specs.Examine.{Design, Examined, valid}
 use Rattle.sheet.specs.Known.{Holds}
@@ -36,13 +36,17 @@ pub record Ready (cl : List ℕ) (v m limit : ℕ) : Type 0 where
   pub few_outputs : m ≤ search_outputs
   pub few_cells : limit ≤ max_cells
 
--- r is what the design d asks, which the sheet k holds
-pub record Poses (d : Design) (k : Sheet) (r : Posed) : Type 0 where
-  pub few : r.few ≡ true → global_count d d.bound ≤ max_classes
-  pub many : r.few ≡ false → max_classes < global_count d d.bound
+-- the design d has few enough global classes, and r is what it asks, which the sheet k holds
+pub record PosedAs (d : Design) (k : Sheet) (r : Posed) : Type 0 where
+  pub few : global_count d d.bound ≤ max_classes
   pub shaped : ShapeIs d r.shape
   pub given : Given d r.labels r.budgets r.shape.vertices k.outputs k.limit
   pub ready : Ready r.labels r.shape.vertices k.outputs k.limit
+
+-- what the code makes of a sheet k that holds the design d
+abbrev pub Poses : Design → Sheet → Option Posed → Type 0
+Poses d k (Some r) = PosedAs d k r
+Poses d k None = max_classes < global_count d d.bound
 
 -- x is the answer of an examination, the sheet k holds its design, and r is what this asks
 pub record Asked (x : Examined) (k : Sheet) (r : Posed) : Type 0 where
@@ -51,4 +55,4 @@ pub record Asked (x : Examined) (k : Sheet) (r : Posed) : Type 0 where
   pub holds : Holds design k
   pub formed : WellFormed design
   pub proper : Proper design
-  pub poses : Poses design k r
+  pub poses : PosedAs design k r

@@ -1,7 +1,7 @@
 -- What the code finds of a sheet is what its design asks of the search: labels are local classes, since these are few enough to be
 -- their own remainders, and budgets are widths; all are as small as the search wants. Assumes nothing.
-use Rattle.std.specs.Prelude.{◌≡◌, Bool, List, ℕ, ◌+◌, ◌*◌, ◌/◌, ◌%◌, ◌≤◌, ◌<◌, leb, get_or}
-use Rattle.std.proofs.Common.{sym, ◌∙◌, leb-true, leb-false}
+use Rattle.std.specs.Prelude.{◌≡◌, List, ℕ, ◌+◌, ◌*◌, ◌/◌, ◌%◌, ◌≤◌, ◌<◌, get_or}
+use Rattle.std.proofs.Common.{sym, ◌∙◌}
 use Rattle.std.proofs.Math.Path.{ap, ap₂, subst}
 use native.Mathlib.Omega.{arith}
 use Rattle.std.proofs.Math.Decide.{dec_lt}
@@ -10,12 +10,12 @@ use Rattle.sheet.specs.Examine.{Design}
 use Rattle.sheet.specs.Known.{Holds}
 use Rattle.sheet.specs.declared.Sheet.{Sheet}
 use Rattle.classes.specs.Columns.{vertex_count}
-use Rattle.classes.specs.Classes.{local_class}
+use Rattle.classes.specs.Classes.{local_class, global_count}
 use Rattle.classes.specs.Width.{budget}
 use Rattle.classes.specs.Answer.{ClassesAre, local_at, locals_at}
 use Rattle.classes.specs.VertexLaws.{local_below, local_most}
 use Rattle.classes.specs.declared.Classes.{Classes}
-use Rattle.mapper.specs.Posed.{Given, Ready, Poses}
+use Rattle.mapper.specs.Posed.{Given, Ready, PosedAs}
 use Rattle.mapper.specs.SearchInput.{LabelsAre, BudgetsAre, labels_given}
 
 labels_low : (ls : List _) (cl : List ℕ) → LabelsAre ls cl → (i : ℕ) → get_or cl i 0 < max_vertices
@@ -75,16 +75,18 @@ module _ (d : Design) (k : Sheet) (h : Holds d k) (c : Classes) (q : ClassesAre 
         few_cells = omega arith;
       }
 
-  pub poses : (few : Bool) (cl bs : List ℕ)
-      → few ≡ leb c.globals.count max_classes
+  pub poses : (cl bs : List ℕ)
+      → c.globals.count ≤ max_classes
       → LabelsAre c.locals cl
       → BudgetsAre c.widths k.outputs bs
-      → Poses d k (record { few = few; shape = c.shape; labels = cl; budgets = bs })
-  poses few cl bs e lh bh =
+      → PosedAs d k (record { shape = c.shape; labels = cl; budgets = bs })
+  poses cl bs few lh bh =
       record {
-        few = λ t. subst (λ (n : ℕ). n ≤ max_classes) q.globals.counted (leb-true c.globals.count max_classes (sym e ∙ t));
-        many = λ t. subst (λ (n : ℕ). max_classes < n) q.globals.counted (leb-false c.globals.count max_classes (sym e ∙ t));
+        few = subst (λ (n : ℕ). n ≤ max_classes) q.globals.counted few;
         shaped = q.shaped;
         given = given cl bs lh bh;
         ready = ready cl lh;
       }
+
+  pub poses_none : max_classes < c.globals.count → max_classes < global_count d d.bound
+  poses_none many = subst (λ (n : ℕ). max_classes < n) q.globals.counted many

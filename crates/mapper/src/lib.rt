@@ -17,14 +17,14 @@ ghost use Rattle.mapper.specs.SearchInput.{LabelsAre, BudgetsAre};
 ghost use Rattle.mapper.specs.Posed.{Designed, Poses};
 
 use classes::{LocalClass, Locals, Shape};
-use design::Examined;
+use refusal::{Question, Refusal};
 use sheet::Sheet;
 
-// Map's answer: the refusal, or how many cells and bytes were written.
-#[derive(Drop)]
-pub enum Mapped {
-    Refused { number: usize, line: usize },
-    Written { cells: usize, length: usize },
+// How many cells the network has, and of how many bytes its sheet is.
+#[derive(Clone, Copy, Debug, PartialEq, Eq)]
+pub struct Mapped {
+    pub cells: usize,
+    pub length: usize,
 }
 
 // The label of a class: a class number is below MAX_VERTICES, and so is what a label may be.
@@ -40,12 +40,8 @@ fn labels(ls: [Locals; limits::MAX_OUTPUTS]) -> [u8; limits::LABELS]
     ensures { LabelsAre ls result }
 {
     let mut cl = [0u8; limits::LABELS];
-    let mut i = 0;
-    while i < limits::MAX_OUTPUTS * limits::MAX_VERTICES {
-        let l = ls[i / limits::MAX_VERTICES];
-        let classes = l.classes;
-        cl[i] = label_of(classes[i % limits::MAX_VERTICES]);
-        i += 1;
+    for i in 0..limits::MAX_OUTPUTS * limits::MAX_VERTICES {
+        cl[i] = label_of(ls[i / limits::MAX_VERTICES].classes[i % limits::MAX_VERTICES]);
     }
     cl
 }
@@ -56,116 +52,101 @@ fn budgets(ws: [usize; limits::MAX_OUTPUTS], outputs: usize) -> [u8; limits::SEA
     ensures { BudgetsAre ws outputs result }
 {
     let mut r = [0u8; limits::SEARCH_OUTPUTS];
-    let mut o = 0;
-    while o < outputs {
+    for o in 0..outputs {
         r[o] = ws[o] as u8;
-        o += 1;
     }
     r
 }
 
-// What a design asks of the search: whether it has few enough global classes to be asked about, the shape of its rows, and the
-// class labels and budgets of its outputs.
+// What a design asks of the search: the shape of its rows, and the class labels and budgets of its outputs.
 #[derive(Drop)]
 struct Posed {
-    few: bool,
     shape: Shape,
     labels: [u8; limits::LABELS],
     budgets: [u8; limits::SEARCH_OUTPUTS],
 }
 
-fn pose(k: Sheet) -> Posed
+// What the design asks, where it has few enough global classes to be asked about.
+fn pose(k: Sheet) -> Option<Posed>
     requires { Designed k }
     ensures { (d : spec.Design) → Holds d k → Proper d → Poses d k result }
 {
     let c = classes::classes_of(k);
-    let g = c.globals;
-    let ls = c.locals;
-    let ws = c.widths;
-    let shape = c.shape;
-    let cl = labels(ls);
-    let bs = budgets(ws, k.outputs);
-    Posed {
-        few: g.count <= limits::MAX_CLASSES,
-        shape,
-        labels: cl,
-        budgets: bs,
+    if limits::MAX_CLASSES < c.globals.count {
+        return None;
     }
+    Some(Posed {
+        shape: c.shape,
+        labels: labels(c.locals),
+        budgets: budgets(c.widths, k.outputs),
+    })
 }
 
 // The first network sheet in byte order of all that are permitted for what an examination answered, from the buffer's start.
 // Where a question is answered "no" the buffer is left as it was.
-pub fn map_of(e: Examined, buffer: &mut [u8]) -> Mapped
+pub fn map_of(e: Result<Sheet, Refusal>, buffer: &mut [u8]) -> Result<Mapped, Refusal>
     requires { Examination e }
     ensures { (x : spec.Examined) → ExaminedIs x e → Right x → OutcomeOf x buffer.old (map_answer result) buffer.new }
 {
-    if !e.ok {
-        return Mapped::Refused {
-            number: e.number,
-            line: e.line,
-        };
-    }
-    let k = e.sheet;
-    let p = pose(k);
-    if !p.few {
-        return Mapped::Refused { number: 7, line: 0 };
-    }
-    let sh = p.shape;
-    let bs = p.budgets;
-    let core = first::first(&p.labels, bs, sh.vertices, k.outputs, k.limit as u8);
-    if !core.found {
-        return Mapped::Refused { number: 8, line: 0 };
-    }
-    let rows = core.rows;
-    let codes = core.codes;
-    let u = core.count as usize;
-    let mut nothing = [0u8; 1];
-    let n = writer::put_network(&mut nothing[..0], k, sh, u, rows, codes);
+    let k = e?;
+    let Some(p) = pose(k) else {
+        return Err(Refusal {
+            question: Question::FewClasses,
+            line: 0,
+        });
+    };
+    let found = first::first(
+        &p.labels,
+        p.budgets,
+        p.shape.vertices,
+        k.outputs,
+        k.limit as u8,
+    );
+    let Some(core) = found else {
+        return Err(Refusal {
+            question: Question::EnoughCells,
+            line: 0,
+        });
+    };
+    let cells = core.count as usize;
+    let n = writer::put_network(&mut [], k, p.shape, cells, core.rows, core.codes);
     if buffer.len() < n {
-        return Mapped::Refused { number: 9, line: 0 };
+        return Err(Refusal {
+            question: Question::BufferLength,
+            line: 0,
+        });
     }
-    let length = writer::put_network(buffer, k, sh, u, rows, codes);
-    Mapped::Written { cells: u, length }
+    let length = writer::put_network(buffer, k, p.shape, cells, core.rows, core.codes);
+    Ok(Mapped { cells, length })
 }
 
 // Map on a design sheet.
-pub fn map(sheet: &[u8], buffer: &mut [u8]) -> Mapped
+pub fn map(sheet: &[u8], buffer: &mut [u8]) -> Result<Mapped, Refusal>
     ensures { Outcome sheet.now buffer.old (map_answer result) buffer.new }
 {
     map_of(design::examine(sheet), buffer)
 }
 
-// The cause of a refusal by 8: none where 8 does not refuse, or the fewest outputs that it refuses on their own, output o being
-// among them where digit o of the number is 1.
-#[derive(Drop)]
-pub enum Caused {
-    None,
-    Outputs(usize),
-}
-
-// The cause for what an examination answered.
-pub fn cause_of(e: Examined) -> Caused
+// The cause of a refusal by 8 for what an examination answered: none where 8 does not refuse, or the fewest outputs that it
+// refuses on their own, output o being among them where digit o of the number is 1.
+pub fn cause_of(e: Result<Sheet, Refusal>) -> Option<usize>
     requires { Examination e }
     ensures { (x : spec.Examined) → ExaminedIs x e → Right x → CauseOf x (cause_answer result) }
 {
-    if !e.ok {
-        return Caused::None;
-    }
-    let asked = e.sheet;
-    let q = pose(asked);
-    if q.few {
-        let sh = q.shape;
-        let bs = q.budgets;
-        let s = unserved::unserved(&q.labels, bs, sh.vertices, asked.outputs, asked.limit as u8);
-        if s != 0 {
-            return Caused::Outputs(s as usize);
-        }
-    }
-    Caused::None
+    let k = e.ok()?;
+    let p = pose(k)?;
+    let s = unserved::unserved(
+        &p.labels,
+        p.budgets,
+        p.shape.vertices,
+        k.outputs,
+        k.limit as u8,
+    )?;
+    Some(s as usize)
 }
 
 // The cause for a design sheet.
-pub fn cause(sheet: &[u8]) -> Caused
+pub fn cause(sheet: &[u8]) -> Option<usize>
     ensures { CauseIs sheet.now (cause_answer result) }
 {
     cause_of(design::examine(sheet))

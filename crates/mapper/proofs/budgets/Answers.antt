@@ -1,26 +1,12 @@
-use native.Mathlib.Omega.{arith}
-use mathlib.Core.Path.{refl}
-use Prim.Native.Nat.{◌-◌}
+use Rattle.std.proofs.Common.{refl, arith}
 use Rattle.bits.specs.FilledLaws.{filled_none, filled_more, filled_fewer}
-use Rattle.mapper.specs.SearchInput.{BudgetsAre}
-use borrow.Author.Rules.{rules}
 use Rattle.mapper.proofs.budgets.Goals as goal
 
 pub loop-o-init : goal.loop-o-init
 loop-o-init c = filled_none _ _ refl
 
-pub bounds-ws-o : goal.bounds-ws-o
-bounds-ws-o c = let few = c.requires.0 in
-    let below = c.loop-o-test.true in
-    omega arith
-
 pub overflow_cast-r : goal.overflow_cast-r
 overflow_cast-r c = let small = c.requires.1 c.loop-o.o c.loop-o-test.true in
-    omega arith
-
-pub bounds-r-o : goal.bounds-r-o
-bounds-r-o c = let few = c.requires.0 in
-    let below = c.loop-o-test.true in
     omega arith
 
 pub loop-o-preserved : goal.loop-o-preserved

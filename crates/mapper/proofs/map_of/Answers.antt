@@ -1,58 +1,55 @@
-use native.Mathlib.Omega.{arith}
-use borrow.Author.Tests.{not-true, not-false}
+-- `map_of`: one law for each way out. Assumes nothing.
+use Rattle.std.proofs.Common.{arith, Ok}
+use Rattle.sheet.specs.Examine as spec
+use Rattle.sheet.specs.declared.Sheet.{Sheet}
+use Rattle.design.specs.Answer.{ExaminedIs, Right}
 use Rattle.design.specs.TableLaws.{valid_here}
-use Rattle.mapper.specs.MapStepLaws.{map-refused, designed, asked, map_classes, writer_ready, map_none, map_short, map-written}
-use borrow.Author.Rules.{rules}
+use Rattle.mapper.specs.MapStepLaws.{designed, asked, map_classes, writer_ready, map_none, map_short, map-written}
+use Rattle.mapper.specs.Posed.{Asked}
 use Rattle.mapper.proofs.map_of.Goals as goal
+use Rattle.mapper.proofs.map_of.Goals.{In-Some}
 
-pub returns-then-not-e : goal.returns-then-not-e
-returns-then-not-e c = let args = c.args in
-    λ x h r. map-refused x args.buffer.now args.e h (not-true _ c.if-not-e.true)
+-- what was asked of the search, of each answer that the examination's holds
+module _ (c : In-Some) where
+  asks : (x : spec.Examined) → ExaminedIs x c.args.e → Right x → Asked x c.in_ok-k.k c.in-Some.p
+  asks x h r = asked x c.in_ok-k.k c.in-Some.p (rw c.in_ok-k.was at h) r c.in-Some.ensures
 
-pub pose-p-requires : goal.pose-p-requires
-pose-p-requires c = designed c.requires.found c.args.e c.requires.is c.requires.right (not-false _ c.if-not-e.false)
+  found : Asked c.requires.found c.in_ok-k.k c.in-Some.p
+  found = asks c.requires.found c.requires.is c.requires.right
 
-pub returns-then-not-p : goal.returns-then-not-p
-returns-then-not-p c = let args = c.args in
-    λ x h r. map_classes (asked x args.e c.pose-p.result h r (not-false _ c.if-not-e.false) c.pose-p.ensures) args.buffer.now (not-true _ c.if-not-p.true-raw)
+pub pose-requires : goal.pose-requires
+pose-requires c = designed c.requires.found c.in_ok-k.k (rw c.in_ok-k.was at c.requires.is) c.requires.right
+
+pub returns-in_default : goal.returns-in_default
+returns-in_default c = λ x h r. map_classes x c.in_ok-k.k c.args.buffer.now (rw c.in_ok-k.was at h) r c.in_default.ensures
 
 pub overflow_cast-k : goal.overflow_cast-k
-overflow_cast-k c = let v = valid_here c.requires.found c.args.e c.requires.is (not-false _ c.if-not-e.false) in
-    let small = v.holds.limit_small in
-    omega (arith, small)
+overflow_cast-k c = let small = (found (goal.at.overflow_cast-k c).In-Some).holds.limit_small in
+    omega arith
 
-pub first-core-requires : goal.first-core-requires
-first-core-requires c = let s = asked c.requires.found c.args.e c.pose-p.result c.requires.is c.requires.right (not-false _ c.if-not-e.false) c.pose-p.ensures in
-    let ready = s.poses.ready in
+pub first-found-requires : goal.first-found-requires
+first-found-requires c = let ready = (found (goal.at.first-found-requires c).In-Some).poses.ready in
     (ready.classes, ready.few_vertices, ready.few_outputs, ready.few_cells)
 
-pub returns-then-not-core : goal.returns-then-not-core
-returns-then-not-core c = λ x h r.
-    (let s = asked x c.args.e c.pose-p.result h r (not-false _ c.if-not-e.false) c.pose-p.ensures in
-    map_none s c.args.buffer.now (not-false _ c.if-not-p.false-raw) (not-true _ c.if-not-core.true) c.first-core.ensures)
+pub returns-in_default-found : goal.returns-in_default-found
+returns-in_default-found c = λ x h r.
+    map_none (asks (goal.at.returns-in_default-found c).In-Some x h r) c.args.buffer.now c.in_default-found.ensures
 
 pub put_network-n-requires : goal.put_network-n-requires
-put_network-n-requires c = let x = c.requires.found in
-    let h = c.requires.is in
-    let r = c.requires.right in
-    writer_ready (asked x c.args.e c.pose-p.result h r (not-false _ c.if-not-e.false) c.pose-p.ensures) c.first-core.ensures
+put_network-n-requires c = writer_ready (found (goal.at.put_network-n-requires c).In-Some) c.in-Some-found.ensures
 
 pub returns-then-buffer-n : goal.returns-then-buffer-n
 returns-then-buffer-n c = λ x h r.
-    (let s = asked x c.args.e c.pose-p.result h r (not-false _ c.if-not-e.false) c.pose-p.ensures in
+    (let s = asks (goal.at.returns-then-buffer-n c).In-Some x h r in
     let put = c.put_network-n.ensures s.design s.holds s.proper s.poses.shaped in
-    map_short s c.args.buffer.now _ (not-false _ c.if-not-p.false-raw) (not-false _ c.if-not-core.false) c.first-core.ensures put.0 c.if-buffer-n.true)
+    map_short s c.args.buffer.now _ c.in-Some-found.ensures put.0 c.if-buffer-n.true)
 
 pub put_network-length-requires : goal.put_network-length-requires
-put_network-length-requires c = let x = c.requires.found in
-    let h = c.requires.is in
-    let r = c.requires.right in
-    writer_ready (asked x c.args.e c.pose-p.result h r (not-false _ c.if-not-e.false) c.pose-p.ensures) c.first-core.ensures
+put_network-length-requires c = writer_ready (found (goal.at.put_network-length-requires c).In-Some) c.in-Some-found.ensures
 
 pub returns : goal.returns
 returns c = λ x h r.
-    (let s = asked x c.args.e c.pose-p.result h r (not-false _ c.if-not-e.false) c.pose-p.ensures in
+    (let s = asks (goal.at.returns c).In-Some x h r in
     let tried = c.put_network-n.ensures s.design s.holds s.proper s.poses.shaped in
     let put = c.put_network-length.ensures s.design s.holds s.proper s.poses.shaped in
-    map-written s c.args.buffer.now _ _ _ (not-false _ c.if-not-p.false-raw) (not-false _ c.if-not-core.false) c.first-core.ensures
-    tried.0 c.if-buffer-n.false put.0 put.1)
+    map-written s c.args.buffer.now _ _ _ c.in-Some-found.ensures tried.0 c.if-buffer-n.false put.0 put.1)
