@@ -2,25 +2,22 @@
 // `refused N line L`. Everything that matters is in checker.
 #![tactic(auto)]
 
-use comparing::Checked;
+use comparing::Comparison;
 use console::STDOUT;
 
 // Compares two sheets. Answers whether the answer was written.
 fn answer(sheet: &[u8], network: &[u8]) -> bool {
-    let r = checker::check(sheet, network);
-    match r {
-        Checked::Refused { number, line } => console::two(b"refused ", number, b" line ", line),
-        Checked::Differs { output, row } => console::two(b"differs output ", output, b" row ", row),
-        Checked::Same => io::write_all(STDOUT, b"same\n"),
+    match checker::check(sheet, network) {
+        Ok(Comparison::Same) => io::write_all(STDOUT, b"same\n"),
+        Ok(Comparison::Differs { output, row }) => console::two(b"differs output ", output, b" row ", row),
+        Err(r) => console::two(b"refused ", r.question.number() as usize, b" line ", r.line),
     }
 }
 
 // The two sheets of a text, as answer has it.
 fn both(s: &[u8]) -> bool {
     let p = console::two_sheets(s);
-    let end = p.end;
-    let start = p.start;
-    answer(&s[..end], &s[start..])
+    answer(&s[..p.end], &s[p.start..])
 }
 
 fn main() {

@@ -3,14 +3,11 @@
 // dropped. The buffer holds every network sheet, so question 9 is always answered yes.
 #![tactic(auto)]
 
-use mapper::Mapped;
-
 // Maps a sheet, with a buffer for its network. Answers whether the answer was written.
 fn answer(sheet: &[u8], buffer: &mut [u8]) -> bool {
-    let r = mapper::map(sheet, buffer);
-    match r {
-        Mapped::Refused { number, line } => console::two(b"refused ", number, b" line ", line),
-        Mapped::Written { cells: _, length } => console::show(buffer, length),
+    match mapper::map(sheet, buffer) {
+        Ok(m) => console::show(buffer, m.length),
+        Err(r) => console::two(b"refused ", r.question.number() as usize, b" line ", r.line),
     }
 }
 

@@ -10,8 +10,61 @@ ghost use Rattle.design.specs.Tabulate.{tabulate, table_of};
 ghost use Rattle.network.specs.Check.{check, check_of};
 ghost use Rattle.blif.specs.Export as spec;
 ghost use Rattle.panel.specs.Examine.{examine};
+ghost use Rattle.bits.specs.Logic.{pick};
 ghost use Rattle.locate.specs.Located.{located};
-ghost use Rattle.reports.specs.Report.{table_report, check_report, export_report, ReportedMap, ReportedCause, line_report};
+ghost use Rattle.locate.specs.Places.{is_network};
+ghost use Rattle.design.specs.Answer.{table_answer};
+ghost use Rattle.mapper.specs.Answer.{map_answer};
+ghost use Rattle.checker.specs.Answer.{checked_of};
+ghost use Rattle.reports.specs.Report.{table_report, map_report, check_report, export_report, ReportedMap, ReportedCause, line_report};
+
+use comparing::Comparison;
+use mapper::Mapped;
+use refusal::Refusal;
+
+// Puts what Table answers, of a sheet or of a panel, into what the caller lends; the number is the function's result. The same for
+// Map and for Check.
+fn tell_table(t: Result<usize, Refusal>, line: &mut usize, written: &mut usize) -> u32
+    ensures { record { number = result; line = line.new; written = written.new } ≡ table_report (table_answer t) }
+{
+    let r = reports::report_table(t);
+    *line = r.line;
+    *written = r.written;
+    r.number
+}
+
+fn tell_map(
+    m: Result<Mapped, Refusal>,
+    line: &mut usize,
+    cells: &mut usize,
+    length: &mut usize,
+) -> u32
+    ensures { record { number = result; line = line.new; cells = cells.new; length = length.new } ≡ map_report (map_answer m) }
+{
+    let r = reports::report_map(m);
+    *line = r.line;
+    *cells = r.cells;
+    *length = r.length;
+    r.number
+}
+
+fn tell_check(
+    c: Result<Comparison, Refusal>,
+    line: &mut usize,
+    differs: &mut usize,
+    output: &mut usize,
+    row: &mut usize,
+) -> u32
+    ensures { record { number = result; line = line.new; differs = differs.new; output = output.new; row = row.new }
+        ≡ check_report (checked_of c) }
+{
+    let r = reports::report_check(c);
+    *line = r.line;
+    *differs = r.differs;
+    *output = r.output;
+    *row = r.row;
+    r.number
+}
 
 pub fn cellmapper_table(
     sheet: &[u8],
@@ -24,11 +77,7 @@ pub fn cellmapper_table(
         ≡ table_report (tabulate sheet.now output buffer.old).answer }
     ensures buffer_after { buffer.new ≡ (tabulate sheet.now output buffer.old).buffer }
 {
-    let t = design::table(sheet, output, buffer);
-    let r = reports::report_table(t);
-    *line = r.line;
-    *written = r.written;
-    r.number
+    tell_table(design::table(sheet, output, buffer), line, written)
 }
 
 pub fn cellmapper_map(
@@ -41,20 +90,14 @@ pub fn cellmapper_map(
     ensures { ReportedMap (sheets.examine sheet.now) buffer.old
         (record { number = result; line = line.new; cells = cells.new; length = length.new }) buffer.new }
 {
-    let m = mapper::map(sheet, buffer);
-    let r = reports::report_map(m);
-    *line = r.line;
-    *cells = r.cells;
-    *length = r.length;
-    r.number
+    tell_map(mapper::map(sheet, buffer), line, cells, length)
 }
 
 pub fn cellmapper_cause(sheet: &[u8], outputs: &mut usize) -> u32
     ensures value { result ≡ 0 }
     ensures reported_cause { ReportedCause (sheets.examine sheet.now) outputs.new }
 {
-    let c = mapper::cause(sheet);
-    *outputs = reports::report_cause(c);
+    *outputs = reports::report_cause(mapper::cause(sheet));
     0
 }
 
@@ -69,13 +112,7 @@ pub fn cellmapper_check(
     ensures { record { number = result; line = line.new; differs = differs.new; output = output.new; row = row.new }
         ≡ check_report (check sheet.now network.now) }
 {
-    let c = checker::check(sheet, network);
-    let r = reports::report_check(c);
-    *line = r.line;
-    *differs = r.differs;
-    *output = r.output;
-    *row = r.row;
-    r.number
+    tell_check(checker::check(sheet, network), line, differs, output, row)
 }
 
 pub fn cellmapper_export(
@@ -89,11 +126,20 @@ pub fn cellmapper_export(
         ≡ export_report (spec.export sheet.now network.now buffer.old).answer }
     ensures buffer_after { buffer.new ≡ (spec.export sheet.now network.now buffer.old).buffer }
 {
-    let e = blif::export(sheet, network, buffer);
-    let r = reports::report_export(e);
+    let r = reports::report_export(blif::export(sheet, network, buffer));
     *line = r.line;
     *length = r.length;
     r.number
+}
+
+// The number that a caller in C knows a sheet by.
+fn number_of(s: locate::Sheet) -> usize
+    ensures { result ≡ pick (is_network s) 1 0 }
+{
+    match s {
+        locate::Sheet::Design => 0,
+        locate::Sheet::Network => 1,
+    }
 }
 
 pub fn cellmapper_line<'a>(
@@ -109,7 +155,7 @@ pub fn cellmapper_line<'a>(
         ≡ line_report (located sheet.now network.now number line) }
 {
     let p = locate::place_of(sheet, network, number, line);
-    *second = p.second as usize;
+    *second = number_of(p.sheet);
     *start = p.start;
     *length = p.length;
     0
@@ -127,11 +173,7 @@ pub fn cellmapper_pla_table(
         ≡ table_report (table_of (examine pla.now board.now) output buffer.old).answer }
     ensures buffer_after { buffer.new ≡ (table_of (examine pla.now board.now) output buffer.old).buffer }
 {
-    let t = pla::table(pla, board, output, buffer);
-    let told = reports::report_table(t);
-    *line = told.line;
-    *written = told.written;
-    told.number
+    tell_table(pla::table(pla, board, output, buffer), line, written)
 }
 
 pub fn cellmapper_pla_map(
@@ -145,20 +187,14 @@ pub fn cellmapper_pla_map(
     ensures { ReportedMap (examine pla.now board.now) buffer.old
         (record { number = result; line = line.new; cells = cells.new; length = length.new }) buffer.new }
 {
-    let m = pla::map(pla, board, buffer);
-    let told = reports::report_map(m);
-    *line = told.line;
-    *cells = told.cells;
-    *length = told.length;
-    told.number
+    tell_map(pla::map(pla, board, buffer), line, cells, length)
 }
 
 pub fn cellmapper_pla_cause(pla: &[u8], board: &[u8], outputs: &mut usize) -> u32
     ensures value { result ≡ 0 }
     ensures reported_cause { ReportedCause (examine pla.now board.now) outputs.new }
 {
-    let caused = pla::cause(pla, board);
-    *outputs = reports::report_cause(caused);
+    *outputs = reports::report_cause(pla::cause(pla, board));
     0
 }
 
@@ -174,11 +210,5 @@ pub fn cellmapper_pla_check(
     ensures { record { number = result; line = line.new; differs = differs.new; output = output.new; row = row.new }
         ≡ check_report (check_of (examine pla.now board.now) network.now) }
 {
-    let c = pla::check(pla, board, network);
-    let told = reports::report_check(c);
-    *line = told.line;
-    *differs = told.differs;
-    *output = told.output;
-    *row = told.row;
-    told.number
+    tell_check(pla::check(pla, board, network), line, differs, output, row)
 }

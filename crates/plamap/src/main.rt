@@ -3,28 +3,23 @@
 // part is refused on that line either way. The buffer holds every network sheet, so question 9 is always answered yes.
 #![tactic(auto)]
 
-use mapper::Mapped;
-
 // The bytes of a PLA text, the one between the texts, those of the second text, and one by which a longer text is seen to be too
 // long.
 const BOTH_TEXTS: usize = limits::MAX_PLA + 1 + limits::MAX_SHEET + 1;
 
 // Maps a panel, with a buffer for its network. Answers whether the answer was written.
 fn answer(pla: &[u8], board: &[u8], buffer: &mut [u8]) -> bool {
-    let r = pla::map(pla, board, buffer);
-    match r {
-        Mapped::Refused { number, line } => console::two(b"refused ", number, b" line ", line),
-        Mapped::Written { cells: _, length } => console::show(buffer, length),
+    match pla::map(pla, board, buffer) {
+        Ok(m) => console::show(buffer, m.length),
+        Err(r) => console::two(b"refused ", r.question.number() as usize, b" line ", r.line),
     }
 }
 
 // The two texts of a text, as answer has it.
 fn both(s: &[u8]) -> bool {
     let p = console::two_sheets(s);
-    let end = p.end;
-    let start = p.start;
     let mut network = [0u8; limits::MAX_NETWORK];
-    answer(&s[..end], &s[start..], &mut network)
+    answer(&s[..p.end], &s[p.start..], &mut network)
 }
 
 fn main() {

@@ -7,6 +7,8 @@ use Rattle.std.proofs.Common.{sym, subst, ⊎_elim}
 use Rattle.std.proofs.Math.Option.{Option, some, none}
 use native.Mathlib.Omega.{arith}
 use Rattle.bits.specs.Logic.{pick}
+use Rattle.refusal.specs.Number.{number_of}
+use Rattle.refusal.specs.declared.Question.{Question}
 use Rattle.sheet.specs.Examine.{Design, Examined, refused, valid, examine}
 use Rattle.sheet.specs.ExaminationLaws.{refused_right}
 use Rattle.design.specs.Tabulate.{Tabulated, table_of, tabulate, row_count, untouched}
@@ -20,7 +22,7 @@ use Rattle.network.specs.CompareLaws.{same_or_differs}
 use Rattle.blif.specs.Printer.{print_blif}
 use Rattle.blif.specs.Export as blif
 use Rattle.blif.specs.Export.{Exported, put_text, export_pair, export_of, export}
-use Rattle.reports.specs.Numbers.{sheet_numbers, IsNumber, TableNumber, MapNumber, CheckNumber, ExportNumber}
+use Rattle.reports.specs.Numbers.{sheet_numbers, panel_numbers, IsNumber, TableNumber, MapNumber, CheckNumber, ExportNumber}
 
 -- x refuses by a number up to `most`
 abbrev pub Within : ℕ → Examined → Type 0
@@ -112,3 +114,20 @@ module _ {most : ℕ} (enough : sheet_numbers ≤ most) where
   pub export-number : (s t b : List ℕ) → ExportNumber most (export s t b).answer
   unfolding export
   export-number s t b = export_of_number enough (examine s) t b (sheet-number enough s)
+
+-- ======== every question that there is has one of the numbers, and so a refusal is never told as 0
+pub question_number : (q : Question) → IsNumber panel_numbers (number_of q)
+question_number Question.SheetBytes = record { low = omega arith; high = omega arith }
+question_number Question.Spelling = record { low = omega arith; high = omega arith }
+question_number Question.Ranges = record { low = omega arith; high = omega arith }
+question_number Question.NewNames = record { low = omega arith; high = omega arith }
+question_number Question.InputNames = record { low = omega arith; high = omega arith }
+question_number Question.OutputNumber = record { low = omega arith; high = omega arith }
+question_number Question.FewClasses = record { low = omega arith; high = omega arith }
+question_number Question.EnoughCells = record { low = omega arith; high = omega arith }
+question_number Question.BufferLength = record { low = omega arith; high = omega arith }
+question_number Question.NetworkSpelling = record { low = omega arith; high = omega arith }
+question_number Question.NetworkLimits = record { low = omega arith; high = omega arith }
+question_number Question.PlaSpelling = record { low = omega arith; high = omega arith }
+question_number Question.PlaRanges = record { low = omega arith; high = omega arith }
+question_number Question.PlaMarks = record { low = omega arith; high = omega arith }

@@ -6,15 +6,13 @@
 ghost use Rattle.std.specs.Prelude.{◌≡◌};
 ghost use Rattle.design.specs.Answer.{table_answer};
 ghost use Rattle.mapper.specs.Answer.{map_answer, cause_answer};
-ghost use Rattle.comparing.specs.Answer.{checked_of};
+ghost use Rattle.checker.specs.Answer.{checked_of};
 ghost use Rattle.blif.specs.Answer.{export_answer};
 ghost use Rattle.reports.specs.Report.{table_report, map_report, check_report, export_report, cause_report};
-ghost use Rattle.reports.specs.Numbers.{panel_numbers, TableNumber, MapNumber, CheckNumber, ExportNumber};
 
-use blif::Exported;
-use comparing::Checked;
-use design::Tabled;
-use mapper::{Caused, Mapped};
+use comparing::Comparison;
+use mapper::Mapped;
+use refusal::Refusal;
 
 // What a caller of Table is told.
 #[derive(Drop)]
@@ -51,97 +49,90 @@ pub struct ExportReport {
     pub length: usize,
 }
 
-pub fn report_table(t: Tabled) -> TableReport
-    requires { TableNumber panel_numbers (table_answer t) }
+pub fn report_table(t: Result<usize, Refusal>) -> TableReport
     ensures { result ≡ table_report (table_answer t) }
 {
     match t {
-        Tabled::Refused { number, line } => TableReport {
-            number: number as u32,
-            line,
-            written: 0,
-        },
-        Tabled::Written(n) => TableReport {
+        Ok(written) => TableReport {
             number: 0,
             line: 0,
-            written: n,
+            written,
+        },
+        Err(r) => TableReport {
+            number: r.question.number(),
+            line: r.line,
+            written: 0,
         },
     }
 }
 
-pub fn report_map(m: Mapped) -> MapReport
-    requires { MapNumber panel_numbers (map_answer m) }
+pub fn report_map(m: Result<Mapped, Refusal>) -> MapReport
     ensures { result ≡ map_report (map_answer m) }
 {
     match m {
-        Mapped::Refused { number, line } => MapReport {
-            number: number as u32,
-            line,
-            cells: 0,
-            length: 0,
-        },
-        Mapped::Written { cells, length } => MapReport {
+        Ok(Mapped { cells, length }) => MapReport {
             number: 0,
             line: 0,
             cells,
             length,
         },
+        Err(r) => MapReport {
+            number: r.question.number(),
+            line: r.line,
+            cells: 0,
+            length: 0,
+        },
     }
 }
 
-pub fn report_check(c: Checked) -> CheckReport
-    requires { CheckNumber panel_numbers (checked_of c) }
+pub fn report_check(c: Result<Comparison, Refusal>) -> CheckReport
     ensures { result ≡ check_report (checked_of c) }
 {
     match c {
-        Checked::Refused { number, line } => CheckReport {
-            number: number as u32,
-            line,
-            differs: 0,
-            output: 0,
-            row: 0,
-        },
-        Checked::Same => CheckReport {
+        Ok(Comparison::Same) => CheckReport {
             number: 0,
             line: 0,
             differs: 0,
             output: 0,
             row: 0,
         },
-        Checked::Differs { output, row } => CheckReport {
+        Ok(Comparison::Differs { output, row }) => CheckReport {
             number: 0,
             line: 0,
             differs: 1,
             output,
             row,
         },
+        Err(r) => CheckReport {
+            number: r.question.number(),
+            line: r.line,
+            differs: 0,
+            output: 0,
+            row: 0,
+        },
     }
 }
 
-pub fn report_export(e: Exported) -> ExportReport
-    requires { ExportNumber panel_numbers (export_answer e) }
+pub fn report_export(e: Result<usize, Refusal>) -> ExportReport
     ensures { result ≡ export_report (export_answer e) }
 {
     match e {
-        Exported::Refused { number, line } => ExportReport {
-            number: number as u32,
-            line,
-            length: 0,
-        },
-        Exported::Written(n) => ExportReport {
+        Ok(length) => ExportReport {
             number: 0,
             line: 0,
-            length: n,
+            length,
+        },
+        Err(r) => ExportReport {
+            number: r.question.number(),
+            line: r.line,
+            length: 0,
         },
     }
 }
 
 // What a caller is told of the cause of a refusal by 8: the outputs as a number, 0 for none.
-pub fn report_cause(c: Caused) -> usize
+pub fn report_cause(c: Option<usize>) -> usize
     ensures { result ≡ cause_report (cause_answer c) }
 {
-    match c {
-        Caused::None => 0,
-        Caused::Outputs(s) => s,
-    }
+    c.unwrap_or(0)
 }

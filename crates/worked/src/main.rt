@@ -4,14 +4,12 @@
 #![tactic(auto)]
 
 use console::STDOUT;
-use mapper::Mapped;
 
 // Map's answer on a sheet and a buffer. Each function here answers whether all of what it has to say was written.
 fn answer(sheet: &[u8], buffer: &mut [u8]) -> bool {
-    let r = mapper::map(sheet, buffer);
-    match r {
-        Mapped::Refused { number, line } => console::two(b"refused ", number, b" line ", line),
-        Mapped::Written { cells, length } => console::two(b"cells ", cells, b" length ", length),
+    match mapper::map(sheet, buffer) {
+        Ok(m) => console::two(b"cells ", m.cells, b" length ", m.length),
+        Err(r) => console::two(b"refused ", r.question.number() as usize, b" line ", r.line),
     }
 }
 
