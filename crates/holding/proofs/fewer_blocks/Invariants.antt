@@ -1,4 +1,4 @@
--- Each solution meets as many blocks of the codes that are left as n less k; the codes left fall with each turn.
+-- Of codes of d in different blocks all but k are in rest, which gets smaller with each turn.
 use Rattle.holding.specs.Reach.{Left}
 use Rattle.problem.specs.Problem.{Block}
 use lib.ListN.{get_or}

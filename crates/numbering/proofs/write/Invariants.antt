@@ -1,3 +1,4 @@
+-- The first x codes have their numbers written.
 use Rattle.numbering.specs.Number.{Wrote}
 use Rattle.numbering.proofs.write.Given as goal
 
