@@ -23,7 +23,8 @@ const ENTRY: usize = SEARCH_OUTPUTS + 1;
 
 pub const SIZE: usize = ENTRIES * ENTRY;
 
-// The head of an entry for the outputs of the set asked: odd where there are no codes.
+// The head of an entry for the outputs of the set asked: odd where there are no codes. It is a number, since a cache is an array
+// of numbers that the caller lends.
 fn head(asked: u8, ok: bool) -> u16
     ensures { (ok ≡ true → result ≡ asked * 2) × (ok ≡ false → result ≡ asked * 2 + 1) }
 {
@@ -43,11 +44,9 @@ const LARGE_PRIME: u64 = 4_294_967_291;
 fn place(asked: u8, rows: [u16; SEARCH_OUTPUTS]) -> usize
     ensures { result < entry_count }
 {
-    let mut h = asked as u64;
-    let mut o: usize = 0;
-    while o < SEARCH_OUTPUTS {
-        h = std::num::wrapping_add_u64(h * FACTOR, rows[o] as u64) % LARGE_PRIME;
-        o += 1;
+    let mut h = u64::from(asked);
+    for row in rows.iter() {
+        h = (h * FACTOR + u64::from(*row)) % LARGE_PRIME;
     }
     (h % PRIME) as usize
 }
@@ -57,17 +56,7 @@ fn holds(mem: &[u16], i: usize, head: u16, rows: [u16; SEARCH_OUTPUTS]) -> bool
     requires { (length mem.now ≡ entry_count * entry_size) × (i < entry_count) }
     ensures { result ≡ true → (head_at mem.now i ≡ head) × ((o : ℕ) → o < search_outputs → row_at mem.now i o ≡ item rows o) }
 {
-    if mem[i * ENTRY] != head {
-        return false;
-    }
-    let mut o: usize = 0;
-    while o < SEARCH_OUTPUTS {
-        if mem[i * ENTRY + (o + 1)] != rows[o] {
-            return false;
-        }
-        o += 1;
-    }
-    true
+    mem[i * ENTRY] == head && (0..SEARCH_OUTPUTS).all(|o| mem[i * ENTRY + (o + 1)] == rows[o])
 }
 
 // Whether the cache says that the subproblem about the outputs of the set asked with these rows has no codes. The rows are looked up
@@ -87,10 +76,8 @@ pub fn store(mem: &mut [u16], asked: u8, rows: [u16; SEARCH_OUTPUTS], ok: bool)
         → Honest cl given kn val v mem.new }
 {
     let i = place(asked, rows);
-    let mut o: usize = 0;
-    while o < SEARCH_OUTPUTS {
+    for o in 0..SEARCH_OUTPUTS {
         mem[i * ENTRY + (o + 1)] = rows[o];
-        o += 1;
     }
     mem[i * ENTRY] = head(asked, ok);
 }
@@ -100,12 +87,10 @@ pub fn forget(mem: &mut [u16])
     requires { length mem.old ≡ entry_count * entry_size }
     ensures { (cl given : List ℕ) (kn val v : ℕ) → Honest cl given kn val v mem.old → Honest cl given kn val v mem.new }
 {
-    let mut i: usize = 0;
-    while i < ENTRIES {
+    for i in 0..ENTRIES {
         if mem[i * ENTRY] % 2 == 0 {
             mem[i * ENTRY] = 0;
         }
-        i += 1;
     }
 }
 
@@ -115,10 +100,8 @@ fn reads_cell_0(mem: &[u16], i: usize) -> bool
     ensures { result ≡ false → (o : ℕ) → o < search_outputs → on (row_at mem.now i o) 0 ≡ false }
 {
     let mut all: u16 = 0;
-    let mut o: usize = 0;
-    while o < SEARCH_OUTPUTS {
-        all = all | mem[i * ENTRY + (o + 1)];
-        o += 1;
+    for o in 0..SEARCH_OUTPUTS {
+        all |= mem[i * ENTRY + (o + 1)];
     }
     all % 2 == 1
 }
@@ -129,12 +112,10 @@ pub fn keep_unread(mem: &mut [u16])
     ensures { (cl given : List ℕ) (kn val kn' val' v : ℕ) → (on kn 0 ≡ true → on val 0 ≡ false) → Honest cl given kn val v mem.old
         → Honest cl given kn' val' v mem.new }
 {
-    let mut i: usize = 0;
-    while i < ENTRIES {
+    for i in 0..ENTRIES {
         if reads_cell_0(mem, i) {
             mem[i * ENTRY] = 0;
         }
-        i += 1;
     }
 }
 
@@ -143,16 +124,12 @@ pub fn clear(mem: &mut [u16])
     requires { length mem.old ≡ entry_count * entry_size }
     ensures { (cl given : List ℕ) (kn val v : ℕ) → Honest cl given kn val v mem.new }
 {
-    let mut i: usize = 0;
-    while i < ENTRIES {
-        mem[i * ENTRY] = 0;
-        i += 1;
-    }
+    mem.fill(0);
 }
 
 // Whether some codes may answer a subproblem, and how often the search gave a vertex a code: not at all where the answer was
-// known.
-#[derive(Drop)]
+// known. A struct, since the nodes count whatever the answer is.
+#[derive(Clone, Copy)]
 pub struct Reply {
     pub possible: bool,
     pub nodes: u64,
@@ -176,8 +153,7 @@ fn tell(cl: &[u8], given: &[u16], mem: &mut [u16], q: Query, asked: u8) -> Reply
     ensures { Honest cl.now given.now q.kn q.val q.vertices mem.new
         × (result.possible ≡ false → Barred cl.now given.now q.kn q.val q.vertices asked (item q.rows)) }
 {
-    let rows = q.rows;
-    let asks = subproblems::question(rows, asked, q.kn != 0);
+    let asks = subproblems::question(q.rows, asked, q.kn != 0);
     if is_bad(mem, asked, asks) {
         return Reply {
             possible: false,
@@ -205,10 +181,7 @@ fn tell(cl: &[u8], given: &[u16], mem: &mut [u16], q: Query, asked: u8) -> Reply
 fn between(a: u8, with: u8, among: u8) -> bool
     ensures { result ≡ true → (o : ℕ) → on a o ≡ true → on among o ≡ true }
 {
-    if a & !among != 0 {
-        return false;
-    }
-    with & !a == 0
+    a & !among == 0 && with & !a == 0
 }
 
 // Whether a set of outputs of among, those of with among them, is known to have no codes for the rows. A set that is part of
@@ -217,15 +190,10 @@ pub fn known_bad(mem: &[u16], rows: [u16; SEARCH_OUTPUTS], with: u8, among: u8, 
     requires { length mem.now ≡ entry_count * entry_size }
     ensures { (cl given : List ℕ) (kn val v : ℕ) → (known ≡ false → kn ≡ 0) → Honest cl given kn val v mem.now → result ≡ true → Barred cl given kn val v among (item rows) }
 {
-    let mut a: usize = 1;
-    while a <= among as usize {
-        if between(a as u8, with, among) {
-            let asks = subproblems::question(rows, a as u8, known);
-            if is_bad(mem, a as u8, asks) {
-                return true;
-            }
+    for a in 1..=among {
+        if between(a, with, among) && is_bad(mem, a, subproblems::question(rows, a, known)) {
+            return true;
         }
-        a += 1;
     }
     false
 }
@@ -246,21 +214,17 @@ pub fn settle(
         × (result.possible ≡ false → Barred cl.now given.now q.kn q.val q.vertices among (item q.rows)) }
 {
     let mut nodes: u64 = 0;
-    let mut a: usize = 1;
-    while a <= among as usize {
-        if u64::count_ones(a as u64) == n {
-            if between(a as u8, with, among) {
-                let t = tell(cl, given, mem, q, a as u8);
-                nodes = std::num::wrapping_add_u64(nodes, t.nodes);
-                if !t.possible {
-                    return Reply {
-                        possible: false,
-                        nodes,
-                    };
-                }
+    for a in 1..=among {
+        if u8::count_ones(a) == n && between(a, with, among) {
+            let t = tell(cl, given, mem, q, a);
+            nodes = std::num::wrapping_add_u64(nodes, t.nodes);
+            if !t.possible {
+                return Reply {
+                    possible: false,
+                    nodes,
+                };
             }
         }
-        a += 1;
     }
     Reply {
         possible: true,
@@ -285,8 +249,8 @@ pub fn settle_smaller(
         × (result.possible ≡ false → Barred cl.now given.now q.kn q.val q.vertices among (item q.rows)) }
 {
     let mut nodes: u64 = 0;
-    let mut i: u32 = if q.kn != 0 { 1 } else { 2 };
-    while i < n {
+    let first = if q.kn != 0 { 1 } else { 2 };
+    for i in first..n {
         let t = settle(cl, given, mem, q, i, 0, among);
         nodes = std::num::wrapping_add_u64(nodes, t.nodes);
         if !t.possible {
@@ -295,7 +259,6 @@ pub fn settle_smaller(
                 nodes,
             };
         }
-        i += 1;
     }
     Reply {
         possible: true,

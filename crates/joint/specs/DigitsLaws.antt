@@ -1,12 +1,15 @@
 -- Vertices are merged only where the same is known of cell 0 at both, so the digits of a class's first vertex are those of the
 -- whole class, and none is lost. Assumes nothing.
-use Rattle.std.specs.Prelude.{◌≡◌, refl, Bool, true, false, List, ℕ, ◌+◌, ◌-◌, ◌^◌, ◌≤◌, ◌<◌}
+use Rattle.std.specs.Prelude.{◌≡◌, refl, Bool, true, false, List, Option, Some, None, ℕ, ◌+◌, ◌-◌, ◌^◌, ◌≤◌, ◌<◌}
 use Rattle.std.proofs.Common.{sym, ap, ◌∙◌, subst, ⊎_elim, arith, eq-eqb, ne_eqb}
 use Rattle.std.proofs.Math.Decide.{dec_lt}
+use mathlib.Core.Bool.{beq}
+use Rattle.std.specs.Bool.{then_some}
+use Rattle.std.specs.Option.{option_eq}
 use Rattle.std.specs.Int.Bits.{bit_and}
 use Rattle.std.proofs.lemmas.Nat.{and_le_r}
 use Rattle.limits.specs.declared.Vertex.{Vertex}
-use Rattle.bits.specs.Logic.{andb, orb, pick}
+use Rattle.bits.specs.Logic.{andb, orb}
 use Rattle.bits.specs.Digit.{on}
 use Rattle.bits.specs.DigitLaws.{on_and, on-ones, on_zero, equal_digits}
 use Rattle.bits.specs.LogicLaws.{and_true, or_true, or_false}
@@ -14,35 +17,32 @@ use Rattle.bits.specs.CountLaws.{less_or_equal}
 use Rattle.cells.specs.Sets.{With}
 use Rattle.joint.specs.Digits.{vertex_at, known_at, Drawn}
 
-pub unknown_at : (kn val x : ℕ) → on kn x ≡ false → 2 ≡ known_at kn val x
-unknown_at kn val x e = sym (ap (λ (a : Bool). pick a (pick (on val x) 1 0) 2) e)
-
-pub one_at : (kn val x : ℕ) → on kn x ≡ true → on val x ≡ true → 1 ≡ known_at kn val x
-one_at kn val x e d = sym (ap (λ (a : Bool). pick a (pick (on val x) 1 0) 2) e ∙ ap (λ (a : Bool). pick {A = ℕ} a 1 0) d)
-
-pub zero_at : (kn val x : ℕ) → on kn x ≡ true → on val x ≡ false → 0 ≡ known_at kn val x
-zero_at kn val x e d = sym (ap (λ (a : Bool). pick a (pick (on val x) 1 0) 2) e ∙ ap (λ (a : Bool). pick {A = ℕ} a 1 0) d)
-
 pub known_same : (kn val x y : ℕ) → known_at kn val x ≡ known_at kn val y → on kn x ≡ on kn y
 known_same kn val x y e = go (on kn x) (on val x) (on kn y) (on val y) e
   where
-    go : (a b c d : Bool) → ◌≡◌ {A = ℕ} (pick a (pick b 1 0) 2) (pick c (pick d 1 0) 2) → a ≡ c
+    go : (a b c d : Bool) → then_some a b ≡ then_some c d → a ≡ c
     go true b true d e = refl
     go false b false d e = refl
-    go true true false d e = absurd (omega arith)
-    go true false false d e = absurd (omega arith)
-    go false b true true e = absurd (omega arith)
-    go false b true false e = absurd (omega arith)
+    go true b false d e = cc
+    go false b true d e = cc
 
 pub digit_same : (kn val x y : ℕ) → known_at kn val x ≡ known_at kn val y → on kn x ≡ true → on val x ≡ on val y
-digit_same kn val x y e t = go (on val x) (on val y)
-    (sym (ap (λ (a : Bool). pick a (pick (on val x) 1 0) 2) t) ∙ e ∙ ap (λ (a : Bool). pick a (pick (on val y) 1 0) 2) (sym (known_same kn val x y e) ∙ t))
+digit_same kn val x y e t = go (on kn x) (on val x) (on kn y) (on val y) t e
   where
-    go : (b d : Bool) → ◌≡◌ {A = ℕ} (pick b 1 0) (pick d 1 0) → b ≡ d
-    go true true e = refl
-    go false false e = refl
-    go true false e = absurd (omega arith)
-    go false true e = absurd (omega arith)
+    go : (a b c d : Bool) → a ≡ true → then_some a b ≡ then_some c d → b ≡ d
+    go true b true d t e = cc
+    go true b false d t e = cc
+    go false b c d t e = cc
+
+-- what is known was compared
+pub known_equal : (p q : Option Bool) → option_eq beq p q ≡ true → p ≡ q
+known_equal (Some true) (Some true) e = refl
+known_equal (Some false) (Some false) e = refl
+known_equal None None e = refl
+known_equal (Some true) (Some false) e = cc
+known_equal (Some false) (Some true) e = cc
+known_equal (Some b) None e = cc
+known_equal None (Some b) e = cc
 
 pub drawn_start : (s : ℕ) (first : List Vertex) → Drawn s first 0 0
 drawn_start s first = record { below = λ i h. absurd (omega arith); rest = λ i h. on_zero i }

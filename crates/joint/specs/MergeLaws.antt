@@ -6,10 +6,13 @@ use Rattle.std.specs.Prelude.{◌≡◌, refl, Bool, true, false, List, ℕ, zer
 use Rattle.std.proofs.Common.{sym, ap, ◌∙◌, subst, ⊎_elim, arith, length-set, get_or-set_same, get_or-set_other}
 use Rattle.std.proofs.Math.Decide.{ℕ_discrete, dec_lt}
 use Rattle.std.specs.Int.Bits.{bit_and}
+use Rattle.std.specs.List.{AllWithin, range_with_len}
+use Rattle.std.proofs.lemmas.List.FromFn.{get_or-range_with_len, length-range_with_len}
 use Rattle.limits.specs.declared.Vertex.{Vertex}
 use Rattle.joint.specs.declared.JointClass.{JointClass}
 use Rattle.problem.specs.Problem.{label_at, part_at, part_of, item, Labels}
 use Rattle.bits.specs.Digit.{on}
+use Rattle.bits.specs.LogicLaws.{true_false}
 use Rattle.bits.specs.CountLaws.{less_or_equal}
 use Rattle.bits.specs.FilledLaws.{each_more}
 use Rattle.joint.specs.DigitsLaws.{known_same, digit_same}
@@ -17,8 +20,11 @@ use Rattle.readers.specs.Masks.{Decided}
 use Rattle.joint.specs.Digits.{vertex_at, Drawn}
 use Rattle.joint.specs.Merge.{joint_at, SameLabels, Mergeable, Merged, Copied, Picked, Spread}
 
-pub alike_more : (cl : List ℕ) (n x y : ℕ) → label_at cl n x ≡ label_at cl n y → SameLabels cl n x y → SameLabels cl (n + 1) x y
-alike_more cl n x y e a o h = ⊎_elim (a o) (λ q. subst (λ (o : ℕ). label_at cl o x ≡ label_at cl o y) (sym q) e) (less_or_equal o n (omega arith))
+-- labels that are the same for each number below n
+pub labels_alike : (cl : List ℕ) (n x y : ℕ)
+    → AllWithin (λ o. label_at cl o x ≡ label_at cl o y) (range_with_len 0 n) 0 (length (range_with_len 0 n)) → SameLabels cl n x y
+labels_alike cl n x y all o h = subst (λ (o : ℕ). label_at cl o x ≡ label_at cl o y) (get_or-range_with_len 0 n o 0 h ∙ (let z : 0 + o ≡ o = omega arith in z))
+    (all o 0 (omega arith) (let z = length-range_with_len 0 n in omega arith))
 
 pub vertices_zero : (n i : ℕ) → vertex_at (replicate n (record { 0 = 0 })) i ≡ 0
 vertices_zero zero i = refl
@@ -121,12 +127,11 @@ module _ (cl : List ℕ) (j kn val x n : ℕ) (first first' : List Vertex) (plac
       subst (λ (z : ℕ). Merged cl j kn val (x + 1) z first' (set place x q)) (sym c)
       (subst (λ (z : List Vertex). Merged cl j kn val (x + 1) (n + 1) z (set place x q)) (sym a) (merged_new cl j kn val x n first place q h s e))
 
-  pub at_old : (q.0 ≤ n) × (q.0 < n → Mergeable cl j kn val x (vertex_at first q.0)) → (q.0 ≡ n → ⊥) → first' ≡ first → n' ≡ n
+  pub at_old : (q.0 < n) × Mergeable cl j kn val x (vertex_at first q.0) → first' ≡ first → n' ≡ n
       → Merged cl j kn val (x + 1) n' first' (set place x q)
-  at_old r ne a c =
-      let l : q.0 < n = (let z = r.0 in omega arith) in
+  at_old r a c =
       subst (λ (z : ℕ). Merged cl j kn val (x + 1) z first' (set place x q)) (sym c)
-      (subst (λ (z : List Vertex). Merged cl j kn val (x + 1) n z (set place x q)) (sym a) (merged_old cl j kn val x n first place q h s l (r.1 l)))
+      (subst (λ (z : List Vertex). Merged cl j kn val (x + 1) n z (set place x q)) (sym a) (merged_old cl j kn val x n first place q h s r.0 r.1))
 
 pub picked_start : (cl : List ℕ) (first : List Vertex) (r : List ℕ) → Copied cl 512 r → Picked cl first 0 r
 picked_start cl first r s = record { long = s.long; done = λ i h. absurd (omega arith); rest = λ i h k. s.done i k }
@@ -152,8 +157,8 @@ module _ (cl : List ℕ) (first : List Vertex) (r : List ℕ) (j : ℕ) (outs : 
       (λ (z : ℕ). label_at cl o (vertex_at first z)) (let e : (o * 32 + i) % 32 ≡ i = omega arith in e)
 
 -- the answer for the classes is the answer for the vertices
-module _ (cl : List ℕ) (v j n : ℕ) (rows : List ℕ) (first : List Vertex) (place : List JointClass) (r codes codes' : List ℕ) (labels : Labels cl) (few : v ≤ 32) (outs : j ≤ 8)
-    (kn val kn' val' : ℕ) (m : Merged cl j kn val v n first place) (p : Picked cl first (j * 32) r) (dk : Drawn kn first n kn') (dv : Drawn val first n val') (s : Spread place codes v codes') where
+module _ (cl : List ℕ) (v j n : ℕ) (rows : List ℕ) (first : List Vertex) (place : List JointClass) (r : List ℕ) (labels : Labels cl) (few : v ≤ 32) (outs : j ≤ 8)
+    (kn val kn' val' : ℕ) (m : Merged cl j kn val v n first place) (p : Picked cl first (j * 32) r) (dk : Drawn kn first n kn') (dv : Drawn val first n val') where
   -- the label of class i
   class_label : (o i : ℕ) → o < j → i < n → label_at r o i ≡ label_at cl o (vertex_at first i)
   class_label o i h k = picked_at cl first r j outs labels m.small p o i h (let z = m.few in omega arith)
@@ -169,8 +174,9 @@ module _ (cl : List ℕ) (v j n : ℕ) (rows : List ℕ) (first : List Vertex) (
   vertex_part_lem : (o x : ℕ) → o < j → x < v → part_of cl o x ≡ part_of r o (joint_at place x)
   vertex_part_lem o x h a = ap (part_at cl o) ((m.same x a).0 o h) ∙ sym (class_part o (joint_at place x) h (m.within x a))
 
-  pub decided_merged : (ok : Bool) → Decided r n j rows kn' val' ok codes → Decided cl v j rows kn val ok codes'
-  decided_merged true d = (
+  -- codes for the classes, spread
+  pub decided_merged : (codes codes' : List ℕ) → Spread place codes v codes' → Decided r n j rows kn' val' true codes → Decided cl v j rows kn val true codes'
+  decided_merged codes codes' s d = (
     record {
       tells = λ o x y h a b c e. d.0.tells o (joint_at place x) (joint_at place y) h (m.within x a) (m.within y b)
           (sym (vertex_part_lem o x h a) ∙ c.0 ∙ vertex_part_lem o y h b, λ q. c.1 (vertex_label o x h a ∙ q ∙ sym (vertex_label o y h b)))
@@ -186,7 +192,11 @@ module _ (cl : List ℕ) (v j n : ℕ) (rows : List ℕ) (first : List Vertex) (
           let e = (m.same x a).1 in
           let k = dk.below i l ∙ sym (known_same kn val x (vertex_at first i) e) ∙ t in
           ap (λ (z : ℕ). on z 0) (s.done x a) ∙ d.1 i l k ∙ dv.below i l ∙ sym (digit_same kn val x (vertex_at first i) e t)
-  decided_merged false d = λ f c b z. d (λ (i : ℕ). f (vertex_at first i))
+
+  -- no codes
+  pub decided_none : (ok : Bool) (codes : List ℕ) → ok ≡ false → Decided r n j rows kn' val' ok codes → Decided cl v j rows kn val ok codes
+  decided_none true codes e d = absurd (true_false e)
+  decided_none false codes e d = λ f c b z. d (λ (i : ℕ). f (vertex_at first i))
       (record {
         tells = λ o x y h a b k e. c.tells o (vertex_at first x) (vertex_at first y) h (m.low x a) (m.low y b)
             (sym (class_part o x h a) ∙ k.0 ∙ class_part o y h b, λ q. k.1 (class_label o x h a ∙ q ∙ sym (class_label o y h b))) e;

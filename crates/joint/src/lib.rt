@@ -4,7 +4,7 @@
 // and `codes_for` is where joint classes become such numbers and their codes come back.
 #![tactic(auto)]
 
-ghost use Rattle.std.specs.Prelude.{◌≡◌, true, false, ℕ, ◌+◌, ◌*◌, ◌<◌, ◌≤◌};
+ghost use Rattle.std.specs.Prelude.{◌≡◌, true, ⊤, ℕ, ◌*◌, ◌<◌, ◌≤◌, MatchOption};
 ghost use Rattle.limits.specs.Limits.{search_outputs, max_vertices, label_count};
 ghost use Rattle.problem.specs.Problem.{Labels};
 ghost use Rattle.problem.specs.Answer.{is_found, is_unsure, found_codes};
@@ -22,22 +22,13 @@ use problem::{Answer, LABELS_AND_PARTS};
 #[derive(Clone, Copy)]
 struct JointClass(usize);
 
-// What stands for a digit of cell 0 that is not known.
-const UNKNOWN: u8 = 2;
-
 // What is known of cell 0 at x: its digit of val where kn has x.
-fn known_at(kn: u32, val: u32, x: Vertex) -> u8
+fn known_at(kn: u32, val: u32, x: Vertex) -> Option<bool>
     requires { x.0 < max_vertices }
     ensures { result ≡ known_at kn val x.0 }
 {
-    if !cells::in_set(kn as u64, x.0 as u8) {
-        return UNKNOWN;
-    }
-    if cells::in_set(val as u64, x.0 as u8) {
-        1
-    } else {
-        0
-    }
+    let x = x.0 as u8;
+    cells::in_set(u64::from(kn), x).then_some(cells::in_set(u64::from(val), x))
 }
 
 // Whether x and y have the same classes for the first j outputs, and the same is known of cell 0.
@@ -45,19 +36,11 @@ fn alike(cl: &[u8], j: usize, kn: u32, val: u32, x: Vertex, y: Vertex) -> bool
     requires { Labels cl.now × (j ≤ search_outputs) × (x.0 < max_vertices) × (y.0 < max_vertices) }
     ensures { result ≡ true → Mergeable cl.now j kn val x.0 y.0 }
 {
-    let mut o = 0;
-    while o < j {
-        let a = problem::label(cl, o, x.0);
-        let b = problem::label(cl, o, y.0);
-        if a != b {
-            return false;
-        }
-        o += 1;
-    }
-    known_at(kn, val, x) == known_at(kn, val, y)
+    (0..j).all(|o| problem::label(cl, o, x.0) == problem::label(cl, o, y.0))
+        && known_at(kn, val, x) == known_at(kn, val, y)
 }
 
-// The class of x: one of the first n, each of which has a first vertex, or the next where it is in none of them.
+// The class of x, where it is one of the first n, each of which has a first vertex.
 fn class_of(
     cl: &[u8],
     j: usize,
@@ -66,23 +49,20 @@ fn class_of(
     first: [Vertex; MAX_VERTICES],
     n: usize,
     x: Vertex,
-) -> JointClass
+) -> Option<JointClass>
     requires { Labels cl.now × (j ≤ search_outputs) × (x.0 < max_vertices) × (n ≤ max_vertices) × ((i : ℕ) → i < max_vertices → vertex_at first i < max_vertices) }
-    ensures { (result.0 ≤ n) × (result.0 < n → Mergeable cl.now j kn val x.0 (vertex_at first result.0)) }
+    ensures { MatchOption result ⊤ (λ q. (q.0 < n) × Mergeable cl.now j kn val x.0 (vertex_at first q.0)) }
 {
-    let mut i = 0;
-    while i < n {
-        let y = first[i];
-        if alike(cl, j, kn, val, x, y) {
-            return JointClass(i);
+    for i in 0..n {
+        if alike(cl, j, kn, val, x, first[i]) {
+            return Some(JointClass(i));
         }
-        i += 1;
     }
-    JointClass(n)
+    None
 }
 
 // The number of joint classes, the first vertex of each class, and the class of each vertex.
-#[derive(Drop)]
+#[derive(Clone, Copy)]
 struct Classes {
     count: usize,
     first: [Vertex; MAX_VERTICES],
@@ -96,15 +76,15 @@ fn merge(cl: &[u8], v: usize, j: usize, kn: u32, val: u32) -> Classes
     let mut first = [Vertex(0); MAX_VERTICES];
     let mut place = [JointClass(0); MAX_VERTICES];
     let mut n: usize = 0;
-    let mut x: usize = 0;
-    while x < v {
-        let q = class_of(cl, j, kn, val, first, n, Vertex(x));
-        place[x] = q;
-        if q.0 == n {
-            first[n] = Vertex(x);
-            n += 1;
+    for x in 0..v {
+        match class_of(cl, j, kn, val, first, n, Vertex(x)) {
+            Some(q) => place[x] = q,
+            None => {
+                place[x] = JointClass(n);
+                first[n] = Vertex(x);
+                n += 1;
+            }
         }
-        x += 1;
     }
     Classes {
         count: n,
@@ -119,11 +99,7 @@ fn copied(cl: &[u8]) -> [u8; LABELS_AND_PARTS]
     ensures { Copied cl.now (2 * label_count) result }
 {
     let mut r = [0u8; LABELS_AND_PARTS];
-    let mut i = 0;
-    while i < LABELS_AND_PARTS {
-        r[i] = cl[i];
-        i += 1;
-    }
+    r.copy_from_slice(cl);
     r
 }
 
@@ -133,12 +109,8 @@ fn relabel(cl: &[u8], first: [Vertex; MAX_VERTICES], j: usize) -> [u8; LABELS_AN
     ensures { Picked cl.now first (j * max_vertices) result }
 {
     let mut r = copied(cl);
-    let end = j * MAX_VERTICES;
-    let mut i = 0;
-    while i < end {
-        let x = first[i % MAX_VERTICES];
-        r[i] = problem::label(cl, i / MAX_VERTICES, x.0);
-        i += 1;
+    for i in 0..j * MAX_VERTICES {
+        r[i] = problem::label(cl, i / MAX_VERTICES, first[i % MAX_VERTICES].0);
     }
     r
 }
@@ -152,13 +124,10 @@ fn drawn(s: u32, first: [Vertex; MAX_VERTICES], n: usize) -> u32
         return 0;
     }
     let mut r: u64 = 0;
-    let mut i = 0;
-    while i < n {
-        let x = first[i];
-        if cells::in_set(s as u64, x.0 as u8) {
+    for i in 0..n {
+        if cells::in_set(u64::from(s), first[i].0 as u8) {
             r = cells::with(r, i as u8);
         }
-        i += 1;
     }
     r as u32
 }
@@ -173,12 +142,8 @@ fn expand(
     ensures { Spread place codes v result }
 {
     let mut r = [0u8; MAX_VERTICES];
-    let mut x = 0;
-    while x < v {
-        let q = place[x];
-        let i = q.0;
-        r[x] = codes[i];
-        x += 1;
+    for x in 0..v {
+        r[x] = codes[place[x].0];
     }
     r
 }
@@ -198,16 +163,13 @@ pub fn codes_for(
     ensures { Sure limit (is_unsure result.answer) (Decided cl.now v j rows kn val (is_found result.answer) (found_codes result.answer)) }
 {
     let m = merge(cl, v, j, kn, val);
-    let n = m.count;
-    let first = m.first;
-    let place = m.place;
-    let labels = relabel(cl, first, j);
-    let known = drawn(kn, first, n);
-    let digits = drawn(val, first, n);
-    let c = readers::codes_for(&labels, n, j, rows, known, digits, limit);
+    let labels = relabel(cl, m.first, j);
+    let known = drawn(kn, m.first, m.count);
+    let digits = drawn(val, m.first, m.count);
+    let c = readers::codes_for(&labels, m.count, j, rows, known, digits, limit);
     match c.answer {
         Answer::Found(codes) => Search {
-            answer: Answer::Found(expand(codes, place, v)),
+            answer: Answer::Found(expand(codes, m.place, v)),
             nodes: c.nodes,
         },
         Answer::Nothing | Answer::Unsure => c,

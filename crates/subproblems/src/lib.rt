@@ -38,12 +38,10 @@ fn moved(f: u8, perm: [u8; SEARCH_OUTPUTS]) -> u8
     ensures { (result < max_codes) × Moved f perm max_cells result }
 {
     let mut r: u8 = 0;
-    let mut i: u8 = 0;
-    while i < cells::MAX_CELLS {
-        if cells::in_set(f as u64, perm[i as usize]) {
-            r = r | cells::power(i);
+    for i in 0..cells::MAX_CELLS {
+        if cells::in_set(u64::from(f), perm[usize::from(i)]) {
+            r |= cells::power(i);
         }
-        i += 1;
     }
     r
 }
@@ -53,23 +51,19 @@ fn readers(rows: [u16; SEARCH_OUTPUTS], asked: u8, i: u8) -> u64
     requires { i < max_cells }
 {
     let mut r: u64 = 0;
-    let mut o: usize = 0;
-    while o < SEARCH_OUTPUTS {
-        if cells::in_set(rows[o] as u64, i) {
+    for (o, row) in rows.iter().enumerate() {
+        if cells::in_set(u64::from(*row), i) {
             r = cells::with(r, o as u8);
         }
-        o += 1;
     }
-    r & asked as u64
+    r & u64::from(asked)
 }
 
 // The readers of each open cell, where sorting takes them. Cell 0 comes first where it is to keep its place.
 fn columns(rows: [u16; SEARCH_OUTPUTS], asked: u8, known: bool) -> [u64; SEARCH_OUTPUTS] {
     let mut r = [0u64; SEARCH_OUTPUTS];
-    let mut i: u8 = 0;
-    while i < cells::MAX_CELLS {
-        r[i as usize] = readers(rows, asked, i);
-        i += 1;
+    for i in 0..cells::MAX_CELLS {
+        r[usize::from(i)] = readers(rows, asked, i);
     }
     if known {
         r[0] = cells::ALL_CODES;
@@ -84,10 +78,8 @@ fn order(rows: [u16; SEARCH_OUTPUTS], asked: u8, known: bool) -> [u8; SEARCH_OUT
     ensures { Order result max_cells × (known ≡ true → item result 0 ≡ 0) }
 {
     let perm = sorting::falling(columns(rows, asked, known), limits::MAX_CELLS);
-    if known {
-        if perm[0] != 0 {
-            return sorting::AS_THEY_STAND;
-        }
+    if known && perm[0] != 0 {
+        return sorting::AS_THEY_STAND;
     }
     perm
 }
@@ -98,20 +90,17 @@ pub fn question(rows: [u16; SEARCH_OUTPUTS], asked: u8, known: bool) -> [u16; SE
 {
     let perm = order(rows, asked, known);
     let mut r = [0u16; SEARCH_OUTPUTS];
-    let mut o: usize = 0;
-    while o < SEARCH_OUTPUTS {
-        if cells::in_set(asked as u64, o as u8) {
-            let row = rows[o];
-            let f = moved(open_of(row), perm);
-            r[o] = given_of(row) * FIRST_GIVEN + f as u16;
+    for o in 0..SEARCH_OUTPUTS {
+        if cells::in_set(u64::from(asked), o as u8) {
+            let f = moved(open_of(rows[o]), perm);
+            r[o] = given_of(rows[o]) * FIRST_GIVEN + u16::from(f);
         }
-        o += 1;
     }
     r
 }
 
 // The outputs that are asked about, and the open cells and given tables that each of them reads.
-#[derive(Drop)]
+#[derive(Clone, Copy)]
 struct Outputs {
     count: usize,
     from: [u8; SEARCH_OUTPUTS],
@@ -123,25 +112,22 @@ fn gather(asked: u8, rows: [u16; SEARCH_OUTPUTS]) -> Outputs
     ensures { Gathered asked rows search_outputs result.count result.from result.cells result.tables }
 {
     let mut from = [0u8; SEARCH_OUTPUTS];
-    let mut fs = [0u8; SEARCH_OUTPUTS];
-    let mut gs = [0u16; SEARCH_OUTPUTS];
-    let mut n: usize = 0;
-    let mut o: usize = 0;
-    while o < SEARCH_OUTPUTS {
-        if cells::in_set(asked as u64, o as u8) {
-            let row = rows[o];
-            from[n] = o as u8;
-            fs[n] = open_of(row);
-            gs[n] = given_of(row);
-            n += 1;
+    let mut cells = [0u8; SEARCH_OUTPUTS];
+    let mut tables = [0u16; SEARCH_OUTPUTS];
+    let mut count: usize = 0;
+    for o in 0..SEARCH_OUTPUTS {
+        if cells::in_set(u64::from(asked), o as u8) {
+            from[count] = o as u8;
+            cells[count] = open_of(rows[o]);
+            tables[count] = given_of(rows[o]);
+            count += 1;
         }
-        o += 1;
     }
     Outputs {
-        count: n,
+        count,
         from,
-        cells: fs,
-        tables: gs,
+        cells,
+        tables,
     }
 }
 
@@ -151,12 +137,8 @@ pub fn possible(cl: &[u8], given: &[u16], v: usize, asked: u8, rows: [u16; SEARC
     ensures { result ≡ false → (kn val : ℕ) → Barred cl.now given.now kn val v asked (item rows) }
 {
     let g = gather(asked, rows);
-    let n = g.count;
-    let from = g.from;
-    let fs = g.cells;
-    let gs = g.tables;
-    let labels = relation::cut(cl, given, from, gs, n, v);
-    readers::possible(&labels, v, n, fs)
+    let labels = relation::cut(cl, given, g.from, g.tables, g.count, v);
+    readers::possible(&labels, v, g.count, g.cells)
 }
 
 // Codes that answer the subproblem about the outputs of the set asked, or there are none, or the search was given up.
@@ -174,10 +156,6 @@ pub fn ask(
     ensures { Sure limit (is_unsure result.answer) (Settled cl.now given.now kn val v asked (item rows) (is_found result.answer) (found_codes result.answer)) }
 {
     let g = gather(asked, rows);
-    let n = g.count;
-    let from = g.from;
-    let fs = g.cells;
-    let gs = g.tables;
-    let labels = relation::cut(cl, given, from, gs, n, v);
-    joint::codes_for(&labels, v, n, fs, kn, val, limit)
+    let labels = relation::cut(cl, given, g.from, g.tables, g.count, v);
+    joint::codes_for(&labels, v, g.count, g.cells, kn, val, limit)
 }

@@ -5,17 +5,13 @@ use Rattle.cache.specs.Cache.{Joined}
 use Rattle.cache.proofs.reads_cell_0.Goals as goal
 
 pub loop-o-init : goal.loop-o-init
-loop-o-init c = (omega arith, joined-start c.args.mem.now c.args.i)
+loop-o-init c = joined-start c.args.mem.now c.args.i
 
 pub loop-o-preserved : goal.loop-o-preserved
-loop-o-preserved c = let h = c.loop-o-test.true in
-    let a = c.args in (
-      omega arith,
-      joined_more a.mem.now a.i c.loop-o.o c.loop-o.all _ (ap (item a.mem.now) (let z : a.i * 9 + (c.loop-o.o + 1) ≡ a.i * 9 + suc c.loop-o.o = omega arith in z)) c.loop-o.invariant.1,
-    )
+loop-o-preserved c = let a = c.args in
+    let l = c.loop-o in
+    joined_more a.mem.now a.i l.o l.all _ (ap (item a.mem.now) (let z : a.i * 9 + (l.o + 1) ≡ a.i * 9 + suc l.o = omega arith in z)) l.invariant
 
 pub returns : goal.returns
 returns c = let a = c.args in
-    let e = c.loop-o-test.false in
-    let o = c.loop-o.invariant.0 in
-    joined_all a.mem.now a.i c.loop-o.all (subst (λ (z : ℕ). Joined a.mem.now a.i z c.loop-o.all) (omega arith) c.loop-o.invariant.1)
+    joined_all a.mem.now a.i c.loop-o.all (subst (λ (z : ℕ). Joined a.mem.now a.i z c.loop-o.all) (let e = c.loop-o-test.false in omega arith) c.loop-o.invariant)

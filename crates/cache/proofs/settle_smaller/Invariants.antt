@@ -1,9 +1,5 @@
 use Rattle.cache.specs.Cache.{Honest}
-use Rattle.std.proofs.Common.{◌-◌}
 use Rattle.cache.proofs.settle_smaller.Given as goal
 
 abbrev pub invariant-loop-i : goal.invariant-loop-i
 invariant-loop-i l = Honest l.cl l.given l.q.kn l.q.val l.q.vertices l.mem
-
-abbrev pub decreases-loop-i : goal.decreases-loop-i
-decreases-loop-i l = l.n - l.i

@@ -1,11 +1,13 @@
+use Rattle.problem.specs.declared.Answer.{Answer}
+use Rattle.problem.specs.Answer.{is_found, is_unsure, found_codes}
 use Rattle.problem.specs.Problem.{item}
-use Rattle.subproblems.specs.SubproblemLaws.{settled_barred}
-use Rattle.subproblems.specs.Subproblem.{Barred}
+use Rattle.coding.specs.Limit.{Sure}
+use Rattle.subproblems.specs.Subproblem.{Barred, Settled}
 use Rattle.bits.specs.LogicLaws.{true_false}
-use Rattle.std.proofs.Common.{◌≡◌, false, sym, ◌∙◌, eqb-true}
+use Rattle.std.proofs.Common.{◌≡◌, false, not, List, ℕ, refl, sym, ◌∙◌, subst, eqb-true}
 use borrow.Author.Tests.{not-false}
 use Rattle.cache.proofs.tell.Goals as goal
-use Rattle.cache.proofs.tell.Goals.{then-a, else-a}
+use Rattle.cache.proofs.tell.Goals.{in-Nothing, in_default}
 
 pub is_bad-requires : goal.is_bad-requires
 is_bad-requires c = c.requires.3.long
@@ -34,10 +36,11 @@ pub returns : goal.returns
 returns c =
     let a = c.args in
     let p = a.q in
-    let bad : c.if-a.ok ≡ false → Barred a.cl.now a.given.now p.kn p.val p.vertices a.asked (item c.question-asks.result) = λ e. elim c.if-a.branch [
-      | then-a w ↦ absurd (true_false (sym w.ok-is ∙ e))
-      | else-a w ↦ settled_barred a.cl.now a.given.now p.kn p.val p.vertices a.asked (item c.question-asks.result) c.ask-a.result.ok c.ask-a.result.codes
-          (c.ask-a.ensures.sure w.if-a.false) (sym w.ok-is ∙ e)
+    let asks = c.question-asks.result in
+    let Says : Answer (List ℕ) → Type 0 = λ s. Sure p.limit (is_unsure s) (Settled a.cl.now a.given.now p.kn p.val p.vertices a.asked (item asks) (is_found s) (found_codes s)) in
+    let bad : not c.match-matches.matches ≡ false → Barred a.cl.now a.given.now p.kn p.val p.vertices a.asked (item asks) = λ e. elim c.match-matches.branch [
+      | in-Nothing w ↦ (subst Says w.in-Nothing.is c.ask-a.ensures).sure refl
+      | in_default w ↦ absurd (true_false (sym (not-false _ e) ∙ w.matches-is))
     ] in (
       c.store.ensures a.cl.now a.given.now p.kn p.val p.vertices bad c.requires.3,
       λ e. c.question-asks.ensures.barred a.cl.now a.given.now p.kn p.val p.vertices (λ n. eqb-true p.kn 0 (not-false _ n)) (bad e),

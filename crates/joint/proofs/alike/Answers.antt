@@ -1,33 +1,20 @@
-use borrow.Author.Tests.{eqb-true}
-use Rattle.bits.specs.LogicLaws.{true_false}
-use Rattle.joint.specs.MergeLaws.{alike_more}
-use native.Mathlib.Omega.{arith}
-use mathlib.Core.Path.{sym, ◌∙◌}
+use Rattle.std.proofs.Common.{◌≡◌, ℕ, ◌<◌, Bool, length, refl, sym, ◌∙◌, subst, arith, rules}
+use Rattle.std.specs.Bool.{MatchBool}
+use Rattle.std.specs.List.{AllWithin, HoldsAt, range_with_len}
+use Rattle.std.proofs.lemmas.Iterator.{cases_from_all, YieldsList-from_range}
+use borrow.Author.Tests.{tests}
+use Rattle.problem.specs.Problem.{label_at}
+use Rattle.joint.specs.DigitsLaws.{known_equal}
+use Rattle.joint.specs.MergeLaws.{labels_alike}
 use Rattle.joint.proofs.alike.Goals as goal
 
-pub loop-o-init : goal.loop-o-init
-loop-o-init c = (omega arith, λ o h. absurd (omega arith))
-
-pub label-a-requires : goal.label-a-requires
-label-a-requires c = let h = c.loop-o-test.true in let p = c.requires in let a = p.1 in (let e = p.0.long in omega arith, omega arith, p.2)
-
-pub label-b-requires : goal.label-b-requires
-label-b-requires c = let h = c.loop-o-test.true in let p = c.requires in let a = p.1 in (let e = p.0.long in omega arith, omega arith, p.3)
-
-pub returns-then-a-b : goal.returns-then-a-b
-returns-then-a-b c = λ e. absurd (true_false (sym e))
-
-pub loop-o-preserved : goal.loop-o-preserved
-loop-o-preserved c = let args = c.args in
-    let h = c.loop-o-test.true in (omega arith, alike_more args.cl.now c.loop-o.o args.x.0 args.y.0 (sym c.label-a.ensures ∙ c.if-a-b.false ∙ c.label-b.ensures) c.loop-o.invariant.1)
-
-pub known_at-requires : goal.known_at-requires
-known_at-requires c = c.requires.2
-
-pub known_at-requires-2 : goal.known_at-requires-2
-known_at-requires-2 c = c.requires.3
-
-pub returns : goal.returns
-returns c = λ e.
-    let end = c.loop-o-test.false in
-    ((λ o h. c.loop-o.invariant.1 o (omega arith)), sym c.known_at.ensures ∙ eqb-true _ _ e ∙ c.known_at-2.ensures)
+pub returns-then-all : goal.returns-then-all
+returns-then-all c = let a = c.args in
+    let Same : ℕ → Type 0 = λ o. label_at a.cl.now o a.x.0 ≡ label_at a.cl.now o a.y.0 in
+    let Any : ℕ → Type 0 = λ o. Unit {0} in
+    let all = cases_from_all _ _ c.all.result Same Any c.all.ensures.ran (YieldsList-from_range 0 a.j a.j refl (omega arith)) (λ o q k. search (rules, tests)) (λ o q k. tt) in
+    let numbers = range_with_len 0 a.j in
+    λ e. (
+      labels_alike a.cl.now a.j a.x.0 a.y.0 (subst (λ (b : Bool). MatchBool b (AllWithin Same numbers 0 (length numbers)) ((k : ℕ) × (k < length numbers) × HoldsAt Any numbers k)) c.if-all.true all),
+      sym c.known_at.ensures ∙ known_equal _ _ (sym c.eq.ensures ∙ e) ∙ c.known_at-then-all.ensures,
+    )

@@ -1,4 +1,6 @@
 use Rattle.subproblems.specs.GatheringLaws.{gathered_short, settled_of}
+use Rattle.problem.specs.Answer.{is_found, found_codes}
+use Rattle.coding.specs.LimitLaws.{sure_then}
 use Rattle.subproblems.proofs.ask.Goals as goal
 
 pub cut-labels-requires : goal.cut-labels-requires
@@ -15,5 +17,6 @@ codes_for-requires c = let p = c.requires in
 pub returns : goal.returns
 returns c = let a = c.args in
     let o = c.gather-g.result in
+    let s = c.codes_for.result.answer in
     let settled = settled_of a.asked a.rows o.count o.from o.cells o.tables c.gather-g.ensures a.cl.now a.given.now a.v c.cut-labels.result c.cut-labels.ensures a.kn a.val in
-    record { sure = λ e. settled c.codes_for.result.ok c.codes_for.result.codes (c.codes_for.ensures.sure e); never = c.codes_for.ensures.never }
+    sure_then a.limit _ _ _ (settled (is_found s) (found_codes s)) c.codes_for.ensures
