@@ -207,7 +207,7 @@ pub fn read_network(t: &[u8], k: Sheet) -> Result<NetworkSheet, usize>
     requires { Ranged k }
     ensures { (d : Design) → Holds d k → Proper d → 1 ≤ length d.outputs → NetworkIs d t.now (spec.read_network d t.now) result }
 {
-    if t.is_empty() || limits::MAX_NETWORK < t.len() {
+    if t.len() < 1 || limits::MAX_NETWORK < t.len() {
         return Err(0);
     }
     let names = names_of(k);
@@ -220,7 +220,10 @@ pub fn read_network(t: &[u8], k: Sheet) -> Result<NetworkSheet, usize>
         if e == t.len() {
             return Err(n);
         }
-        s = ask_line(&t[at..e], at, names, s).ok_or(n)?;
+        let Some(next) = ask_line(&t[at..e], at, names, s) else {
+            return Err(n);
+        };
+        s = next;
         at = e + 1;
         n += 1;
     }

@@ -1,5 +1,6 @@
 -- `ask_line`: each place has its line. Assumes nothing.
 use mathlib.Core.Bool.{Bool}
+use Rattle.std.proofs.Common.{None}
 use mathlib.Core.Path.{ap, ◌∙◌, subst}
 use Rattle.netsheet.specs.declared.Place.{Place}
 use Rattle.netsheet.specs.Reading.{moved, PlaceFits}
@@ -46,7 +47,5 @@ returns-in-End c = let a = c.args in
     )
 
 pub returns-in-Over : goal.returns-in-Over
-returns-in-Over c = let a = c.args in (
-  safe_moved a.s c.onward-in-Over.result _ Place.Over c.onward-in-Over.ensures c.requires.1.few tt,
-  λ t d w q n kn some-outputs. over_line a.l.now t d w a.s c.onward-in-Over.result kn c.in-Over.is Place.Over c.onward-in-Over.ensures,
-)
+returns-in-Over c = let a = c.args in
+    (tt, λ t d w q n kn some-outputs. over_line a.l.now t d w a.s None kn c.in-Over.is)

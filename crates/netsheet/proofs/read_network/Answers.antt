@@ -1,34 +1,32 @@
-use borrow.Author.Tests.{not-true, not-false}
+use Rattle.std.proofs.Common.{⊎_elim, arith}
 use Rattle.netsheet.specs.WalkLaws.{walk_start, walk_room, walk_open, walk-bad, walk_more, walk_end, refused_at, no_bytes, many_bytes}
 use Rattle.netsheet.proofs.read_network.Goals as goal
 
 pub returns-then-t-lt1 : goal.returns-then-t-lt1
-returns-then-t-lt1 c = let a = c.args in
-    λ d h p o. refused_at d a.t.now 0 c.bad_line.result (no_bytes d a.t.now c.if-t-lt1.true) c.bad_line.ensures
-
-pub returns-then-t-gt-MAX_NETWORK : goal.returns-then-t-gt-MAX_NETWORK
-returns-then-t-gt-MAX_NETWORK c = let a = c.args in
-    λ d h p o. refused_at d a.t.now 0 c.bad_line-then-t-gt-MAX_NETWORK.result (many_bytes d a.t.now c.if-t-gt-MAX_NETWORK.true) c.bad_line-then-t-gt-MAX_NETWORK.ensures
+returns-then-t-lt1 c = λ d h p o.
+    ⊎_elim
+    (λ few. refused_at d c.args.t.now 0 (no_bytes d c.args.t.now few))
+    (λ many. refused_at d c.args.t.now 0 (many_bytes d c.args.t.now many.1))
+    c.then-t-lt1.either
 
 pub loop-at-init : goal.loop-at-init
-loop-at-init c = walk_start c.args.t.now c.names_of-names.result c.blank-s.result c.blank-s.ensures c.if-t-lt1.false c.if-t-gt-MAX_NETWORK.false
+loop-at-init c = walk_start c.args.t.now c.names_of-names.result c.blank-s.result c.blank-s.ensures (omega arith) (omega arith)
 
 pub returns-then-e-t : goal.returns-then-e-t
 returns-then-e-t c = λ d h p o.
-    walk_open c.loop-at.invariant c.line_end-e.result c.loop-at-test.true c.line_end-e.ensures c.if-e-t.true
-    c.bad_line-then-e-t.result c.bad_line-then-e-t.ensures d (c.names_of-names.ensures.right d h p) o
+    walk_open c.loop-at.invariant c.line_end-e.result c.loop-at-test.true c.line_end-e.ensures c.if-e-t.true d (c.names_of-names.ensures.right d h p) o
 
-pub ask_line-s-requires : goal.ask_line-s-requires
-ask_line-s-requires c = (c.names_of-names.ensures.counts, c.loop-at.invariant.safe, walk_room c.loop-at.invariant c.line_end-e.result c.loop-at-test.true c.line_end-e.ensures)
+pub ask_line-requires : goal.ask_line-requires
+ask_line-requires c = (c.names_of-names.ensures.counts, c.loop-at.invariant.safe, walk_room c.loop-at.invariant c.line_end-e.result c.loop-at-test.true c.line_end-e.ensures)
 
-pub returns-then-not-s : goal.returns-then-not-s
-returns-then-not-s c = λ d h p o. walk-bad c.loop-at.invariant c.line_end-e.result c.loop-at-test.true c.line_end-e.ensures c.if-e-t.false c.ask_line-s.result c.ask_line-s.ensures.1
-    (not-true _ c.if-not-s.true) c.bad_line-then-not-s.result c.bad_line-then-not-s.ensures d (c.names_of-names.ensures.right d h p) o
+pub returns-in_default : goal.returns-in_default
+returns-in_default c = λ d h p o. walk-bad c.loop-at.invariant c.line_end-e.result c.loop-at-test.true c.line_end-e.ensures c.if-e-t.false c.ask_line.result c.ask_line.ensures.1
+    c.in_default.is d (c.names_of-names.ensures.right d h p) o
 
 pub loop-at-preserved : goal.loop-at-preserved
 loop-at-preserved c =
     walk_more c.loop-at.invariant c.line_end-e.result c.loop-at-test.true c.line_end-e.ensures c.if-e-t.false
-    c.ask_line-s.result c.ask_line-s.ensures.1 (not-false _ c.if-not-s.false) c.ask_line-s.ensures.0
+    c.ask_line.result c.ask_line.ensures.1 c.in-Some.next c.in-Some.is (rw c.in-Some.is at c.ask_line.ensures.0)
 
 pub returns : goal.returns
 returns c = λ d h p o. walk_end c.loop-at.invariant c.loop-at-test.false c.ended.result c.ended.ensures d (c.names_of-names.ensures.right d h p) o

@@ -1,6 +1,6 @@
 -- `with_node`: the mask and the place are stored for the output. Assumes nothing.
-use mathlib.Core.Path.{refl}
+use Rattle.std.proofs.Common.{refl}
 use Rattle.netsheet.proofs.with_node.Goals as goal
 
 pub returns : goal.returns
-returns c = rw c.after_node-place.ensures refl
+returns c = rw c.after_node.ensures refl
