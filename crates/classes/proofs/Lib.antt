@@ -1,6 +1,6 @@
 -- Laws that the proofs of the functions share.
 pub mod Search
-pub mod Numbering
+pub mod Counting
 pub mod Rows
 pub mod Keys
 pub mod Powers

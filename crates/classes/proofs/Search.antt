@@ -1,5 +1,14 @@
--- A loop that looks for the first number related to x, from 0 up to x: one law for each relation. Assumes nothing.
-use mathlib.Core.Path.{◌≡◌}
+-- A loop that looks for the first number related to x, from 0 up to x: one law for each relation. And what the library's
+-- search for a number says. Assumes nothing.
+use mathlib.Core.Path.{◌≡◌, sym, ◌∙◌}
+use Rattle.std.specs.Prelude.{List, eqb, length, get_or, Option, Some, None, position}
+use Rattle.std.specs.List.{position_or_len}
+use Rattle.std.proofs.Common.{eq-eqb, eqb-true}
+use Rattle.std.proofs.lemmas.Grind.{common_steps}
+use Rattle.std.proofs.lemmas.List.Quantifiers.{position-Some}
+use Rattle.std.proofs.lemmas.List.Sums.{fails_before_first}
+use Rattle.bits.specs.LogicLaws.{true_false}
+use Rattle.classes.specs.Seen.{PlaceIs, Placing}
 use mathlib.Core.Bool.{Bool, true, false}
 use Prim.Native.Nat.{ℕ, ◌+◌, ◌≤◌, ◌<◌}
 use native.Mathlib.Omega.{arith}
@@ -36,3 +45,25 @@ module _ {same : ℕ → ℕ → Bool} {x : ℕ} where
         none_before = λ z a b. u.none z (omega arith);
       })
       (first_like_lem same x)
+
+-- ---- the place of a number
+absent : (l : List ℕ) (i : ℕ) → position (λ k. eqb k i) l ≡ None → PlaceIs l i (length l)
+absent l i e =
+    let all : length l ≤ position_or_len (λ k. eqb k i) l = grind (arith, common_steps) in
+    record {
+      within = omega arith;
+      there = λ h. absurd (omega arith);
+      not_before = λ k h q. true_false (sym (eq-eqb (get_or l k 0) i q) ∙ fails_before_first (λ k. eqb k i) l k 0 (omega arith));
+    }
+
+pub placing : (l : List ℕ) (i : ℕ) (r : Option ℕ) → r ≡ position (λ k. eqb k i) l → Placing l i r
+placing l i (Some j) e =
+    let p = position-Some (λ k. eqb k i) l j 0 (sym e) in (
+      p.0,
+      record {
+        within = omega (arith, p.0);
+        there = λ h. eqb-true (get_or l j 0) i p.1;
+        not_before = λ k h q. true_false (sym (eq-eqb (get_or l k 0) i q) ∙ p.2 k h);
+      },
+    )
+placing l i None e = absent l i (sym e)

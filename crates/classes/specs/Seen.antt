@@ -1,6 +1,6 @@
 -- What each part of the code says of its answer: the digits of inputs, the rows gathered by them, the columns seen in a
 -- table, keys of vertices, and classes by a relation. Assumes nothing.
-use Rattle.std.specs.Prelude.{◌≡◌, Bool, List, [], ◌∷◌, map, ℕ, ◌+◌, ◌-◌, ◌*◌, ◌^◌, ◌≤◌, ◌<◌, eqb, length, get_or}
+use Rattle.std.specs.Prelude.{◌≡◌, Bool, List, [], ◌∷◌, map, ℕ, ◌+◌, ◌-◌, ◌*◌, ◌^◌, ◌≤◌, ◌<◌, eqb, length, get_or, Option, Some, None}
 use Rattle.bits.specs.Logic.{pick}
 use Rattle.limits.specs.Limits.{max_inputs, max_bound, max_outputs, max_rows, max_vertices}
 use Rattle.bits.specs.Digit.{on}
@@ -10,7 +10,7 @@ use Rattle.rows.specs.Words.{row_on}
 use Rattle.sheet.specs.Known.{position}
 use Rattle.classes.specs.Columns.{free, same_values}
 use Rattle.bits.specs.Values.{values_upto}
-use Rattle.classes.specs.Classes.{class_count, class_of}
+use Rattle.classes.specs.Classes.{first_like, class_count, class_of}
 use Rattle.classes.specs.Proper.{Parted}
 
 -- the first place of i among some numbers, or their number
@@ -18,6 +18,11 @@ pub record PlaceIs (l : List ℕ) (i j : ℕ) : Type 0 where
   pub within : j ≤ length l
   pub there : j < length l → get_or l j 0 ≡ i
   pub not_before : (k : ℕ) → k < j → get_or l k 0 ≡ i → ⊥
+
+-- the place of i, where it has one
+abbrev pub Placing : List ℕ → ℕ → Option ℕ → Type 0
+Placing l i (Some j) = (j < length l) × PlaceIs l i j
+Placing l i None = PlaceIs l i (length l)
 
 -- ---- digits
 -- how many names stand after n's first place among some; 0 where it has none
@@ -80,6 +85,11 @@ pub record KeysBy (keys : List ℕ) (class : ℕ → ℕ) (v : ℕ) (list : List
   pub each : (x : ℕ) → x < v → get_or list x 0 ≡ get_or keys x 0 * max_vertices + class x
 
 -- ---- classes
+-- the first number below x that is related to x, and none where x is its own first relative
+abbrev pub FirstIs : (ℕ → ℕ → Bool) → ℕ → Option ℕ → Type 0
+FirstIs same x (Some y) = y ≡ first_like same x
+FirstIs same x None = x ≡ first_like same x
+
 -- the classes of the numbers below v, and how many they are
 pub record ClassesBy (same : ℕ → ℕ → Bool) (v count : ℕ) (class : ℕ → ℕ) : Type 0 where
   pub counted : count ≡ class_count same v

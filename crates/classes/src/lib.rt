@@ -2,15 +2,14 @@
 // when their columns are equal. Rests on sheet for what a design says, and on rows for a table's value on a row.
 #![tactic(auto)]
 
-ghost use Rattle.std.specs.Prelude.{◌≡◌, ◌≤◌, ◌<◌, length};
+ghost use Rattle.std.specs.Prelude.{◌≡◌, ◌≤◌, ◌<◌, ℕ, Bool, IfSome, length, get_or};
 ghost use Rattle.limits.specs.Limits.{max_inputs, max_bound, max_vertices, max_free_rows};
-ghost use Rattle.bits.specs.Logic as logic;
 ghost use Rattle.sheet.specs.Examine.{Design};
 ghost use Rattle.sheet.specs.Known.{Holds};
-ghost use Rattle.classes.specs.Classes.{first_like};
+ghost use Rattle.classes.specs.ClassLaws.{Equivalence};
 ghost use Rattle.classes.specs.Width.{width_of};
 ghost use Rattle.classes.specs.Proper.{Proper};
-ghost use Rattle.classes.specs.Seen.{PlaceIs, DigitsAre, Small, gathered, Gathered, Inside, alike_seen, same_key, Keyable, KeysBy, ClassesBy};
+ghost use Rattle.classes.specs.Seen.{Placing, DigitsAre, Small, gathered, Gathered, Inside, alike_seen, same_key, Keyable, KeysBy, FirstIs, ClassesBy};
 ghost use Rattle.classes.specs.Answer.{Counts, Shaped, local_at, global_at, ClassesAre};
 
 use limits::Vertex;
@@ -24,6 +23,9 @@ pub struct Shape {
     pub vertex: [usize; limits::MAX_VERTICES],
     pub free: [usize; limits::MAX_FREE_ROWS],
 }
+
+// A local class has a number in its output, a global class one in the design: two types, so that neither stands where the
+// other is meant.
 
 // The number of a local class of one output.
 #[derive(Clone, Copy)]
@@ -54,18 +56,11 @@ pub struct Classes {
     pub globals: Globals,
 }
 
-// Where input i stands first among the bound inputs; their number where it is free.
-fn place(bound: &[usize], i: usize) -> usize
-    ensures { PlaceIs bound.now i result }
+// Where input i stands first among the bound inputs; nowhere where it is free.
+fn place(bound: &[usize], i: usize) -> Option<usize>
+    ensures { Placing bound.now i result }
 {
-    let mut j = 0;
-    while j < bound.len() {
-        if bound[j] == i {
-            return j;
-        }
-        j += 1;
-    }
-    j
+    bound.iter().position(|&k| k == i)
 }
 
 // The digit of each of n inputs in a number that has the vertex in its lowest digits and the free row above them: the last
@@ -77,11 +72,8 @@ fn digits(bound: &[usize], n: usize) -> [usize; limits::MAX_INPUTS]
     let b = bound.len();
     let mut list = [0usize; limits::MAX_INPUTS];
     let mut next = b;
-    let mut i = n;
-    while 0 < i {
-        i -= 1;
-        let j = place(bound, i);
-        if j < b {
+    for i in (0..n).rev() {
+        if let Some(j) = place(bound, i) {
             list[i] = b - 1 - j;
         } else {
             list[i] = next;
@@ -91,22 +83,14 @@ fn digits(bound: &[usize], n: usize) -> [usize; limits::MAX_INPUTS]
     list
 }
 
-fn bit(b: bool) -> usize
-    ensures { result ≡ logic.bit b }
-{
-    if b { 1 } else { 0 }
-}
-
 // The row whose inputs have the values that stand at their digits in z.
 fn gather(digits: &[usize], z: usize) -> usize
     requires { (length digits.now ≤ max_inputs) × Small digits.now }
     ensures { result ≡ gathered digits.now z }
 {
     let mut r = 0;
-    let mut i = 0;
-    while i < digits.len() {
-        r = 2 * r + bit(bits::has(z as u64, digits[i] as u32));
-        i += 1;
+    for k in digits {
+        r = 2 * r + usize::from(bits::has(z as u64, *k as u32));
     }
     r
 }
@@ -116,10 +100,8 @@ fn fill(out: &mut [usize], digits: &[usize], step: usize)
     requires { (length out.old ≤ max_free_rows) × (step ≤ max_vertices) × (length digits.now ≤ max_inputs) × Small digits.now }
     ensures { Gathered digits.now step out.new }
 {
-    let mut i = 0;
-    while i < out.len() {
-        out[i] = gather(digits, i * step);
-        i += 1;
+    for (i, row) in out.iter_mut().enumerate() {
+        *row = gather(digits, i * step);
     }
 }
 
@@ -129,17 +111,15 @@ fn shape_of(k: Sheet) -> Shape
     ensures { Shaped k result }
 {
     let n = k.inputs;
-    let b = k.bounds;
-    let bound = k.bound;
-    let list = digits(&bound[..b], n);
-    let vertices = bits::power(b);
+    let list = digits(&k.bound[..k.bounds], n);
+    let vertices = bits::power(k.bounds);
     let mut vertex = [0usize; limits::MAX_VERTICES];
     let mut free = [0usize; limits::MAX_FREE_ROWS];
     fill(&mut vertex, &list[..n], 1);
     fill(&mut free, &list[..n], vertices);
     Shape {
         vertices,
-        frees: bits::power(n - b),
+        frees: bits::power(n - k.bounds),
         vertex,
         free,
     }
@@ -156,40 +136,57 @@ fn equal(
     requires { Inside vertex.now free.now × (x.0 < length vertex.now) × (y.0 < length vertex.now) }
     ensures { result ≡ alike_seen t.now vertex.now free.now x.0 y.0 }
 {
-    let i = x.0;
-    let j = y.0;
-    let a = vertex[i];
-    let b = vertex[j];
-    let mut f = 0;
-    while f < free.len() {
-        let z = free[f];
-        if rows::row(t, a + z) != rows::row(t, b + z) {
+    let a = vertex[x.0];
+    let b = vertex[y.0];
+    for f in 0..free.len() {
+        if rows::row(t, a + free[f]) != rows::row(t, b + free[f]) {
             return false;
         }
-        f += 1;
     }
     true
 }
 
-// The first vertex with a column equal to that of x.
-fn first_equal(
-    t: &[u64; limits::TABLE_WORDS],
-    vertex: &[usize],
-    free: &[usize],
-    x: Vertex,
-) -> Vertex
-    requires { Inside vertex.now free.now × (x.0 < length vertex.now) }
-    ensures { result.0 ≡ first_like (alike_seen t.now vertex.now free.now) x.0 }
+// Vertices by their classes: how many classes there are, and the number of each vertex's, as these come.
+#[derive(Clone, Copy)]
+struct Numbering {
+    count: usize,
+    numbers: [usize; limits::MAX_VERTICES],
+}
+
+// The first vertex below x that is in x's class, where there is one.
+fn first_like<F: Fn(Vertex, Vertex) -> bool>(same: &F, x: usize) -> Option<usize>
+    requires { (y : ℕ) → y < x → F.pre same.now (record { 0 = y }) (record { 0 = x }) }
+    ensures below { IfSome result (λ y. y < x) }
+    ensures first { (r : ℕ → ℕ → Bool) → ((y : ℕ) (b : Bool) → y < x → F.post same.now (record { 0 = y }) (record { 0 = x }) b → b ≡ r y x)
+        → FirstIs r x result }
 {
-    let i = x.0;
-    let mut y = 0;
-    while y < i {
-        if equal(t, vertex, free, Vertex(y), x) {
-            return Vertex(y);
+    for y in 0..x {
+        if same(Vertex(y), Vertex(x)) {
+            return Some(y);
         }
-        y += 1;
     }
-    x
+    None
+}
+
+// The classes of some vertices, where `same` says whether two of them, the first of which comes before, are in one class.
+fn numbered<F: Fn(Vertex, Vertex) -> bool>(vertices: usize, same: F) -> Numbering
+    requires few { vertices ≤ max_vertices }
+    requires callable { (y x : ℕ) → y < x → x < vertices → F.pre same (record { 0 = y }) (record { 0 = x }) }
+    ensures { (r : ℕ → ℕ → Bool) → Equivalence r
+        → ((y x : ℕ) (b : Bool) → y < x → x < vertices → F.post same (record { 0 = y }) (record { 0 = x }) b → b ≡ r y x)
+        → ClassesBy r vertices result.count (λ x. get_or result.numbers x 0) }
+{
+    let mut numbers = [0; limits::MAX_VERTICES];
+    let mut count = 0;
+    for x in 0..vertices {
+        if let Some(y) = first_like(&same, x) {
+            numbers[x] = numbers[y];
+        } else {
+            numbers[x] = count;
+            count += 1;
+        }
+    }
+    Numbering { count, numbers }
 }
 
 // The local classes of the output with the table t.
@@ -197,21 +194,11 @@ fn local_classes(t: &[u64; limits::TABLE_WORDS], vertex: &[usize], free: &[usize
     requires { Inside vertex.now free.now × (length vertex.now ≤ max_vertices) }
     ensures { ClassesBy (alike_seen t.now vertex.now free.now) (length vertex.now) result.count (local_at result.classes) }
 {
-    let mut classes = [LocalClass(0); limits::MAX_VERTICES];
-    let mut count = 0;
-    let mut x = 0;
-    while x < vertex.len() {
-        let first = first_equal(t, vertex, free, Vertex(x));
-        let y = first.0;
-        if y < x {
-            classes[x] = classes[y];
-        } else {
-            classes[x] = LocalClass(count);
-            count += 1;
-        }
-        x += 1;
+    let n = numbered(vertex.len(), |y, x| equal(t, vertex, free, y, x));
+    Locals {
+        count: n.count,
+        classes: n.numbers.map(LocalClass),
     }
-    Locals { count, classes }
 }
 
 // The smallest w with 2 ^ w at least the number of classes.
@@ -219,13 +206,7 @@ fn width(count: usize) -> usize
     requires { count ≤ max_vertices }
     ensures { (result ≡ width_of count) × (result ≤ max_bound) }
 {
-    let mut w = 0;
-    let mut most = 1;
-    while most < count {
-        w += 1;
-        most *= 2;
-    }
-    w
+    count.next_power_of_two().ilog2() as usize
 }
 
 // The keys of vertices, each with the local class of one output more: vertices have one key when they are in one class in
@@ -238,31 +219,11 @@ fn with_output(
     requires { (vertices ≤ max_vertices) × Keyable keys (local_at l.classes) vertices }
     ensures { KeysBy keys (local_at l.classes) vertices result }
 {
-    let classes = l.classes;
     let mut list = keys;
-    let mut x = 0;
-    while x < vertices {
-        let c = classes[x];
-        list[x] = list[x] * limits::MAX_VERTICES + c.0;
-        x += 1;
+    for x in 0..vertices {
+        list[x] = list[x] * limits::MAX_VERTICES + l.classes[x].0;
     }
     list
-}
-
-// The first vertex with the key of x.
-fn first_key(keys: &[usize], x: Vertex) -> Vertex
-    requires { x.0 < length keys.now }
-    ensures { result.0 ≡ first_like (same_key keys.now) x.0 }
-{
-    let i = x.0;
-    let mut y = 0;
-    while y < i {
-        if keys[y] == keys[i] {
-            return Vertex(y);
-        }
-        y += 1;
-    }
-    x
 }
 
 // The global classes of vertices with these keys.
@@ -270,21 +231,11 @@ fn global_classes(keys: &[usize]) -> Globals
     requires { length keys.now ≤ max_vertices }
     ensures { ClassesBy (same_key keys.now) (length keys.now) result.count (global_at result.classes) }
 {
-    let mut classes = [GlobalClass(0); limits::MAX_VERTICES];
-    let mut count = 0;
-    let mut x = 0;
-    while x < keys.len() {
-        let first = first_key(keys, Vertex(x));
-        let y = first.0;
-        if y < x {
-            classes[x] = classes[y];
-        } else {
-            classes[x] = GlobalClass(count);
-            count += 1;
-        }
-        x += 1;
+    let n = numbered(keys.len(), |y, x| keys[y.0] == keys[x.0]);
+    Globals {
+        count: n.count,
+        classes: n.numbers.map(GlobalClass),
     }
-    Globals { count, classes }
 }
 
 // The classes and widths of a design.
@@ -293,28 +244,24 @@ pub fn classes_of(k: Sheet) -> Classes
     ensures { (d : Design) → Holds d k → Proper d → ClassesAre d result }
 {
     let shape = shape_of(k);
-    let v = shape.vertices;
-    let f = shape.frees;
-    let vertex = shape.vertex;
-    let free = shape.free;
-    let outputs = k.outputs;
     let mut locals = [Locals {
         count: 0,
         classes: [LocalClass(0); limits::MAX_VERTICES],
     }; limits::MAX_OUTPUTS];
     let mut widths = [0usize; limits::MAX_OUTPUTS];
     let mut keys = [0usize; limits::MAX_VERTICES];
-    let mut o = 0;
-    while o < outputs {
+    for o in 0..k.outputs {
         let table = k.tables[o];
-        let t = table.words;
-        let l = local_classes(&t, &vertex[..v], &free[..f]);
-        keys = with_output(keys, l, v);
+        let l = local_classes(
+            &table.words,
+            &shape.vertex[..shape.vertices],
+            &shape.free[..shape.frees],
+        );
+        keys = with_output(keys, l, shape.vertices);
         widths[o] = width(l.count);
         locals[o] = l;
-        o += 1;
     }
-    let globals = global_classes(&keys[..v]);
+    let globals = global_classes(&keys[..shape.vertices]);
     Classes {
         shape,
         locals,

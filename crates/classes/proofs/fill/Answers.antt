@@ -11,11 +11,11 @@ loop-i-init c = filled_none _ _ refl
 
 pub overflow_mul-i : goal.overflow_mul-i
 overflow_mul-i c = let i = c.loop-i.i in
-    let few : i ≤ max_free_rows = (let a = c.requires.0 in let b = c.loop-i.invariant.long in let d = c.loop-i-test.true in omega arith) in
+    let few : i ≤ max_free_rows = omega (arith, c.requires.0, c.loop-i.invariant.long) in
     omega (arith, product_small i c.args.step few c.requires.1)
 
 pub loop-i-preserved : goal.loop-i-preserved
-loop-i-preserved c = filled_more c.gather.result (omega (arith, c.loop-i.invariant.long, c.loop-i-test.true)) c.gather.ensures c.loop-i.invariant
+loop-i-preserved c = filled_more c.gather.result (omega (arith, c.loop-i.invariant.long)) c.gather.ensures c.loop-i.invariant
 
 pub returns : goal.returns
-returns c = record { each = λ k b. c.loop-i.invariant.done k (omega (arith, c.loop-i-test.false)) }
+returns c = record { each = λ k b. c.loop-i.invariant.done k (omega (arith)) }

@@ -1,27 +1,31 @@
-use mathlib.Core.Path.{◌∙◌}
-use native.Mathlib.Omega.{arith}
-use borrow.Author.Rules.{rules}
-use Rattle.bits.specs.LogicLaws.{bit_le}
+use Rattle.std.proofs.Common.{◌≡◌, ◌≤◌, ◌∙◌, Bool, true, false, refl, ap, arith}
+use Rattle.std.specs.Int.{from_bool}
+use Rattle.bits.specs.Logic.{bit}
 use Rattle.classes.proofs.Rows.{gather_none, gather_more, gather_all, gather_small}
 use Rattle.classes.proofs.gather.Goals as goal
 
-pub loop-i-init : goal.loop-i-init
-loop-i-init c = (search rules, gather_none c.args.digits.now c.args.z)
+as_bit : (b : Bool) → from_bool b ≡ bit b
+as_bit true = refl
+as_bit false = refl
+
+few_bit : (b : Bool) → from_bool b ≤ 1
+few_bit true = omega arith
+few_bit false = omega arith
+
+pub loop-k-init : goal.loop-k-init
+loop-k-init c = gather_none c.args.digits.now c.args.z
 
 pub overflow_mul-r : goal.overflow_mul-r
-overflow_mul-r c = omega
-    (arith, gather_small c.args.digits.now c.args.z c.loop-i.i c.requires.0, c.loop-i.invariant.1)
+overflow_mul-r c = omega (arith, gather_small c.args.digits.now c.args.z c.loop-k.k-index c.requires.0, c.loop-k.invariant)
 
 pub overflow_add-r : goal.overflow_add-r
-overflow_add-r c = let small = gather_small c.args.digits.now c.args.z c.loop-i.i c.requires.0 in
-    omega (arith, small, c.loop-i.invariant.1, c.bit.ensures, bit_le c.has.result)
+overflow_add-r c =
+    omega (arith, gather_small c.args.digits.now c.args.z c.loop-k.k-index c.requires.0, c.loop-k.invariant, c.from.ensures, few_bit c.has.result)
 
-pub loop-i-preserved : goal.loop-i-preserved
-loop-i-preserved c = (
-  search rules,
-  gather_more c.args.digits.now c.args.z c.loop-i.i c.loop-i.r c.bit.result
-      c.has.result c.loop-i-test.true c.loop-i.invariant.1 c.has.ensures c.bit.ensures,
-)
+pub loop-k-preserved : goal.loop-k-preserved
+loop-k-preserved c =
+    gather_more c.args.digits.now c.args.z c.loop-k.k-index c.loop-k.r c.from.result
+    c.has.result (omega arith) c.loop-k.invariant c.has.ensures (c.from.ensures ∙ as_bit c.has.result)
 
 pub returns : goal.returns
-returns c = c.loop-i.invariant.1 ∙ gather_all c.args.digits.now c.args.z c.loop-i.i c.loop-i-test.false
+returns c = c.loop-k.invariant ∙ gather_all c.args.digits.now c.args.z c.loop-k.k-index (omega arith)

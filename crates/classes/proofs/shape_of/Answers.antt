@@ -8,9 +8,6 @@ use Rattle.classes.proofs.Arrays.{bound-sized}
 use Rattle.classes.specs.ShapeLaws.{shaped, small_part, few_power}
 use Rattle.classes.proofs.shape_of.Goals as goal
 
-pub slice_bounds-bound-end : goal.slice_bounds-bound-end
-slice_bounds-bound-end c = omega (arith, c.requires.few_bound, bound-sized c.args.k c.well_formed.0)
-
 pub slice_bounds-digits-end : goal.slice_bounds-digits-end
 slice_bounds-digits-end c = sym (length-take-le _ _ (omega (arith, c.requires.few_bound, bound-sized c.args.k c.well_formed.0)))
 

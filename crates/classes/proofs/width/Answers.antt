@@ -1,15 +1,9 @@
-use native.Mathlib.Omega.{arith}
-use Rattle.classes.proofs.Powers.{doubling_none, doubling_more, doubled, doubling_small}
+-- `width`: the least power of 2 that is at least the count, and its exponent. Assumes nothing.
+use Rattle.classes.proofs.Powers.{width_by_power}
 use Rattle.classes.proofs.width.Goals as goal
 
-pub loop-most-init : goal.loop-most-init
-loop-most-init c = doubling_none
-
-pub overflow_add-w : goal.overflow_add-w
-overflow_add-w c = omega (arith, doubling_small c.loop-most.invariant c.requires)
-
-pub loop-most-preserved : goal.loop-most-preserved
-loop-most-preserved c = doubling_more c.loop-most.invariant c.loop-most-test.true
-
 pub returns : goal.returns
-returns c = doubled c.loop-most.invariant c.loop-most-test.false c.requires
+returns c =
+    let p = c.next_power_of_two.ensures in
+    let w = c.ilog2.ensures in
+    width_by_power c.args.count c.next_power_of_two.result c.ilog2.result p.power p.lower_bound p.upper_bound w.power_le w.next_power_gt c.requires
