@@ -1,5 +1,5 @@
 -- The least power of 2 that is at least the number of classes. Assumes nothing.
-use Rattle.std.proofs.Common.{◌≡◌, ℕ, ◌+◌, ◌*◌, ◌/◌, ◌^◌, ◌≤◌, ◌<◌, max, suc, sym, subst, arith, pow-suc}
+use Rattle.std.proofs.Common.{◌≡◌, ℕ, ◌*◌, ◌/◌, ◌^◌, ◌≤◌, ◌<◌, max, suc, sym, subst, arith, pow-suc}
 use Rattle.std.proofs.Math.Decide.{dec_lt}
 use Rattle.std.specs.Int.{IsPowerOfTwo}
 use lib.Pow.{pow_mono, pow_pos}

@@ -1,4 +1,4 @@
-use Rattle.std.proofs.Common.{◌≡◌, ◌≤◌, ◌∙◌, Bool, true, false, refl, ap, arith}
+use Rattle.std.proofs.Common.{◌≡◌, ◌≤◌, ◌∙◌, Bool, true, false, refl, arith}
 use Rattle.std.specs.Int.{from_bool}
 use Rattle.bits.specs.Logic.{bit}
 use Rattle.classes.proofs.Rows.{gather_none, gather_more, gather_all, gather_small}
