@@ -1,6 +1,6 @@
 -- The cubes, line after line: while every line is a cube, the lines that are left are read as those from the first cube on, for
 -- every head with so many inputs and outputs; and where the cubes stand. Assumes nothing.
-use Rattle.std.specs.Prelude.{◌≡◌, Bool, false, ℕ, suc, ◌+◌, ◌-◌, ◌≤◌, ◌<◌, length, take, drop}
+use Rattle.std.specs.Prelude.{◌≡◌, Bool, false, ℕ, suc, ◌+◌, ◌-◌, ◌≤◌, ◌<◌, length, take, drop, Result}
 use Rattle.std.proofs.Math.Path.{refl, sym, ap, ap₂, subst}
 use Rattle.std.proofs.Common.{◌∙◌, arith, add-one, length-append, length-drop, length-take-le, eqb-true}
 use Rattle.std.proofs.Math.Bool.{true}
@@ -19,10 +19,8 @@ use Rattle.cubes.specs.CubeLaws.{cube_print_of_read, cube_line_length}
 use Rattle.cubes.specs.Spelled.{is_there, CubeWritten}
 use Rattle.platext.specs.Lines.{first_cube, end_line}
 use Rattle.platext.specs.Text.{Pla, Answer, bad_line, Head, next_line, CubeLine, last, one, as_cube, read_cube_line, nothing_more, at_last, by_kind, read_cubes}
-use Rattle.platext.specs.Reading.{LineHere, NextIs, Stopped, CubeHere, Stand, Fits, CubesAre, LastIs}
+use Rattle.platext.specs.Reading.{LineHere, NoLine, Stopped, CubeHere, Stand, Fits, CubesAre, LastIs}
 use Rattle.platext.specs.LinePassLaws.{no_line_stops, read_passes, unread_stops}
-use Rattle.platext.specs.declared.Line.{Line}
-use Rattle.platext.specs.declared.CubesRead.{CubesRead}
 
 -- ---- where they stand
 stand_more : (s : List ℕ) (i o at : ℕ) (cs : List Cube) (e : ℕ) (c : Cube) → Stand s i o at cs e → CubeHere s i o e c
@@ -80,15 +78,13 @@ module _ (s : List ℕ) (at i o : ℕ) where
         w.is h e f ∙ as_line h (lines (drop start s))
         ∙ ap₂ (λ (a b : ℕ). next_line (ends_line s) (first_cube + cubes) (read_cube_line a b) (onward h) (lines (drop start s))) e f
 
-    stopped_here : {r : CubesRead} (p : ℕ) → Stopped s start (read_cube_line i o) → r ≡ CubesRead.Bad (first_cube + cubes)
-        → (h : Head) → Fits i o p h → CubesAre s at h (read_cubes (ends_line s) h [] first_cube (lines (drop at s))) r
-    stopped_here {r} p x e h f =
-        subst (λ (a : Answer). CubesAre s at h a r)
-        (sym (from-here h f.inputs_counted f.outputs_counted ∙ x.is (first_cube + cubes) (onward h))) e
+    stopped_here : (p : ℕ) → Stopped s start (read_cube_line i o) → (h : Head) → Fits i o p h
+        → read_cubes (ends_line s) h [] first_cube (lines (drop at s)) ≡ bad_line (first_cube + cubes)
+    stopped_here p x h f = from-here h f.inputs_counted f.outputs_counted ∙ x.is (first_cube + cubes) (onward h)
 
-    pub no_line_here : {l : Line} {r : CubesRead} (p : ℕ) → NextIs s start l → l.ok ≡ false → r ≡ CubesRead.Bad (first_cube + cubes)
-        → (h : Head) → Fits i o p h → CubesAre s at h (read_cubes (ends_line s) h [] first_cube (lines (drop at s))) r
-    no_line_here p n o' e = stopped_here p (no_line_stops (read_cube_line i o) (n.missing o')) e
+    pub no_line_here : (p : ℕ) → NoLine s start → (h : Head) → Fits i o p h
+        → read_cubes (ends_line s) h [] first_cube (lines (drop at s)) ≡ bad_line (first_cube + cubes)
+    no_line_here p n = stopped_here p (no_line_stops (read_cube_line i o) n)
 
     module _ {e : ℕ} (x : LineHere s start e) where
       abbrev line : List ℕ
@@ -100,8 +96,8 @@ module _ (s : List ℕ) (at i o : ℕ) where
           let b = x.inside in
           length-take-le (e - start) (drop start s) (omega (arith, length-drop start s))
 
-      pub no-cube-here : {r : CubesRead} (p : ℕ) → same line end_line ≡ false → is_there (read_cube i o line) ≡ false → r ≡ CubesRead.Bad (first_cube + cubes)
-          → (h : Head) → Fits i o p h → CubesAre s at h (read_cubes (ends_line s) h [] first_cube (lines (drop at s))) r
+      pub no-cube-here : (p : ℕ) → same line end_line ≡ false → is_there (read_cube i o line) ≡ false → (h : Head) → Fits i o p h
+          → read_cubes (ends_line s) h [] first_cube (lines (drop at s)) ≡ bad_line (first_cube + cubes)
       no-cube-here p f g =
           stopped_here p
           (unread_stops (read_cube_line i o) x (by_end i o line false f ∙ ap as_cube (not_there i o line (read_cube i o line) g)))
@@ -138,35 +134,35 @@ module _ (s : List ℕ) (at i o : ℕ) where
           }
 
       -- ---- the last line
-      module _ (p : ℕ) {r : CubesRead} (h : Head) (f : Fits i o p h) (k : LastIs s e (first_cube + cubes) cubes p r) where
+      module _ (p : ℕ) {r : Result (Unit {0}) ℕ} (h : Head) (f : Fits i o p h) (k : LastIs s e (first_cube + cubes) cubes p r) where
         abbrev whole : Pla
         whole = record { inputs = h.inputs; outputs = h.outputs; cubes = w.passed }
 
         after_last : (b : Bool) → eqb cubes p ≡ b → (ls : List (List ℕ)) → lines (drop (e + 1) s) ≡ ls
             → CubesAre s at h (pick b (nothing_more (first_cube + cubes) whole ls) (bad_line (first_cube + cubes))) r
-        after_last false g ls q = k.other-count (eqb-false cubes p g)
+        after_last false g ls q = rw (k.other-count (eqb-false cubes p g)) refl
         after_last true g [] q =
             let m = eqb-true cubes p g in
             let past : length s ≤ e + 1 = elim (dec_lt (e + 1) (length s)) as (λ _. length s ≤ e + 1) [
               | yes l ↦ absurd (omega (arith, lines-some (drop (e + 1) s) (omega (arith, length-drop (e + 1) s)), ap length q))
               | no l ↦ omega arith
             ] in
-            record {
-              right = k.right m past;
+            rw (k.right m past)
+            (record {
               inputs_same = refl;
               outputs_same = refl;
               counted = sym w.counted ∙ m ∙ sym f.cubes_counted;
               end = start;
               stand = subst (λ (a : ℕ). Stand s a (length h.outputs) at w.passed start) (sym f.inputs_counted)
                   (subst (λ (a : ℕ). Stand s i a at w.passed start) (sym f.outputs_counted) w.stand);
-            }
+            })
         after_last true g (l ∷ ls) q =
             let m = eqb-true cubes p g in
             let more : e + 1 < length s = elim (dec_lt (e + 1) (length s)) as (λ _. e + 1 < length s) [
               | yes l ↦ l
               | no l ↦ absurd (omega (arith, ap length (sym q ∙ lines_past s (e + 1) (omega arith))))
             ] in
-            k.more_text m more ∙ ap CubesRead.Bad (add-one (first_cube + cubes))
+            rw (k.more_text m more) (ap bad_line (sym (add-one (first_cube + cubes))))
 
         pub last-here : same line end_line ≡ true → CubesAre s at h (read_cubes (ends_line s) h [] first_cube (lines (drop at s))) r
         unfolding at_last

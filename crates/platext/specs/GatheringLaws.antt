@@ -1,6 +1,6 @@
 -- So many names, each after a space, one after another: those passed stand before those that are still read, and the first ten
 -- are kept. Assumes nothing.
-use Rattle.std.specs.Prelude.{◌≡◌, refl, true, false, List, [], ◌∷◌, ◌++◌, ℕ, suc, ◌+◌, ◌-◌, ◌≤◌, ◌<◌, length, drop, set}
+use Rattle.std.specs.Prelude.{◌≡◌, refl, List, [], ◌∷◌, ◌++◌, ℕ, suc, ◌+◌, ◌-◌, ◌≤◌, ◌<◌, length, drop, set, Option, Some}
 use Rattle.std.proofs.Common.{sym, ap, subst, ◌∙◌, append-nil, arith, length-set}
 use Rattle.limits.specs.Limits.{max_inputs}
 use Rattle.text.specs.Bytes.{Read, found, bad, after, eat, space}
@@ -8,10 +8,7 @@ use Rattle.names.specs.Name.{Name, read_name}
 use Rattle.names.specs.Pack.{name_of}
 use Rattle.cursor.specs.declared.Cursor.{Cursor}
 use Rattle.cursor.specs.declared.NameList.{NameList}
-use Rattle.cursor.specs.declared.Moved.{Moved}
-use Rattle.cursor.specs.declared.NameRead.{NameRead}
-use Rattle.cursor.specs.Item.{At, MovedIs, NameIs, Kept, NamesAre}
-use Rattle.cursor.specs.MovedLaws.{moved_to, moved_nowhere}
+use Rattle.cursor.specs.Item.{At, NameIs, Kept, NamesAre}
 use Rattle.cursor.specs.GatheredLaws.{before, before_none, before_one, kept_more}
 use Rattle.platext.specs.Lines.{names_of}
 
@@ -19,13 +16,13 @@ use Rattle.platext.specs.Lines.{names_of}
 abbrev pub spaced : List ℕ → Read Name
 spaced s = after (eat (space ∷ []) s) (λ _ t. read_name t)
 
-module _ (l : List ℕ) (at : ℕ) (m : Moved) (h : MovedIs l m (eat (space ∷ []) (drop at l))) where
-  pub spaced_there : (g : Cursor) (r : NameRead) → m ≡ Moved.To g → NameIs l r (read_name (drop g.at l)) → NameIs l r (spaced (drop at l))
-  spaced_there g r e k =
-      subst (λ (x : Read (Unit {0})). NameIs l r (after x (λ _ t. read_name t))) (moved_to l m (eat (space ∷ []) (drop at l)) h g e).is k
+module _ (l : List ℕ) (at : ℕ) where
+  pub spaced_there : (g : Cursor) (r : Option (ℕ × Cursor)) → At l tt g (eat (space ∷ []) (drop at l)) → NameIs l r (read_name (drop g.at l))
+      → NameIs l r (spaced (drop at l))
+  spaced_there g r h k = subst (λ (x : Read (Unit {0})). NameIs l r (after x (λ _ t. read_name t))) h.is k
 
-  pub no_space : m ≡ Moved.Bad → bad ≡ spaced (drop at l)
-  no_space e = ap (λ (x : Read (Unit {0})). after x (λ _ t. read_name t)) (moved_nowhere l m (eat (space ∷ []) (drop at l)) h e)
+  pub no_space : bad ≡ eat (space ∷ []) (drop at l) → bad ≡ spaced (drop at l)
+  no_space e = ap (λ (x : Read (Unit {0})). after x (λ _ t. read_name t)) e
 
 after_after : {A B C : Type 0} (r : Read A) (f : A → List ℕ → Read B) (g : B → List ℕ → Read C)
     → after r (λ a s. after (f a s) g) ≡ after (after r f) g
@@ -82,18 +79,17 @@ module _ (l : List ℕ) (n start at count : ℕ) (kept : List ℕ) (g : Gatherin
         held = kept_more g.passed count v kept g.held g.sized;
       })
 
-  pub gathering_bad : (r : NameList) → count < n → bad ≡ spaced (drop at l) → r.ok ≡ false → NamesAre l r (names_of n (drop start l))
-  gathering_bad r h e f =
-      rw (next_name h
+  pub gathering_bad : count < n → bad ≡ spaced (drop at l) → bad ≡ names_of n (drop start l)
+  gathering_bad h e =
+      sym (next_name h
       ∙ ap (λ (x : Read Name). before g.passed (after x (λ m u. after (names_of (n - (count + 1)) u) (λ ns w. found (m ∷ ns) w)))) (sym e))
-      f
 
 pub gathering_all : (l : List ℕ) (n start at : ℕ) (r : NameList) → Gathering l n start at r.count r.names → n ≤ r.count
-    → at ≡ r.next.at → r.ok ≡ true → NamesAre l r (names_of n (drop start l))
+    → at ≡ r.next.at → NamesAre l (Some r) (names_of n (drop start l))
 unfolding names_of
-gathering_all l n start at r g h e k =
+gathering_all l n start at r g h e =
     let none_left : n - r.count ≡ 0 = omega arith in
     rw (g.is
     ∙ ap (λ (i : ℕ). before g.passed (names_of i (drop at l))) none_left
     ∙ ap (λ (ns : List Name). found ns (drop at l)) (append-nil g.passed))
-    (record { good = k; inside = omega (arith, g.inside); rest = ap (λ (i : ℕ). drop i l) (sym e); kept = g.held })
+    (record { inside = omega (arith, g.inside); rest = ap (λ (i : ℕ). drop i l) (sym e); kept = g.held })

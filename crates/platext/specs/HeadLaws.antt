@@ -1,19 +1,15 @@
 -- The lines before the cubes, one after another: where each is read the cubes are read next, and else the line is the bad one.
 -- Assumes nothing.
-use Rattle.std.specs.Prelude.{◌≡◌, refl, true, false, List, [], ℕ, drop}
-use Rattle.std.proofs.Common.{sym, ◌∙◌}
-use Rattle.bits.specs.LogicLaws.{true_false}
+use Rattle.std.specs.Prelude.{◌≡◌, refl, List, [], ℕ, drop}
+use Rattle.std.proofs.Common.{◌∙◌}
 use Rattle.text.specs.Line.{lines, ends_line}
 use Rattle.names.specs.Name.{Name}
 use Rattle.sheet.specs.Known.{Listed}
 use Rattle.platext.specs.Lines.{inputs_line, outputs_line, input_names_line, output_names_line, cubes_line, first_cube}
 use Rattle.platext.specs.Lines.{inputs_word, outputs_word, input_names_word, output_names_word, cubes_word, read_count, read_named}
 use Rattle.platext.specs.Text.{Answer, bad_line, next_line, read_cubes, read_lines}
-use Rattle.platext.specs.Reading.{Passed, Stopped, HeadIs}
-use Rattle.platext.specs.declared.HeadRead.{HeadRead}
-
-pub head_bad : (s : List ℕ) (r : HeadRead) (n : ℕ) → read_lines (ends_line s) (lines s) ≡ bad_line n → (r.ok ≡ false) × (r.line ≡ n) → HeadIs s r
-head_bad s r n e f = record { there = λ g. absurd (true_false (sym g ∙ f.0)); missing = λ g. rw f.1 e }
+use Rattle.platext.specs.Reading.{Passed, Stopped, HeadHere}
+use Rattle.platext.specs.declared.Header.{Header}
 
 module _ (s : List ℕ) where
   -- what each line is followed by
@@ -65,18 +61,13 @@ module _ (s : List ℕ) where
           pub no-count : Stopped s d (read_count cubes_word 0) → read_lines (ends_line s) (lines s) ≡ bad_line cubes_line
           no-count x = output-names-read ∙ x.is cubes_line (then_cubes ns ms)
 
-          pub head-right : (r : HeadRead) → Passed s d (read_count cubes_word 0) r.cubes r.next → r.ok ≡ true
-              → Listed ns r.inputs → Listed ms r.outputs → HeadIs s r
-          head-right r x e f g =
+          pub head-right : (r : Header) → Passed s d (read_count cubes_word 0) r.cubes r.next → Listed ns r.inputs → Listed ms r.outputs → HeadHere s r
+          head-right r x f g =
               record {
-                there = λ _.
-                    record {
-                      head = record { inputs = ns; outputs = ms; cubes = r.cubes };
-                      inputs_listed = f;
-                      outputs_listed = g;
-                      cubes_counted = refl;
-                      inside = x.inside;
-                      is = output-names-read ∙ x.is cubes_line (then_cubes ns ms);
-                    };
-                missing = λ h. absurd (true_false (sym e ∙ h));
+                head = record { inputs = ns; outputs = ms; cubes = r.cubes };
+                inputs_listed = f;
+                outputs_listed = g;
+                cubes_counted = refl;
+                inside = x.inside;
+                is = output-names-read ∙ x.is cubes_line (then_cubes ns ms);
               }

@@ -1,39 +1,35 @@
 -- One line after another: a line that is read lets the next one be read, and one that is not, or that no 0x0A ends, is the bad
 -- one. Assumes nothing.
-use Rattle.std.specs.Prelude.{◌≡◌, Bool, false, List, ℕ, ◌+◌, ◌-◌, ◌≤◌, ◌<◌, ltb, length, take, drop}
-use Rattle.std.proofs.Common.{sym, ap, ap₂, ◌∙◌, arith, ltb-true, ltb-false}
+use Rattle.std.specs.Prelude.{◌≡◌, Bool, List, ℕ, ◌+◌, ◌-◌, ◌≤◌, ◌<◌, length, take, drop}
+use Rattle.std.proofs.Common.{ap, ap₂, ◌∙◌, arith}
 use Rattle.std.proofs.Math.Option.{Option, some, none}
 use Rattle.bits.specs.Logic.{pick}
-use Rattle.bits.specs.LogicLaws.{true_false}
 use Rattle.text.specs.Line.{lines, ends_line}
 use Rattle.text.specs.LineEnd.{LineEnd}
 use Rattle.text.specs.LastLineLaws.{last_line, not-ended, line_here, is_ended}
 use Rattle.text.specs.LineCountLaws.{lines_past}
 use Rattle.platext.specs.Text.{Answer, bad_line, next_line, or_bad}
-use Rattle.platext.specs.Reading.{LineHere, NoLine, none_left, open_line, NextIs, Passed, Stopped}
-use Rattle.platext.specs.declared.Line.{Line}
+use Rattle.platext.specs.Reading.{LineHere, NoLine, none_left, open_line, Passed, Stopped}
 
 -- ---- the line at a place
-pub nothing_left : (s : List ℕ) (at : ℕ) (r : Line) → r.ok ≡ false → length s ≤ at → NextIs s at r
-nothing_left s at r e h = record { there = λ f. absurd (true_false (sym f ∙ e)); missing = λ f. none_left (lines_past s at h) }
+pub nothing_left : (s : List ℕ) (at : ℕ) → length s ≤ at → NoLine s at
+nothing_left s at h = none_left (lines_past s at h)
 
-pub next-found : (s : List ℕ) (at : ℕ) (r : Line) → at < length s → LineEnd s at r.end → r.ok ≡ ltb r.end (length s) → NextIs s at r
-next-found s at r h x o =
-    record {
-      there = λ f.
-          let l = ltb-true r.end (length s) (sym o ∙ f) in
-          let apart : r.end ≡ length s → ⊥ = λ g. omega arith in
-          record {
-            after-start = x.after-start;
-            inside = l;
-            is = line_here s at r.end h x apart;
-            ended = is_ended s at r.end h x apart;
-          };
-      missing = λ f.
-          let l = ltb-false r.end (length s) (sym o ∙ f) in
-          let e : r.end ≡ length s = omega (arith, x.inside) in
-          open_line (drop at s) (last_line s at r.end h x e) (not-ended s at r.end h x e);
-    }
+module _ (s : List ℕ) (at e : ℕ) (h : at < length s) (x : LineEnd s at e) where
+  pub ended-line : e < length s → LineHere s at e
+  ended-line l =
+      let apart : e ≡ length s → ⊥ = λ g. omega arith in
+      record {
+        after-start = x.after-start;
+        inside = l;
+        is = line_here s at e h x apart;
+        ended = is_ended s at e h x apart;
+      }
+
+  pub unended : length s ≤ e → NoLine s at
+  unended l =
+      let same : e ≡ length s = omega (arith, x.inside) in
+      open_line (drop at s) (last_line s at e h x same) (not-ended s at e h x same)
 
 -- ---- reading it
 module _ {A : Type 0} {s : List ℕ} {at : ℕ} (read : List ℕ → Option A) where

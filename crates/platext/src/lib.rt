@@ -110,7 +110,11 @@ fn names_in(l: &[u8], head: &[u8], n: usize) -> Option<NameList>
 {
     let c = Cursor::start().text(l, head)?;
     let list = names_of(l, c, n)?;
-    if list.next.at_end(l) { Some(list) } else { None }
+    if list.next.at_end(l) {
+        Some(list)
+    } else {
+        None
+    }
 }
 
 // The line from a place on, which begins with head and has so many names: the names, and where the next line starts.

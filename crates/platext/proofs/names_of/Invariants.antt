@@ -1,10 +1,6 @@
 -- `names_of`: one name after another. Assumes nothing.
-use Prim.Native.Nat.{◌-◌}
 use Rattle.platext.specs.GatheringLaws.{Gathering}
 use Rattle.platext.proofs.names_of.Given as goal
 
 abbrev pub invariant-loop-count : goal.invariant-loop-count
 invariant-loop-count l = Gathering l.l l.n l.initial.c.at l.c.at l.count l.names
-
-abbrev pub decreases-loop-count : goal.decreases-loop-count
-decreases-loop-count l = l.n - l.count

@@ -1,39 +1,48 @@
 -- `read_head`: the five lines in their order. Assumes nothing.
-use mathlib.Core.Path.{refl}
-use borrow.Author.Tests.{not-true, not-false}
-use Rattle.platext.specs.HeadLaws.{head_bad, no_inputs, no_outputs, no-input-names, no-output-names, no-count, head-right}
+use Rattle.platext.specs.HeadLaws.{no_inputs, no_outputs, no-input-names, no-output-names, no-count, head-right}
+use Rattle.platext.proofs.Refused.{refused}
 use Rattle.platext.proofs.read_head.Goals as goal
 
-pub returns-then-not-i : goal.returns-then-not-i
-returns-then-not-i c = head_bad _ _ _ (no_inputs _ (c.count_line-i.ensures.missing (not-true _ c.if-not-i.true))) c.no_head.ensures
+pub returns-in_err-i : goal.returns-in_err-i
+returns-in_err-i c =
+    let stop = no_inputs _ (rw c.in_err-i.ensures.ok_part at c.count_line.ensures) in
+    rw (refused _ _ _ c.from_residual.ensures.1 (rw c.in_err-i.ensures.ok_part at c.in_err-i.ensures.value)) stop
 
-pub returns-then-not-o : goal.returns-then-not-o
-returns-then-not-o c = let i = c.count_line-i.ensures.there (not-false _ c.if-not-i.false) in
-    head_bad _ _ _ (no_outputs _ i (c.count_line-o.ensures.missing (not-true _ c.if-not-o.true))) c.no_head-then-not-o.ensures
+pub returns-in_err-o : goal.returns-in_err-o
+returns-in_err-o c =
+    let i = rw c.in_ok-i.ensures.ok_part at c.count_line.ensures in
+    let stop = no_outputs _ i (rw c.in_err-o.ensures.ok_part at c.count_line-2.ensures) in
+    rw (refused _ _ _ c.from_residual-in_err-o.ensures.1 (rw c.in_err-o.ensures.ok_part at c.in_err-o.ensures.value)) stop
 
-pub returns-then-not-inputs : goal.returns-then-not-inputs
-returns-then-not-inputs c = let i = c.count_line-i.ensures.there (not-false _ c.if-not-i.false) in
-    let o = c.count_line-o.ensures.there (not-false _ c.if-not-o.false) in
-    head_bad _ _ _ (no-input-names _ i o (c.named_line-a.ensures.missing (not-true _ c.if-not-inputs.true))) c.no_head-then-not-inputs.ensures
+pub returns-in_err-inputs : goal.returns-in_err-inputs
+returns-in_err-inputs c =
+    let i = rw c.in_ok-i.ensures.ok_part at c.count_line.ensures in
+    let o = rw c.in_ok-o.ensures.ok_part at c.count_line-2.ensures in
+    let stop = no-input-names _ i o (rw c.in_err-inputs.ensures.ok_part at c.named_line.ensures) in
+    rw (refused _ _ _ c.from_residual-in_err-inputs.ensures.1 (rw c.in_err-inputs.ensures.ok_part at c.in_err-inputs.ensures.value)) stop
 
-pub returns-then-not-outputs : goal.returns-then-not-outputs
-returns-then-not-outputs c = let i = c.count_line-i.ensures.there (not-false _ c.if-not-i.false) in
-    let o = c.count_line-o.ensures.there (not-false _ c.if-not-o.false) in
-    let ns = c.named_line-a.ensures.there (not-false _ c.if-not-inputs.false) in
-    head_bad _ _ _ (no-output-names _ i o ns.passed (c.named_line-b.ensures.missing (not-true _ c.if-not-outputs.true))) c.no_head-then-not-outputs.ensures
+pub returns-in_err-outputs : goal.returns-in_err-outputs
+returns-in_err-outputs c =
+    let i = rw c.in_ok-i.ensures.ok_part at c.count_line.ensures in
+    let o = rw c.in_ok-o.ensures.ok_part at c.count_line-2.ensures in
+    let ns = rw c.in_ok-inputs.ensures.ok_part at c.named_line.ensures in
+    let stop = no-output-names _ i o ns.passed (rw c.in_err-outputs.ensures.ok_part at c.named_line-2.ensures) in
+    rw (refused _ _ _ c.from_residual-in_err-outputs.ensures.1 (rw c.in_err-outputs.ensures.ok_part at c.in_err-outputs.ensures.value)) stop
 
-pub returns-then-not-p : goal.returns-then-not-p
-returns-then-not-p c = let i = c.count_line-i.ensures.there (not-false _ c.if-not-i.false) in
-    let o = c.count_line-o.ensures.there (not-false _ c.if-not-o.false) in
-    let ns = c.named_line-a.ensures.there (not-false _ c.if-not-inputs.false) in
-    let ms = c.named_line-b.ensures.there (not-false _ c.if-not-outputs.false) in
-    let stop = no-count _ i o ns.passed ms.passed (c.count_line-p.ensures.missing (not-true _ c.if-not-p.true)) in
-    head_bad _ _ _ stop c.no_head-then-not-p.ensures
+pub returns-in_err-cubes : goal.returns-in_err-cubes
+returns-in_err-cubes c =
+    let i = rw c.in_ok-i.ensures.ok_part at c.count_line.ensures in
+    let o = rw c.in_ok-o.ensures.ok_part at c.count_line-2.ensures in
+    let ns = rw c.in_ok-inputs.ensures.ok_part at c.named_line.ensures in
+    let ms = rw c.in_ok-outputs.ensures.ok_part at c.named_line-2.ensures in
+    let stop = no-count _ i o ns.passed ms.passed (rw c.in_err-cubes.ensures.ok_part at c.count_line-3.ensures) in
+    rw (refused _ _ _ c.from_residual-in_err-cubes.ensures.1 (rw c.in_err-cubes.ensures.ok_part at c.in_err-cubes.ensures.value)) stop
 
 pub returns : goal.returns
-returns c = let i = c.count_line-i.ensures.there (not-false _ c.if-not-i.false) in
-    let o = c.count_line-o.ensures.there (not-false _ c.if-not-o.false) in
-    let ns = c.named_line-a.ensures.there (not-false _ c.if-not-inputs.false) in
-    let ms = c.named_line-b.ensures.there (not-false _ c.if-not-outputs.false) in
-    let p = c.count_line-p.ensures.there (not-false _ c.if-not-p.false) in
-    head-right _ i o ns.passed ms.passed _ p refl ns.listed ms.listed
+returns c =
+    let i = rw c.in_ok-i.ensures.ok_part at c.count_line.ensures in
+    let o = rw c.in_ok-o.ensures.ok_part at c.count_line-2.ensures in
+    let ns = rw c.in_ok-inputs.ensures.ok_part at c.named_line.ensures in
+    let ms = rw c.in_ok-outputs.ensures.ok_part at c.named_line-2.ensures in
+    let p = rw c.in_ok-cubes.ensures.ok_part at c.count_line-3.ensures in
+    head-right _ i o ns.passed ms.passed _ p ns.listed ms.listed

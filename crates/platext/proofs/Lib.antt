@@ -1,0 +1,2 @@
+-- Refused: which error a `?` hands on.
+pub mod Refused
