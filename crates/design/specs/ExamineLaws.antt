@@ -26,8 +26,17 @@ abbrev pub no_at : Question → ℕ → Refusal
 no_at e n = record { question = e; line = n }
 
 -- ---- after the last line
-pub at_place : (p q : Place) (d : Design) (n : ℕ) (e : Result Sheet Refusal) → p ≡ q → ExaminedIs (at_end (place_of q) d n) e → ExaminedIs (at_end (place_of p) d n) e
-at_place p q d n e t h = subst (λ (x : Place). ExaminedIs (at_end (place_of x) d n) e) (sym t) h
+pub at_end_over : (p : Place) (d : Design) (n : ℕ) (k : Sheet) → p ≡ Place.Over → Holds d k → ExaminedIs (at_end (place_of p) d n) (Ok k)
+at_end_over p d n k e h = rw e h
+
+pub at_end_early : (p : Place) (d : Design) (n : ℕ) → (p ≡ Place.Over → ⊥)
+    → ExaminedIs (at_end (place_of p) d n) (Err (no_at Question.Spelling n))
+at_end_early Place.Design d n o = record { number = refl; line = refl }
+at_end_early Place.In d n o = record { number = refl; line = refl }
+at_end_early Place.Bound d n o = record { number = refl; line = refl }
+at_end_early Place.Limit d n o = record { number = refl; line = refl }
+at_end_early Place.Out d n o = record { number = refl; line = refl }
+at_end_early Place.Over d n o = absurd (o refl)
 
 -- ---- question 1
 pub not-sized : (s : List ℕ) → false ≡ sized s → ExaminedIs (spec.examine s) (Err (no_at Question.SheetBytes 0))

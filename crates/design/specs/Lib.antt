@@ -7,3 +7,4 @@ pub mod Answer
 pub mod SizeLaws
 pub mod ExamineLaws
 pub mod TableLaws
+pub mod HandedLaws

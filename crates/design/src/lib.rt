@@ -26,19 +26,10 @@ fn plain(b: u8) -> bool
 pub fn sized(s: &[u8]) -> bool
     ensures { result ≡ spec.sized s.now }
 {
-    let n = s.len();
-    if n < 1 {
+    let Some((last, rest)) = s.split_last() else {
         return false;
-    }
-    if limits::MAX_SHEET < n {
-        return false;
-    }
-    for i in 0..n - 1 {
-        if !plain(s[i]) {
-            return false;
-        }
-    }
-    s[n - 1] == b'\n'
+    };
+    s.len() <= limits::MAX_SHEET && *last == b'\n' && rest.iter().all(|b| plain(*b))
 }
 
 // A sheet of which nothing is known.
@@ -87,6 +78,7 @@ pub fn examine(s: &[u8]) -> Result<Sheet, Refusal>
     let mut p = Place::Design;
     let mut at = 0;
     let mut n = 1;
+    // This goes from line to line, and counts no index up one by one.
     while at < s.len() {
         let e = text::line_end(s, at);
         let step = sheet::ask_line(p, k, &s[at..e]).map_err(|question| Refusal {
