@@ -9,7 +9,12 @@ use console::STDOUT;
 fn answer(sheet: &[u8], network: &[u8]) -> bool {
     match checker::check(sheet, network) {
         Ok(Comparison::Same) => io::write_all(STDOUT, b"same\n"),
-        Ok(Comparison::Differs { output, row }) => console::two(b"differs output ", output, b" row ", row),
+        Ok(Comparison::Differs { output, row }) => console::two(
+            b"differs output ",
+            output,
+            b" row ",
+            row,
+        ),
         Err(r) => console::two(b"refused ", r.question.number() as usize, b" line ", r.line),
     }
 }
