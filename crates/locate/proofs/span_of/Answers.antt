@@ -1,30 +1,13 @@
 use native.Mathlib.Omega.{arith}
-use borrow.Author.Rules.{rules}
 use Rattle.locate.specs.ReachedLaws.{reached_start, reached_hit, reached_more, reached_end}
 use Rattle.locate.proofs.span_of.Goals as goal
 
 pub loop-at-init : goal.loop-at-init
 loop-at-init c = (reached_start c.args.s.now, λ h. h)
 
-pub overflow_add-at : goal.overflow_add-at
-overflow_add-at c = let i = c.line_end-e.ensures.inside in
-    let g = c.type_inv.s in
-    search rules
-
 pub returns-then-number-line : goal.returns-then-number-line
 returns-then-number-line c = let a = c.args in
     reached_hit a.s.now c.loop-at.at c.loop-at.number c.line_end-e.result c.loop-at-test.true c.line_end-e.ensures c.loop-at.invariant.0 a.line c.if-number-line.true
-
-pub overflow_add-number : goal.overflow_add-number
-overflow_add-number c = let h = c.loop-at-test.true in
-    let f = c.loop-at.invariant.0.few in
-    let g = c.type_inv.s in
-    search rules
-
-pub loop-at-smaller : goal.loop-at-smaller
-loop-at-smaller c = let h = c.loop-at-test.true in
-    let a = c.line_end-e.ensures.after-start in
-    omega arith
 
 pub loop-at-preserved : goal.loop-at-preserved
 loop-at-preserved c = let a = c.args in

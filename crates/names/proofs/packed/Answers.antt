@@ -20,5 +20,3 @@ pub loop-i-preserved : goal.loop-i-preserved
 loop-i-preserved c = rw c.from.ensures (packed_more c.loop-i.invariant c.loop-i-test.true c.requires.2
     (omega (arith, c.type_inv.s (c.loop-i.i - 1))))
 
-pub returns : goal.returns
-returns c = packed_all c.loop-i.invariant c.loop-i-test.false

@@ -2,9 +2,6 @@
 use Rattle.cursor.specs.NextNameLaws.{bracket_ends, name_next, no_name_bad, other_bad}
 use Rattle.cursor.proofs.Cursor.next_name.Goals as goal
 
-pub name-requires : goal.name-requires
-name-requires c = c.in_ok-first.ensures.inside
-
 pub returns-in-Some : goal.returns-in-Some
 returns-in-Some c = bracket_ends _ _ c.in-Some.next c.in-Some.ensures
 
