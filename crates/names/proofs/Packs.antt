@@ -59,8 +59,3 @@ pub packed_room : {s : List ℕ} {a e v i : ℕ} → Packed s a e v i → a < i 
 packed_room {s} {a} {e} {v} {i} p l h =
     let few : e - i ≤ 7 = omega arith in
     lt_of_lt_of_le p.small (pow-le-pow_right {n = 256} (omega arith) few)
-
-pub packed_all : {s : List ℕ} {a e v i : ℕ} → Packed s a e v i → i ≤ a → v ≡ pack (take (e - a) (drop a s))
-packed_all {s} {a} {e} {v} {i} p l =
-    let here : i ≡ a = omega arith in
-    p.number ∙ ap (λ (k : ℕ). pack (take (e - k) (drop k s))) here

@@ -1,6 +1,6 @@
 use Prim.Native.Nat.{◌-◌}
 use native.Mathlib.Omega.{arith}
-use Rattle.names.proofs.Packs.{packed_none, packed_more, packed_room, packed_all}
+use Rattle.names.proofs.Packs.{packed_none, packed_more, packed_room}
 use Rattle.names.proofs.packed.Goals as goal
 
 pub loop-i-init : goal.loop-i-init
@@ -19,4 +19,3 @@ overflow_add-v c = omega (
 pub loop-i-preserved : goal.loop-i-preserved
 loop-i-preserved c = rw c.from.ensures (packed_more c.loop-i.invariant c.loop-i-test.true c.requires.2
     (omega (arith, c.type_inv.s (c.loop-i.i - 1))))
-
