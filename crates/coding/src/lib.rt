@@ -35,7 +35,7 @@ fn empty(dom: &[u64], v: usize) -> bool
     requires { (v ≤ max_vertices) × (length dom.now ≡ max_vertices) }
     ensures { result ≡ true → Empty dom.now v }
 {
-    dom[..v].contains(&0)
+    dom[..v].iter().any(|d| *d == 0)
 }
 
 // The sets lose full blocks, output by output, after vertex x took code c.
