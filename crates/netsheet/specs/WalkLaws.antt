@@ -6,7 +6,6 @@ use Rattle.std.proofs.Math.Path.{ap, ap₂, subst}
 use mathlib.Core.List.{List}
 use Rattle.std.proofs.lemmas.Bool.{lt-leb}
 use Rattle.bits.specs.Logic.{pick}
-use Rattle.bits.specs.LogicLaws.{true_false}
 use Rattle.limits.specs.Limits.{max_network}
 use Rattle.text.specs.Line.{lines, ends_line}
 use Rattle.text.specs.LineEnd.{LineEnd}
