@@ -44,6 +44,7 @@ pub fn covered(l: &[u8]) -> [u64; limits::TABLE_WORDS]
 {
     let mut t = rows::constant(true);
     for (i, b) in l.iter().enumerate() {
+        // A variable of its own, since a call may not answer an array into the one that it takes.
         let next = narrowed(t, *b, l.len() - 1 - i);
         t = next;
     }

@@ -140,6 +140,7 @@ fn skim_operands(s: &[u8], first: Cursor) -> Option<Cursor>
 {
     let second = first.byte(s, b' ')?;
     let mut past = skim(s, second)?;
+    // Only a space tells that a further operand comes: nothing is counted.
     while let Some(next) = past.byte(s, b' ') {
         past = skim(s, next)?;
     }
@@ -184,6 +185,7 @@ fn gate(s: &[u8], inputs: &[u64], g: Gate, c: Cursor, left: usize) -> Option<Par
 {
     let mut sum = nested(s, inputs, c, left)?;
     let mut next = sum.next.byte(s, b' ')?;
+    // Only a space tells that a further operand comes. One call reads them all, so that the stack has one place for its answer.
     loop {
         sum = joined(g, sum, nested(s, inputs, next, left)?);
         match sum.next.byte(s, b' ') {

@@ -164,6 +164,7 @@ fn read_cubes(s: &[u8], at: usize, i: usize, o: usize, p: usize) -> Result<(), u
 {
     let mut start = at;
     let mut cubes = 0;
+    // How many lines come is not known before the line `.e`.
     loop {
         let e = next_line(s, start).ok_or(FIRST_CUBE + cubes)?;
         if text::equal(&s[start..e], b".e") {
