@@ -289,6 +289,7 @@ impl Cursor {
         let mut c = self;
         let mut count: usize = 0;
         let mut names = [0u64; limits::MAX_INPUTS];
+        // The text says how many turns there are: it ends at the bracket, or where no name follows.
         loop {
             match c.next_name(s)? {
                 NextName::Name(v, next) => {
