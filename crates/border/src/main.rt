@@ -17,8 +17,9 @@ ghost use Rattle.cache.specs.Cache.{Honest};
 ghost use Rattle.readingsets.specs.Choice.{max_given};
 ghost use Rattle.border.specs.Line.{line_length, ZeroFirst};
 
-use console::{STDERR, STDIN, STDOUT};
+use console::STDIN;
 use limits::{LABELS, MAX_VERTICES, SEARCH_OUTPUTS};
+use problem::Answer;
 use readingsets::MAX_GIVEN;
 use std::time::CpuClock;
 
@@ -54,20 +55,10 @@ const HALF: u16 = 32;
 fn digit(b: u8) -> u8
     ensures { result ≤ 9 }
 {
-    if b < b'0' {
-        return 0;
+    match b {
+        b'0'..=b'9' => b - b'0',
+        _ => 0,
     }
-    if b > b'9' {
-        return 0;
-    }
-    b - b'0'
-}
-
-// n, or the most where it is more.
-fn at_most(n: u8, most: u8) -> u8
-    ensures { result ≤ most }
-{
-    if n < most { n } else { most }
 }
 
 // The number of 5 digits that a byte stands for: @ is 0, A is 1, and so on.
@@ -83,10 +74,8 @@ fn labels(line: &[u8]) -> [u8; LABELS]
     ensures { Classes result }
 {
     let mut cl = [0u8; LABELS];
-    let mut i = 0;
-    while i < LABELS {
+    for i in 0..LABELS {
         cl[i] = letter(line[i + CLASSES]);
-        i += 1;
     }
     cl
 }
@@ -97,12 +86,10 @@ fn given(line: &[u8]) -> [u16; MAX_VERTICES]
     ensures { length result ≡ max_vertices }
 {
     let mut r = [0u16; MAX_VERTICES];
-    let mut x = 0;
-    while x < MAX_VERTICES {
-        let low = letter(line[x * 2 + GIVEN]) as u16;
-        let high = letter(line[x * 2 + GIVEN + 1]) as u16;
+    for x in 0..MAX_VERTICES {
+        let low = u16::from(letter(line[x * 2 + GIVEN]));
+        let high = u16::from(letter(line[x * 2 + GIVEN + 1]));
         r[x] = high * HALF + low;
-        x += 1;
     }
     r
 }
@@ -121,16 +108,10 @@ fn known_digits(line: &[u8]) -> Known
 {
     let mut kn: u32 = 0;
     let mut val: u32 = 0;
-    let mut x: usize = 0;
-    while x < MAX_VERTICES {
+    for x in 0..MAX_VERTICES {
         let b = line[x + KNOWN];
-        if b != b'.' {
-            kn = kn | (1u32 << x);
-        }
-        if b == b'1' {
-            val = val | (1u32 << x);
-        }
-        x += 1;
+        kn |= u32::from(b != b'.') << x;
+        val |= u32::from(b == b'1') << x;
     }
     if kn == 0 {
         return Known { kn: 0, val: 0 };
@@ -146,10 +127,8 @@ fn budgets(line: &[u8]) -> [u8; SEARCH_OUTPUTS]
     requires { length line.now ≡ line_length }
 {
     let mut r = [0u8; SEARCH_OUTPUTS];
-    let mut i = 0;
-    while i < SEARCH_OUTPUTS {
+    for i in 0..SEARCH_OUTPUTS {
         r[i] = digit(line[i + BUDGETS]);
-        i += 1;
     }
     r
 }
@@ -158,15 +137,11 @@ fn budgets(line: &[u8]) -> [u8; SEARCH_OUTPUTS]
 fn fitting(line: &[u8]) -> u8
     requires { length line.now ≡ line_length }
 {
-    let mut r: u64 = 0;
-    let mut o: usize = 0;
-    while o < SEARCH_OUTPUTS {
-        if line[o + BUDGETS] != b'-' {
-            r = cells::with(r, o as u8);
-        }
-        o += 1;
+    let mut r: u8 = 0;
+    for o in 0..SEARCH_OUTPUTS {
+        r |= u8::from(line[o + BUDGETS] != b'-') << o;
     }
-    (r % OUTPUT_SETS) as u8
+    r
 }
 
 // The number of 2 digits at some place of a line, or the most where it is more.
@@ -174,9 +149,7 @@ fn number(line: &[u8], at: usize, most: u8) -> u8
     requires { (length line.now ≡ line_length) × (at + 1 < line_length) }
     ensures { result ≤ most }
 {
-    let tens = digit(line[at]);
-    let ones = digit(line[at + 1]);
-    at_most(tens * 10 + ones, most)
+    (digit(line[at]) * 10 + digit(line[at + 1])).min(most)
 }
 
 // The processor time so far in microseconds. 0 where it is not known.
@@ -197,7 +170,7 @@ fn asked(line: &[u8]) -> seeking::Problem
     seeking::Problem {
         budgets,
         vertices: number(line, VERTICES, MAX_VERTICES as u8) as usize,
-        outputs: at_most(digit(line[OUTPUTS]), SEARCH_OUTPUTS as u8) as usize,
+        outputs: digit(line[OUTPUTS]).min(SEARCH_OUTPUTS as u8) as usize,
         cells: 0,
         tables: number(line, TABLES, MAX_GIVEN),
         kn: k.kn,
@@ -205,85 +178,45 @@ fn asked(line: &[u8]) -> seeking::Problem
     }
 }
 
-// Writes the name of a line to a file, and answers whether it could.
-fn put_name(line: &[u8], fd: i32) -> bool
+// Writes the name of a line.
+fn put_name(to: &impl Print, line: &[u8]) -> std::io::Result<()>
     requires { length line.now ≡ line_length }
 {
-    let name = [line[0], line[1], line[2], b' '];
-    io::write_all(fd, &name)
+    to.write_all(&[line[0], line[1], line[2], b' '])
 }
 
 // Writes the nodes and the time of the search with some number of cells.
-fn put_step(line: &[u8], cells: u8, nodes: u64, time: u64)
+fn put_step(rt: &HostRuntime, line: &[u8], cells: u8, nodes: u64, time: u64) -> std::io::Result<()>
     requires { length line.now ≡ line_length }
 {
-    put_name(line, STDERR);
-    io::write_all(STDERR, b"cells ");
-    io::print_decimal(STDERR, cells as u64);
-    io::write_all(STDERR, b" nodes ");
-    io::print_decimal(STDERR, nodes);
-    io::write_all(STDERR, b" us ");
-    io::print_decimal(STDERR, time);
-    io::write_all(STDERR, b"\n");
+    put_name(&rt.stderr(), line)?;
+    eprintln!(rt; "cells {cells} nodes {nodes} us {time}")
 }
 
 // Writes rows and codes: a row in hexadecimal digits, a code as a byte, 0 being 0.
-fn put_core(line: &[u8], rows: [u16; SEARCH_OUTPUTS], codes: [u8; MAX_VERTICES])
+fn put_core(
+    rt: &HostRuntime,
+    line: &[u8],
+    rows: [u16; SEARCH_OUTPUTS],
+    codes: [u8; MAX_VERTICES],
+) -> std::io::Result<()>
     requires { length line.now ≡ line_length }
 {
-    put_name(line, STDERR);
-    io::write_all(STDERR, b"core ");
-    let mut o: usize = 0;
-    while o < SEARCH_OUTPUTS {
-        io::print_hex(STDERR, rows[o] as u64, 4);
-        io::write_all(STDERR, b" ");
-        o += 1;
+    put_name(&rt.stderr(), line)?;
+    eprint!(rt; "core ")?;
+    for row in rows {
+        eprint!(rt; "{row:04x} ")?;
     }
-    let mut text = [0u8; MAX_VERTICES];
-    let mut x: usize = 0;
-    while x < MAX_VERTICES {
-        text[x] = b'0' + codes[x] % limits::MAX_CODES as u8;
-        x += 1;
-    }
-    io::write_all(STDERR, &text);
-    io::write_all(STDERR, b"\n");
+    rt.stderr()
+        .write_all(&codes.map(|code| b'0' + code % limits::MAX_CODES as u8))?;
+    eprintln!(rt; "")
 }
 
 // The fewest open cells that there may be: one where digits of it are known.
 fn least_cells(kn: u32) -> u8
     ensures { (result ≤ 1) × ((kn ≡ 0) ⊎ (result ≡ 1)) }
 {
-    if kn == 0 { 0 } else { 1 }
-}
-
-// Whether two lists of labels are the same.
-fn same_labels(a: &[u8], b: &[u8]) -> bool
-    requires { (length a.now ≡ label_count) × (length b.now ≡ label_count) }
-    ensures { result ≡ true → a.now ≡ b.now }
-{
-    let mut i = 0;
-    while i < LABELS {
-        if a[i] != b[i] {
-            return false;
-        }
-        i += 1;
-    }
-    true
-}
-
-// Whether two lists of what given tables are at the vertices are the same.
-fn same_tables(a: &[u16], b: &[u16]) -> bool
-    requires { (length a.now ≡ max_vertices) × (length b.now ≡ max_vertices) }
-    ensures { result ≡ true → a.now ≡ b.now }
-{
-    let mut i = 0;
-    while i < MAX_VERTICES {
-        if a[i] != b[i] {
-            return false;
-        }
-        i += 1;
-    }
-    true
+    u8::from(kn != 0)
 }
 
 // The problem that the cache is about, but for its budgets: the labels of the outputs that are asked about, the given tables,
@@ -304,15 +237,14 @@ fn recall(past: Past, labels: &[u8], tables: &[u16], vertices: usize, mem: &mut 
         × Honest past.labels past.tables past.kn past.val past.vertices mem.old }
     ensures { (kn val : ℕ) → Honest labels.now tables.now kn val vertices mem.new }
 {
-    if past.vertices == vertices {
-        if same_labels(&past.labels, labels) {
-            if same_tables(&past.tables, tables) {
-                cache::keep_unread(mem);
-                return;
-            }
-        }
+    if past.vertices == vertices
+        && past.labels.as_slice() == labels
+        && past.tables.as_slice() == tables
+    {
+        cache::keep_unread(mem);
+    } else {
+        cache::clear(mem);
     }
-    cache::clear(mem);
 }
 
 // Every output has a budget, or none has.
@@ -320,11 +252,10 @@ fn fit(all: bool) -> u8 {
     if all { (OUTPUT_SETS - 1) as u8 } else { 0 }
 }
 
-// Whether some cells serve and the fewest of them, the nodes of the search and its microseconds.
+// The fewest cells that serve, where some do, the nodes of the search and its microseconds.
 #[derive(Drop)]
-struct Answer {
-    found: bool,
-    cells: u8,
+struct Solved {
+    cells: Option<u8>,
     nodes: u64,
     time: u64,
 }
@@ -341,68 +272,64 @@ fn solve(
     m: usize,
     fits: u8,
     mem: &mut [u16],
-) -> Answer
+) -> Solved
     requires { (length line.now ≡ line_length) × Classes labels.now × (length tables.now ≡ max_vertices) × (asks.vertices ≤ max_vertices) × (asks.outputs ≤ search_outputs)
         × (asks.tables ≤ max_given) × ZeroFirst asks.kn asks.val × (m ≤ search_outputs) × ((o : ℕ) → o < m → item by o < search_outputs)
         × Honest labels.now tables.now asks.kn asks.val asks.vertices mem.old }
     ensures { Honest labels.now tables.now asks.kn asks.val asks.vertices mem.new }
 {
-    let most = at_most(digit(line[LIMIT]), cells::MAX_CELLS);
+    let most = digit(line[LIMIT]).min(cells::MAX_CELLS);
     let mut nodes: u64 = 0;
     let mut time: u64 = 0;
-    let mut u = least_cells(asks.kn);
-    while u <= most {
-        let mut p = asks;
-        p.cells = u;
+    for u in least_cells(asks.kn)..=most {
         let start = microseconds(rt);
+        let p = seeking::Problem { cells: u, ..asks };
         let c = seeking::seek_where(labels, tables, mem, p, fits, nodes);
-        let took = std::num::wrapping_sub_u64(microseconds(rt), start);
-        put_step(line, u, std::num::wrapping_sub_u64(c.nodes, nodes), took);
+        let took = microseconds(rt).wrapping_sub(start);
+        let _ = put_step(rt, line, u, c.nodes.wrapping_sub(nodes), took);
         nodes = c.nodes;
-        time = std::num::wrapping_add_u64(time, took);
-        if c.ok {
-            let rows = c.rows;
-            let codes = c.codes;
-            put_core(line, dominance::placed(rows, by, m), codes);
-            return Answer {
-                found: true,
-                cells: u,
+        time = time.wrapping_add(took);
+        if let Answer::Found(core) = c.answer {
+            let _ = put_core(rt, line, dominance::placed(core.rows, by, m), core.codes);
+            return Solved {
+                cells: Some(u),
                 nodes,
                 time,
             };
         }
-        u += 1;
     }
-    Answer {
-        found: false,
-        cells: 0,
+    Solved {
+        cells: None,
         nodes,
         time,
     }
 }
 
-// Writes the fewest cells.
-fn put_cells(found: bool, cells: u8) -> bool {
-    if found {
-        io::print_decimal(STDOUT, cells as u64)
-    } else {
-        io::write_all(STDOUT, b"inf")
+// Writes a line's name, the fewest cells and the nodes.
+fn put_cells(rt: &HostRuntime, line: &[u8], cells: Option<u8>, nodes: u64) -> std::io::Result<()>
+    requires { length line.now ≡ line_length }
+{
+    put_name(rt, line)?;
+    match cells {
+        Some(u) => println!(rt; "{u} {nodes}"),
+        None => println!(rt; "inf {nodes}"),
     }
 }
 
 // Writes a line's name and the answer to its problem.
-fn put_answer(line: &[u8], a: Answer)
+fn put_answer(rt: &HostRuntime, line: &[u8], a: Solved)
     requires { length line.now ≡ line_length }
 {
-    let is_written = put_name(line, STDOUT)
-        && put_cells(a.found, a.cells)
-        && io::write_all(STDOUT, b" ")
-        && io::print_decimal(STDOUT, a.nodes)
-        && io::write_all(STDOUT, b"\n");
-    console::tell(b"border", is_written);
-    put_name(line, STDERR);
-    io::print_decimal(STDERR, a.time);
-    io::write_all(STDERR, b" us\n");
+    console::tell(rt, "border", put_cells(rt, line, a.cells, a.nodes));
+    let _ = put_time(rt, line, a.time);
+}
+
+// Writes the time in all.
+fn put_time(rt: &HostRuntime, line: &[u8], time: u64) -> std::io::Result<()>
+    requires { length line.now ≡ line_length }
+{
+    put_name(&rt.stderr(), line)?;
+    eprintln!(rt; "{time} us")
 }
 
 // Answers the problem of a line after that of past, which the cache is about. The problem that it is about then.
@@ -412,31 +339,24 @@ fn report(rt: &HostRuntime, line: &[u8], past: Past, mem: &mut [u16]) -> Past
 {
     let whole = asked(line);
     let m = whole.outputs;
-    let v = whole.vertices;
-    let all_budgets = whole.budgets;
-    let cl = labels(line);
+    let vertices = whole.vertices;
     let tables = given(line);
-    let kept = dominance::kept(&cl, all_budgets, v, m);
-    let classes = kept.labels;
+    let kept = dominance::kept(&labels(line), whole.budgets, vertices, m);
+    let labels = kept.labels;
     let budgets = kept.budgets;
-    let by = kept.by;
-    recall(past, &classes, &tables, v, mem);
+    recall(past, &labels, &tables, vertices, mem);
     let asks = seeking::Problem {
         budgets,
-        vertices: v,
         outputs: kept.outputs,
-        cells: 0,
-        tables: whole.tables,
-        kn: whole.kn,
-        val: whole.val,
+        ..whole
     };
     let fits = fit(seeking::all_fit(fitting(line), m));
-    let a = solve(rt, line, &classes, &tables, asks, by, m, fits, mem);
-    put_answer(line, a);
+    let a = solve(rt, line, &labels, &tables, asks, kept.by, m, fits, mem);
+    put_answer(rt, line, a);
     Past {
-        labels: classes,
+        labels,
         tables,
-        vertices: v,
+        vertices,
         kn: whole.kn,
         val: whole.val,
     }
@@ -452,14 +372,10 @@ fn main(rt: HostRuntime) {
         kn: 0,
         val: 0,
     };
-    let mut i: usize = 0;
-    while i < LINES {
-        let got = io::read_full(STDIN, &mut line);
-        if got < LINE {
+    for _ in 0..LINES {
+        if io::read_full(STDIN, &mut line) < LINE {
             return;
         }
-        let next = report(&rt, &line, past, &mut mem);
-        past = next;
-        i += 1;
+        past = report(&rt, &line, past, &mut mem);
     }
 }

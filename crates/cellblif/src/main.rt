@@ -5,28 +5,32 @@
 ghost use Rattle.std.specs.Prelude.{◌≤◌, length};
 ghost use Rattle.limits.specs.Limits.{max_blif};
 
-// Exports a network, with a buffer for its text. Answers whether the answer was written.
-fn answer(sheet: &[u8], network: &[u8], buffer: &mut [u8]) -> bool
+// Exports a network, with a buffer for its text, and prints the answer.
+fn answer(
+    rt: &impl Print,
+    sheet: &[u8],
+    network: &[u8],
+    buffer: &mut [u8],
+) -> std::io::Result<()>
     requires { max_blif ≤ length buffer.old }
 {
     match blif::export(sheet, network, buffer) {
-        Ok(length) => console::show(buffer, length),
-        Err(r) => console::two(b"refused ", r.question.number() as usize, b" line ", r.line),
+        Ok(length) => console::show(rt, buffer, length),
+        Err(refusal) => console::refused(rt, refusal),
     }
 }
 
 // The two sheets of a text, as answer has it.
-fn both(s: &[u8], buffer: &mut [u8]) -> bool
+fn both(rt: &impl Print, s: &[u8], buffer: &mut [u8]) -> std::io::Result<()>
     requires { max_blif ≤ length buffer.old }
 {
     let p = console::two_sheets(s);
-    answer(&s[..p.end], &s[p.start..], buffer)
+    answer(rt, &s[..p.end], &s[p.start..], buffer)
 }
 
-fn main() {
+fn main(rt: HostRuntime) {
     let mut text = [0u8; console::BOTH_SHEETS];
     let n = console::read_text(&mut text);
     let mut buffer = [0u8; limits::MAX_BLIF];
-    let is_written = both(&text[..n], &mut buffer);
-    console::tell(b"cellblif", is_written);
+    console::tell(&rt, "cellblif", both(&rt, &text[..n], &mut buffer));
 }

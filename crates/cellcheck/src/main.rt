@@ -3,31 +3,24 @@
 #![tactic(auto)]
 
 use comparing::Comparison;
-use console::STDOUT;
 
-// Compares two sheets. Answers whether the answer was written.
-fn answer(sheet: &[u8], network: &[u8]) -> bool {
+// Compares two sheets, and prints the answer.
+fn answer(rt: &impl Print, sheet: &[u8], network: &[u8]) -> std::io::Result<()> {
     match checker::check(sheet, network) {
-        Ok(Comparison::Same) => io::write_all(STDOUT, b"same\n"),
-        Ok(Comparison::Differs { output, row }) => console::two(
-            b"differs output ",
-            output,
-            b" row ",
-            row,
-        ),
-        Err(r) => console::two(b"refused ", r.question.number() as usize, b" line ", r.line),
+        Ok(Comparison::Same) => println!(rt; "same"),
+        Ok(Comparison::Differs { output, row }) => println!(rt; "differs output {output} row {row}"),
+        Err(refusal) => console::refused(rt, refusal),
     }
 }
 
 // The two sheets of a text, as answer has it.
-fn both(s: &[u8]) -> bool {
+fn both(rt: &impl Print, s: &[u8]) -> std::io::Result<()> {
     let p = console::two_sheets(s);
-    answer(&s[..p.end], &s[p.start..])
+    answer(rt, &s[..p.end], &s[p.start..])
 }
 
-fn main() {
+fn main(rt: HostRuntime) {
     let mut text = [0u8; console::BOTH_SHEETS];
     let n = console::read_text(&mut text);
-    let is_written = both(&text[..n]);
-    console::tell(b"cellcheck", is_written);
+    console::tell(&rt, "cellcheck", both(&rt, &text[..n]));
 }

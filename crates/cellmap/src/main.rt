@@ -3,18 +3,19 @@
 // dropped. The buffer holds every network sheet, so question 9 is always answered yes.
 #![tactic(auto)]
 
-// Maps a sheet, with a buffer for its network. Answers whether the answer was written.
-fn answer(sheet: &[u8], buffer: &mut [u8]) -> bool {
+use mapper::Mapped;
+
+// Maps a sheet, with a buffer for its network, and prints the answer.
+fn answer(rt: &impl Print, sheet: &[u8], buffer: &mut [u8]) -> std::io::Result<()> {
     match mapper::map(sheet, buffer) {
-        Ok(m) => console::show(buffer, m.length),
-        Err(r) => console::two(b"refused ", r.question.number() as usize, b" line ", r.line),
+        Ok(Mapped { length, .. }) => console::show(rt, buffer, length),
+        Err(refusal) => console::refused(rt, refusal),
     }
 }
 
-fn main() {
+fn main(rt: HostRuntime) {
     let mut sheet = [0u8; limits::MAX_SHEET + 1];
     let n = console::read_text(&mut sheet);
     let mut network = [0u8; limits::MAX_NETWORK];
-    let is_written = answer(&sheet[..n], &mut network);
-    console::tell(b"cellmap", is_written);
+    console::tell(&rt, "cellmap", answer(&rt, &sheet[..n], &mut network));
 }

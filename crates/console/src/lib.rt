@@ -1,17 +1,17 @@
 // What the programs do with standard input and output: a text is read to its end, two sheets in one text are told apart, and
-// texts and answers with two numbers are printed. Each function that writes answers whether it could, and tell says so on standard
-// error where it could not. Rests on the kit's io, and on limits for how long sheets are.
+// texts and refusals are printed. Each function that writes answers whether it could, and tell says so on standard
+// error where it could not. Rests on the kit's io for reading, since std has no call that fills a buffer as far as the input goes
+// and says how far that is, and on limits for how long sheets are.
 #![tactic(auto)]
 
 ghost use Rattle.std.specs.Prelude.{◌≤◌, length};
 ghost use Rattle.io.specs.Counts.{IsPrefixLen};
 
-// The file descriptors of the standard streams, as POSIX numbers them.
+use refusal::Refusal;
+use std::io::ErrorKind;
+
+// The file descriptor of standard input, as POSIX numbers it.
 pub const STDIN: i32 = 0;
-
-pub const STDOUT: i32 = 1;
-
-pub const STDERR: i32 = 2;
 
 // How much is read at a time of what is dropped.
 const AT_A_TIME: usize = 4096;
@@ -22,12 +22,13 @@ fn read_on() -> bool {
     io::read_full(STDIN, &mut rest) == AT_A_TIME
 }
 
-// Reads standard input to its end. A loop has to end, and nothing says that the input does: the turns are counted down from
+// Reads standard input to its end. A loop has to end, and nothing says that the input does: the turns are counted up to
 // a number that no input needs.
 fn drain() {
-    let mut turns = u64::MAX;
-    while turns > 0 && read_on() {
-        turns -= 1;
+    for _ in 0..u64::MAX {
+        if !read_on() {
+            return;
+        }
     }
 }
 
@@ -59,40 +60,34 @@ pub struct Sheets {
 pub fn two_sheets(s: &[u8]) -> Sheets
     ensures { (result.end ≤ result.start) × (result.start ≤ length s.now) }
 {
-    let mut i = 0;
-    while i < s.len() {
-        if s[i] == 0 {
-            return Sheets {
-                end: i,
-                start: i + 1,
-            };
-        }
-        i += 1;
+    match s.iter().position(|&b| b == 0) {
+        Some(end) => Sheets {
+            end,
+            start: end + 1,
+        },
+        None => Sheets {
+            end: s.len(),
+            start: s.len(),
+        },
     }
-    Sheets { end: i, start: i }
 }
 
-// Prints the first bytes of a text, where it has so many. Answers whether they were written.
-pub fn show(text: &[u8], length: usize) -> bool {
-    if length <= text.len() {
-        return io::write_all(STDOUT, &text[..length]);
+// Prints the first bytes of a text, where it has so many.
+pub fn show(rt: &impl Print, text: &[u8], length: usize) -> std::io::Result<()> {
+    match text.get(..length) {
+        Some(first) => rt.write_all(first),
+        None => Err(ErrorKind::InvalidInput.into()),
     }
-    false
 }
 
-// Prints a line of two numbers, each after a text. Answers whether all of it was written.
-pub fn two(first: &[u8], a: usize, second: &[u8], b: usize) -> bool {
-    io::write_all(STDOUT, first)
-        && io::print_decimal(STDOUT, a as u64)
-        && io::write_all(STDOUT, second)
-        && io::print_decimal(STDOUT, b as u64)
-        && io::write_all(STDOUT, b"\n")
+// Prints the number of the question that was answered "no", and the line.
+pub fn refused(rt: &impl Print, refusal: Refusal) -> std::io::Result<()> {
+    println!(rt; "refused {} line {}", refusal.question.number(), refusal.line)
 }
 
 // Tells on standard error where a program's answer was not written in full: a program here has no exit status that could say so.
-pub fn tell(program: &[u8], is_written: bool) {
-    if !is_written {
-        io::write_all(STDERR, program);
-        io::write_all(STDERR, b": the answer could not be written\n");
+pub fn tell(rt: &impl Eprint, program: &str, answer: std::io::Result<()>) {
+    if answer.is_err() {
+        let _ = eprintln!(rt; "{program}: the answer could not be written");
     }
 }

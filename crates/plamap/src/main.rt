@@ -3,28 +3,29 @@
 // part is refused on that line either way. The buffer holds every network sheet, so question 9 is always answered yes.
 #![tactic(auto)]
 
+use mapper::Mapped;
+
 // The bytes of a PLA text, the one between the texts, those of the second text, and one by which a longer text is seen to be too
 // long.
 const BOTH_TEXTS: usize = limits::MAX_PLA + 1 + limits::MAX_SHEET + 1;
 
-// Maps a panel, with a buffer for its network. Answers whether the answer was written.
-fn answer(pla: &[u8], board: &[u8], buffer: &mut [u8]) -> bool {
+// Maps a panel, with a buffer for its network, and prints the answer.
+fn answer(rt: &impl Print, pla: &[u8], board: &[u8], buffer: &mut [u8]) -> std::io::Result<()> {
     match pla::map(pla, board, buffer) {
-        Ok(m) => console::show(buffer, m.length),
-        Err(r) => console::two(b"refused ", r.question.number() as usize, b" line ", r.line),
+        Ok(Mapped { length, .. }) => console::show(rt, buffer, length),
+        Err(refusal) => console::refused(rt, refusal),
     }
 }
 
 // The two texts of a text, as answer has it.
-fn both(s: &[u8]) -> bool {
+fn both(rt: &impl Print, s: &[u8]) -> std::io::Result<()> {
     let p = console::two_sheets(s);
     let mut network = [0u8; limits::MAX_NETWORK];
-    answer(&s[..p.end], &s[p.start..], &mut network)
+    answer(rt, &s[..p.end], &s[p.start..], &mut network)
 }
 
-fn main() {
+fn main(rt: HostRuntime) {
     let mut text = [0u8; BOTH_TEXTS];
     let n = console::read_text(&mut text);
-    let is_written = both(&text[..n]);
-    console::tell(b"plamap", is_written);
+    console::tell(&rt, "plamap", both(&rt, &text[..n]));
 }

@@ -5,10 +5,12 @@
 // of them a mark that it never writes, so a byte that it should have left alone shows.
 #![tactic(auto)]
 
-ghost use Rattle.std.specs.Prelude.{◌≡◌, ◌≤◌, ◌<◌, length};
+ghost use Rattle.std.specs.Prelude.{◌≡◌, ℕ, ◌≤◌, ◌<◌, length, IfSome};
 
-use console::{STDIN, STDOUT};
-use design::Tabled;
+use arrayvec::ArrayVec;
+use console::STDIN;
+use refusal::Refusal;
+use std::io::{Result, Write};
 
 // The most bytes of standard input.
 const MAX_TEXT: usize = 655360;
@@ -22,253 +24,118 @@ const MAX_LINE: usize = 4096;
 // What stands in the buffer before the call.
 const MARK: u8 = b'.';
 
-// How a block went, whether that was written, and where the next one begins.
-#[derive(Drop)]
-struct Ran {
-    ok: bool,
-    is_written: bool,
-    next: usize,
+// Word k of a line, counted from 0, or nothing where it has no such word.
+fn word(line: &[u8], k: usize) -> &[u8] {
+    line.split(|&b| b == b' ').nth(k).unwrap_or(b"")
 }
 
-// What stands from a up to e, or nothing where t has no such part.
-fn part(t: &[u8], a: usize, e: usize) -> &[u8] {
-    if e <= t.len() {
-        if a <= e {
-            return &t[a..e];
-        }
-    }
-    &t[..0]
+// What must come, all that follows the fourth word.
+fn expected(line: &[u8]) -> &[u8] {
+    line.splitn(5, |&b| b == b' ').nth(4).unwrap_or(b"")
 }
 
-// The place of the space that ends word k of a line, counted from 0, or the line's end.
-fn word_end(l: &[u8], k: usize) -> usize
-    ensures { result ≤ length l.now }
-{
-    let mut left = k;
-    let mut i = 0;
-    while i < l.len() {
-        if l[i] == b' ' {
-            if left == 0 {
-                return i;
-            }
-            left -= 1;
-        }
-        i += 1;
-    }
-    i
-}
-
-// What follows word k of a line.
-fn past(l: &[u8], k: usize) -> &[u8] {
-    let e = word_end(l, k);
-    part(l, e + 1, l.len())
-}
-
-// Word k of a line, for k above 0.
-fn word(l: &[u8], k: usize) -> &[u8]
-    requires { 0 < k }
-{
-    let rest = past(l, k - 1);
-    part(rest, 0, word_end(rest, 0))
-}
-
-// What a digit stands for.
-fn digit(b: u8) -> usize
-    ensures { result ≤ 9 }
-{
+// What a digit stands for, and 0 for another byte.
+fn digit(b: u8) -> usize {
     match b {
-        b'0'..=b'9' => (b - b'0') as usize,
+        b'0'..=b'9' => usize::from(b - b'0'),
         _ => 0,
     }
 }
 
-// Ten times a number and a digit more, or the largest number where that is too large.
-fn grown(n: usize, d: usize) -> usize
-    requires { d ≤ 9 }
+// The number that a word spells, or the largest number where that is too large.
+fn number(word: &[u8]) -> usize {
+    word.iter()
+        .fold(0usize, |n, &b| n.saturating_mul(10).saturating_add(digit(b)))
+}
+
+// The first line of a text, and what follows it.
+fn first_line(t: &[u8]) -> (&[u8], &[u8])
+    ensures { 0 < length t.now → length result.1.now < length t.now }
 {
-    if n <= (usize::MAX - d) / 10 {
-        n * 10 + d
-    } else {
-        usize::MAX
+    match t.iter().position(|&b| b == b'\n') {
+        Some(e) => (&t[..e], &t[e + 1..]),
+        None => (t, b""),
     }
 }
 
-// The number that a word spells.
-fn number(w: &[u8]) -> usize {
-    let mut n = 0;
-    let mut i = 0;
-    while i < w.len() {
-        n = grown(n, digit(w[i]));
-        i += 1;
-    }
-    n
-}
-
-// Puts s into a line at a place, as far as there is room, and answers the place after it.
-fn put(line: &mut [u8], at: usize, s: &[u8]) -> usize {
-    let mut to = at;
-    let mut i = 0;
-    while i < s.len() {
-        if line.len() <= to {
-            return to;
-        }
-        line[to] = s[i];
-        to += 1;
-        i += 1;
-    }
-    to
-}
-
-// Puts a number into a line.
-fn put_number(line: &mut [u8], at: usize, n: usize) -> usize {
-    let mut digits = [0u8; 20];
-    let k = io::decimal(n as u64, &mut digits);
-    put(line, at, &digits[..k])
-}
-
-// Whether every byte from a place on is still the mark.
-fn kept(buffer: &[u8], from: usize) -> bool {
-    let mut i = from;
-    while i < buffer.len() {
-        if buffer[i] != MARK {
-            return false;
-        }
-        i += 1;
-    }
-    true
-}
-
-// Puts an answer into a line in the words of EXPECTED, with a remark where other bytes of the buffer were changed.
-fn put_answer(line: &mut [u8], answer: Tabled, buffer: &[u8]) -> usize {
-    match answer {
-        Tabled::Refused {
-            number,
-            line: place,
-        } => {
-            let a = put(line, 0, b"refused ");
-            let b = put_number(line, a, number);
-            let c = put(line, b, b" line ");
-            let d = put_number(line, c, place);
-            put_remark(line, d, kept(buffer, 0))
-        }
-        Tabled::Written(count) => {
-            let a = put(line, 0, b"written ");
-            let b = put_number(line, a, count);
-            let c = put(line, b, b" ");
-            let d = put(line, c, part(buffer, 0, count));
-            put_remark(line, d, kept(buffer, count))
-        }
-    }
-}
-
-fn put_remark(line: &mut [u8], at: usize, fine: bool) -> usize {
-    if fine {
-        at
-    } else {
-        put(line, at, b", and other bytes were changed")
-    }
-}
-
-// Says how a block with this name went. Answers whether it was written.
-fn report(name: &[u8], ok: bool, came: &[u8]) -> bool {
-    if ok {
-        io::write_all(STDOUT, name) && io::write_all(STDOUT, b" ok\n")
-    } else {
-        io::write_all(STDOUT, name)
-            && io::write_all(STDOUT, b" WRONG ")
-            && io::write_all(STDOUT, came)
-            && io::write_all(STDOUT, b"\n")
-    }
-}
-
-// Asks Table, and lends it the first n bytes of space.
-fn ask(sheet: &[u8], output: usize, space: &mut [u8], n: usize) -> Tabled
-    requires { n ≤ length space.old }
+// The first n bytes of a text, and what follows them and the byte after them, where there are so many.
+fn sheet_of(t: &[u8], n: usize) -> Option<(&[u8], &[u8])>
+    ensures { IfSome result (λ p. length p.1.now ≤ length t.now) }
 {
-    design::table(sheet, output, &mut space[..n])
+    let (sheet, rest) = t.split_at_checked(n)?;
+    let (_, next) = rest.split_first()?;
+    Some((sheet, next))
 }
 
-// Executes a sheet by the words of its block's first line; the next block begins at a given place.
-fn execute(head: &[u8], sheet: &[u8], next: usize) -> Ran
-    ensures { result.next ≡ next }
+// What Table answers when it is lent n bytes, in the words of EXPECTED, with a remark where other bytes of the buffer were changed.
+fn answer(sheet: &[u8], output: usize, n: usize) -> Result<ArrayVec<u8, MAX_LINE>>
+    requires { n ≤ 2048 }
 {
+    let mut buffer = [MARK; MAX_BUFFER];
+    let mut came = ArrayVec::new();
+    let written = match design::table(sheet, output, &mut buffer[..n]) {
+        Ok(count) => {
+            write!(came, "written {count} ")?;
+            came.write_all(buffer.get(..count).unwrap_or(b""))?;
+            count
+        }
+        Err(Refusal { question, line }) => {
+            write!(came, "refused {} line {line}", question.number())?;
+            0
+        }
+    };
+    if buffer.iter().skip(written).any(|&b| b != MARK) {
+        came.write_all(b", and other bytes were changed")?;
+    }
+    Ok(came)
+}
+
+// Says that a block went wrong, and what came.
+fn put_wrong(rt: &impl Print, name: &[u8], came: &[u8]) -> Result<()> {
+    rt.write_all(name)?;
+    rt.write_all(b" WRONG ")?;
+    rt.write_all(came)?;
+    rt.write_all(b"\n")
+}
+
+// Executes a sheet by the words of its block's first line, and says how that went. Answers whether what came is what must come.
+fn execute(rt: &impl Print, head: &[u8], sheet: &[u8]) -> Result<bool> {
     let n = number(word(head, 2));
     if MAX_BUFFER < n {
-        return Ran {
-            ok: false,
-            is_written: report(head, false, b"the buffer is too long"),
-            next,
+        put_wrong(rt, head, b"the buffer is too long")?;
+        return Ok(false);
+    }
+    let came = answer(sheet, number(word(head, 1)), n)?;
+    let name = word(head, 0);
+    if came.as_slice() == expected(head) {
+        rt.write_all(name)?;
+        rt.write_all(b" ok\n")?;
+        return Ok(true);
+    }
+    put_wrong(rt, name, came.as_slice())?;
+    Ok(false)
+}
+
+// Executes all blocks, and says how many there were and how many went wrong. A block whose sheet is not there in full is the last.
+fn execute_all(rt: &impl Print, t: &[u8]) -> Result<()> {
+    let mut rest = t;
+    let mut done: u64 = 0;
+    let mut wrong: u64 = 0;
+    // A loop over blocks, each of which says how long it is: no iterator knows that.
+    while !rest.is_empty() {
+        let (head, after) = first_line(rest);
+        done += 1;
+        let Some((sheet, next)) = sheet_of(after, number(word(head, 3))) else {
+            put_wrong(rt, head, b"the sheet breaks off")?;
+            wrong += 1;
+            break;
         };
-    }
-    let mut buffer = [MARK; MAX_BUFFER];
-    let answer = ask(sheet, number(word(head, 1)), &mut buffer, n);
-    let mut line = [0u8; MAX_LINE];
-    let k = put_answer(&mut line, answer, &buffer);
-    let came = part(&line, 0, k);
-    let ok = check::same(came, past(head, 3));
-    Ran {
-        ok,
-        is_written: report(part(head, 0, word_end(head, 0)), ok, came),
-        next,
-    }
-}
-
-// What becomes of a block whose sheet is not there in full: it is the last one.
-fn broken_off(t: &[u8], head: &[u8]) -> Ran
-    ensures { result.next ≡ length t.now }
-{
-    Ran {
-        ok: false,
-        is_written: report(head, false, b"the sheet breaks off"),
-        next: t.len(),
-    }
-}
-
-// Executes the block that begins at a place.
-fn block(t: &[u8], at: usize) -> Ran
-    requires { at < length t.now }
-    ensures { (at < result.next) × (result.next ≤ length t.now) }
-{
-    let e = text::line_end(t, at);
-    let head = part(t, at, e);
-    let n = number(word(head, 3));
-    let left = t.len() - e;
-    if left < 2 {
-        return broken_off(t, head);
-    }
-    if left - 2 < n {
-        return broken_off(t, head);
-    }
-    let sheet = e + 1;
-    let end = sheet + n;
-    execute(head, part(t, sheet, end), end + 1)
-}
-
-// Executes all blocks, and says how many there were and how many went wrong. Answers whether all of it was written.
-fn execute_all(t: &[u8]) -> bool {
-    let mut at = 0;
-    let mut done = 0;
-    let mut wrong = 0;
-    let mut is_written = true;
-    while at < t.len() {
-        let r = block(t, at);
-        if !r.ok {
+        if !execute(rt, head, sheet)? {
             wrong += 1;
         }
-        if !r.is_written {
-            is_written = false;
-        }
-        done += 1;
-        at = r.next;
+        rest = next;
     }
-    is_written && report_all(done, wrong)
-}
-
-fn report_all(done: u64, wrong: u64) -> bool {
-    io::print_decimal(STDOUT, done)
-        && io::write_all(STDOUT, b" sheets, ")
-        && io::print_decimal(STDOUT, wrong)
-        && io::write_all(STDOUT, b" wrong\n")
+    println!(rt; "{done} sheets, {wrong} wrong")
 }
 
 // A buffer of N bytes. N is a parameter, so that no proof counts the bytes.
@@ -278,9 +145,8 @@ fn zeros<const N: usize>() -> [u8; N]
     [0; N]
 }
 
-fn main() {
+fn main(rt: HostRuntime) {
     let mut text: [u8; MAX_TEXT] = zeros();
     let n = io::read_full(STDIN, &mut text);
-    let is_written = execute_all(part(&text, 0, n));
-    console::tell(b"tablecases", is_written);
+    console::tell(&rt, "tablecases", execute_all(&rt, &text[..n]));
 }

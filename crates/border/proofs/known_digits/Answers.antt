@@ -1,11 +1,7 @@
-use Rattle.std.proofs.Common.{◌-◌, ◌≤◌, refl, inl, inr, rules}
-use Rattle.limits.specs.Limits.{max_vertices}
+use Rattle.std.proofs.Common.{inr}
 use Rattle.bits.specs.DigitLaws.{on_or_one, on_single}
 use Rattle.border.specs.LineLaws.{off_first}
 use Rattle.border.proofs.known_digits.Goals as goal
-
-pub returns-then-kn-eq0 : goal.returns-then-kn-eq0
-returns-then-kn-eq0 c = inl refl
 
 pub returns : goal.returns
 returns c = inr (on_or_one c.loop-x.kn 1 0 (on_single 0), off_first c.loop-x.val)

@@ -1,8 +1,0 @@
-use Rattle.std.proofs.Common.{◌-◌, ◌≤◌, rules}
-use Rattle.border.proofs.fitting.Given as goal
-
-abbrev pub invariant-loop-o : goal.invariant-loop-o
-invariant-loop-o l = l.o ≤ 8
-
-abbrev pub decreases-loop-o : goal.decreases-loop-o
-decreases-loop-o l = 8 - l.o
