@@ -6,12 +6,7 @@ ghost use Rattle.std.specs.Prelude.{◌≤◌, length};
 ghost use Rattle.limits.specs.Limits.{max_blif};
 
 // Exports a network, with a buffer for its text, and prints the answer.
-fn answer(
-    rt: &impl Print,
-    sheet: &[u8],
-    network: &[u8],
-    buffer: &mut [u8],
-) -> std::io::Result<()>
+fn answer(rt: &impl Print, sheet: &[u8], network: &[u8], buffer: &mut [u8]) -> std::io::Result<()>
     requires { max_blif ≤ length buffer.old }
 {
     match blif::export(sheet, network, buffer) {
