@@ -82,7 +82,11 @@ pub fn show(rt: &impl Print, text: &[u8], length: usize) -> std::io::Result<()> 
 
 // Prints the number of the question that was answered "no", and the line.
 pub fn refused(rt: &impl Print, refusal: Refusal) -> std::io::Result<()> {
-    println!(rt; "refused {} line {}", refusal.question.number(), refusal.line)
+    println!(rt;
+        "refused {} line {}",
+        refusal.question.number(),
+        refusal.line
+    )
 }
 
 // Tells on standard error where a program's answer was not written in full: a program here has no exit status that could say so.

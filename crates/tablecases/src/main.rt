@@ -44,8 +44,10 @@ fn digit(b: u8) -> usize {
 
 // The number that a word spells, or the largest number where that is too large.
 fn number(word: &[u8]) -> usize {
-    word.iter()
-        .fold(0usize, |n, &b| n.saturating_mul(10).saturating_add(digit(b)))
+    word.iter().fold(
+        0usize,
+        |n, &b| n.saturating_mul(10).saturating_add(digit(b)),
+    )
 }
 
 // The first line of a text, and what follows it.
