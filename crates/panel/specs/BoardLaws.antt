@@ -1,11 +1,11 @@
 -- Questions 1 and 2 on the second text as a walk over its lines: each ends in 0x0A, as the last byte is one. Assumes nothing.
-use Rattle.std.specs.Prelude.{◌≡◌, refl, Bool, true, false, List, [], ◌∷◌, ℕ, ◌+◌, ◌-◌, ◌≤◌, ◌<◌, length, take, drop, Option, Some, None, Result, Ok, Err}
+use Rattle.std.specs.Prelude.{◌≡◌, refl, Bool, true, false, List, [], ◌∷◌, ℕ, ◌+◌, ◌-◌, ◌≤◌, ◌<◌, length, take, drop, Option, Some, None, is_some, Result, Ok, Err}
 use Rattle.std.proofs.Common.{sym, ◌∙◌, subst, length-drop}
 use Rattle.std.proofs.Math.Path.{ap}
 use Rattle.std.proofs.Math.Option as maybe
 use Rattle.std.proofs.Math.Option.{some, none}
 use native.Mathlib.Omega.{arith}
-use Rattle.bits.specs.LogicLaws.{and_left}
+use Rattle.bits.specs.LogicLaws.{true_false, and_left}
 use Rattle.limits.specs.Limits.{max_sheet}
 use Rattle.text.specs.Line.{lines}
 use Rattle.text.specs.LineEnd.{LineEnd}
@@ -49,6 +49,15 @@ lines_left b at h = lines-some (drop at b) (omega (arith, length-drop at b))
 after_more : (bs : List Name) (n : ℕ) (ls : List (List ℕ)) → 0 < length ls → after_limit bs (some n) ls ≡ misspelled 3
 after_more bs n [] h = absurd (omega arith)
 after_more bs n (l ∷ ls) h = refl
+
+-- what the code found, by its test for None
+pub there : {A : Type 0} (w : Option A) → is_some w ≡ true → (x : A) × (w ≡ Some x)
+there (Some x) e = (x, refl)
+there None e = absurd (true_false (sym e))
+
+pub missing : {A : Type 0} (w : Option A) → is_some w ≡ false → w ≡ None
+missing (Some x) e = absurd (true_false e)
+missing None e = refl
 
 bound_missing : (x : maybe.Option (List Name)) → LineIs x None → x ≡ none
 bound_missing none h = refl

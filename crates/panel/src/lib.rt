@@ -46,12 +46,7 @@ struct BoardLines {
 fn zeros_and_ones(m: &[u8]) -> bool
     ensures { result ≡ zeros_and_ones m.now }
 {
-    for i in 0..m.len() {
-        if m[i] != b'0' && m[i] != b'1' {
-            return false;
-        }
-    }
-    true
+    m.iter().all(|b| matches!(*b, b'0' | b'1'))
 }
 
 // Question 14: the line of the first cube with another byte in its output part, if there is one.
@@ -100,7 +95,7 @@ fn tables(s: &[u8], t: PlaText) -> [Rows; limits::MAX_OUTPUTS]
         words: [0; limits::TABLE_WORDS],
     }; limits::MAX_OUTPUTS];
     let mut at = t.first;
-    for _ in 0..t.cubes {
+    for _cube in 0..t.cubes {
         let m = at + t.inputs.count;
         let e = m + 1 + t.outputs.count;
         let rows = cubes::covered(&s[at..m]);

@@ -14,38 +14,39 @@ room {s} {t} r f l =
     let w = read_cubes s r.text t r.read_as in
     (cube_there f.cubes_from l w.list w.end w.stand w.counted).inside
 
-pub loop-k-init : goal.loop-k-init
-loop-k-init c = tables_start _ _ _ _ _ (outputs_counted _ _ c.requires)
+pub loop-cube-init : goal.loop-cube-init
+loop-cube-init c = tables_start _ _ _ _ _ (outputs_counted _ _ c.requires)
 
 pub overflow_add-m : goal.overflow_add-m
-overflow_add-m c = omega (arith, room c.requires c.loop-k.invariant c.loop-k-test.true)
+overflow_add-m c = omega (arith, room c.requires c.loop-cube.invariant c.loop-cube-test.true)
 
 pub overflow_add-e : goal.overflow_add-e
-overflow_add-e c = omega (arith, room c.requires c.loop-k.invariant c.loop-k-test.true)
+overflow_add-e c = omega (arith, room c.requires c.loop-cube.invariant c.loop-cube-test.true)
 
-pub overflow_add-e-in-loop-k : goal.overflow_add-e-in-loop-k
-overflow_add-e-in-loop-k c = omega (arith, room c.requires c.loop-k.invariant c.loop-k-test.true)
+pub overflow_add-e-in-loop-cube : goal.overflow_add-e-in-loop-cube
+overflow_add-e-in-loop-cube c = omega (arith, room c.requires c.loop-cube.invariant c.loop-cube-test.true)
 
 pub slice_bounds-covered-end : goal.slice_bounds-covered-end
-slice_bounds-covered-end c = omega (arith, room c.requires c.loop-k.invariant c.loop-k-test.true)
+slice_bounds-covered-end c = omega (arith, room c.requires c.loop-cube.invariant c.loop-cube-test.true)
 
-pub overflow_add-m-in-loop-k : goal.overflow_add-m-in-loop-k
-overflow_add-m-in-loop-k c = omega (arith, room c.requires c.loop-k.invariant c.loop-k-test.true)
+pub overflow_add-m-in-loop-cube : goal.overflow_add-m-in-loop-cube
+overflow_add-m-in-loop-cube c = omega (arith, room c.requires c.loop-cube.invariant c.loop-cube-test.true)
 
 pub slice_bounds-added-end : goal.slice_bounds-added-end
-slice_bounds-added-end c = omega (arith, room c.requires c.loop-k.invariant c.loop-k-test.true)
+slice_bounds-added-end c = omega (arith, room c.requires c.loop-cube.invariant c.loop-cube-test.true)
 
 pub added-next-requires : goal.added-next-requires
-added-next-requires c = let pre = c.requires in
-    let a = c.args in
-    let m = c.loop-k.at + a.t.inputs.count + 1 in
-    part_few m a.t.outputs.count (drop m a.s.now) (outputs_counted _ _ (pre))
+added-next-requires c =
+    let t = c.args.t in
+    part_few (c.loop-cube.at + t.inputs.count + 1) t.outputs.count (drop (c.loop-cube.at + t.inputs.count + 1) c.args.s.now)
+    (outputs_counted _ _ c.requires)
 
 pub overflow_add-at : goal.overflow_add-at
-overflow_add-at c = omega (arith, room c.requires c.loop-k.invariant c.loop-k-test.true)
+overflow_add-at c = omega (arith, room c.requires c.loop-cube.invariant c.loop-cube-test.true)
 
-pub loop-k-preserved : goal.loop-k-preserved
-loop-k-preserved c = tables_more _ _ _ _ _ _ _ _ c.loop-k.invariant c.loop-k-test.true _ _ _ _ refl refl c.covered-rows.ensures c.added-next.ensures
+pub loop-cube-preserved : goal.loop-cube-preserved
+loop-cube-preserved c =
+    tables_more _ _ _ _ _ _ _ _ c.loop-cube.invariant c.loop-cube-test.true _ _ _ _ refl refl c.covered-rows.ensures c.added-next.ensures
 
 pub returns : goal.returns
-returns c = tables_all _ _ _ _ _ c.loop-k.invariant c.loop-k-test.false
+returns c = tables_all _ _ _ _ _ c.loop-cube.invariant c.loop-cube-test.false
