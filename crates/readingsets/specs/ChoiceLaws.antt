@@ -2,7 +2,7 @@
 -- next output may be taken to read the first ones: a core is replaced by one that differs in the order of these cells alone. So
 -- only rows in that order are tried. Of these, rows that no codes answer, alone or with those chosen before, are passed over:
 -- no core has them. Assumes nothing.
-use Rattle.std.specs.Prelude.{◌≡◌, ℕ, zero, suc, ◌+◌, ◌-◌, ◌*◌, ◌/◌, ◌%◌, ◌^◌, ◌<◌, ◌≤◌, min, Bool, true, false, not, ◌⊎◌, List, length, ◌==◌, ◌≢◌, bit_and, bit_or, bit_xor, nat_eq, slice_set, refl}
+use Rattle.std.specs.Prelude.{◌≡◌, ℕ, zero, suc, ◌+◌, ◌-◌, ◌*◌, ◌/◌, ◌%◌, ◌^◌, ◌<◌, ◌≤◌, min, Bool, true, false, not, ◌⊎◌, List, length, ◌==◌, ◌≢◌, bit_and, bit_or, bit_xor, nat_eq, slice_set, refl, Option, Some, None}
 use Rattle.std.proofs.Common.{sym, ap, ap₂, ◌∙◌, subst, inl, inr, ⊎_elim, arith, mod-eq_of_lt, mod-lt, div-lt_iff_lt-mul}
 use Rattle.std.proofs.Common.{mul_comm, mul-suc, mul-le-mul_left, length-set, pow-add, pow_mono, pow_pos, shr-shr, get_or-set_same, get_or-set_other, eqb-true}
 use Rattle.std.proofs.Math.Decide.{ℕ_discrete, dec_lt}
@@ -25,7 +25,7 @@ use Rattle.relation.specs.Relation.{Left}
 use Rattle.subproblems.specs.Subproblem.{open_of, given_of, Barred, Settled}
 use Rattle.subproblems.specs.SubproblemLaws.{on_open}
 use Rattle.cache.specs.CacheLaws.{barred_among}
-use Rattle.readingsets.specs.Choice.{RowFits, numbered, turned, first_outputs, Core, Rows, ReadAlike, Agree, Found, Lost, Chosen, disorder, Suits, still_alike, number_of, Tried}
+use Rattle.readingsets.specs.Choice.{RowFits, numbered, turned, first_outputs, Core, Rows, ReadAlike, Agree, Found, Lost, Chosen, disorder, Suits, still_alike, Next, number_of, Tried}
 
 -- ======== digits of rows
 on-given : (row i : ℕ) → on row (6 + i) ≡ on (row / 64) i
@@ -315,9 +315,9 @@ module _ (cl given budgets : List ℕ) (kn val v m u g done : ℕ) (rows : List 
   done_lost s = barred_lost done (λ o e. (s.few o e, e))
 
   -- all rows are chosen: the codes decide
-  pub chosen_end : (ok : Bool) (rows' codes : List ℕ) → ((o : ℕ) → o < m → on done o ≡ true) → rows' ≡ rows → Rows budgets m u g done rows
+  pub chosen_end : (ok : Bool) (rows' codes : List ℕ) → ((o : ℕ) → o < m → on done o ≡ true) → (ok ≡ true → rows' ≡ rows) → Rows budgets m u g done rows
       → Settled cl given kn val v (first_outputs m) (item rows) ok codes → Chosen cl given budgets kn val v m u g done rows ok rows' codes
-  chosen_end true rows' codes all q s d = subst (λ (z : List ℕ). Found cl given budgets kn val v m u g z codes) (sym q) record {
+  chosen_end true rows' codes all q s d = subst (λ (z : List ℕ). Found cl given budgets kn val v m u g z codes) (sym (q refl)) record {
     fit = record { long = s.long; few = λ o e. first_outputs_low m o e; fit = λ o e. s.fit o (all o (first_outputs_low m o e)) };
     answers = d;
   }
@@ -466,3 +466,8 @@ number_parts u r p h e l = subst (λ (p : ℕ). (0 < p) × (r / p < 1024) × (r 
 
 pub number_room : (u g r end : ℕ) → g ≤ 10 → end ≡ 2 ^ (u + g) → r < end → r < 2 ^ (u + 10)
 number_room u g r end h e l = let p : 2 ^ (u + g) ≤ 2 ^ (u + 10) = pow_mono (omega arith) in omega arith
+
+-- ======== the next output
+pub next_none : (m done : ℕ) (r : Option ℕ) → ((o : ℕ) → r ≡ Some o → ⊥) → Next m done r → (o : ℕ) → o < m → on done o ≡ true
+next_none m done None d all = all
+next_none m done (Some o) d here = absurd (d o refl)

@@ -61,12 +61,7 @@ fn wanted(budget: u8, u: u8, g: u8) -> u32
     requires { (u ≤ max_cells) × (g ≤ max_given) }
     ensures { result ≡ min budget (u + g) }
 {
-    let all = u + g;
-    if budget < all {
-        budget as u32
-    } else {
-        all as u32
-    }
+    u32::from(budget.min(u + g))
 }
 
 // 2 to the power d: how many rows of d digits there are.
@@ -98,12 +93,8 @@ fn turn(i: u32, end: u32, down: bool) -> u32
 fn suits(row: u16, want: u32, same: u8) -> bool
     ensures { Suits row want same result }
 {
-    if u32::count_ones(row as u32) == want {
-        let f = subproblems::open_of(row);
-        (f / 2) & !f & same == 0
-    } else {
-        false
-    }
+    let f = subproblems::open_of(row);
+    u16::count_ones(row) == want && (f / 2) & !f & same == 0
 }
 
 // The cells of same that a row too reads like the next cell.
@@ -138,18 +129,14 @@ fn rows_alone(
 ) -> u64
     requires { Classes cl.now × (length given.now ≡ max_vertices) × (vertices ≤ max_vertices) × (o < search_outputs) × (cells ≤ max_cells) × (tables ≤ max_given) }
 {
-    let all = power(cells + tables);
-    let end = if all < NOTED { all } else { NOTED };
     let mut left: u64 = 0;
-    let mut r: u32 = 0;
-    while r < end {
+    let all = power(cells + tables);
+    let end = all.min(NOTED);
+    for r in 0..end {
         let row = row_of(r, cells);
-        if suits(row, want, 0) {
-            if leaves(cl, given, vertices, o, row) {
-                left = cells::with(left, r as u8);
-            }
+        if suits(row, want, 0) && leaves(cl, given, vertices, o, row) {
+            left = cells::with(left, r as u8);
         }
-        r += 1;
     }
     left
 }
@@ -172,11 +159,9 @@ pub fn alone(
     if tables == 0 {
         return a;
     }
-    let mut o: usize = 0;
-    while o < outputs {
+    for o in 0..outputs {
         let want = wanted(budgets[o], cells, tables);
         a[o] = rows_alone(cl, given, vertices, o, want, cells, tables);
-        o += 1;
     }
     a
 }
@@ -192,12 +177,7 @@ fn number_of(row: u16, u: u8) -> u32
 fn is_left(p: Problem, o: usize, r: u32) -> bool
     requires { o < search_outputs }
 {
-    let left = p.alone;
-    if r < NOTED {
-        cells::in_set(left[o], r as u8)
-    } else {
-        false
-    }
+    r < NOTED && cells::in_set(p.alone[o], r as u8)
 }
 
 // Whether a row counts for output o: it suits, and where there are given tables a count for o alone leaves it. Without given
@@ -213,24 +193,21 @@ fn counts(cl: &[u8], given: &[u16], p: Problem, o: usize, row: u16, want: u32, s
     }
     let r = number_of(row, p.cells);
     if r < NOTED {
-        return is_left(p, o, r);
+        is_left(p, o, r)
+    } else {
+        leaves(cl, given, p.vertices, o, row)
     }
-    leaves(cl, given, p.vertices, o, row)
 }
 
 // How many rows count for output o.
 fn candidates(cl: &[u8], given: &[u16], p: Problem, o: usize, want: u32, same: u8) -> u32
     requires { Classes cl.now × (length given.now ≡ max_vertices) × (p.vertices ≤ max_vertices) × (o < search_outputs) × (p.cells ≤ max_cells) × (p.tables ≤ max_given) }
 {
-    let end = power(p.cells + p.tables);
     let mut n: u32 = 0;
-    let mut r: u32 = 0;
-    while r < end {
-        let row = row_of(r, p.cells);
-        if counts(cl, given, p, o, row, want, same) {
+    for r in 0..power(p.cells + p.tables) {
+        if counts(cl, given, p, o, row_of(r, p.cells), want, same) {
             n += 1;
         }
-        r += 1;
     }
     n
 }
@@ -283,17 +260,13 @@ fn possible(
     requires { Classes cl.now × (length given.now ≡ max_vertices) × (p.vertices ≤ max_vertices) × (n < search_outputs) × (on done n ≡ true) × (p.cells ≤ max_cells) }
     ensures { result ≡ false → Barred cl.now given.now p.kn p.val p.vertices done (item rows) }
 {
-    if p.tables != 0 {
-        if !is_left(p, n, number_of(rows[n], p.cells)) {
-            if !subproblems::possible(cl, given, p.vertices, with(0, n), rows) {
-                return false;
-            }
-        }
+    if p.tables != 0
+        && !is_left(p, n, number_of(rows[n], p.cells))
+        && !subproblems::possible(cl, given, p.vertices, with(0, n), rows)
+    {
+        return false;
     }
-    if p.kn != 0 {
-        return true;
-    }
-    subproblems::possible(cl, given, p.vertices, done, rows)
+    p.kn != 0 || subproblems::possible(cl, given, p.vertices, done, rows)
 }
 
 // Whether the subproblems about n alone and about n and one other of the set done may have codes. One about n alone is asked where
@@ -321,9 +294,9 @@ fn small_questions(
         limit: p.limit,
     };
     let mut nodes: u64 = 0;
-    let mut size: u32 = if p.kn != 0 { 1 } else { 2 };
+    let first: u32 = if p.kn != 0 { 1 } else { 2 };
     let end: u32 = if p.outputs == 2 { 2 } else { 3 };
-    while size < end {
+    for size in first..end {
         let a = cache::settle(cl, given, mem, q, size, last, done);
         nodes = std::num::wrapping_add_u64(nodes, a.nodes);
         if !a.possible {
@@ -332,7 +305,6 @@ fn small_questions(
                 nodes,
             };
         }
-        size += 1;
     }
     cache::Reply {
         possible: true,
@@ -428,19 +400,25 @@ fn ask_all(
         };
     }
     let c = subproblems::ask(cl, given, p.vertices, p.kn, p.val, all, rows, p.last);
-    let answer = match c.answer {
-        Answer::Found(codes) => Answer::Found(Core { rows, codes }),
+    let nodes = std::num::wrapping_add_u64(nodes, c.nodes);
+    match c.answer {
+        Answer::Found(codes) => Choice {
+            answer: Answer::Found(Core { rows, codes }),
+            nodes,
+        },
         Answer::Nothing => {
             if p.kn != 0 {
                 cache::store(mem, all, rows, false);
             }
-            Answer::Nothing
+            Choice {
+                answer: Answer::Nothing,
+                nodes,
+            }
         }
-        Answer::Unsure => Answer::Unsure,
-    };
-    Choice {
-        answer,
-        nodes: std::num::wrapping_add_u64(nodes, c.nodes),
+        Answer::Unsure => Choice {
+            answer: Answer::Unsure,
+            nodes,
+        },
     }
 }
 
@@ -460,7 +438,6 @@ fn finish(
         × Honest cl.now given.now p.kn p.val p.vertices mem.new }
 {
     let all = first_outputs(p.outputs);
-    let m = p.outputs as u32;
     let q = cache::Query {
         vertices: p.vertices,
         kn: p.kn,
@@ -468,7 +445,7 @@ fn finish(
         rows,
         limit: p.limit,
     };
-    let s = cache::settle_smaller(cl, given, mem, q, m, all);
+    let s = cache::settle_smaller(cl, given, mem, q, p.outputs as u32, all);
     let asked = std::num::wrapping_add_u64(nodes, s.nodes);
     if !s.possible {
         return Choice {

@@ -78,27 +78,6 @@ fn all_nodes(i: u64, known: bool) -> u64
     }
 }
 
-// What round i asks readingsets.
-fn round(p: Problem, i: u64, alone: [u64; SEARCH_OUTPUTS]) -> readingsets::Problem
-    requires { i ≤ round_count }
-    ensures same { (result.budgets ≡ p.budgets) × (result.vertices ≡ p.vertices) × (result.outputs ≡ p.outputs) × (result.cells ≡ p.cells) × (result.tables ≡ p.tables)
-        × (result.kn ≡ p.kn) × (result.val ≡ p.val) }
-    ensures last { round_count ≤ i → result.last ≡ no_limit }
-{
-    readingsets::Problem {
-        budgets: p.budgets,
-        vertices: p.vertices,
-        outputs: p.outputs,
-        cells: p.cells,
-        tables: p.tables,
-        kn: p.kn,
-        val: p.val,
-        limit: some_nodes(i, p.kn != 0),
-        last: all_nodes(i, p.kn != 0),
-        alone,
-    }
-}
-
 // Cells as p says, or there are none. Where a round is unsure since it gave something up, the next one has higher limits. What
 // a round learnt to have no codes stays known.
 pub fn seek(cl: &[u8], given: &[u16], mem: &mut [u16], p: Problem, nodes: u64) -> Choice
@@ -113,25 +92,35 @@ pub fn seek(cl: &[u8], given: &[u16], mem: &mut [u16], p: Problem, nodes: u64) -
     let alone = readingsets::alone(
         cl, given, p.budgets, p.vertices, p.outputs, p.cells, p.tables,
     );
+    let known = p.kn != 0;
+    // What the last round asks, which gives up no complete choice.
+    let last = readingsets::Problem {
+        budgets: p.budgets,
+        vertices: p.vertices,
+        outputs: p.outputs,
+        cells: p.cells,
+        tables: p.tables,
+        kn: p.kn,
+        val: p.val,
+        limit: some_nodes(ROUNDS, known),
+        last: all_nodes(ROUNDS, known),
+        alone,
+    };
     let mut total = nodes;
     for i in 0..ROUNDS {
-        let k = readingsets::choose(cl, given, mem, round(p, i, alone), none, 0, same, total);
+        let round = readingsets::Problem {
+            limit: some_nodes(i, known),
+            last: all_nodes(i, known),
+            ..last
+        };
+        let k = readingsets::choose(cl, given, mem, round, none, 0, same, total);
         if !matches!(k.answer, Answer::Unsure) {
             return k;
         }
         cache::forget(mem);
         total = k.nodes;
     }
-    readingsets::choose(
-        cl,
-        given,
-        mem,
-        round(p, ROUNDS, alone),
-        none,
-        0,
-        same,
-        total,
-    )
+    readingsets::choose(cl, given, mem, last, none, 0, same, total)
 }
 
 // Whether the first m outputs are all in the set fits.
@@ -139,7 +128,7 @@ pub fn all_fit(fits: u8, m: usize) -> bool
     requires { m ≤ search_outputs }
     ensures { (result ≡ true → AllFit fits m) × (result ≡ false → AllFit fits m → ⊥) }
 {
-    (0..m).all(|o| cells::in_set(u64::from(fits), o as u8))
+    (0..m).all(|o| cells::in_set(fits as u64, o as u8))
 }
 
 // The same where the outputs that are not in the set fits have no budget: nothing serves them, and there is nothing to seek.

@@ -1,11 +1,7 @@
 use Rattle.bits.specs.LogicLaws.{true_false}
 use borrow.Author.Tests.{not-true}
-use Rattle.std.proofs.Common.{◌≤◌, sym, ◌∙◌, arith}
+use Rattle.std.proofs.Common.{sym, ◌∙◌}
 use Rattle.readingsets.proofs.small_questions.Goals as goal
-use Rattle.readingsets.proofs.small_questions.Goals.{then-p-eq2, else-p-eq2}
-
-pub with-last-requires : goal.with-last-requires
-with-last-requires c = c.requires.3
 
 pub loop-size-init : goal.loop-size-init
 loop-size-init c = c.requires.4
@@ -14,15 +10,10 @@ pub settle-a-requires : goal.settle-a-requires
 settle-a-requires c = let p = c.requires in (p.0, p.1, p.2, c.loop-size.invariant)
 
 pub shape_of-mem-then-not-a : goal.shape_of-mem-then-not-a
-shape_of-mem-then-not-a c = let p = c.requires in
-    c.settle-a.ensures.0.long ∙ sym p.4.long
+shape_of-mem-then-not-a c = c.settle-a.ensures.0.long ∙ sym c.requires.4.long
 
 pub returns-then-not-a : goal.returns-then-not-a
 returns-then-not-a c = (c.settle-a.ensures.0, λ e. c.settle-a.ensures.1 (not-true _ c.if-not-a.true))
-
-pub overflow_add-size : goal.overflow_add-size
-overflow_add-size c = let low : c.if-p-eq2.end ≤ 3 = elim c.if-p-eq2.branch [ then-p-eq2 w ↦ omega arith | else-p-eq2 w ↦ omega arith ] in
-    omega arith
 
 pub loop-size-preserved : goal.loop-size-preserved
 loop-size-preserved c = c.settle-a.ensures.0

@@ -1,9 +1,5 @@
 use Rattle.cache.specs.Cache.{Honest}
-use Rattle.std.proofs.Common.{◌-◌}
 use Rattle.readingsets.proofs.small_questions.Given as goal
 
 abbrev pub invariant-loop-size : goal.invariant-loop-size
 invariant-loop-size l = Honest l.cl l.given l.q.kn l.q.val l.q.vertices l.mem
-
-abbrev pub decreases-loop-size : goal.decreases-loop-size
-decreases-loop-size l = l.end - l.size

@@ -1,10 +1,6 @@
-use Rattle.seeking.specs.Seeking.{Places}
+-- What the rounds learn to have no codes has none.
 use Rattle.cache.specs.Cache.{Honest}
-use Rattle.std.proofs.Common.{length, ◌≤◌, ◌-◌, ◌≡◌}
 use Rattle.seeking.proofs.seek.Given as goal
 
-abbrev pub invariant-loop-p : goal.invariant-loop-p
-invariant-loop-p l = (l.i ≤ 7) × (length l.none ≡ 8) × (l.budgets ≡ l.p.budgets) × Places l.p.kn l.p.cells l.same × Honest l.cl l.given l.p.kn l.p.val l.p.vertices l.mem
-
-abbrev pub decreases-loop-p : goal.decreases-loop-p
-decreases-loop-p l = 7 - l.i
+abbrev pub invariant-loop-i : goal.invariant-loop-i
+invariant-loop-i l = Honest l.cl l.given l.fn.p.kn l.fn.p.val l.fn.p.vertices l.mem
