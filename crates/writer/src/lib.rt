@@ -52,9 +52,7 @@ fn put_lut_lines(buf: &mut [u8], at: usize, p: Plan) -> usize
     requires { (at + luts_room ≤ reach) × Fit p }
     ensures { Written luts_room buf.old buf.new at result (lut_lines p) }
 {
-    let sh = p.shape;
-    let codes = p.codes;
-    netlines::put_luts(buf, at, p.bound, p.tables, codes, sh.vertices)
+    netlines::put_luts(buf, at, p.bound, p.tables, p.codes, p.shape.vertices)
 }
 
 // The lines of a plan's outputs.
@@ -62,26 +60,20 @@ fn put_node_lines(buf: &mut [u8], at: usize, p: Plan) -> usize
     requires { (at + nodes_room ≤ reach) × Fit p }
     ensures { Written nodes_room buf.old buf.new at result (node_lines p) }
 {
-    let sh = p.shape;
-    let vertex = sh.vertex;
-    let free = sh.free;
-    let v = sh.vertices;
-    let f = sh.frees;
-    let rows = p.rows;
-    let codes = p.codes;
     netlines::put_nodes(
         buf,
         at,
         p.sheet,
         p.free,
         p.tables,
-        rows,
-        codes,
-        &vertex[..v],
-        &free[..f],
+        p.rows,
+        p.codes,
+        &p.shape.vertex[..p.shape.vertices],
+        &p.shape.free[..p.shape.frees],
     )
 }
 
+// Each method reads the place into a local first: the prover reads no field beside one that is lent.
 impl<'a> Writer<'a> {
     // The first line.
     fn head(self, edition: usize) -> Writer<'a>
@@ -151,8 +143,7 @@ fn put_sheet(buf: &mut [u8], p: Plan) -> usize
     requires { Fit p }
     ensures { Written sheet_room buf.old buf.new 0 result (all_lines p) }
 {
-    let end = written(buf, p);
-    end.at
+    written(buf, p).at
 }
 
 // The network sheet of u tables: output o reads the tables whose digits are 1 in rows[o], and table i at vertex x is digit i
@@ -170,10 +161,8 @@ pub fn put_network(
         → (result ≡ length (print_network d (built d u (item rows) (item codes))))
         × (buf.new ≡ sets buf.old 0 (print_network d (built d u (item rows) (item codes)))) }
 {
-    let names = k.names;
-    let places = k.bound;
-    let bound = network::bound_names(names, places, k.bounds);
-    let free = network::free_names(names, k.inputs, bound);
+    let bound = network::bound_names(k.names, k.bound, k.bounds);
+    let free = network::free_names(k.names, k.inputs, bound);
     put_sheet(
         buf,
         Plan {
