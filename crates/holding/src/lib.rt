@@ -506,12 +506,15 @@ fn others_out_of_reach(
     if t.cap != 1 {
         return false;
     }
+    // Copies are lent, which was measured to be quicker than to lend the fields of n.
+    let owns = n.owns;
+    let wants = n.wants;
     let mut rest = others;
     // The parts of a set are taken off one by one.
     while rest != 0 {
         let p = cells::lowest(rest);
         rest = cells::without(rest, p);
-        let a = lacks(cl, base, t.number, p, &n.owns, &n.wants);
+        let a = lacks(cl, base, t.number, p, &owns, &wants);
         if out_of_reach(cl, base, bs, t, p, a.news, n, codes, dom, own) {
             return true;
         }
@@ -627,7 +630,10 @@ fn narrow_by(
         spot: p.spots[o] as usize,
         vertices: p.vertices,
     };
-    let b = busiest(cl, base, o, &n.owns, &n.wants, t.spot);
+    // Copies are lent, which was measured to be quicker than to lend the fields of n.
+    let owns = n.owns;
+    let wants = n.wants;
+    let b = busiest(cl, base, o, &owns, &wants, t.spot);
     let tight = b.tight;
     if no_room(cl, base, bs, t, b, n, codes, dom, own) {
         return false;
