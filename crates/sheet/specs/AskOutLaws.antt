@@ -1,6 +1,6 @@
 -- The questions on an `out` line and on `(end)`: the first "no" by what the code knows of the line and of the sheet.
 -- Assumes nothing.
-use Rattle.std.specs.Prelude.{◌≡◌, refl, Bool, List, map, ℕ, ◌≤◌, ◌<◌, leb, ltb, length, take, Option, Some, None, Result, Ok, Err}
+use Rattle.std.specs.Prelude.{◌≡◌, refl, Bool, List, map, ℕ, ◌≤◌, ◌<◌, leb, ltb, length, take, Some, None, Result, Ok, Err}
 use Rattle.std.proofs.Common.{sym, ap, subst, ◌∙◌, arith}
 use Rattle.std.proofs.Math.Bool.{true, false}
 use Rattle.std.proofs.Math.Option as maybe

@@ -1,11 +1,11 @@
 -- A line of names: the code's list is that of the line where the list ends with the line. Assumes nothing.
-use Rattle.std.specs.Prelude.{◌≡◌, List, [], ◌∷◌, ℕ, ◌≤◌, ◌<◌, length, drop, Option, Some, None}
+use Rattle.std.specs.Prelude.{◌≡◌, List, [], ◌∷◌, ℕ, ◌≤◌, ◌<◌, length, drop, Some, None}
 use Rattle.std.proofs.Common.{ap, subst, arith, length-drop}
 use Rattle.std.proofs.Math.Option as maybe
 use Rattle.text.specs.Bytes.{Read, found, bad, after, eat, whole}
 use Rattle.names.specs.Name.{Name}
 use Rattle.names.specs.Names.{read_names}
-use Rattle.cursor.specs.Item.{At, MovedIs, NamesAre}
+use Rattle.cursor.specs.Item.{At, NamesAre}
 use Rattle.cursor.specs.declared.Cursor.{Cursor}
 use Rattle.cursor.specs.declared.NameList.{NameList}
 use Rattle.sheet.specs.Known.{LineIs}

@@ -1,7 +1,7 @@
 -- The places of names among the inputs, from the first name on: each name's place is where the lookup finds it, in any
 -- spelling. Assumes nothing.
-use Rattle.std.specs.Prelude.{◌≡◌, refl, Bool, true, false, ◌&&◌, ℕ, zero, suc, ◌+◌, ◌≤◌, ◌<◌, length, get_or, take, drop, set, Option, Some, None}
-use Rattle.std.proofs.Common.{sym, ap₂, subst, ◌∙◌, arith, add-one, length-set, drop_of_length-le, take-suc-set, take_all}
+use Rattle.std.specs.Prelude.{◌≡◌, refl, Bool, true, false, ◌&&◌, ℕ, zero, suc, ◌+◌, ◌≤◌, ◌<◌, length, get_or, take, drop, set, Some, None}
+use Rattle.std.proofs.Common.{sym, ap₂, ◌∙◌, arith, add-one, length-set, drop_of_length-le, take-suc-set, take_all}
 use Rattle.std.proofs.Math.Path.{ap}
 use mathlib.Core.List.{List, [], ◌∷◌, ◌++◌, map, map-append}
 use Rattle.std.proofs.lemmas.List.{length-map}

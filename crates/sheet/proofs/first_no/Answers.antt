@@ -1,5 +1,5 @@
 -- `first_no`: each return rewrites with the tests before it. Assumes nothing.
-use Rattle.std.proofs.Common.{sym, ◌∙◌}
+use Rattle.std.proofs.Common.{sym}
 use Rattle.std.proofs.lemmas.Result.{err_from_is_err_and}
 use Rattle.sheet.specs.ListLaws.{no_to_two, no_to_three, no_to_four, no_to_none}
 use Rattle.sheet.proofs.Exits.{stopped_at, went_on}

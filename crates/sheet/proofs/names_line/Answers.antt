@@ -1,5 +1,5 @@
 -- `names_line`: the word at the front, the list after it, and whether the list ends with the line. Assumes nothing.
-use Rattle.std.proofs.Common.{List, length, sym, Some, None}
+use Rattle.std.proofs.Common.{length, sym, Some, None}
 use borrow.Author.Tests.{leb-true, leb-false}
 use Rattle.names.specs.Names.{read_names}
 use Rattle.cursor.specs.MovedLaws.{moved-start}
