@@ -16,6 +16,7 @@ use Rattle.sheet.specs.Known.{Holds, Fits, StepIs, StepFits, place_of}
 use Rattle.sheet.specs.declared.Place.{Place}
 use Rattle.sheet.specs.declared.Sheet.{Sheet}
 use Rattle.sheet.specs.declared.Step as code
+use Rattle.refusal.specs.Number.{number_of}
 use Rattle.refusal.specs.declared.Question.{Question}
 use Rattle.refusal.specs.declared.Refusal.{Refusal}
 use Rattle.design.specs.SizeLaws.{sized-last}
@@ -26,6 +27,10 @@ abbrev pub no_at : Question → ℕ → Refusal
 no_at e n = record { question = e; line = n }
 
 -- ---- after the last line
+pub at_place : (p q : Place) (d : Design) (n : ℕ) (e : Result Sheet Refusal) → p ≡ q → ExaminedIs (at_end (place_of q) d n) e
+    → ExaminedIs (at_end (place_of p) d n) e
+at_place p q d n e t h = subst (λ (x : Place). ExaminedIs (at_end (place_of x) d n) e) (sym t) h
+
 pub at_end_over : (p : Place) (d : Design) (n : ℕ) (k : Sheet) → p ≡ Place.Over → Holds d k → ExaminedIs (at_end (place_of p) d n) (Ok k)
 at_end_over p d n k e h = rw e h
 
@@ -39,11 +44,9 @@ at_end_early Place.Out d n o = record { number = refl; line = refl }
 at_end_early Place.Over d n o = absurd (o refl)
 
 -- ---- question 1
-pub not-sized : (s : List ℕ) → false ≡ sized s → ExaminedIs (spec.examine s) (Err (no_at Question.SheetBytes 0))
+pub not-sized : (s : List ℕ) (e : Result Sheet Refusal) → false ≡ sized s → RefusedAs 1 0 e → ExaminedIs (spec.examine s) e
 unfolding spec.examine
-not-sized s f =
-    subst (λ (b : Bool). ExaminedIs (pick b (ask_lines at_design nothing 1 (lines s)) (spec.refused 1 0)) (Err (no_at Question.SheetBytes 0))) f
-    (record { number = refl; line = refl })
+not-sized s e f h = subst (λ (b : Bool). ExaminedIs (pick b (ask_lines at_design nothing 1 (lines s)) (spec.refused 1 0)) e) f h
 
 is_sized : (s : List ℕ) → true ≡ sized s → spec.examine s ≡ ask_lines at_design nothing 1 (lines s)
 unfolding spec.examine
@@ -69,43 +72,43 @@ module _ (s : List ℕ) (p : Place) (k : Sheet) (at n e : ℕ) (w : Along s p k 
   unfolding ask_lines
   asked_here = w.here ∙ ap (ask_lines (place_of p) w.known n) (line_here s at e h w.last x)
 
+  stopped : (q : Question) (t : Step) → ask_line (place_of p) w.known (take (e - at) (drop at s)) ≡ t → StepIs t (Err q)
+      → (r : Result Sheet Refusal) → RefusedAs (number_of q) n r → ExaminedIs (spec.examine s) r
+  stopped q (no_to m) u f r o =
+      subst (λ (y : spec.Examined). ExaminedIs y r)
+      (sym (asked_here ∙ ap (λ (z : Step). follow z n (λ p' d'. ask_lines p' d' (suc n) (lines (drop (e + 1) s)))) u))
+      (subst (λ (i : ℕ). RefusedAs i n r) f o)
+  stopped q (next p' d) u f r o = absurd f
+
   pub line_refused : (q : Question) → StepIs (ask_line (place_of p) w.known (take (e - at) (drop at s))) (Err q)
-      → ExaminedIs (spec.examine s) (Err (no_at q n))
-  line_refused q f = stopped (ask_line (place_of p) w.known (take (e - at) (drop at s))) refl f
-    where
-      stopped : (t : Step) → ask_line (place_of p) w.known (take (e - at) (drop at s)) ≡ t → StepIs t (Err q)
-          → ExaminedIs (spec.examine s) (Err (no_at q n))
-      stopped (no_to m) u f =
-          subst (λ (y : spec.Examined). ExaminedIs y (Err (no_at q n)))
-          (sym (asked_here ∙ ap (λ (z : Step). follow z n (λ p' d'. ask_lines p' d' (suc n) (lines (drop (e + 1) s)))) u))
-          (record { number = f; line = refl })
-      stopped (next p' d) u f = absurd f
+      → (r : Result Sheet Refusal) → RefusedAs (number_of q) n r → ExaminedIs (spec.examine s) r
+  line_refused q f = stopped q (ask_line (place_of p) w.known (take (e - at) (drop at s))) refl f
+
+  passed : (a : code.Step) (t : Step) → ask_line (place_of p) w.known (take (e - at) (drop at s)) ≡ t → StepFits t → StepIs t (Ok a)
+      → Along s a.place a.sheet (e + 1) (n + 1)
+  passed a (no_to q) u y f = absurd f
+  passed a (next q d) u y f =
+      let l = line_end_inside s at e h w.last x in
+      let i = w.few in
+      let j = x.after-start in
+      record {
+        known = d;
+        holds = f.holds;
+        fitting = subst (λ (z : spec.Place). Fits z d) (sym f.placed) y;
+        inside = omega arith;
+        few = omega arith;
+        here =
+            asked_here ∙ ap (λ (z : Step). follow z n (λ p' d'. ask_lines p' d' (suc n) (lines (drop (e + 1) s)))) u
+            ∙ ap (λ (z : spec.Place). ask_lines z d (suc n) (lines (drop (e + 1) s))) (sym f.placed)
+            ∙ ap (λ (i : ℕ). ask_lines (place_of a.place) d i (lines (drop (e + 1) s))) (sym (add-one n));
+        last = w.last;
+      }
 
   pub line_passed : (a : code.Step) → StepIs (ask_line (place_of p) w.known (take (e - at) (drop at s))) (Ok a)
       → Along s a.place a.sheet (e + 1) (n + 1)
   line_passed a f =
-      passed (ask_line (place_of p) w.known (take (e - at) (drop at s))) refl
+      passed a (ask_line (place_of p) w.known (take (e - at) (drop at s))) refl
       (line_fits (place_of p) w.known (take (e - at) (drop at s)) w.fitting) f
-    where
-      passed : (t : Step) → ask_line (place_of p) w.known (take (e - at) (drop at s)) ≡ t → StepFits t → StepIs t (Ok a)
-          → Along s a.place a.sheet (e + 1) (n + 1)
-      passed (no_to q) u y f = absurd f
-      passed (next q d) u y f =
-          let l = line_end_inside s at e h w.last x in
-          let i = w.few in
-          let j = x.after-start in
-          record {
-            known = d;
-            holds = f.holds;
-            fitting = subst (λ (z : spec.Place). Fits z d) (sym f.placed) y;
-            inside = omega arith;
-            few = omega arith;
-            here =
-                asked_here ∙ ap (λ (z : Step). follow z n (λ p' d'. ask_lines p' d' (suc n) (lines (drop (e + 1) s)))) u
-                ∙ ap (λ (z : spec.Place). ask_lines z d (suc n) (lines (drop (e + 1) s))) (sym f.placed)
-                ∙ ap (λ (i : ℕ). ask_lines (place_of a.place) d i (lines (drop (e + 1) s))) (sym (add-one n));
-            last = w.last;
-          }
 
 -- ---- the first line, and after the last
 pub along_start : (s : List ℕ) (k : Sheet) → true ≡ sized s → Holds nothing k → Along s Place.Design k 0 1

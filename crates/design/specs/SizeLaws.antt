@@ -1,6 +1,6 @@
 -- Question 1 by the bytes: all but the last are plain, and the last is 0x0A. Assumes nothing.
 use Rattle.std.specs.Prelude.{◌≡◌, refl, Bool, true, false, ◌&&◌, List, [], ◌∷◌, ◌++◌, ℕ, suc, ◌+◌, ◌-◌, ◌≤◌, ◌<◌, eqb, length, get_or, drop}
-use Rattle.std.proofs.Common.{sym, ap, ◌∙◌, arith, le-leb, ne_eqb, eqb-true}
+use Rattle.std.proofs.Common.{sym, ap, ◌∙◌, arith, add-one, drop_of_length-le, drop-cons, le-leb, ne_eqb, eqb-true}
 use Rattle.std.specs.List.{list_all, IsLastAndRest}
 use Rattle.std.proofs.lemmas.Bool.{lt-leb}
 use Rattle.bits.specs.LogicLaws.{true_false, and_right, and_true, and_false}
@@ -59,6 +59,31 @@ module _ (s : List ℕ) (x : ℕ) (rest : List ℕ) (p : IsLastAndRest s x rest)
 
   pub sized-unended : eqb x newline ≡ false → false ≡ sized s
   sized-unended e = sym (by_parts ∙ ap (λ (t : Bool). list_all plain rest && t) e ∙ and_false (list_all plain rest))
+
+-- ---- byte after byte
+two_left : (s : List ℕ) (i : ℕ) → i < length s - 1 → drop i s ≡ get_or s i 0 ∷ get_or s (suc i) 0 ∷ drop (suc (suc i)) s
+two_left s i h =
+    drop-cons s i 0 (omega arith)
+    ∙ ap (λ (t : List ℕ). get_or s i 0 ∷ t) (drop-cons s (suc i) 0 (omega arith))
+
+pub walk_on : (s : List ℕ) (i : ℕ) → i < length s - 1 → true ≡ plain (get_or s i 0) → plain_lines (drop i s) ≡ plain_lines (drop (i + 1) s)
+unfolding plain_lines
+walk_on s i h p =
+    ap plain_lines (two_left s i h)
+    ∙ ap (λ (b : Bool). b && plain_lines (get_or s (suc i) 0 ∷ drop (suc (suc i)) s)) (sym p)
+    ∙ ap plain_lines (sym (drop-cons s (suc i) 0 (omega arith)) ∙ ap (λ (n : ℕ). drop n s) (sym (add-one i)))
+
+pub walk_stopped : (s : List ℕ) (i : ℕ) → i < length s - 1 → false ≡ plain (get_or s i 0) → false ≡ plain_lines (drop i s)
+unfolding plain_lines
+walk_stopped s i h p =
+    sym
+    (ap plain_lines (two_left s i h)
+    ∙ ap (λ (b : Bool). b && plain_lines (get_or s (suc i) 0 ∷ drop (suc (suc i)) s)) (sym p))
+
+pub walk_last : (s : List ℕ) (i : ℕ) → 1 ≤ length s → i ≡ length s - 1 → plain_lines (drop i s) ≡ eqb (get_or s i 0) newline
+unfolding plain_lines
+walk_last s i h e =
+    ap plain_lines (drop-cons s i 0 (omega arith) ∙ ap (λ (t : List ℕ). get_or s i 0 ∷ t) (drop_of_length-le s {i = suc i} (omega arith)))
 
 -- ---- the last byte of a text that passes
 last-newline : (s : List ℕ) → plain_lines s ≡ true → get_or s (length s - 1) 0 ≡ newline

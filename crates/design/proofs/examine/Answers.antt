@@ -1,3 +1,4 @@
+use Rattle.std.specs.Prelude.{refl, Err}
 use Rattle.std.proofs.Common.{◌≡◌, sym, ◌∙◌, arith, rules}
 use Rattle.std.proofs.lemmas.Result.{err_from_is_err_and}
 use Rattle.design.specs.HandedLaws.{handed_value, handed_error}
@@ -7,7 +8,7 @@ use Rattle.design.proofs.examine.Goals as goal
 pub returns-then-not-sized : goal.returns-then-not-sized
 returns-then-not-sized c =
     let s = c.args.s.now in
-    let e = examined s _ (not-sized s (sym c.if-not-sized.true ∙ c.sized.ensures)) in
+    let e = examined s _ (not-sized s _ (sym c.if-not-sized.true ∙ c.sized.ensures) (record { number = refl; line = refl })) in
     record { examined_is = e.0; examination = e.1 }
 
 pub loop-at-init : goal.loop-at-init
@@ -27,7 +28,7 @@ returns-in_err-step c =
     let e =
     examined c.args.s.now _
     (line_refused c.args.s.now l.p l.k l.at l.n c.line_end-e.result w c.loop-at-test.true c.line_end-e.ensures h.0
-    (rw is at (c.ask_line.ensures w.known w.holds w.fitting))) in
+    (rw is at (c.ask_line.ensures w.known w.holds w.fitting)) (Err (no_at h.0 l.n)) (record { number = refl; line = refl })) in
     rw (a.1, a.2, refusal) (record { examined_is = e.0; examination = e.1 })
 
 pub loop-at-preserved : goal.loop-at-preserved
