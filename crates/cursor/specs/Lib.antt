@@ -7,6 +7,7 @@ pub mod MovedLaws
 pub mod NumeralsEnd
 pub mod First
 pub mod NextName
+pub mod OperatorRead
 pub mod EatingLaws
 pub mod PartLaws
 pub mod ReadNumberLaws

@@ -23,6 +23,7 @@ use Rattle.cursor.specs.First.{first_at}
 use Rattle.cursor.specs.FirstLaws.{byte_opens}
 use Rattle.cursor.specs.EatingLaws.{missing_byte}
 use Rattle.cursor.specs.Item.{At, OpeningIs, from}
+use Rattle.cursor.specs.OperatorRead.{OperatorIs}
 use Rattle.cursor.specs.Opening.{name-opens, digit-opens, not-opens, gate_opens, spaced, read_opening}
 use Rattle.cursor.specs.Opening as spec
 
@@ -115,13 +116,17 @@ no_space_bad u names.or_op h = rw (← h) refl
 no_space_bad u names.xor_op h = rw (← h) refl
 no_space_bad u names.none_op h = refl
 
+-- the operator that a word is, by where the word ends
+pub word_operator : {s : List ℕ} {at e : ℕ} {o : Option Operator} → WordEnd s at e → operator_of o ≡ operator (word (drop at s)) → OperatorIs s at e o
+word_operator w i = record { inside = w.inside; is_operator = i; is_rest = w.is_rest }
+
 -- a bracket stands at the front of t, and the word after it, which is the operator o, ends at e
-module _ (s t : List ℕ) (f : first_at t ≡ Bracket) (a : Cursor) (h : At s tt a (eat (open_bracket ∷ []) t)) (e : ℕ) (w : WordEnd s a.at e)
-    (o : Option Operator) (i : operator_of o ≡ operator (word (from s a))) where
+module _ (s t : List ℕ) (f : first_at t ≡ Bracket) (a : Cursor) (h : At s tt a (eat (open_bracket ∷ []) t)) (e : ℕ)
+    (o : Option Operator) (i : OperatorIs s a.at e o) where
   bracket_here : spaced (operator_of o) (drop e s) ≡ read_opening t
   bracket_here =
       let q = eat-found (open_bracket ∷ []) t (from s a) (sym h.is) in
-      rw (i, w.is_rest, q) (opening_bracket open_bracket (from s a) (rw q at f))
+      rw (i.is_operator, i.is_rest, q) (opening_bracket open_bracket (from s a) (rw q at f))
 
   pub operator_opened : (p : Operator) (c : Cursor) → o ≡ Some p → At s tt c (eat (space ∷ []) (drop e s))
       → OpeningIs s (Some (operator_opens p c)) (read_opening t)

@@ -2,7 +2,7 @@
 -- another, and k digits stay below 10 ^ k. Assumes nothing.
 use Rattle.std.specs.Prelude.{◌≡◌, Bool, true, false, not, ◌&&◌, List, [], ◌∷◌, ℕ, zero, suc, ◌+◌, ◌-◌, ◌*◌, ◌^◌, ◌≤◌, ◌<◌, eqb, leb, drop}
 use Rattle.std.proofs.Math.Path.{refl, ap}
-use Rattle.std.proofs.Common.{sym, ◌∙◌, pow-suc, add-one, length-drop, drop-drop}
+use Rattle.std.proofs.Common.{sym, ◌∙◌, pow-suc, add-one, length-drop, drop-drop, below_more}
 use Rattle.std.proofs.Math.Nat.{pow-le-pow_right}
 use native.Mathlib.Omega.{arith}
 use Rattle.std.proofs.Math.ListN.{length, get_or, take}
@@ -14,7 +14,7 @@ use Rattle.text.specs.Number.{numeral, numerals, after_numerals, value_from, no_
 use Rattle.cursor.specs.declared.Cursor.{Cursor}
 use Rattle.cursor.specs.Item.{At}
 use Rattle.cursor.specs.PartLaws.{part_length, part-cons}
-use Rattle.cursor.specs.NumeralsEnd.{NumeralsEnd}
+use Rattle.cursor.specs.NumeralsEnd.{Numerals, NumeralsEnd}
 
 -- ---- the digits at the front of a text
 longest : (t : List ℕ) (k : ℕ)
@@ -28,6 +28,15 @@ longest (b ∷ t) (suc k) h all stop =
     let e : numeral b ≡ true = all 0 (omega arith) in
     let r = longest t k (omega arith) (λ j l. all (suc j) (omega arith)) (λ l. stop (omega arith)) in
     (rw (e, ← r.0) refl, rw (e, ← r.1) refl)
+
+pub numerals_none : (s : List ℕ) (at : ℕ) → at ≤ length s → Numerals s at at
+numerals_none s at h = record { after-start = omega arith; inside = h; each = λ k l g. absurd (omega arith) }
+
+pub numerals_more : (s : List ℕ) (at e : ℕ)
+    → Numerals s at e → e < length s → numeral (get_or s e 0) ≡ true
+    → Numerals s at (e + 1)
+numerals_more s at e n h b =
+    record { after-start = omega arith; inside = omega arith; each = below_more _ e n.each (λ g. b) }
 
 module _ (s : List ℕ) (at e : ℕ) (n : NumeralsEnd s at e) where
   parts : (take (e - at) (drop at s) ≡ numerals (drop at s)) × (drop (e - at) (drop at s) ≡ after_numerals (drop at s))
