@@ -1,22 +1,43 @@
 -- A formula by what opens it: what the reader's definition comes to, and that less of the text is left. Assumes nothing.
-use Rattle.std.specs.Prelude.{◌≡◌, Bool, List, ℕ, suc, ◌≤◌, ◌<◌, length, drop, Option, Some}
+use Rattle.std.specs.Prelude.{◌≡◌, Bool, List, ℕ, suc, ◌≤◌, ◌<◌, length, drop, Option, Some, None}
 use Rattle.std.proofs.Math.Path.{refl, subst}
 use Rattle.std.proofs.Common.{sym, ap, ◌∙◌, arith}
 use Rattle.std.proofs.Math.Bool.{true}
 use Rattle.text.specs.Bytes.{Read, bad, after}
+use Rattle.limits.specs.Limits.{max_depth}
 use Rattle.names.specs.Name.{Name, among}
+use Rattle.names.specs.Pack.{name_of}
 use Rattle.rows.specs.WordLaws.{rowwise_same}
 use Rattle.cursor.specs.Opening as spec
 use Rattle.cursor.specs.Opening.{read_opening}
 use Rattle.cursor.specs.OpeningLaws.{opening_shorter}
-use Rattle.cursor.specs.Item.{At, from}
+use Rattle.cursor.specs.Item.{At, OpeningIs, gate_of, from}
 use Rattle.cursor.specs.declared.Cursor.{Cursor}
+use Rattle.cursor.specs.declared.Gate.{Gate}
+use Rattle.cursor.specs.declared.Opening.{Opening}
 use Rattle.formula.specs.Tree.{Formula, input, constant, depth, knows}
 use Rattle.formula.specs.Reader.{read_formula, close_not}
 use Rattle.formula.specs.ReaderLaws.{formula_opened, formula_unopened}
 use Rattle.formula.specs.Value.{value, on_row}
-use Rattle.formula.specs.Part.{Good, PartIs, Atom, gate_on}
+use Rattle.formula.specs.Part.{Good, PartIs, Atom, Closed, Negated, gate_on}
+use Rattle.formula.specs.WalkLaws.{negation_is}
 use Rattle.formula.specs.declared.Part.{Part}
+
+module _ (s : List ℕ) (at : ℕ) (o : Option Opening) (h : OpeningIs s o (read_opening (drop at s))) where
+  pub name_opened : (v : ℕ) (c : Cursor) → o ≡ Some (Opening.Name v c) → At s (spec.name-opens (name_of v)) c (read_opening (drop at s))
+  name_opened v c e = subst (λ (x : Option Opening). OpeningIs s x (read_opening (drop at s))) e h
+
+  pub digit_opened : (b : Bool) (c : Cursor) → o ≡ Some (Opening.Digit b c) → At s (spec.digit-opens b) c (read_opening (drop at s))
+  digit_opened b c e = subst (λ (x : Option Opening). OpeningIs s x (read_opening (drop at s))) e h
+
+  pub not_opened : (c : Cursor) → o ≡ Some (Opening.Not c) → At s spec.not-opens c (read_opening (drop at s))
+  not_opened c e = subst (λ (x : Option Opening). OpeningIs s x (read_opening (drop at s))) e h
+
+  pub gate_opened : (g : Gate) (c : Cursor) → o ≡ Some (Opening.Gate g c) → At s (spec.gate_opens (gate_of g)) c (read_opening (drop at s))
+  gate_opened g c e = subst (λ (x : Option Opening). OpeningIs s x (read_opening (drop at s))) e h
+
+  pub un_opened : o ≡ None → bad ≡ read_opening (drop at s)
+  un_opened e = subst (λ (x : Option Opening). OpeningIs s x (read_opening (drop at s))) e h
 
 pub opened_falls : (s : List ℕ) (at : ℕ) (i : spec.Opening) (c : Cursor) → At s i c (read_opening (drop at s))
     → length (from s c) < length (drop at s)
@@ -54,6 +75,11 @@ module _ (k l : ℕ) (one : suc k ≡ l) (s : List ℕ) (ns : List Name) (at : �
   pub not_is : At s spec.not-opens c (read_opening (drop at s)) → PartIs (suc k) s ns (after (read_formula (from s c)) (λ f u. close_not f u)) r
       → PartIs l s ns (read_formula (drop at s)) r
   not_is h q = rw (← one, formula_opened (drop at s) spec.not-opens (from s c) (sym h.is)) q
+
+  -- past its bracket, the inner formula being read
+  pub not_closed : (p n : Part) → k ≤ max_depth → At s spec.not-opens c (read_opening (drop at s)) → PartIs k s ns (read_formula (from s c)) (Some p)
+      → Negated p n → Closed s n r → PartIs l s ns (read_formula (drop at s)) r
+  not_closed p n z h q m x = not_is h (negation_is k s ns (read_formula (from s c)) p n r z q m x)
 
   pub gate_is : (g : spec.Gate) → At s (spec.gate_opens g) c (read_opening (drop at s)) → PartIs (suc k) s ns (gate_on g (read_formula (from s c))) r
       → PartIs l s ns (read_formula (drop at s)) r

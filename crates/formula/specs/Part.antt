@@ -32,6 +32,11 @@ PartIs k s ns (found f t) (Some p) = Good k s ns f t p
 PartIs k s ns bad (Some p) = ⊥
 PartIs k s ns q None = bad ≡ q
 
+-- what was read so far, and the text after it
+abbrev pub read_so_far : List ℕ → Option Part → Read (Unit {0})
+read_so_far s (Some p) = found tt (drop p.next.at s)
+read_so_far s None = bad
+
 -- a name or a digit before a cursor
 pub record Atom (c : Cursor) (known : Bool) (v : ℕ → Bool) (p : Part) : Type 0 where
   pub moved : p.next ≡ c
@@ -43,6 +48,11 @@ pub record Atom (c : Cursor) (known : Bool) (v : ℕ → Bool) (p : Part) : Type
 pub record Skimmed (c : Cursor) (p : Part) : Type 0 where
   pub moved : p.next ≡ c
   pub flat : p.depth ≡ 0
+
+abbrev pub Unread : Option Cursor → Option Part → Type 0
+Unread (Some c) (Some p) = Skimmed c p
+Unread (Some c) None = ⊥
+Unread None p = p ≡ None
 
 -- p past its closing bracket, after which the text t is left
 pub record Shut (s : List ℕ) (p r : Part) (t : List ℕ) : Type 0 where

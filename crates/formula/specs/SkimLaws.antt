@@ -1,6 +1,6 @@
 -- Past a formula of which only the spelling is read, by what opens it; and past the operands of a gate, one after another.
 -- Assumes nothing.
-use Rattle.std.specs.Prelude.{◌≡◌, refl, Bool, true, false, List, [], ◌∷◌, ℕ, drop, Option}
+use Rattle.std.specs.Prelude.{◌≡◌, refl, Bool, true, false, List, [], ◌∷◌, ℕ, drop, Option, Some, None}
 use Rattle.std.proofs.Common.{sym, ap, ◌∙◌, subst}
 use Rattle.bits.specs.Logic.{pick}
 use Rattle.text.specs.Bytes.{Read, found, bad, after, eat, space, close_bracket}
@@ -13,8 +13,23 @@ use Rattle.formula.specs.Tree.{Formula, Operands, none, more}
 use Rattle.formula.specs.Reader.{read_formula, read_operands, close_not, close_gate}
 use Rattle.formula.specs.ReaderLaws.{formula_opened, formula_unopened}
 use Rattle.formula.specs.Part.{gate_on}
-use Rattle.formula.specs.Skim.{spelling}
+use Rattle.formula.specs.Skim.{spelling, skimmed_so_far}
 use Rattle.formula.specs.TurnLaws.{operand_after, no_operand_after}
+
+pub skimmed_is : (s : List ℕ) (m : Option Cursor) (r : Read (Unit {0})) → MovedIs s m r → skimmed_so_far s m ≡ r
+skimmed_is s (Some c) r h = h.is
+skimmed_is s None r h = h
+
+-- the byte b after what was skimmed
+abbrev pub then : List ℕ → Option Cursor → ℕ → Read (Unit {0})
+then s m b = after (skimmed_so_far s m) (λ _ t. eat (b ∷ []) t)
+
+pub skimmed_then : (s : List ℕ) (m r : Option Cursor) (b : ℕ) (c : Cursor) → m ≡ Some c → MovedIs s r (eat (b ∷ []) (from s c))
+    → MovedIs s r (then s m b)
+skimmed_then s m r b c e h = rw e h
+
+pub skimmed_nothing : (s : List ℕ) (m : Option Cursor) (b : ℕ) → m ≡ None → bad ≡ then s m b
+skimmed_nothing s m b e = rw e refl
 
 -- ---- by the opening
 closing_spelled : {A : Type 0} (a : A) (x : Read (Unit {0})) → spelling (after x (λ _ t. found a t)) ≡ x
@@ -32,14 +47,18 @@ module _ (s : List ℕ) (at : ℕ) (c : Cursor) where
   pub skim_digit : (b : Bool) → At s (spec.digit-opens b) c (read_opening (drop at s)) → At s tt c (spelling (read_formula (drop at s)))
   skim_digit b h = record { inside = h.inside; is = rw (formula_opened (drop at s) (spec.digit-opens b) (from s c) (sym h.is)) refl }
 
-  pub skim_not : (d : Cursor) (r : Option Cursor) → At s spec.not-opens c (read_opening (drop at s)) → At s tt d (spelling (read_formula (from s c)))
-      → MovedIs s r (eat (close_bracket ∷ []) (from s d)) → MovedIs s r (spelling (read_formula (drop at s)))
-  skim_not d r h i k =
+  pub skim_not_so_far : (m r : Option Cursor) → At s spec.not-opens c (read_opening (drop at s)) → MovedIs s m (spelling (read_formula (from s c)))
+      → MovedIs s r (then s m close_bracket) → MovedIs s r (spelling (read_formula (drop at s)))
+  skim_not_so_far m r h i k =
       subst (λ (x : Read (Unit {0})). MovedIs s r x)
-      (ap (λ (x : Read (Unit {0})). after x (λ _ t. eat (close_bracket ∷ []) t)) i.is
+      (ap (λ (x : Read (Unit {0})). after x (λ _ t. eat (close_bracket ∷ []) t)) (skimmed_is s m (spelling (read_formula (from s c))) i)
       ∙ sym (not_spelled (read_formula (from s c)))
       ∙ ap spelling (sym (formula_opened (drop at s) spec.not-opens (from s c) (sym h.is))))
       k
+
+  pub skim_not : (d : Cursor) (r : Option Cursor) → At s spec.not-opens c (read_opening (drop at s)) → At s tt d (spelling (read_formula (from s c)))
+      → MovedIs s r (eat (close_bracket ∷ []) (from s d)) → MovedIs s r (spelling (read_formula (drop at s)))
+  skim_not d r h i k = skim_not_so_far (Some d) r h i k
 
   pub skim_gate : (g : spec.Gate) (r : Option Cursor) → At s (spec.gate_opens g) c (read_opening (drop at s))
       → MovedIs s r (spelling (gate_on g (read_formula (from s c)))) → MovedIs s r (spelling (read_formula (drop at s)))
@@ -112,3 +131,19 @@ module _ (s : List ℕ) (first past : Cursor) (g : spec.Gate) (q : Read Formula)
   skim_closed i n r k =
       subst (λ (x : Read (Unit {0})). MovedIs s r x)
       (sym (ending-start g q ∙ ap (ending false) (sym h.is) ∙ i ∙ ending_over true (found tt (from s past)) n)) k
+
+-- the same of what was skimmed so far, if anything
+module _ (s : List ℕ) (first past : Option Cursor) (b : Bool) (g : spec.Gate) (q : Read Formula) (h : MovedIs s first (spelling q))
+    (i : ending false (skimmed_so_far s first) ≡ ending b (skimmed_so_far s past)) (n : bad ≡ then s past space) where
+  over : spelling (gate_on g q) ≡ pick b (then s past close_bracket) bad
+  over =
+      ending-start g q ∙ ap (ending false) (sym (skimmed_is s first (spelling q) h)) ∙ i
+      ∙ ending_over b (skimmed_so_far s past) n
+
+  pub closed_so_far : b ≡ true → (r : Option Cursor) → MovedIs s r (then s past close_bracket) → MovedIs s r (spelling (gate_on g q))
+  closed_so_far e r k =
+      subst (λ (x : Read (Unit {0})). MovedIs s r x)
+      (sym (over ∙ ap (λ (t : Bool). pick t (then s past close_bracket) bad) e)) k
+
+  pub short_so_far : b ≡ false → bad ≡ spelling (gate_on g q)
+  short_so_far e = sym (over ∙ ap (λ (t : Bool). pick t (then s past close_bracket) bad) e)

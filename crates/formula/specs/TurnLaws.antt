@@ -1,6 +1,6 @@
 -- A byte after what was read so far, as a space before a further operand: less of the text is left after it, and where it is
 -- missing no operand follows. Assumes nothing.
-use Rattle.std.specs.Prelude.{◌≡◌, refl, Bool, true, false, List, [], ◌∷◌, ℕ, ◌<◌, eqb, length}
+use Rattle.std.specs.Prelude.{◌≡◌, refl, Bool, true, false, List, [], ◌∷◌, ℕ, ◌≤◌, ◌<◌, eqb, length}
 use Rattle.std.proofs.Common.{sym, ◌∙◌, arith, eq-eqb, eqb-true}
 use Rattle.bits.specs.Logic.{pick}
 use Rattle.bits.specs.LogicLaws.{true_false}
@@ -9,7 +9,7 @@ use Rattle.text.specs.EatLaws.{bad_found, found-rest, eat-found, eat_lengths}
 use Rattle.formula.specs.Tree.{Formula, none, more}
 use Rattle.formula.specs.Reader.{space_next, read_formula, read_operands}
 use Rattle.formula.specs.ReaderLaws.{formula_shorter, operands_more, operands_none}
-use Rattle.formula.specs.Skim.{spelling}
+use Rattle.formula.specs.Skim.{spelling, left}
 
 -- ---- what is left of the text falls
 pub byte_falls : (b : ℕ) (t v : List ℕ) → found tt v ≡ eat (b ∷ []) t → length v < length t
@@ -21,6 +21,15 @@ formula_left s t e = by (read_formula s) refl e
     by : (q : Read Formula) → read_formula s ≡ q → found tt t ≡ spelling q → length t < length s
     by (found f u) h e = rw (found-rest e) (formula_shorter s f u h)
     by bad h e = absurd (bad_found (sym e))
+
+-- the same of what was read so far, if anything
+pub byte_falls_left : (b : ℕ) (x : Read (Unit {0})) (v : List ℕ) → found tt v ≡ after x (λ _ t. eat (b ∷ []) t) → length v < left x
+byte_falls_left b (found _ t) v e = byte_falls b t v e
+byte_falls_left b bad v e = absurd (bad_found (sym e))
+
+pub formula_left_le : (s : List ℕ) (x : Read (Unit {0})) → x ≡ spelling (read_formula s) → left x ≤ length s
+formula_left_le s (found _ t) e = omega (arith, formula_left s t e)
+formula_left_le s bad e = omega arith
 
 pub unspelled : (q : Read Formula) → bad ≡ spelling q → bad ≡ q
 unspelled (found f t) e = absurd (bad_found e)

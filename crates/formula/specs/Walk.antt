@@ -1,8 +1,8 @@
 -- The loop over the operands of a gate, by the definitions: what the loop knows after each operand. k is how many brackets are
 -- looked into. Assumes nothing.
-use Rattle.std.specs.Prelude.{◌≡◌, Bool, true, false, List, [], ◌∷◌, ℕ, ◌≤◌, ◌<◌, min, max, length, drop}
+use Rattle.std.specs.Prelude.{◌≡◌, Bool, true, false, List, [], ◌∷◌, ℕ, ◌≤◌, ◌<◌, min, max, length, drop, Option}
 use Rattle.bits.specs.Logic.{andb}
-use Rattle.text.specs.Bytes.{Read, found, bad, eat, space}
+use Rattle.text.specs.Bytes.{Read, found, bad, after, eat, space}
 use Rattle.names.specs.Name.{Name}
 use Rattle.rows.specs.Words.{Rowwise}
 use Rattle.cursor.specs.Opening.{Gate}
@@ -11,7 +11,12 @@ use Rattle.formula.specs.Tree.{Formula, Operands, none, depth, depths, knows, kn
 use Rattle.formula.specs.Reader.{read_operands}
 use Rattle.formula.specs.Value.{value, values, on_row, combine}
 use Rattle.formula.specs.Onto.{onto}
+use Rattle.formula.specs.Part.{read_so_far}
 use Rattle.formula.specs.declared.Part.{Part}
+
+-- the byte b after what was read
+abbrev pub then : List ℕ → Option Part → ℕ → Read (Unit {0})
+then s p b = after (read_so_far s p) (λ _ t. eat (b ∷ []) t)
 
 -- operands put before others
 abbrev pub before : List Formula → Read Operands → Read Operands

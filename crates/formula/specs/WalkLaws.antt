@@ -12,18 +12,38 @@ use Rattle.names.specs.Name.{Name}
 use Rattle.rows.specs.Words.{Rowwise}
 use Rattle.rows.specs.WordLaws.{rowwise_same, rowwise_one}
 use Rattle.cursor.specs.Opening.{Gate}
-use Rattle.cursor.specs.Item.{At, from}
+use Rattle.cursor.specs.Item.{At, MovedIs, from}
 use Rattle.cursor.specs.declared.Cursor.{Cursor}
 use Rattle.formula.specs.Tree.{Formula, negation, gate, Operands, none, depth, depths, knows, knows_all}
 use Rattle.formula.specs.Reader.{read_formula, read_operands, close_gate, close_not}
 use Rattle.formula.specs.Value.{value, on_row}
 use Rattle.formula.specs.Onto.{onto}
 use Rattle.formula.specs.GateLaws.{combine_one}
-use Rattle.formula.specs.Part.{PartIs, Skimmed, ClosedBy, Closed, Negated, Joined, deepened, gate_on}
+use Rattle.formula.specs.Part.{PartIs, read_so_far, Skimmed, Unread, ClosedBy, Closed, Negated, Joined, deepened, gate_on}
 use Rattle.formula.specs.Skim.{spelling}
-use Rattle.formula.specs.Walk.{before, Going, going, WalkOf}
+use Rattle.formula.specs.Walk.{before, Going, going, WalkOf, then}
 use Rattle.formula.specs.TurnLaws.{formula_left, no_operand_after}
 use Rattle.formula.specs.declared.Part.{Part}
+
+-- ---- what was read so far, and a byte after it
+so_far_good : (s : List ℕ) (r : Option Part) (p : Part) → r ≡ Some p → read_so_far s r ≡ found tt (drop p.next.at s)
+so_far_good s r p e = rw e refl
+
+so_far_bad : (s : List ℕ) (r : Option Part) → r ≡ None → read_so_far s r ≡ bad
+so_far_bad s r e = rw e refl
+
+pub then_good : (s : List ℕ) (r : Option Part) (p : Part) (b : ℕ) → r ≡ Some p → then s r b ≡ eat (b ∷ []) (drop p.next.at s)
+then_good s r p b e = ap (λ (x : Read (Unit {0})). after x (λ _ t. eat (b ∷ []) t)) (so_far_good s r p e)
+
+pub then_bad : (s : List ℕ) (r : Option Part) (b : ℕ) → r ≡ None → then s r b ≡ bad
+then_bad s r b e = ap (λ (x : Read (Unit {0})). after x (λ _ t. eat (b ∷ []) t)) (so_far_bad s r e)
+
+pub followed_by : (s : List ℕ) (r : Option Part) (p : Part) (b : ℕ) (m : Option Cursor) → r ≡ Some p
+    → MovedIs s m (eat (b ∷ []) (drop p.next.at s)) → MovedIs s m (then s r b)
+followed_by s r p b m e h = subst (λ (x : Read (Unit {0})). MovedIs s m x) (sym (then_good s r p b e)) h
+
+pub followed_by_nothing : (s : List ℕ) (r : Option Part) (b : ℕ) → r ≡ None → bad ≡ then s r b
+followed_by_nothing s r b e = sym (then_bad s r b e)
 
 -- ---- the loop
 pub walk_start : (k : ℕ) (s : List ℕ) (ns : List Name) (g : Gate) (q : Read Formula) (p : Part) → PartIs k s ns q (Some p)
@@ -69,6 +89,17 @@ closed_is k s ns f p r w c = by (eat (close_bracket ∷ []) (drop p.next.at s)) 
     by (found _ t) None h = absurd (bad_found h)
     by bad (Some r) h = absurd h
     by bad None h = refl
+
+-- nothing closes what is broken
+closed_broken : (s : List ℕ) (x : Option Part) (p : Part) (r : Option Part) → x ≡ None → ClosedBy s p r (then s x close_bracket) → r ≡ None
+closed_broken s x p r e c = by r (subst (λ (y : Read (Unit {0})). ClosedBy s p r y) (then_bad s x close_bracket e) c)
+  where
+    by : (r : Option Part) → ClosedBy s p r bad → r ≡ None
+    by (Some r) h = absurd h
+    by None h = refl
+
+pub unclosed : (s : List ℕ) (p : Part) (r : Option Part) (x : Read (Unit {0})) → bad ≡ x → r ≡ None → ClosedBy s p r x
+unclosed s p r x e f = rw (f, ← e) refl
 
 -- what the code does at the closing bracket
 pub closed_at : (s : List ℕ) (p r : Part) (c : Cursor) (x : Read (Unit {0})) → At s tt c x → r.next ≡ c
@@ -152,7 +183,23 @@ unread_is k s ns (found f t) c p z h u =
     }
 unread_is k s ns bad c p z h u = absurd (bad_found (sym h.is))
 
+pub unread_as : (k : ℕ) (s : List ℕ) (ns : List Name) (q : Read Formula) (m : Option Cursor) (p : Option Part) → k ≡ 0 → MovedIs s m (spelling q)
+    → Unread m p → PartIs k s ns q p
+unread_as k s ns q (Some c) (Some p) z h u = unread_is k s ns q c p z h u
+unread_as k s ns q (Some c) None z h u = absurd u
+unread_as k s ns (found f t) None p z h u = absurd (bad_found h)
+unread_as k s ns bad None p z h u = rw u refl
+
 -- ---- what is left of the text
+pub part_so_far : (k : ℕ) (s : List ℕ) (ns : List Name) (q : Read Formula) (p : Option Part) → PartIs k s ns q p → read_so_far s p ≡ spelling q
+part_so_far k s ns (found f t) (Some p) h = ap (λ (l : List ℕ). found tt l) h.rest
+part_so_far k s ns bad (Some p) h = absurd h
+part_so_far k s ns (found f t) None h = absurd (bad_found h)
+part_so_far k s ns bad None h = refl
+
+pub joined_read : (s : List ℕ) (g : Gate) (p q r : Part) → Joined g p q r → read_so_far s (Some r) ≡ read_so_far s (Some q)
+joined_read s g p q r j = ap (λ (d : Cursor). found tt (drop d.at s)) j.moved
+
 pub part_read : (k : ℕ) (s : List ℕ) (ns : List Name) (q : Read Formula) (p : Part) → PartIs k s ns q (Some p)
     → found tt (from s p.next) ≡ spelling q
 part_read k s ns (found f t) p h = ap (λ (l : List ℕ). found tt l) h.rest
