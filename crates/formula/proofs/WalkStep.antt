@@ -1,8 +1,9 @@
 -- One operand more in the loop over the operands of a gate: what is known of the operands so far holds with it. Assumes nothing.
-use Rattle.std.specs.Prelude.{◌≡◌, refl, Bool, true, false, List, [], ◌∷◌, ◌++◌, ℕ, ◌<◌, min, max, drop, Some}
+use Rattle.std.specs.Prelude.{◌≡◌, refl, Bool, true, false, List, [], ◌∷◌, ◌++◌, ℕ, ◌<◌, min, max, drop, Option, Some, None}
 use Rattle.std.proofs.Common.{sym, ap, ap₂, ◌∙◌, subst, arith}
 use Rattle.bits.specs.Logic.{andb}
 use Rattle.text.specs.Bytes.{Read, found, bad, after, eat, space}
+use Rattle.text.specs.EatLaws.{bad_found}
 use Rattle.names.specs.Name.{Name}
 use Rattle.rows.specs.WordLaws.{rowwise_same, rowwise_two}
 use Rattle.cursor.specs.Opening.{Gate}
@@ -13,8 +14,8 @@ use Rattle.formula.specs.Gates.{two}
 use Rattle.formula.specs.Onto.{onto}
 use Rattle.formula.specs.GateLaws.{combine_snoc}
 use Rattle.formula.specs.ValueLaws.{onto_snoc, values_snoc, depths_snoc, knows_snoc}
-use Rattle.formula.specs.Part.{Good, PartIs, Joined, gate_on}
-use Rattle.formula.specs.Walk.{before, non_empty, Going, Walk, going, WalkOf}
+use Rattle.formula.specs.Part.{Good, PartIs, Both, Joined, gate_on}
+use Rattle.formula.specs.Walk.{before, non_empty, Going, going, WalkOf, then}
 use Rattle.formula.specs.TurnLaws.{operand_after}
 use Rattle.formula.specs.declared.Part.{Part}
 
@@ -79,31 +80,30 @@ non_empty_snoc : (fs : List Formula) (f : Formula) → true ≡ non_empty (fs ++
 non_empty_snoc [] f = refl
 non_empty_snoc (x ∷ fs) f = refl
 
-walk_on : (k : ℕ) (s : List ℕ) (ns : List Name) (g : Gate) (e : Formula) (u : List ℕ) (fs : List Formula) (p q r : Part) (v : List ℕ)
-    (x : Read Formula) → Going k s ns g e u fs p → found tt v ≡ eat (space ∷ []) (drop p.next.at s) → read_formula v ≡ x
-    → PartIs k s ns x (Some q) → Joined g p q r → Walk k s ns g e u r true
-walk_on k s ns g e u fs p q r v (found f t) w n x h j =
+walk_on : (k : ℕ) (s : List ℕ) (ns : List Name) (g : Gate) (e : Formula) (u : List ℕ) (fs : List Formula) (p : Part) (q r : Option Part)
+    (v : List ℕ) (x : Read Formula) → Going k s ns g e u fs p → found tt v ≡ eat (space ∷ []) (drop p.next.at s) → read_formula v ≡ x
+    → PartIs k s ns x q → Both (Joined g p) q r → WalkOf k s ns g (found e u) r true
+walk_on k s ns g e u fs p (Some q) (Some r) v (found f t) w n x h j =
     going (fs ++ (f ∷ [])) (non_empty_snoc fs f) (joined_going k s ns g e u fs p q r f t v w n x h j)
-walk_on k s ns g e u fs p q r v bad w n x h j = absurd h
+walk_on k s ns g e u fs p (Some q) None v (found f t) w n x h j = absurd j
+walk_on k s ns g e u fs p None r v (found f t) w n x h j = absurd (bad_found h)
+walk_on k s ns g e u fs p (Some q) r v bad w n x h j = absurd h
+walk_on k s ns g e u fs p None (Some r) v bad w n x h j = absurd j
+walk_on k s ns g e u fs p None None v bad w n x h j =
+    sym
+    (step_read fs u (drop p.next.at s) v w.here n
+    ∙ ap (λ (y : Read Formula). before fs (after y (λ f t. after (read_operands t) (λ os w. found (more f os) w)))) x)
 
-module _ (k : ℕ) (s : List ℕ) (ns : List Name) (g : Gate) (y : Read Formula) (p : Part) (enough : Bool) (v : List ℕ) where
-  pub walk_step : (q r : Part) → WalkOf k s ns g y p enough → found tt v ≡ eat (space ∷ []) (drop p.next.at s)
-      → PartIs k s ns (read_formula v) (Some q) → Joined g p q r → WalkOf k s ns g y r true
-  walk_step q r = by y
-    where
-      by : (y : Read Formula) → WalkOf k s ns g y p enough → found tt v ≡ eat (space ∷ []) (drop p.next.at s)
-          → PartIs k s ns (read_formula v) (Some q) → Joined g p q r → WalkOf k s ns g y r true
-      by (found e u) (going fs _ w) n h j = walk_on k s ns g e u fs p q r v (read_formula v) w n refl h j
-      by bad w n h j = absurd w
+pub walk_step : (k : ℕ) (s : List ℕ) (ns : List Name) (g : Gate) (y : Read Formula) (p : Part) (q r : Option Part) (enough : Bool) (v : List ℕ)
+    → WalkOf k s ns g y (Some p) enough → found tt v ≡ then s (Some p) space → PartIs k s ns (read_formula v) q → Both (Joined g p) q r
+    → WalkOf k s ns g y r true
+walk_step k s ns g (found e u) p q r enough v (going fs _ w) n h j = walk_on k s ns g e u fs p q r v (read_formula v) w n refl h j
+walk_step k s ns g bad p q r enough v w n h j = absurd w
 
-  -- where what stands after a space is no operand
-  pub walk_broken : WalkOf k s ns g y p enough → found tt v ≡ eat (space ∷ []) (drop p.next.at s) → bad ≡ read_formula v → bad ≡ gate_on g y
-  walk_broken = by y
-    where
-      by : (y : Read Formula) → WalkOf k s ns g y p enough → found tt v ≡ eat (space ∷ []) (drop p.next.at s) → bad ≡ read_formula v → bad ≡ gate_on g y
-      by (found e u) (going fs _ w) n x =
-          sym
-          (ap (λ (o : Read Operands). after o (λ fs t. close_gate g e fs t))
-          (step_read fs u (drop p.next.at s) v w.here n
-          ∙ ap (λ (y : Read Formula). before fs (after y (λ f t. after (read_operands t) (λ os w. found (more f os) w)))) (sym x)))
-      by bad w n x = absurd w
+-- where what stands after a space is no operand
+pub walk_broken : (k : ℕ) (s : List ℕ) (ns : List Name) (g : Gate) (y : Read Formula) (p : Part) (enough : Bool) (v : List ℕ)
+    → WalkOf k s ns g y (Some p) enough → found tt v ≡ eat (space ∷ []) (drop p.next.at s) → bad ≡ read_formula v → bad ≡ gate_on g y
+walk_broken k s ns g (found e u) p enough v (going fs _ w) n x =
+    ap (λ (o : Read Operands). after o (λ fs t. close_gate g e fs t))
+    (walk_on k s ns g e u fs p None None v bad w n (sym x) refl tt)
+walk_broken k s ns g bad p enough v w n x = absurd w

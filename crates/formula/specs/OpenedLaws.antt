@@ -3,8 +3,8 @@ use Rattle.std.specs.Prelude.{◌≡◌, Bool, List, ℕ, suc, ◌≤◌, ◌<�
 use Rattle.std.proofs.Math.Path.{refl, subst}
 use Rattle.std.proofs.Common.{sym, ap, ◌∙◌, arith}
 use Rattle.std.proofs.Math.Bool.{true}
-use Rattle.text.specs.Bytes.{Read, bad, after}
 use Rattle.limits.specs.Limits.{max_depth}
+use Rattle.text.specs.Bytes.{Read, bad, after}
 use Rattle.names.specs.Name.{Name, among}
 use Rattle.names.specs.Pack.{name_of}
 use Rattle.rows.specs.WordLaws.{rowwise_same}
@@ -19,7 +19,7 @@ use Rattle.formula.specs.Tree.{Formula, input, constant, depth, knows}
 use Rattle.formula.specs.Reader.{read_formula, close_not}
 use Rattle.formula.specs.ReaderLaws.{formula_opened, formula_unopened}
 use Rattle.formula.specs.Value.{value, on_row}
-use Rattle.formula.specs.Part.{Good, PartIs, Atom, Closed, Negated, gate_on}
+use Rattle.formula.specs.Part.{Good, PartIs, Both, Atom, Closed, Negated, gate_on}
 use Rattle.formula.specs.WalkLaws.{negation_is}
 use Rattle.formula.specs.declared.Part.{Part}
 
@@ -72,22 +72,24 @@ module _ (k : ℕ) (s : List ℕ) (ns : List Name) (at : ℕ) (c : Cursor) (r : 
 
 -- one bracket more than the inner formula
 module _ (k l : ℕ) (one : suc k ≡ l) (s : List ℕ) (ns : List Name) (at : ℕ) (c : Cursor) (r : Option Part) where
-  pub not_is : At s spec.not-opens c (read_opening (drop at s)) → PartIs (suc k) s ns (after (read_formula (from s c)) (λ f u. close_not f u)) r
-      → PartIs l s ns (read_formula (drop at s)) r
-  not_is h q = rw (← one, formula_opened (drop at s) spec.not-opens (from s c) (sym h.is)) q
+  pub not_is : (p n : Option Part) → k ≤ max_depth → At s spec.not-opens c (read_opening (drop at s)) → PartIs k s ns (read_formula (from s c)) p
+      → Both Negated p n → Closed s n r → PartIs l s ns (read_formula (drop at s)) r
+  not_is p n z h q m x =
+      rw (← one, formula_opened (drop at s) spec.not-opens (from s c) (sym h.is))
+      (negation_is k s ns (read_formula (from s c)) p n r z q m x)
 
-  -- past its bracket, the inner formula being read
-  pub not_closed : (p n : Part) → k ≤ max_depth → At s spec.not-opens c (read_opening (drop at s)) → PartIs k s ns (read_formula (from s c)) (Some p)
-      → Negated p n → Closed s n r → PartIs l s ns (read_formula (drop at s)) r
-  not_closed p n z h q m x = not_is h (negation_is k s ns (read_formula (from s c)) p n r z q m x)
+  pub negation_opened : At s spec.not-opens c (read_opening (drop at s))
+      → PartIs (suc k) s ns (after (read_formula (from s c)) (λ f u. close_not f u)) r → PartIs l s ns (read_formula (drop at s)) r
+  negation_opened h q = rw (← one, formula_opened (drop at s) spec.not-opens (from s c) (sym h.is)) q
 
   pub gate_is : (g : spec.Gate) → At s (spec.gate_opens g) c (read_opening (drop at s)) → PartIs (suc k) s ns (gate_on g (read_formula (from s c))) r
       → PartIs l s ns (read_formula (drop at s)) r
   gate_is g h q = rw (← one, formula_opened (drop at s) (spec.gate_opens g) (from s c) (sym h.is)) q
 
 -- ---- no formula
-pub nothing_is : (s : List ℕ) (at : ℕ) → bad ≡ read_opening (drop at s) → bad ≡ read_formula (drop at s)
-nothing_is s at h = sym (formula_unopened (drop at s) (sym h))
+pub nothing_is : (k : ℕ) (s : List ℕ) (ns : List Name) (at : ℕ) (r : Option Part) → bad ≡ read_opening (drop at s) → r ≡ None
+    → PartIs k s ns (read_formula (drop at s)) r
+nothing_is k s ns at r h e = rw e (sym (formula_unopened (drop at s) (sym h)))
 
 module _ (s : List ℕ) (at : ℕ) (c : Cursor) (e : bad ≡ read_formula (from s c)) where
   pub not_broken : At s spec.not-opens c (read_opening (drop at s)) → bad ≡ read_formula (drop at s)

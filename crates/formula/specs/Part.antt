@@ -37,6 +37,13 @@ abbrev pub read_so_far : List ℕ → Option Part → Read (Unit {0})
 read_so_far s (Some p) = found tt (drop p.next.at s)
 read_so_far s None = bad
 
+-- two answers of which each or none is a formula, and the formulas are as R says
+abbrev pub Both : (Part → Part → Type 0) → Option Part → Option Part → Type 0
+Both R (Some p) (Some r) = R p r
+Both R (Some p) None = ⊥
+Both R None (Some r) = ⊥
+Both R None None = Unit {0}
+
 -- a name or a digit before a cursor
 pub record Atom (c : Cursor) (known : Bool) (v : ℕ → Bool) (p : Part) : Type 0 where
   pub moved : p.next ≡ c
@@ -52,7 +59,8 @@ pub record Skimmed (c : Cursor) (p : Part) : Type 0 where
 abbrev pub Unread : Option Cursor → Option Part → Type 0
 Unread (Some c) (Some p) = Skimmed c p
 Unread (Some c) None = ⊥
-Unread None p = p ≡ None
+Unread None (Some p) = ⊥
+Unread None None = Unit {0}
 
 -- p past its closing bracket, after which the text t is left
 pub record Shut (s : List ℕ) (p r : Part) (t : List ℕ) : Type 0 where
@@ -62,13 +70,14 @@ pub record Shut (s : List ℕ) (p r : Part) (t : List ℕ) : Type 0 where
   pub named : r.known ≡ p.known
   pub same : r.rows ≡ p.rows
 
-abbrev pub ClosedBy : List ℕ → Part → Option Part → Read (Unit {0}) → Type 0
-ClosedBy s p (Some r) (found _ t) = Shut s p r t
-ClosedBy s p (Some r) bad = ⊥
+abbrev pub ClosedBy : List ℕ → Option Part → Option Part → Read (Unit {0}) → Type 0
+ClosedBy s (Some p) (Some r) (found _ t) = Shut s p r t
+ClosedBy s (Some p) (Some r) bad = ⊥
+ClosedBy s None (Some r) x = ⊥
 ClosedBy s p None x = bad ≡ x
 
-abbrev pub Closed : List ℕ → Part → Option Part → Type 0
-Closed s p r = ClosedBy s p r (eat (close_bracket ∷ []) (drop p.next.at s))
+abbrev pub Closed : List ℕ → Option Part → Option Part → Type 0
+Closed s p r = ClosedBy s p r (after (read_so_far s p) (λ _ t. eat (close_bracket ∷ []) t))
 
 pub record Negated (p r : Part) : Type 0 where
   pub moved : r.next ≡ p.next

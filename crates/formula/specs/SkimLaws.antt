@@ -47,18 +47,14 @@ module _ (s : List ℕ) (at : ℕ) (c : Cursor) where
   pub skim_digit : (b : Bool) → At s (spec.digit-opens b) c (read_opening (drop at s)) → At s tt c (spelling (read_formula (drop at s)))
   skim_digit b h = record { inside = h.inside; is = rw (formula_opened (drop at s) (spec.digit-opens b) (from s c) (sym h.is)) refl }
 
-  pub skim_not_so_far : (m r : Option Cursor) → At s spec.not-opens c (read_opening (drop at s)) → MovedIs s m (spelling (read_formula (from s c)))
-      → MovedIs s r (then s m close_bracket) → MovedIs s r (spelling (read_formula (drop at s)))
-  skim_not_so_far m r h i k =
+  pub skim_not : (m r : Option Cursor) → At s spec.not-opens c (read_opening (drop at s)) → MovedIs s m (spelling (read_formula (from s c)))
+      → MovedIs s r (after (skimmed_so_far s m) (λ _ t. eat (close_bracket ∷ []) t)) → MovedIs s r (spelling (read_formula (drop at s)))
+  skim_not m r h i k =
       subst (λ (x : Read (Unit {0})). MovedIs s r x)
       (ap (λ (x : Read (Unit {0})). after x (λ _ t. eat (close_bracket ∷ []) t)) (skimmed_is s m (spelling (read_formula (from s c))) i)
       ∙ sym (not_spelled (read_formula (from s c)))
       ∙ ap spelling (sym (formula_opened (drop at s) spec.not-opens (from s c) (sym h.is))))
       k
-
-  pub skim_not : (d : Cursor) (r : Option Cursor) → At s spec.not-opens c (read_opening (drop at s)) → At s tt d (spelling (read_formula (from s c)))
-      → MovedIs s r (eat (close_bracket ∷ []) (from s d)) → MovedIs s r (spelling (read_formula (drop at s)))
-  skim_not d r h i k = skim_not_so_far (Some d) r h i k
 
   pub skim_gate : (g : spec.Gate) (r : Option Cursor) → At s (spec.gate_opens g) c (read_opening (drop at s))
       → MovedIs s r (spelling (gate_on g (read_formula (from s c)))) → MovedIs s r (spelling (read_formula (drop at s)))
@@ -115,24 +111,6 @@ ending_over true bad e = refl
 ending_over false bad e = refl
 
 -- where no further operand comes
-module _ (s : List ℕ) (first past : Cursor) (g : spec.Gate) (q : Read Formula) (h : At s tt first (spelling q)) where
-  -- a gate has two operands or more
-  pub skim_short : bad ≡ eat (space ∷ []) (from s first) → bad ≡ spelling (gate_on g q)
-  skim_short n = sym (ending-start g q ∙ ap (ending false) (sym h.is) ∙ ending_over false (found tt (from s first)) n)
-
-  -- where what stands after a space is no operand
-  pub skim_broken : (b : Bool) (v : List ℕ) → ending false (found tt (from s first)) ≡ ending b (found tt (from s past))
-      → found tt v ≡ eat (space ∷ []) (from s past) → bad ≡ spelling (read_formula v) → bad ≡ spelling (gate_on g q)
-  skim_broken b v i n e =
-      sym (ending-start g q ∙ ap (ending false) (sym h.is) ∙ i ∙ ending_more b (found tt (from s past)) v n ∙ ap (ending true) (sym e))
-
-  pub skim_closed : ending false (found tt (from s first)) ≡ ending true (found tt (from s past)) → bad ≡ eat (space ∷ []) (from s past)
-      → (r : Option Cursor) → MovedIs s r (eat (close_bracket ∷ []) (from s past)) → MovedIs s r (spelling (gate_on g q))
-  skim_closed i n r k =
-      subst (λ (x : Read (Unit {0})). MovedIs s r x)
-      (sym (ending-start g q ∙ ap (ending false) (sym h.is) ∙ i ∙ ending_over true (found tt (from s past)) n)) k
-
--- the same of what was skimmed so far, if anything
 module _ (s : List ℕ) (first past : Option Cursor) (b : Bool) (g : spec.Gate) (q : Read Formula) (h : MovedIs s first (spelling q))
     (i : ending false (skimmed_so_far s first) ≡ ending b (skimmed_so_far s past)) (n : bad ≡ then s past space) where
   over : spelling (gate_on g q) ≡ pick b (then s past close_bracket) bad
@@ -140,10 +118,18 @@ module _ (s : List ℕ) (first past : Option Cursor) (b : Bool) (g : spec.Gate) 
       ending-start g q ∙ ap (ending false) (sym (skimmed_is s first (spelling q) h)) ∙ i
       ∙ ending_over b (skimmed_so_far s past) n
 
-  pub closed_so_far : b ≡ true → (r : Option Cursor) → MovedIs s r (then s past close_bracket) → MovedIs s r (spelling (gate_on g q))
-  closed_so_far e r k =
+  pub skim_closed : b ≡ true → (r : Option Cursor) → MovedIs s r (then s past close_bracket) → MovedIs s r (spelling (gate_on g q))
+  skim_closed e r k =
       subst (λ (x : Read (Unit {0})). MovedIs s r x)
       (sym (over ∙ ap (λ (t : Bool). pick t (then s past close_bracket) bad) e)) k
 
-  pub short_so_far : b ≡ false → bad ≡ spelling (gate_on g q)
-  short_so_far e = sym (over ∙ ap (λ (t : Bool). pick t (then s past close_bracket) bad) e)
+  -- a gate has two operands or more
+  pub skim_short : b ≡ false → bad ≡ spelling (gate_on g q)
+  skim_short e = sym (over ∙ ap (λ (t : Bool). pick t (then s past close_bracket) bad) e)
+
+-- where what stands after a space is no operand
+pub skim_broken : (s : List ℕ) (first past : Cursor) (g : spec.Gate) (q : Read Formula) → At s tt first (spelling q) → (b : Bool) (v : List ℕ)
+    → ending false (found tt (from s first)) ≡ ending b (found tt (from s past)) → found tt v ≡ eat (space ∷ []) (from s past)
+    → bad ≡ spelling (read_formula v) → bad ≡ spelling (gate_on g q)
+skim_broken s first past g q h b v i n e =
+    sym (ending-start g q ∙ ap (ending false) (sym h.is) ∙ i ∙ ending_more b (found tt (from s past)) v n ∙ ap (ending true) (sym e))

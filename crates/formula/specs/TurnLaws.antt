@@ -12,24 +12,23 @@ use Rattle.formula.specs.ReaderLaws.{formula_shorter, operands_more, operands_no
 use Rattle.formula.specs.Skim.{spelling, left}
 
 -- ---- what is left of the text falls
-pub byte_falls : (b : ℕ) (t v : List ℕ) → found tt v ≡ eat (b ∷ []) t → length v < length t
-byte_falls b t v e = omega (arith, eat_lengths (b ∷ []) t v (sym e))
+pub byte_shorter : (b : ℕ) (t v : List ℕ) → found tt v ≡ eat (b ∷ []) t → length v < length t
+byte_shorter b t v e = omega (arith, eat_lengths (b ∷ []) t v (sym e))
 
-pub formula_left : (s t : List ℕ) → found tt t ≡ spelling (read_formula s) → length t < length s
-formula_left s t e = by (read_formula s) refl e
+pub byte_falls : (b : ℕ) (x : Read (Unit {0})) (v : List ℕ) → found tt v ≡ after x (λ _ t. eat (b ∷ []) t) → length v < left x
+byte_falls b (found _ t) v e = byte_shorter b t v e
+byte_falls b bad v e = absurd (bad_found (sym e))
+
+pub spelled_shorter : (s t : List ℕ) → found tt t ≡ spelling (read_formula s) → length t < length s
+spelled_shorter s t e = by (read_formula s) refl e
   where
     by : (q : Read Formula) → read_formula s ≡ q → found tt t ≡ spelling q → length t < length s
     by (found f u) h e = rw (found-rest e) (formula_shorter s f u h)
     by bad h e = absurd (bad_found (sym e))
 
--- the same of what was read so far, if anything
-pub byte_falls_left : (b : ℕ) (x : Read (Unit {0})) (v : List ℕ) → found tt v ≡ after x (λ _ t. eat (b ∷ []) t) → length v < left x
-byte_falls_left b (found _ t) v e = byte_falls b t v e
-byte_falls_left b bad v e = absurd (bad_found (sym e))
-
-pub formula_left_le : (s : List ℕ) (x : Read (Unit {0})) → x ≡ spelling (read_formula s) → left x ≤ length s
-formula_left_le s (found _ t) e = omega (arith, formula_left s t e)
-formula_left_le s bad e = omega arith
+pub formula_left : (s : List ℕ) (x : Read (Unit {0})) → x ≡ spelling (read_formula s) → left x ≤ length s
+formula_left s (found _ t) e = omega (arith, spelled_shorter s t e)
+formula_left s bad e = omega arith
 
 pub unspelled : (q : Read Formula) → bad ≡ spelling q → bad ≡ q
 unspelled (found f t) e = absurd (bad_found e)

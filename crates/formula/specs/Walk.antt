@@ -1,6 +1,6 @@
 -- The loop over the operands of a gate, by the definitions: what the loop knows after each operand. k is how many brackets are
 -- looked into. Assumes nothing.
-use Rattle.std.specs.Prelude.{◌≡◌, Bool, true, false, List, [], ◌∷◌, ℕ, ◌≤◌, ◌<◌, min, max, length, drop, Option}
+use Rattle.std.specs.Prelude.{◌≡◌, Bool, true, false, List, [], ◌∷◌, ℕ, ◌≤◌, ◌<◌, min, max, length, drop, Option, Some, None}
 use Rattle.bits.specs.Logic.{andb}
 use Rattle.text.specs.Bytes.{Read, found, bad, after, eat, space}
 use Rattle.names.specs.Name.{Name}
@@ -39,13 +39,16 @@ pub record Going (k : ℕ) (s : List ℕ) (ns : List Name) (g : Gate) (e : Formu
 pub data Walk (k : ℕ) (s : List ℕ) (ns : List Name) (g : Gate) (e : Formula) (u : List ℕ) (p : Part) (enough : Bool) : Type 0 where
   going : (fs : List Formula) → enough ≡ non_empty fs → Going k s ns g e u fs p → Walk k s ns g e u p enough
 
-abbrev pub WalkOf : ℕ → List ℕ → List Name → Gate → Read Formula → Part → Bool → Type 0
-WalkOf k s ns g (found e u) p enough = Walk k s ns g e u p enough
-WalkOf k s ns g bad p enough = ⊥
+-- None, where an operand is broken
+abbrev pub WalkOf : ℕ → List ℕ → List Name → Gate → Read Formula → Option Part → Bool → Type 0
+WalkOf k s ns g (found e u) (Some p) enough = Walk k s ns g e u p enough
+WalkOf k s ns g (found e u) None enough = bad ≡ read_operands u
+WalkOf k s ns g bad (Some p) enough = ⊥
+WalkOf k s ns g bad None enough = Unit {0}
 
 -- a further operand stands at a cursor, after a space
 pub record Further (k : ℕ) (s : List ℕ) (ns : List Name) (g : Gate) (y : Read Formula) (p : Part) (c : Cursor) : Type 0 where
   pub inside : c.at ≤ length s
   pub spaced : found tt (drop c.at s) ≡ eat (space ∷ []) (drop p.next.at s)
   pub enough : Bool
-  pub walked : WalkOf k s ns g y p enough
+  pub walked : WalkOf k s ns g y (Some p) enough

@@ -19,37 +19,30 @@ use Rattle.formula.specs.Reader.{read_formula, read_operands, close_gate, close_
 use Rattle.formula.specs.Value.{value, on_row}
 use Rattle.formula.specs.Onto.{onto}
 use Rattle.formula.specs.GateLaws.{combine_one}
-use Rattle.formula.specs.Part.{PartIs, read_so_far, Skimmed, Unread, ClosedBy, Closed, Negated, Joined, deepened, gate_on}
+use Rattle.formula.specs.Part.{PartIs, Both, read_so_far, Skimmed, Unread, ClosedBy, Closed, Negated, Joined, deepened, gate_on}
 use Rattle.formula.specs.Skim.{spelling}
 use Rattle.formula.specs.Walk.{before, Going, going, WalkOf, then}
-use Rattle.formula.specs.TurnLaws.{formula_left, no_operand_after}
+use Rattle.formula.specs.TurnLaws.{spelled_shorter, no_operand_after}
 use Rattle.formula.specs.declared.Part.{Part}
 
--- ---- what was read so far, and a byte after it
-so_far_good : (s : List ℕ) (r : Option Part) (p : Part) → r ≡ Some p → read_so_far s r ≡ found tt (drop p.next.at s)
-so_far_good s r p e = rw e refl
+-- ---- what was read so far
+pub part_read : (k : ℕ) (s : List ℕ) (ns : List Name) (q : Read Formula) (p : Option Part) → PartIs k s ns q p → read_so_far s p ≡ spelling q
+part_read k s ns (found f t) (Some p) h = ap (λ (l : List ℕ). found tt l) h.rest
+part_read k s ns (found f t) None h = absurd (bad_found h)
+part_read k s ns bad (Some p) h = absurd h
+part_read k s ns bad None h = refl
 
-so_far_bad : (s : List ℕ) (r : Option Part) → r ≡ None → read_so_far s r ≡ bad
-so_far_bad s r e = rw e refl
+so_far_good : (s : List ℕ) (p : Option Part) (q : Part) → p ≡ Some q → read_so_far s p ≡ found tt (drop q.next.at s)
+so_far_good s p q e = rw e refl
 
-pub then_good : (s : List ℕ) (r : Option Part) (p : Part) (b : ℕ) → r ≡ Some p → then s r b ≡ eat (b ∷ []) (drop p.next.at s)
-then_good s r p b e = ap (λ (x : Read (Unit {0})). after x (λ _ t. eat (b ∷ []) t)) (so_far_good s r p e)
-
-pub then_bad : (s : List ℕ) (r : Option Part) (b : ℕ) → r ≡ None → then s r b ≡ bad
-then_bad s r b e = ap (λ (x : Read (Unit {0})). after x (λ _ t. eat (b ∷ []) t)) (so_far_bad s r e)
-
-pub followed_by : (s : List ℕ) (r : Option Part) (p : Part) (b : ℕ) (m : Option Cursor) → r ≡ Some p
-    → MovedIs s m (eat (b ∷ []) (drop p.next.at s)) → MovedIs s m (then s r b)
-followed_by s r p b m e h = subst (λ (x : Read (Unit {0})). MovedIs s m x) (sym (then_good s r p b e)) h
-
-pub followed_by_nothing : (s : List ℕ) (r : Option Part) (b : ℕ) → r ≡ None → bad ≡ then s r b
-followed_by_nothing s r b e = sym (then_bad s r b e)
+so_far_bad : (s : List ℕ) (p : Option Part) → p ≡ None → read_so_far s p ≡ bad
+so_far_bad s p e = rw e refl
 
 -- ---- the loop
-pub walk_start : (k : ℕ) (s : List ℕ) (ns : List Name) (g : Gate) (q : Read Formula) (p : Part) → PartIs k s ns q (Some p)
+pub walk_start : (k : ℕ) (s : List ℕ) (ns : List Name) (g : Gate) (q : Read Formula) (p : Option Part) → PartIs k s ns q p
     → WalkOf k s ns g q p false
 unfolding depth knows value
-walk_start k s ns g (found e u) p h =
+walk_start k s ns g (found e u) (Some p) h =
     going [] refl record {
       here = ap read_operands (sym h.rest) ∙ before_none (read_operands (drop p.next.at s));
       deep = h.deep ∙ ap (λ (d : ℕ). min d k) (omega arith);
@@ -64,7 +57,23 @@ walk_start k s ns g (found e u) p h =
     and_one : (b : Bool) → b ≡ andb b true
     and_one true = refl
     and_one false = refl
-walk_start k s ns g bad p h = absurd h
+walk_start k s ns g (found e u) None h = absurd (bad_found h)
+walk_start k s ns g bad (Some p) h = absurd h
+walk_start k s ns g bad None h = tt
+
+-- ---- a byte after what was read
+pub then_good : (s : List ℕ) (p : Option Part) (q : Part) (b : ℕ) → p ≡ Some q → then s p b ≡ eat (b ∷ []) (drop q.next.at s)
+then_good s p q b e = ap (λ (x : Read (Unit {0})). after x (λ _ t. eat (b ∷ []) t)) (so_far_good s p q e)
+
+pub then_bad : (s : List ℕ) (p : Option Part) (b : ℕ) → p ≡ None → then s p b ≡ bad
+then_bad s p b e = ap (λ (x : Read (Unit {0})). after x (λ _ t. eat (b ∷ []) t)) (so_far_bad s p e)
+
+pub followed_by : (s : List ℕ) (p : Option Part) (q : Part) (b : ℕ) (m : Option Cursor) → p ≡ Some q → MovedIs s m (eat (b ∷ []) (drop q.next.at s))
+    → MovedIs s m (then s p b)
+followed_by s p q b m e h = subst (λ (x : Read (Unit {0})). MovedIs s m x) (sym (then_good s p q b e)) h
+
+pub followed_by_nothing : (s : List ℕ) (p : Option Part) (b : ℕ) → p ≡ None → bad ≡ then s p b
+followed_by_nothing s p b e = sym (then_bad s p b e)
 
 -- ---- past the closing bracket
 -- the part p just before the closing bracket of f: the values and names are f's, and the depth lacks f's own bracket
@@ -73,11 +82,11 @@ record Whole (k : ℕ) (ns : List Name) (f : Formula) (p : Part) : Type 0 where
   named : depth f < suc k → p.known ≡ knows ns f
   rows : depth f < suc k → Rowwise (λ (r : ℕ). value (on_row ns r) f) p.rows
 
-closed_is : (k : ℕ) (s : List ℕ) (ns : List Name) (f : Formula) (p : Part) (r : Option Part) → Whole k ns f p → Closed s p r
+closed_is : (k : ℕ) (s : List ℕ) (ns : List Name) (f : Formula) (p : Part) (r : Option Part) → Whole k ns f p → Closed s (Some p) r
     → PartIs (suc k) s ns (after (eat (close_bracket ∷ []) (drop p.next.at s)) (λ _ t. found f t)) r
 closed_is k s ns f p r w c = by (eat (close_bracket ∷ []) (drop p.next.at s)) r c
   where
-    by : (x : Read (Unit {0})) (r : Option Part) → ClosedBy s p r x → PartIs (suc k) s ns (after x (λ _ t. found f t)) r
+    by : (x : Read (Unit {0})) (r : Option Part) → ClosedBy s (Some p) r x → PartIs (suc k) s ns (after x (λ _ t. found f t)) r
     by (found _ t) (Some r) h =
         record {
           inside = h.inside;
@@ -90,22 +99,22 @@ closed_is k s ns f p r w c = by (eat (close_bracket ∷ []) (drop p.next.at s)) 
     by bad (Some r) h = absurd h
     by bad None h = refl
 
--- nothing closes what is broken
-closed_broken : (s : List ℕ) (x : Option Part) (p : Part) (r : Option Part) → x ≡ None → ClosedBy s p r (then s x close_bracket) → r ≡ None
-closed_broken s x p r e c = by r (subst (λ (y : Read (Unit {0})). ClosedBy s p r y) (then_bad s x close_bracket e) c)
+closed_broken : (s : List ℕ) (p r : Option Part) → p ≡ None → Closed s p r → r ≡ None
+closed_broken s p r e c = by r (subst (λ (x : Option Part). ClosedBy s x r (then s x close_bracket)) e c)
   where
-    by : (r : Option Part) → ClosedBy s p r bad → r ≡ None
+    by : (r : Option Part) → ClosedBy s None r bad → r ≡ None
     by (Some r) h = absurd h
     by None h = refl
 
-pub unclosed : (s : List ℕ) (p : Part) (r : Option Part) (x : Read (Unit {0})) → bad ≡ x → r ≡ None → ClosedBy s p r x
-unclosed s p r x e f = rw (f, ← e) refl
+-- no formula, where none was read
+closed_nothing : (k : ℕ) (s : List ℕ) (ns : List Name) (r : Option Part) → Closed s None r → PartIs k s ns bad r
+closed_nothing k s ns r c = subst (λ (x : Option Part). PartIs k s ns bad x) (sym (closed_broken s None r refl c)) refl
 
 -- what the code does at the closing bracket
 pub closed_at : (s : List ℕ) (p r : Part) (c : Cursor) (x : Read (Unit {0})) → At s tt c x → r.next ≡ c
-    → r.depth ≡ deepened p.depth → r.known ≡ p.known → r.rows ≡ p.rows → ClosedBy s p (Some r) x
+    → r.depth ≡ deepened p.depth → r.known ≡ p.known → r.rows ≡ p.rows → ClosedBy s (Some p) (Some r) x
 closed_at s p r c x h moved deep named same =
-    subst (λ (y : Read (Unit {0})). ClosedBy s p (Some r) y) h.is
+    subst (λ (y : Read (Unit {0})). ClosedBy s (Some p) (Some r) y) h.is
     (record {
       inside = subst (λ (d : Cursor). d.at ≤ length s) (sym moved) h.inside;
       rest = ap (λ (d : Cursor). drop d.at s) moved;
@@ -114,11 +123,18 @@ closed_at s p r c x h moved deep named same =
       same = same;
     })
 
+pub unclosed : (s : List ℕ) (p r : Option Part) (x : Read (Unit {0})) → bad ≡ x → r ≡ None → ClosedBy s p r x
+unclosed s p r x e h = subst (λ (y : Option Part). ClosedBy s p y x) (sym h) (by p)
+  where
+    by : (p : Option Part) → ClosedBy s p None x
+    by (Some p) = e
+    by None = e
+
 -- ---- a negation
-pub negation_is : (k : ℕ) (s : List ℕ) (ns : List Name) (q : Read Formula) (p n : Part) (r : Option Part) → k ≤ max_depth → PartIs k s ns q (Some p)
-    → Negated p n → Closed s n r → PartIs (suc k) s ns (after q (λ f u. close_not f u)) r
+pub negation_is : (k : ℕ) (s : List ℕ) (ns : List Name) (q : Read Formula) (p n r : Option Part) → k ≤ max_depth → PartIs k s ns q p
+    → Both Negated p n → Closed s n r → PartIs (suc k) s ns (after q (λ f u. close_not f u)) r
 unfolding depth knows value
-negation_is k s ns (found f u) p n r z h m c =
+negation_is k s ns (found f u) (Some p) (Some n) r z h m c =
     subst (λ (l : List ℕ). PartIs (suc k) s ns (close_not f l) r) (ap (λ k. drop k.at s) m.moved ∙ h.rest)
     (closed_is k s ns (negation f) n r whole c)
   where
@@ -130,7 +146,11 @@ negation_is k s ns (found f u) p n r z h m c =
           named = λ l. m.named ∙ h.names (omega (arith, l));
           rows = λ l. rowwise_one not m.each (h.rows (omega (arith, l)));
         }
-negation_is k s ns bad p n r z h m c = absurd h
+negation_is k s ns (found f u) (Some p) None r z h m c = absurd m
+negation_is k s ns (found f u) None n r z h m c = absurd (bad_found h)
+negation_is k s ns bad (Some p) n r z h m c = absurd h
+negation_is k s ns bad None (Some n) r z h m c = absurd m
+negation_is k s ns bad None None r z h m c = closed_nothing (suc k) s ns r c
 
 -- ---- a gate
 gate_whole : (k : ℕ) (s : List ℕ) (ns : List Name) (g : Gate) (e : Formula) (u : List ℕ) (f : Formula) (fs : List Formula) (p : Part)
@@ -153,27 +173,36 @@ read_all : (k : ℕ) (s : List ℕ) (ns : List Name) (g : Gate) (e : Formula) (u
 read_all k s ns g e u fs p w n =
     w.here ∙ ap (before fs) (no_operand_after (drop p.next.at s) n)
 
-pub walk_closed : (k : ℕ) (s : List ℕ) (ns : List Name) (g : Gate) (y : Read Formula) (p : Part) (r : Option Part) → k ≤ max_depth
-    → WalkOf k s ns g y p true → bad ≡ eat (space ∷ []) (drop p.next.at s) → Closed s p r → PartIs (suc k) s ns (gate_on g y) r
-walk_closed k s ns g (found e u) p r z (going [] m w) n c = absurd (true_false m)
-walk_closed k s ns g (found e u) p r z (going (f ∷ fs) m w) n c =
+pub walk_closed : (k : ℕ) (s : List ℕ) (ns : List Name) (g : Gate) (y : Read Formula) (p r : Option Part) → k ≤ max_depth
+    → WalkOf k s ns g y p true → bad ≡ then s p space → Closed s p r → PartIs (suc k) s ns (gate_on g y) r
+walk_closed k s ns g (found e u) (Some p) r z (going [] m w) n c = absurd (true_false m)
+walk_closed k s ns g (found e u) (Some p) r z (going (f ∷ fs) m w) n c =
     subst (λ (o : Read Operands). PartIs (suc k) s ns (after o (λ fs t. close_gate g e fs t)) r)
     (sym (read_all k s ns g e u (f ∷ fs) p w n))
     (closed_is k s ns (gate g e f (onto fs none)) p r (gate_whole k s ns g e u f fs p z w) c)
-walk_closed k s ns g bad p r z w n c = absurd w
+walk_closed k s ns g (found e u) None r z w n c =
+    subst (λ (o : Read Operands). PartIs (suc k) s ns (after o (λ fs t. close_gate g e fs t)) r) w (closed_nothing (suc k) s ns r c)
+walk_closed k s ns g bad (Some p) r z w n c = absurd w
+walk_closed k s ns g bad None r z w n c = closed_nothing (suc k) s ns r c
 
 -- a gate has two operands or more
-pub walk_short : (k : ℕ) (s : List ℕ) (ns : List Name) (g : Gate) (y : Read Formula) (p : Part)
-    → WalkOf k s ns g y p false → bad ≡ eat (space ∷ []) (drop p.next.at s) → bad ≡ gate_on g y
-walk_short k s ns g (found e u) p (going [] m w) n =
+gate_short : (k : ℕ) (s : List ℕ) (ns : List Name) (g : Gate) (y : Read Formula) (p : Option Part)
+    → WalkOf k s ns g y p false → bad ≡ then s p space → bad ≡ gate_on g y
+gate_short k s ns g (found e u) (Some p) (going [] m w) n =
     sym (ap (λ (o : Read Operands). after o (λ fs t. close_gate g e fs t)) (read_all k s ns g e u [] p w n))
-walk_short k s ns g (found e u) p (going (f ∷ fs) m w) n = absurd (true_false (sym m))
-walk_short k s ns g bad p w n = absurd w
+gate_short k s ns g (found e u) (Some p) (going (f ∷ fs) m w) n = absurd (true_false (sym m))
+gate_short k s ns g (found e u) None w n = ap (λ (o : Read Operands). after o (λ fs t. close_gate g e fs t)) w
+gate_short k s ns g bad (Some p) w n = absurd w
+gate_short k s ns g bad None w n = refl
+
+pub walk_short : (k : ℕ) (s : List ℕ) (ns : List Name) (g : Gate) (y : Read Formula) (p r : Option Part)
+    → WalkOf k s ns g y p false → bad ≡ then s p space → r ≡ None → PartIs (suc k) s ns (gate_on g y) r
+walk_short k s ns g y p r w n e = rw e (gate_short k s ns g y p w n)
 
 -- ---- a formula that was only skimmed
-pub unread_is : (k : ℕ) (s : List ℕ) (ns : List Name) (q : Read Formula) (c : Cursor) (p : Part) → k ≡ 0 → At s tt c (spelling q)
-    → Skimmed c p → PartIs k s ns q (Some p)
-unread_is k s ns (found f t) c p z h u =
+pub unread_is : (k : ℕ) (s : List ℕ) (ns : List Name) (q : Read Formula) (m : Option Cursor) (p : Option Part) → k ≡ 0
+    → MovedIs s m (spelling q) → Unread m p → PartIs k s ns q p
+unread_is k s ns (found f t) (Some c) (Some p) z h u =
     record {
       inside = subst (λ (d : Cursor). d.at ≤ length s) (sym u.moved) h.inside;
       rest = ap (λ (d : Cursor). drop d.at s) u.moved ∙ found-rest h.is;
@@ -181,30 +210,23 @@ unread_is k s ns (found f t) c p z h u =
       names = λ l. absurd (omega (arith, l, z));
       rows = λ l. absurd (omega (arith, l, z));
     }
-unread_is k s ns bad c p z h u = absurd (bad_found (sym h.is))
+unread_is k s ns (found f t) (Some c) None z h u = absurd u
+unread_is k s ns (found f t) None p z h u = absurd (bad_found h)
+unread_is k s ns bad (Some c) p z h u = absurd (bad_found (sym h.is))
+unread_is k s ns bad None (Some p) z h u = absurd u
+unread_is k s ns bad None None z h u = refl
 
-pub unread_as : (k : ℕ) (s : List ℕ) (ns : List Name) (q : Read Formula) (m : Option Cursor) (p : Option Part) → k ≡ 0 → MovedIs s m (spelling q)
-    → Unread m p → PartIs k s ns q p
-unread_as k s ns q (Some c) (Some p) z h u = unread_is k s ns q c p z h u
-unread_as k s ns q (Some c) None z h u = absurd u
-unread_as k s ns (found f t) None p z h u = absurd (bad_found h)
-unread_as k s ns bad None p z h u = rw u refl
+pub unread_part : (k : ℕ) (s : List ℕ) (ns : List Name) (q : Read Formula) (c : Cursor) (p : Part) → k ≡ 0 → At s tt c (spelling q)
+    → Skimmed c p → PartIs k s ns q (Some p)
+unread_part k s ns q c p = unread_is k s ns q (Some c) (Some p)
 
 -- ---- what is left of the text
-pub part_so_far : (k : ℕ) (s : List ℕ) (ns : List Name) (q : Read Formula) (p : Option Part) → PartIs k s ns q p → read_so_far s p ≡ spelling q
-part_so_far k s ns (found f t) (Some p) h = ap (λ (l : List ℕ). found tt l) h.rest
-part_so_far k s ns bad (Some p) h = absurd h
-part_so_far k s ns (found f t) None h = absurd (bad_found h)
-part_so_far k s ns bad None h = refl
-
-pub joined_read : (s : List ℕ) (g : Gate) (p q r : Part) → Joined g p q r → read_so_far s (Some r) ≡ read_so_far s (Some q)
-joined_read s g p q r j = ap (λ (d : Cursor). found tt (drop d.at s)) j.moved
-
-pub part_read : (k : ℕ) (s : List ℕ) (ns : List Name) (q : Read Formula) (p : Part) → PartIs k s ns q (Some p)
-    → found tt (from s p.next) ≡ spelling q
-part_read k s ns (found f t) p h = ap (λ (l : List ℕ). found tt l) h.rest
-part_read k s ns bad p h = absurd h
+pub joined_read : (s : List ℕ) (g : Gate) (p : Part) (q r : Option Part) → Both (Joined g p) q r → read_so_far s r ≡ read_so_far s q
+joined_read s g p (Some q) (Some r) j = ap (λ (d : Cursor). found tt (drop d.at s)) j.moved
+joined_read s g p (Some q) None j = absurd j
+joined_read s g p None (Some r) j = absurd j
+joined_read s g p None None j = refl
 
 pub joined_falls : (k : ℕ) (s : List ℕ) (ns : List Name) (g : Gate) (v : List ℕ) (p q r : Part) → PartIs k s ns (read_formula v) (Some q)
     → Joined g p q r → length (from s r.next) < length v
-joined_falls k s ns g v p q r h j = rw j.moved (formula_left v (from s q.next) (part_read k s ns (read_formula v) q h))
+joined_falls k s ns g v p q r h j = rw j.moved (spelled_shorter v (from s q.next) (part_read k s ns (read_formula v) (Some q) h))

@@ -76,7 +76,7 @@ fn unread(next: Cursor) -> Part
 
 // A formula past its closing bracket. Past the deepest that is allowed depths are not told apart.
 fn closed(s: &[u8], p: Part) -> Option<Part>
-    ensures { Closed s.now p result }
+    ensures { Closed s.now (Some p) result }
 {
     let next = p.next.byte(s, b')')?;
     let depth = p.depth.min(limits::MAX_DEPTH) + 1;

@@ -1,17 +1,20 @@
-use Rattle.std.proofs.Common.{map, ◌-◌, false, true, arith}
+use Rattle.std.specs.Prelude.{Some, None}
+use Rattle.std.proofs.Common.{◌≡◌, refl, map, ◌-◌, false, true, arith}
 use Rattle.names.specs.Pack.{name_of}
 use Rattle.cursor.specs.Opening as spec
 use Rattle.cursor.specs.Item.{from, gate_of}
 use Rattle.formula.specs.Reader.{read_formula}
-use Rattle.formula.specs.TurnLaws.{byte_falls, formula_left}
+use Rattle.formula.specs.TurnLaws.{byte_shorter, spelled_shorter}
 use Rattle.formula.specs.WalkLaws.{part_read, walk_start, walk_closed, walk_short, joined_falls, negation_is}
-use Rattle.formula.specs.OpenedLaws.{opened_falls, name_is, digit_is, not_is, gate_is, nothing_is}
+use Rattle.formula.specs.OpenedLaws.{opened_falls, name_is, digit_is, negation_opened, gate_is, nothing_is}
 use Rattle.formula.proofs.WalkStep.{walk_step, walk_broken}
 use Rattle.formula.proofs.+nested_negation_gate.Goals as goal
 
 -- ---- nested
 pub nested-returns-in_err-n : goal.nested-returns-in_err-n
-nested-returns-in_err-n t c = rw c.from_residual-in_err-n.ensures (nothing_is c.args.s.now c.args.c.at c.in_err-n.ensures)
+nested-returns-in_err-n t c =
+    let a = c.args in
+    nothing_is a.left a.s.now (map name_of a.inputs.now) a.c.at _ c.in_err-n.ensures c.from_residual-in_err-n.ensures
 
 pub nested-negation-requires : goal.nested-negation-requires
 nested-negation-requires t c =
@@ -38,7 +41,7 @@ nested-returns-in-Digit t c =
 pub nested-returns-in-Not : goal.nested-returns-in-Not
 nested-returns-in-Not t c =
     let a = c.args in
-    not_is (a.left - 1) a.left (omega arith) a.s.now (map name_of a.inputs.now) a.c.at c.in-Not.next c.negation.result
+    negation_opened (a.left - 1) a.left (omega arith) a.s.now (map name_of a.inputs.now) a.c.at c.in-Not.next c.negation.result
     (rw c.in-Not.is at c.in_ok-n.ensures) c.negation.ensures
 
 pub nested-returns-in-Gate : goal.nested-returns-in-Gate
@@ -51,7 +54,7 @@ nested-returns-in-Gate t c =
 pub negation-returns : goal.negation-returns
 negation-returns t c =
     let a = c.args in
-    negation_is a.left a.s.now (map name_of a.inputs.now) (read_formula (from a.s.now a.c)) c.in_ok-nested.field-0 c.negated.result c.closed.result
+    negation_is a.left a.s.now (map name_of a.inputs.now) (read_formula (from a.s.now a.c)) (Some c.in_ok-nested.field-0) (Some c.negated.result) c.closed.result
     c.requires.1 c.in_ok-nested.ensures c.negated.ensures c.closed.ensures
 
 -- ---- gate
@@ -61,8 +64,8 @@ gate-returns-in_err-next t c =
     let ns = map name_of a.inputs.now in
     let q = read_formula (from a.s.now a.c) in
     let p = c.in_ok-sum.sum in
-    rw c.from_residual-in_err-next.ensures
-    (walk_short a.left a.s.now ns (gate_of a.g) q p (walk_start a.left a.s.now ns (gate_of a.g) q p c.in_ok-sum.ensures) c.in_err-next.ensures)
+    walk_short a.left a.s.now ns (gate_of a.g) q (Some p) _ (walk_start a.left a.s.now ns (gate_of a.g) q (Some p) c.in_ok-sum.ensures) c.in_err-next.ensures
+    c.from_residual-in_err-next.ensures
 
 pub gate-loop-sum-init : goal.gate-loop-sum-init
 gate-loop-sum-init t c =
@@ -71,11 +74,11 @@ gate-loop-sum-init t c =
     let u = from a.s.now a.c in
     let p = c.in_ok-sum.sum in
     let h = c.in_ok-next.ensures in (
-      record { inside = h.inside; spaced = h.is; enough = false; walked = walk_start a.left a.s.now ns (gate_of a.g) (read_formula u) p c.in_ok-sum.ensures },
+      record { inside = h.inside; spaced = h.is; enough = false; walked = walk_start a.left a.s.now ns (gate_of a.g) (read_formula u) (Some p) c.in_ok-sum.ensures },
       omega (
         arith,
-        byte_falls _ (from a.s.now p.next) (from a.s.now c.in_ok-next.next) h.is,
-        formula_left u (from a.s.now p.next) (part_read a.left a.s.now ns (read_formula u) p c.in_ok-sum.ensures),
+        byte_shorter _ (from a.s.now p.next) (from a.s.now c.in_ok-next.next) h.is,
+        spelled_shorter u (from a.s.now p.next) (part_read a.left a.s.now ns (read_formula u) (Some p) c.in_ok-sum.ensures),
       ),
     )
 
@@ -94,7 +97,7 @@ gate-loop-sum-smaller t c =
     let r = c.joined-sum.result in
     omega (
       arith,
-      byte_falls _ (from a.s.now r.next) (from a.s.now c.in-Some.further) c.in-Some.ensures.is,
+      byte_shorter _ (from a.s.now r.next) (from a.s.now c.in-Some.further) c.in-Some.ensures.is,
       joined_falls a.left a.s.now (map name_of a.inputs.now) (gate_of a.g) v c.loop-sum.sum c.in_ok-nested.field-0 r c.in_ok-nested.ensures c.joined-sum.ensures,
     )
 
@@ -113,12 +116,13 @@ gate-loop-sum-preserved t c =
         inside = h.inside;
         spaced = h.is;
         enough = true;
-        walked = walk_step a.left a.s.now ns g (read_formula (from a.s.now a.c)) i.sum w.enough v f r w.walked w.spaced c.in_ok-nested.ensures c.joined-sum.ensures;
+        walked = walk_step a.left a.s.now ns g (read_formula (from a.s.now a.c)) i.sum (Some f) (Some r) w.enough v w.walked w.spaced
+            c.in_ok-nested.ensures c.joined-sum.ensures;
       },
       omega (
         arith,
         i.invariant.1,
-        byte_falls _ (from a.s.now r.next) (from a.s.now c.in-Some.further) h.is,
+        byte_shorter _ (from a.s.now r.next) (from a.s.now c.in-Some.further) h.is,
         joined_falls a.left a.s.now ns g v i.sum f r c.in_ok-nested.ensures c.joined-sum.ensures,
       ),
     )
@@ -131,6 +135,8 @@ gate-returns-in-None t c =
     let q = read_formula (from a.s.now a.c) in
     let i = c.loop-sum in
     let w = i.invariant.0 in
+    let f = c.in_ok-nested.field-0 in
     let r = c.joined-sum.result in
-    let after = walk_step a.left a.s.now ns g q i.sum w.enough (from a.s.now i.next) c.in_ok-nested.field-0 r w.walked w.spaced c.in_ok-nested.ensures c.joined-sum.ensures in
-    walk_closed a.left a.s.now ns g q r c.closed.result c.requires.1 after c.in-None.ensures c.closed.ensures
+    let after = walk_step a.left a.s.now ns g q i.sum (Some f) (Some r) w.enough (from a.s.now i.next) w.walked w.spaced
+    c.in_ok-nested.ensures c.joined-sum.ensures in
+    walk_closed a.left a.s.now ns g q (Some r) c.closed.result c.requires.1 after c.in-None.ensures c.closed.ensures

@@ -10,7 +10,7 @@ use Rattle.formula.specs.Reader.{read_formula}
 use Rattle.formula.specs.OpenedLaws.{opened_falls, not_broken, gate_broken}
 use Rattle.formula.specs.Skim.{spelling}
 use Rattle.formula.specs.SkimLaws.{skim_name, skim_digit, skim_not, skim_gate, skim_nothing, ending, ending_more, skim_closed, skim_short, skim_broken}
-use Rattle.formula.specs.TurnLaws.{byte_falls, formula_left, unspelled}
+use Rattle.formula.specs.TurnLaws.{byte_shorter, spelled_shorter, unspelled}
 use Rattle.formula.proofs.+skim_skim_operands.Goals as goal
 
 -- a name or a digit, which one arm takes
@@ -49,7 +49,7 @@ skim-skim_operands-requires t c =
     let s = c.args.s.now in
     let h = rw c.in-Gate.is at c.in_ok-next.ensures in
     let first = c.in_ok-skim-in-Gate in
-    omega (arith, opened_falls s c.args.c.at (spec.gate_opens (gate_of c.in-Gate.field-0)) c.in-Gate.next h, formula_left (from s c.in-Gate.next) (from s first.field-0) first.ensures.is)
+    omega (arith, opened_falls s c.args.c.at (spec.gate_opens (gate_of c.in-Gate.field-0)) c.in-Gate.next h, spelled_shorter (from s c.in-Gate.next) (from s first.field-0) first.ensures.is)
 
 pub skim-returns-in-Name : goal.skim-returns-in-Name
 skim-returns-in-Name t c = skim_atom c.args.s.now c.args.c.at c.in_ok-next.field-0 c.in-Name.next c.in_ok-next.ensures c.in-Name.is
@@ -59,7 +59,7 @@ skim-returns-in-Name-2 t c = skim_atom c.args.s.now c.args.c.at c.in_ok-next.fie
 
 pub skim-returns-in_ok-skim-in-Not : goal.skim-returns-in_ok-skim-in-Not
 skim-returns-in_ok-skim-in-Not t c =
-    skim_not _ _ c.in-Not.next _ _ (rw c.in-Not.is at c.in_ok-next.ensures) c.in_ok-skim-in-Not.ensures c.byte.ensures
+    skim_not _ _ c.in-Not.next (Some c.in_ok-skim-in-Not.field-0) _ (rw c.in-Not.is at c.in_ok-next.ensures) c.in_ok-skim-in-Not.ensures c.byte.ensures
 
 pub skim-returns-in_ok-skim-in-Gate : goal.skim-returns-in_ok-skim-in-Gate
 skim-returns-in_ok-skim-in-Gate t c =
@@ -69,13 +69,13 @@ skim-returns-in_ok-skim-in-Gate t c =
 
 pub skim_operands-returns-in_err-second : goal.skim_operands-returns-in_err-second
 skim_operands-returns-in_err-second t c =
-    λ g q h. rw c.from_residual.ensures (skim_short _ c.args.first c.args.first g q h c.in_err-second.ensures)
+    λ g q h. rw c.from_residual.ensures (skim_short _ (Some c.args.first) (Some c.args.first) false g q h refl c.in_err-second.ensures refl)
 
 pub skim_operands-skim-requires : goal.skim_operands-skim-requires
 skim_operands-skim-requires t c =
     let s = c.args.s.now in
     let h = c.in_ok-second.ensures in
-    omega (arith, h.inside, byte_falls _ (from s c.args.first) (from s c.in_ok-second.second) h.is)
+    omega (arith, h.inside, byte_shorter _ (from s c.args.first) (from s c.in_ok-second.second) h.is)
 
 pub skim_operands-returns-in_err-past : goal.skim_operands-returns-in_err-past
 skim_operands-returns-in_err-past t c =
@@ -88,7 +88,7 @@ skim_operands-loop-next-init t c =
     let v = from s c.in_ok-second.second in
     let h = c.in_ok-second.ensures.is in
     let e = c.in_ok-past.ensures.is in (
-      omega (arith, byte_falls _ (from s c.args.first) v h, formula_left v (from s c.in_ok-past.past) e),
+      omega (arith, byte_shorter _ (from s c.args.first) v h, spelled_shorter v (from s c.in_ok-past.past) e),
       ending_more false (found tt (from s c.args.first)) v h ∙ ap (ending true) (sym e),
     )
 
@@ -96,7 +96,7 @@ pub skim_operands-skim-requires-in-Some : goal.skim_operands-skim-requires-in-So
 skim_operands-skim-requires-in-Some t c =
     let s = c.args.s.now in
     let h = c.in-Some.ensures in
-    omega (arith, h.inside, c.loop-next.invariant.0, byte_falls _ (from s c.loop-next.past) (from s c.in-Some.next) h.is)
+    omega (arith, h.inside, c.loop-next.invariant.0, byte_shorter _ (from s c.loop-next.past) (from s c.in-Some.next) h.is)
 
 pub skim_operands-returns-in_err-past-2 : goal.skim_operands-returns-in_err-past-2
 skim_operands-returns-in_err-past-2 t c =
@@ -107,7 +107,7 @@ pub skim_operands-loop-next-smaller : goal.skim_operands-loop-next-smaller
 skim_operands-loop-next-smaller t c =
     let s = c.args.s.now in
     let v = from s c.in-Some.next in
-    omega (arith, formula_left v (from s c.in_ok-past-2.past) c.in_ok-past-2.ensures.is, byte_falls _ (from s c.loop-next.past) v c.in-Some.ensures.is)
+    omega (arith, spelled_shorter v (from s c.in_ok-past-2.past) c.in_ok-past-2.ensures.is, byte_shorter _ (from s c.loop-next.past) v c.in-Some.ensures.is)
 
 pub skim_operands-loop-next-preserved : goal.skim_operands-loop-next-preserved
 skim_operands-loop-next-preserved t c =
@@ -115,10 +115,10 @@ skim_operands-loop-next-preserved t c =
     let i = c.loop-next in
     let v = from s c.in-Some.next in
     let e = c.in_ok-past-2.ensures.is in (
-      omega (arith, i.invariant.0, formula_left v (from s c.in_ok-past-2.past) e, byte_falls _ (from s i.past) v c.in-Some.ensures.is),
+      omega (arith, i.invariant.0, spelled_shorter v (from s c.in_ok-past-2.past) e, byte_shorter _ (from s i.past) v c.in-Some.ensures.is),
       i.invariant.1 ∙ ending_more true (found tt (from s i.past)) v c.in-Some.ensures.is ∙ ap (ending true) (sym e),
     )
 
 pub skim_operands-returns : goal.skim_operands-returns
 skim_operands-returns t c =
-    λ g q h. skim_closed _ c.args.first c.loop-next.past g q h c.loop-next.invariant.1 c.in_default.ensures _ c.byte-2.ensures
+    λ g q h. skim_closed _ (Some c.args.first) (Some c.loop-next.past) true g q h c.loop-next.invariant.1 c.in_default.ensures refl _ c.byte-2.ensures

@@ -1,15 +1,15 @@
 -- `input`: the name's place among the inputs decides. Assumes nothing.
+use Rattle.std.specs.Prelude.{Some, None}
 use Rattle.std.proofs.Common.{refl, sym, arith}
-use Rattle.names.specs.LookupLaws.{found_inside, found_among, nowhere_among}
 use Rattle.rows.specs.WordLaws.{rowwise_same}
-use Rattle.formula.specs.LookupLaws.{found-row, nowhere_row}
+use Rattle.formula.specs.LookupLaws.{found_inside, found_among, found-row, nowhere_among, nowhere_row}
 use Rattle.formula.proofs.input.Goals as goal
 
 pub overflow_sub-inputs : goal.overflow_sub-inputs
-overflow_sub-inputs c = omega (arith, found_inside c.args.inputs.now c.args.n c.in-Some.i c.in-Some.ensures)
+overflow_sub-inputs c = omega (arith, found_inside c.args.inputs.now c.args.n c.in-Some.i (Some c.in-Some.i) c.in-Some.ensures refl)
 
 pub overflow_sub-inputs-in-Some : goal.overflow_sub-inputs-in-Some
-overflow_sub-inputs-in-Some c = omega (arith, found_inside c.args.inputs.now c.args.n c.in-Some.i c.in-Some.ensures)
+overflow_sub-inputs-in-Some c = omega (arith, found_inside c.args.inputs.now c.args.n c.in-Some.i (Some c.in-Some.i) c.in-Some.ensures refl)
 
 pub returns-in-Some : goal.returns-in-Some
 returns-in-Some c =
@@ -19,8 +19,8 @@ returns-in-Some c =
     record {
       moved = refl;
       flat = refl;
-      named = sym (found_among vs v i c.in-Some.ensures);
-      each = rowwise_same c.input.ensures (λ r l. sym (found-row vs v i c.in-Some.ensures r));
+      named = sym (found_among vs v i (Some i) c.in-Some.ensures refl);
+      each = rowwise_same c.input.ensures (λ r l. sym (found-row vs v i (Some i) c.in-Some.ensures refl r));
     }
 
 pub returns-in-None : goal.returns-in-None
@@ -30,6 +30,6 @@ returns-in-None c =
     record {
       moved = refl;
       flat = refl;
-      named = sym (nowhere_among vs v c.in-None.ensures);
-      each = rowwise_same c.constant.ensures (λ r l. sym (nowhere_row vs v c.in-None.ensures r));
+      named = sym (nowhere_among vs v None c.in-None.ensures refl);
+      each = rowwise_same c.constant.ensures (λ r l. sym (nowhere_row vs v None c.in-None.ensures refl r));
     }
