@@ -468,6 +468,19 @@ pub number_room : (u g r end : ℕ) → g ≤ 10 → end ≡ 2 ^ (u + g) → r <
 number_room u g r end h e l = let p : 2 ^ (u + g) ≤ 2 ^ (u + 10) = pow_mono (omega arith) in omega arith
 
 -- ======== the next output
+pub next_start : (done : ℕ) → Next 0 done None
+next_start done = λ o h. absurd (omega arith)
+
+pub next_here : (done o : ℕ) → o < 8 → on done o ≡ false → Next (o + 1) done (Some o)
+next_here done o h e = (omega arith, e)
+
+pub next-found : (done o best : ℕ) → Next o done (Some best) → Next (o + 1) done (Some best)
+next-found done o best s = let l = s.0 in (omega arith, s.1)
+
+pub next_done : (done o : ℕ) (best : Option ℕ) → on done o ≡ true → Next o done best → Next (o + 1) done best
+next_done done o (Some best) h s = next-found done o best s
+next_done done o None h s = λ q l. ⊎_elim (s q) (λ e. ap (on done) e ∙ h) (less_or_equal q o (omega arith))
+
 pub next_none : (m done : ℕ) (r : Option ℕ) → ((o : ℕ) → r ≡ Some o → ⊥) → Next m done r → (o : ℕ) → o < m → on done o ≡ true
 next_none m done None d all = all
 next_none m done (Some o) d here = absurd (d o refl)

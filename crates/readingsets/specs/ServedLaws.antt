@@ -1,7 +1,7 @@
 -- An output that given tables serve alone: it has no conflict left for the codes. One row that reads these tables is enough for
 -- it: in each core the output's row can be replaced by that row, and the codes stay. So no other row of it is tried. Assumes
 -- nothing.
-use Rattle.std.specs.Prelude.{◌≡◌, ℕ, ◌+◌, ◌-◌, ◌^◌, ◌<◌, Bool, true, false, List, length, ◌≢◌, bit_and, bit_or, slice_set, refl}
+use Rattle.std.specs.Prelude.{◌≡◌, ℕ, ◌+◌, ◌-◌, ◌^◌, ◌<◌, Bool, true, false, List, length, ◌≢◌, bit_and, bit_or, slice_set, refl, Some, None}
 use Rattle.std.proofs.Common.{sym, ◌∙◌, subst}
 use Rattle.std.proofs.Math.Decide.{ℕ_discrete}
 use Rattle.bits.specs.Digit.{on}
@@ -10,7 +10,7 @@ use Rattle.bits.specs.Count.{count}
 use Rattle.problem.specs.Problem.{item}
 use Rattle.relation.specs.Relation.{Left, NoneLeft}
 use Rattle.subproblems.specs.Subproblem.{open_of, given_of}
-use Rattle.readingsets.specs.Choice.{RowFits, Core, Agree, Lost, Chosen, numbered}
+use Rattle.readingsets.specs.Choice.{RowFits, Core, Agree, Lost, Chosen, numbered, Served}
 use Rattle.readingsets.specs.ChoiceLaws.{agree_more}
 
 -- ======== one row replaced
@@ -74,9 +74,12 @@ module _ (cl given budgets : List ℕ) (kn val v m u g n row : ℕ) (fits : RowF
 
 -- ======== such a row found
 pub served_here : (cl given : List ℕ) (v u g n want r row tables : ℕ) → r < 2 ^ (u + g) → row ≡ numbered u r → tables ≡ given_of row
-    → count (on row) 16 ≡ want → NoneLeft cl given tables n v → (r < 2 ^ (u + g)) × (count (on (numbered u r)) 16 ≡ want) × NoneLeft cl given (given_of (numbered u r)) n v
+    → count (on row) 16 ≡ want → NoneLeft cl given tables n v → Served cl given v u g n want (Some r)
 served_here cl given v u g n want r row tables h er et full s = (
   h,
   subst (λ (z : ℕ). count (on z) 16 ≡ want) er full,
   subst (λ (z : ℕ). NoneLeft cl given (given_of z) n v) er (subst (λ (z : ℕ). NoneLeft cl given z n v) et s),
 )
+
+pub served_none : (cl given : List ℕ) (v u g n want : ℕ) → Served cl given v u g n want None
+served_none cl given v u g n want = tt
