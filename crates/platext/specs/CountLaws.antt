@@ -1,6 +1,7 @@
 -- A line with a number: what the word, the number and the line's end come to. Assumes nothing.
-use Rattle.std.specs.Prelude.{◌≡◌, refl, Bool, List, [], ◌∷◌, ℕ, ◌≤◌, ◌<◌, leb, length, drop}
-use Rattle.std.proofs.Common.{sym, ◌∙◌, arith, length-drop, drop_of_length-le, le-leb}
+use Rattle.std.specs.Prelude.{◌≡◌, refl, Bool, List, [], ◌∷◌, ℕ, ◌≤◌, ◌<◌, leb, length, drop, Some, None}
+use Rattle.std.specs.Prelude as code
+use Rattle.std.proofs.Common.{sym, subst, ◌∙◌, arith, length-drop, drop_of_length-le, le-leb}
 use Rattle.std.proofs.Math.Path.{ap}
 use Rattle.std.proofs.Math.Option.{Option, some, none}
 use Rattle.std.proofs.lemmas.Bool.{lt-leb}
@@ -11,6 +12,7 @@ use Rattle.text.specs.Number.{read_number_of}
 use Rattle.cursor.specs.Item.{At}
 use Rattle.cursor.specs.declared.Cursor.{Cursor}
 use Rattle.platext.specs.Lines.{at_least, read_count}
+use Rattle.platext.specs.Reading.{CountIs}
 
 -- the number of a line after a word
 abbrev pub number_after : Read (Unit {0}) → Option ℕ
@@ -40,6 +42,13 @@ module _ (w l : List ℕ) where
 
       pub longer-count : d.at < length l → number_after (eat w l) ≡ none
       longer-count g = number_there ∙ ap whole (sym k.is) ∙ whole_part (drop d.at l) n (omega (arith, length-drop d.at l))
+
+-- ---- what the code answers of a number, by the definitions
+number_is : (x : Option ℕ) (r : code.Option ℕ) → CountIs x r → (n : ℕ) → r ≡ Some n → x ≡ some n
+number_is x r k n e = subst (λ (o : code.Option ℕ). CountIs x o) e k
+
+bad_is : (x : Option ℕ) (r : code.Option ℕ) → CountIs x r → r ≡ None → x ≡ none
+bad_is x r k e = subst (λ (o : code.Option ℕ). CountIs x o) e k
 
 -- ---- a number that is at least `low`
 module _ (w : List ℕ) (low : ℕ) (l : List ℕ) where

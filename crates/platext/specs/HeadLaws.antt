@@ -1,6 +1,6 @@
 -- The lines before the cubes, one after another: where each is read the cubes are read next, and else the line is the bad one.
 -- Assumes nothing.
-use Rattle.std.specs.Prelude.{◌≡◌, refl, List, [], ℕ, drop}
+use Rattle.std.specs.Prelude.{◌≡◌, refl, List, [], ℕ, drop, Result, Err}
 use Rattle.std.proofs.Common.{◌∙◌}
 use Rattle.text.specs.Line.{lines, ends_line}
 use Rattle.names.specs.Name.{Name}
@@ -8,8 +8,11 @@ use Rattle.sheet.specs.Known.{Listed}
 use Rattle.platext.specs.Lines.{inputs_line, outputs_line, input_names_line, output_names_line, cubes_line, first_cube}
 use Rattle.platext.specs.Lines.{inputs_word, outputs_word, input_names_word, output_names_word, cubes_word, read_count, read_named}
 use Rattle.platext.specs.Text.{Answer, bad_line, next_line, read_cubes, read_lines}
-use Rattle.platext.specs.Reading.{Passed, Stopped, HeadHere}
+use Rattle.platext.specs.Reading.{Passed, Stopped, HeadHere, HeadIs}
 use Rattle.platext.specs.declared.Header.{Header}
+
+pub head_bad : (s : List ℕ) (r : Result Header ℕ) (n : ℕ) → read_lines (ends_line s) (lines s) ≡ bad_line n → r ≡ Err n → HeadIs s r
+head_bad s r n e f = rw f e
 
 module _ (s : List ℕ) where
   -- what each line is followed by

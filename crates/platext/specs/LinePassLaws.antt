@@ -1,7 +1,9 @@
 -- One line after another: a line that is read lets the next one be read, and one that is not, or that no 0x0A ends, is the bad
 -- one. Assumes nothing.
-use Rattle.std.specs.Prelude.{◌≡◌, Bool, List, ℕ, ◌+◌, ◌-◌, ◌≤◌, ◌<◌, length, take, drop}
-use Rattle.std.proofs.Common.{ap, ap₂, ◌∙◌, arith}
+use Rattle.std.specs.Prelude.{◌≡◌, refl, Bool, true, false, ltb, List, ℕ, ◌+◌, ◌-◌, ◌≤◌, ◌<◌, length, take, drop}
+use Rattle.std.specs.Prelude as code
+use Rattle.std.specs.Bool.{then_some}
+use Rattle.std.proofs.Common.{ap, ap₂, ◌∙◌, arith, ltb-true, ltb-false}
 use Rattle.std.proofs.Math.Option.{Option, some, none}
 use Rattle.bits.specs.Logic.{pick}
 use Rattle.text.specs.Line.{lines, ends_line}
@@ -9,7 +11,7 @@ use Rattle.text.specs.LineEnd.{LineEnd}
 use Rattle.text.specs.LastLineLaws.{last_line, not-ended, line_here, is_ended}
 use Rattle.text.specs.LineCountLaws.{lines_past}
 use Rattle.platext.specs.Text.{Answer, bad_line, next_line, or_bad}
-use Rattle.platext.specs.Reading.{LineHere, NoLine, none_left, open_line, Passed, Stopped}
+use Rattle.platext.specs.Reading.{LineHere, NoLine, none_left, open_line, NextIs, Passed, Stopped}
 
 -- ---- the line at a place
 pub nothing_left : (s : List ℕ) (at : ℕ) → length s ≤ at → NoLine s at
@@ -30,6 +32,14 @@ module _ (s : List ℕ) (at e : ℕ) (h : at < length s) (x : LineEnd s at e) wh
   unended l =
       let same : e ≡ length s = omega (arith, x.inside) in
       open_line (drop at s) (last_line s at e h x same) (not-ended s at e h x same)
+
+-- as the code says it
+pub next-found : (s : List ℕ) (at e : ℕ) (r : code.Option ℕ) → at < length s → LineEnd s at e → r ≡ then_some (ltb e (length s)) e → NextIs s at r
+next-found s at e r h x o = rw o (by (ltb e (length s)) refl)
+  where
+    by : (b : Bool) → ltb e (length s) ≡ b → NextIs s at (then_some b e)
+    by true f = ended-line s at e h x (ltb-true e (length s) f)
+    by false f = unended s at e h x (ltb-false e (length s) f)
 
 -- ---- reading it
 module _ {A : Type 0} {s : List ℕ} {at : ℕ} (read : List ℕ → Option A) where

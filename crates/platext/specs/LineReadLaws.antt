@@ -1,15 +1,32 @@
 -- A line of a number and a line of names, from a place of the text on: read, so that the next line can be read, or the bad one.
 -- Assumes nothing.
 use Rattle.std.specs.Prelude.{◌≡◌, refl, List, ℕ, ◌+◌, ◌-◌, ◌≤◌, ◌<◌, take, drop, Some, None}
+use Rattle.std.specs.Prelude as code
+use Rattle.std.proofs.Common.{subst}
 use Rattle.std.proofs.Math.Option.{Option, some, none}
 use Rattle.text.specs.Bytes.{eat}
 use Rattle.names.specs.Name.{Name}
 use Rattle.cursor.specs.declared.NameList.{NameList}
 use Rattle.sheet.specs.Known.{LineIs}
 use Rattle.platext.specs.Lines.{read_count, read_named}
-use Rattle.platext.specs.Reading.{LineHere, Passed, Stopped, NamesHere}
-use Rattle.platext.specs.LinePassLaws.{read_passes, unread_stops}
+use Rattle.platext.specs.Reading.{LineHere, NextIs, Passed, Stopped, CountLineIs, NamesHere, NamedLineIs}
+use Rattle.platext.specs.LinePassLaws.{no_line_stops, read_passes, unread_stops}
 use Rattle.platext.specs.CountLaws.{number_after, count_bad, count_low, count_there}
+
+-- ---- no line
+module _ (s : List ℕ) (at : ℕ) (w : List ℕ) (low : ℕ) {r : code.Option (ℕ × ℕ)} where
+  count_stopped : Stopped s at (read_count w low) → r ≡ None → CountLineIs s at w low r
+  count_stopped x e = rw e x
+
+  pub count_no_line : {l : code.Option ℕ} → NextIs s at l → l ≡ None → r ≡ None → CountLineIs s at w low r
+  count_no_line n e f = count_stopped (no_line_stops (read_count w low) (subst (λ (o : code.Option ℕ). NextIs s at o) e n)) f
+
+module _ (s : List ℕ) (at : ℕ) (w : List ℕ) (m : ℕ) {r : code.Option (NameList × ℕ)} where
+  names_stopped : Stopped s at (read_named w m) → r ≡ None → NamedLineIs s at w m r
+  names_stopped x e = rw e x
+
+  pub names_no_line : {l : code.Option ℕ} → NextIs s at l → l ≡ None → r ≡ None → NamedLineIs s at w m r
+  names_no_line n e f = names_stopped (no_line_stops (read_named w m) (subst (λ (o : code.Option ℕ). NextIs s at o) e n)) f
 
 module _ {s : List ℕ} {at : ℕ} (w : List ℕ) {e : ℕ} (x : LineHere s at e) where
   abbrev line : List ℕ

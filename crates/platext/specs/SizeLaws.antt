@@ -1,5 +1,5 @@
 -- Question 12 on the whole text: its size, the lines before the cubes, and the cubes. Assumes nothing.
-use Rattle.std.specs.Prelude.{◌≡◌, refl, Bool, true, false, ◌&&◌, List, [], ℕ, ◌≤◌, ◌<◌, leb, length, drop, Ok, Err}
+use Rattle.std.specs.Prelude.{◌≡◌, refl, Bool, true, false, ◌&&◌, List, [], ℕ, ◌≤◌, ◌<◌, leb, length, drop, Result, Ok, Err}
 use Rattle.std.proofs.Common.{sym, subst, ◌∙◌, le-leb}
 use Rattle.std.proofs.Math.Path.{ap₂}
 use Rattle.std.proofs.lemmas.Bool.{lt-leb}
@@ -28,6 +28,9 @@ module _ (s : List ℕ) where
   never : (a : Bool) → pick (a && false) (read_lines (ends_line s) (lines s)) (bad_line 0) ≡ bad_line 0
   never true = refl
   never false = refl
+
+  text_bad : (r : Result PlaText ℕ) (n : ℕ) → read_pla s ≡ bad_line n → r ≡ Err n → TextIs s (read_pla s) r
+  text_bad r n e b = rw (b, e) refl
 
   pub no_bytes : length s < 1 → read_pla s ≡ bad_line 0
   no_bytes h = by_size false (leb (length s) max_pla) (lt-leb 1 (length s) h) refl
