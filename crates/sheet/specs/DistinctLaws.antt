@@ -33,6 +33,9 @@ module _ {ns : List ℕ} {i : ℕ} (p : Passed ns i) (l : i < length ns) where
       (take_all (length ns - (i + 1)) (drop (i + 1) ns) (omega (arith, length-drop (i + 1) ns))) h
 
   module _ (r : Option ℕ) (h : PositionIs (take (length ns - (i + 1)) (drop (i + 1) ns)) (get_or ns i 0) r) where
+    found : (q : Option ℕ) → r ≡ q → PositionIs (drop (i + 1) ns) (get_or ns i 0) q
+    found q e = subst (λ (s : Option ℕ). PositionIs (drop (i + 1) ns) (get_or ns i 0) s) e (later_names r h)
+
     pub stands_twice : true ≡ is_some r → false ≡ distinct (map name_of ns)
     stands_twice e = go r (later_names r h) e
       where

@@ -1,11 +1,11 @@
 -- A line of names: the code's list is that of the line where the list ends with the line. Assumes nothing.
-use Rattle.std.specs.Prelude.{◌≡◌, List, [], ◌∷◌, ℕ, ◌≤◌, ◌<◌, length, drop, Some, None}
+use Rattle.std.specs.Prelude.{◌≡◌, List, [], ◌∷◌, ℕ, ◌≤◌, ◌<◌, length, drop, Option, Some, None}
 use Rattle.std.proofs.Common.{ap, subst, arith, length-drop}
 use Rattle.std.proofs.Math.Option as maybe
 use Rattle.text.specs.Bytes.{Read, found, bad, after, eat, whole}
 use Rattle.names.specs.Name.{Name}
 use Rattle.names.specs.Names.{read_names}
-use Rattle.cursor.specs.Item.{At, NamesAre}
+use Rattle.cursor.specs.Item.{At, MovedIs, NamesAre}
 use Rattle.cursor.specs.declared.Cursor.{Cursor}
 use Rattle.cursor.specs.declared.NameList.{NameList}
 use Rattle.sheet.specs.Known.{LineIs}
@@ -33,6 +33,10 @@ module _ (s : List ℕ) where
   list_part l bad a d = absurd a
 
 -- ---- by the word at the front
+module _ (w s : List ℕ) {m : Option Cursor} (h : MovedIs s m (eat w s)) where
+  pub word-found : {c : Cursor} → m ≡ Some c → At s tt c (eat w s)
+  word-found e = subst (λ (x : Option Cursor). MovedIs s x (eat w s)) e h
+
 module _ (w s : List ℕ) (q : List ℕ → Read (List Name)) where
   pub no_word : bad ≡ eat w s → LineIs (list_after q (eat w s)) None
   no_word e = subst (λ (x : Read (Unit {0})). LineIs (list_after q x) None) e tt

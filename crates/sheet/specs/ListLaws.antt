@@ -71,6 +71,21 @@ passes high (Some l) m e =
       once = subst (λ (n : NameList). distinct (kept_names n) ≡ true) y.same y.once;
     }
 
+in_range : (o a b : Bool) (l m : NameList) → Ok m ≡ pick o (answered a b l) (Err Question.Spelling) → a ≡ true
+in_range true a b l m e = (all_yes a b l m e).counted
+in_range false a b l m e = cc
+
+module _ (high : ℕ) (w : Option NameList) (n : Result NameList Question) (first : n ≡ first_no high w) where
+  none_misspelled : w ≡ None → n ≡ Err Question.Spelling
+  none_misspelled e = first ∙ ap (first_no high) e ∙ sym (no_to_two high)
+
+  three_four : (l : NameList) → w ≡ Some l → n ≡ answered (within 1 high l.count) (distinct (kept_names l)) l
+  unfolding first_no
+  three_four l e = first ∙ ap (first_no high) e
+
+  counted : (m : NameList) → n ≡ Ok m → within 1 high m.count ≡ true
+  counted m z = (passes high w m (sym z ∙ first)).counted
+
 pub counted_few : (high : ℕ) (w : Option NameList) (m : NameList) → Ok m ≡ first_no high w → m.count ≤ high
 counted_few high w m e = within_high 1 high m.count (passes high w m e).counted
 
@@ -104,6 +119,9 @@ module _ {high : ℕ} {rest : List Name → Step} {f : maybe.Option (List Name) 
         q.listed ns
         ∙ ap (λ (m : ℕ). pick (within 1 high m) (four ns) (no_to 3)) (sym h.kept.counted)
         ∙ pick_when (within 1 high l.count) (four ns) (four (kept_names l)) (no_to 3) (λ b. ap four (sym (kept_all b)))
+
+  comes_to : (r : Result code.Step Question) (x : maybe.Option (List Name)) (s : Step) → f x ≡ s → StepIs s r → StepIs (f x) r
+  comes_to r x s e a = subst (λ (t : Step). StepIs t r) (sym e) a
 
   pub list_refused : (x : maybe.Option (List Name)) (w : Option NameList) (e : Question) → LineIs x w → Err e ≡ first_no high w
       → StepIs (f x) (Err e)

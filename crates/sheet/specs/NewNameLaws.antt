@@ -19,17 +19,37 @@ turned : (a f : Bool) → a ≡ not f → f ≡ not a
 turned a true e = sym (ap not e)
 turned a false e = sym (ap not e)
 
+module _ (v : ℕ) (vs : List ℕ) (ns : List Name) (e : map name_of vs ≡ ns) where
+  found_in : (i : ℕ) → PositionIs vs v (Some i) → among (name_of v) ns ≡ true
+  found_in i p = stands_in v vs ns (Some i) e p
+
+  nowhere_in : PositionIs vs v None → among (name_of v) ns ≡ false
+  nowhere_in p = stands_in v vs ns None e p
+
+module _ (d : Design) (k : Sheet) (h : Holds d k) (v : ℕ) where
+  new_by : (a b : Bool) → among (name_of v) d.inputs ≡ a → among (name_of v) (output_names d.outputs) ≡ b
+      → not a && not b ≡ new_name d (name_of v)
+  new_by a b e f = sym (ap₂ (λ (x y : Bool). not x && not y) e f)
+
+  module _ (p : PositionIs (take k.inputs k.names) v None) where
+    no_input : among (name_of v) d.inputs ≡ false
+    no_input = nowhere_in v (take k.inputs k.names) d.inputs h.inputs_named p
+
+    pub old_output : (i : ℕ) → PositionIs (take k.outputs k.outs) v (Some i) → false ≡ new_name d (name_of v)
+    old_output i q =
+        new_by false true no_input
+        (found_in v (take k.outputs k.outs) (output_names d.outputs) h.outputs_named i q)
+
 module _ (d : Design) (k : Sheet) (h : Holds d k) (v : ℕ) (p : Option ℕ) (a : PositionIs (take k.inputs k.names) v p) where
-  new_by : (b c : Bool) → is_some p ≡ b → among (name_of v) (output_names d.outputs) ≡ c → not b && not c ≡ new_name d (name_of v)
-  new_by b c e f =
-      sym (ap₂ (λ (x y : Bool). not x && not y) (stands_in v (take k.inputs k.names) d.inputs p h.inputs_named a ∙ e) f)
+  input_by : (b : Bool) → is_some p ≡ b → among (name_of v) d.inputs ≡ b
+  input_by b e = stands_in v (take k.inputs k.names) d.inputs p h.inputs_named a ∙ e
 
   -- f and g are what the code is told of p and of q: that there is none
   pub old_input : is_some p ≡ true → (f : Bool) → is_some p ≡ not f → f ≡ new_name d (name_of v)
-  old_input e f t = turned (is_some p) f t ∙ ap not e ∙ new_by true _ e refl
+  old_input e f t = turned (is_some p) f t ∙ ap not e ∙ new_by d k h v true _ (input_by true e) refl
 
   pub new_output : is_some p ≡ false → (q : Option ℕ) → PositionIs (take k.outputs k.outs) v q → (g : Bool) → is_some q ≡ not g
       → g ≡ new_name d (name_of v)
   new_output e q b g t =
       turned (is_some q) g t
-      ∙ new_by false (is_some q) e (stands_in v (take k.outputs k.outs) (output_names d.outputs) q h.outputs_named b)
+      ∙ new_by d k h v false (is_some q) (input_by false e) (stands_in v (take k.outputs k.outs) (output_names d.outputs) q h.outputs_named b)

@@ -25,6 +25,9 @@ abbrev of_formula : Name → Read Formula → maybe.Option Output
 of_formula n q = whole (closed (after q (λ f t. found (record { name = n; formula = f }) t)))
 
 module _ (l : List ℕ) (ns : List Name) where
+  no_formula : (q : Read Formula) → PartIs (suc max_depth) l ns q None → q ≡ bad
+  no_formula q g = sym g
+
   pub out-no-formula : (v : ℕ) (s : List ℕ) → bad ≡ read_formula s → OutIs ns (output_after (name_of v) s) None
   out-no-formula v s e = rw (← e) tt
 
