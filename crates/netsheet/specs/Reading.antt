@@ -1,5 +1,5 @@
 -- What the code holds of a network sheet between its lines, and what one line changes of it. Assumes nothing.
-use Rattle.std.specs.Prelude.{◌≡◌, Bool, Option, Some, None, List, ◌++◌, ℕ, ◌+◌, ◌≤◌, ◌<◌, ltb, length, drop, set, replicate}
+use Rattle.std.specs.Prelude.{◌≡◌, Bool, true, false, Option, Some, None, List, ◌++◌, ℕ, ◌+◌, ◌≤◌, ◌<◌, ltb, length, drop, set, replicate}
 use Rattle.std.proofs.Math.Option.{none}
 use Rattle.std.proofs.Math.Option as math
 use Rattle.bits.specs.Logic.{pick}
@@ -21,6 +21,15 @@ place_of (Place.Node o) = spec.at_node o
 place_of Place.Count = spec.at_count
 place_of Place.End = spec.at_end_lem
 place_of Place.Over = spec.over
+
+-- whether every line was read
+abbrev pub is_over : Place → Bool
+is_over Place.Network = false
+is_over Place.Luts = false
+is_over (Place.Node o) = false
+is_over Place.Count = false
+is_over Place.End = false
+is_over Place.Over = true
 
 -- ---- what the code holds at first, and after a line of each kind
 abbrev pub fresh : Reading

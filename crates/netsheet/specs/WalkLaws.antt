@@ -6,6 +6,7 @@ use Rattle.std.proofs.Math.Path.{ap, ap₂, subst}
 use mathlib.Core.List.{List}
 use Rattle.std.proofs.lemmas.Bool.{lt-leb}
 use Rattle.bits.specs.Logic.{pick}
+use Rattle.bits.specs.LogicLaws.{true_false}
 use Rattle.limits.specs.Limits.{max_network}
 use Rattle.text.specs.Line.{lines, ends_line}
 use Rattle.text.specs.LineEnd.{LineEnd}
@@ -17,7 +18,7 @@ use Rattle.network.specs.Examine as spec
 use Rattle.network.specs.Examine.{Answer, bad_line, Step, misspelled, next, ask_line, ask_lines, at_end, follow, nothing, read_network}
 use Rattle.netsheet.specs.Answer.{NetworkIs}
 use Rattle.netsheet.specs.Named.{NamedIs}
-use Rattle.netsheet.specs.Reading.{place_of, fresh, Safe, PartOf, Known, StepIs, Staged}
+use Rattle.netsheet.specs.Reading.{place_of, is_over, fresh, Safe, PartOf, Known, StepIs, Staged}
 use Rattle.netsheet.specs.declared.Named.{Named}
 use Rattle.netsheet.specs.declared.NetworkSheet.{NetworkSheet}
 use Rattle.netsheet.specs.declared.Place.{Place}
@@ -197,6 +198,14 @@ module _ {t : List ℕ} {d : Design} {w : Network} {s : Reading} (kn : Known d t
       go Place.Count f = refl
       go Place.End f = refl
       go Place.Over f = absurd (f refl)
+
+  is_over_lem : (p : Place) → is_over p ≡ true → p ≡ Place.Over
+  is_over_lem Place.Network f = absurd (true_false (sym f))
+  is_over_lem Place.Luts f = absurd (true_false (sym f))
+  is_over_lem (Place.Node o) f = absurd (true_false (sym f))
+  is_over_lem Place.Count f = absurd (true_false (sym f))
+  is_over_lem Place.End f = absurd (true_false (sym f))
+  is_over_lem Place.Over f = refl
 
   pub ended_over : s.place ≡ Place.Over → NetworkIs d t (at_end (place_of s.place) w n) (Ok s.sheet)
   ended_over over =
