@@ -67,6 +67,9 @@ bound-found : (x : maybe.Option (List Name)) (l : NameList) → LineIs x (Some l
 bound-found none l h = absurd h
 bound-found (some bs) l h = (bs, refl)
 
+bad_limit : (n : ℕ) → None ≡ Some n → ⊥
+bad_limit n e = cc
+
 limit_missing : (x : maybe.Option ℕ) → LimitIs x None → x ≡ none
 limit_missing none h = refl
 limit_missing (some n) h = cc

@@ -1,10 +1,11 @@
 -- Question 14: the bytes of an output part, and a walk over the cubes, one after another. Assumes nothing.
-use Rattle.std.specs.Prelude.{◌≡◌, Bool, true, false, ◌&&◌, ◌||◌, List, [], ◌∷◌, ℕ, suc, ◌+◌, ◌-◌, ◌≤◌, ◌<◌, eqb, length, take, drop, Some, None}
+use Rattle.std.specs.Prelude.{◌≡◌, Bool, true, false, ◌&&◌, ◌||◌, List, [], ◌∷◌, ℕ, suc, ◌+◌, ◌-◌, ◌≤◌, ◌<◌, eqb, length, get_or, take, drop, Some, None}
 use Rattle.std.specs.List.{list_all}
 use Rattle.std.proofs.Math.Path.{refl, sym, ap, subst}
-use Rattle.std.proofs.Common.{◌∙◌, arith, add-one, drop_of_length-le, drop-cons}
+use Rattle.std.proofs.Common.{◌∙◌, arith, add-one, drop_of_length-le, drop-cons, eq-eqb, ne_eqb}
 use Rattle.std.proofs.Math.Option.{some}
 use Rattle.bits.specs.Logic.{pick}
+use Rattle.bits.specs.LogicLaws.{or_second}
 use Rattle.cubes.specs.Cube.{Cube}
 use Rattle.cubes.specs.Cover.{cube_at}
 use Rattle.platext.specs.Lines.{first_cube}
@@ -21,6 +22,43 @@ pub all_zero_or_one : (m : List ℕ) → list_all zero_or_one m ≡ zeros_and_on
 unfolding zeros_and_ones
 all_zero_or_one [] = refl
 all_zero_or_one (b ∷ m) = ap (λ (t : Bool). zero_or_one b && t) (all_zero_or_one m)
+
+-- those before i are 0 or 1
+pub record MarksPassed (m : List ℕ) (i : ℕ) : Type 0 where
+  pub few : i ≤ length m
+  pub is : zeros_and_ones m ≡ zeros_and_ones (drop i m)
+
+module _ (m : List ℕ) (i : ℕ) (w : MarksPassed m i) where
+  byte_next : i < length m
+      → zeros_and_ones m ≡ (eqb (get_or m i 0) 0x30 || eqb (get_or m i 0) 0x31) && zeros_and_ones (drop (suc i) m)
+  unfolding zeros_and_ones
+  byte_next h = w.is ∙ ap zeros_and_ones (drop-cons m i 0 h)
+
+  byte_more : i < length m → eqb (get_or m i 0) 0x30 || eqb (get_or m i 0) 0x31 ≡ true → MarksPassed m (i + 1)
+  byte_more h e =
+      record {
+        few = omega arith;
+        is =
+            byte_next h ∙ ap (λ (b : Bool). b && zeros_and_ones (drop (suc i) m)) e
+            ∙ ap (λ (k : ℕ). zeros_and_ones (drop k m)) (sym (add-one i));
+      }
+
+  pub byte_zero : i < length m → get_or m i 0 ≡ 0x30 → MarksPassed m (i + 1)
+  byte_zero h e = byte_more h (ap (λ (b : Bool). b || eqb (get_or m i 0) 0x31) (eq-eqb (get_or m i 0) 0x30 e))
+
+  pub byte_one : i < length m → get_or m i 0 ≡ 0x31 → MarksPassed m (i + 1)
+  byte_one h e = byte_more h (or_second (eqb (get_or m i 0) 0x30) (eqb (get_or m i 0) 0x31) (eq-eqb (get_or m i 0) 0x31 e))
+
+  pub byte_other : i < length m → (get_or m i 0 ≡ 0x30 → ⊥) → (get_or m i 0 ≡ 0x31 → ⊥) → false ≡ zeros_and_ones m
+  byte_other h a b =
+      sym
+      (byte_next h
+      ∙ ap (λ (t : Bool). (t || eqb (get_or m i 0) 0x31) && zeros_and_ones (drop (suc i) m)) (ne_eqb (get_or m i 0) 0x30 a)
+      ∙ ap (λ (t : Bool). t && zeros_and_ones (drop (suc i) m)) (ne_eqb (get_or m i 0) 0x31 b))
+
+  pub bytes_all : length m ≤ i → true ≡ zeros_and_ones m
+  unfolding zeros_and_ones
+  bytes_all h = sym (w.is ∙ ap zeros_and_ones (drop_of_length-le m h))
 
 -- ---- the cubes
 -- k cubes are passed, with no other mark
