@@ -1,7 +1,7 @@
 -- The places of names among the inputs, from the first name on: each name's place is where the lookup finds it, in any
 -- spelling. Assumes nothing.
-use Rattle.std.specs.Prelude.{◌≡◌, refl, Bool, true, false, ◌&&◌, ℕ, zero, suc, ◌+◌, ◌≤◌, ◌<◌, length, get_or, take, drop, set, Some, None}
-use Rattle.std.proofs.Common.{sym, ap₂, ◌∙◌, arith, add-one, length-set, drop_of_length-le, take-suc-set, take_all}
+use Rattle.std.specs.Prelude.{◌≡◌, refl, Bool, true, false, ◌&&◌, ℕ, zero, suc, ◌+◌, ◌≤◌, ◌<◌, length, get_or, take, drop, set, Option, Some, None}
+use Rattle.std.proofs.Common.{sym, ap₂, subst, ◌∙◌, arith, add-one, length-set, drop_of_length-le, take-suc-set, take_all}
 use Rattle.std.proofs.Math.Path.{ap}
 use mathlib.Core.List.{List, [], ◌∷◌, ◌++◌, map, map-append}
 use Rattle.std.proofs.lemmas.List.{length-map}
@@ -70,6 +70,9 @@ module _ {ns inputs list : List ℕ} {i : ℕ} (p : Placed ns inputs list i) (l 
       ∙ ap₂ (λ (a : List ℕ) (b : ℕ). a ++ (b ∷ [])) p.listed (sym e)
       ∙ sym (map-append place (map name_of (take i ns)) (name_of (get_or ns i 0) ∷ []))
       ∙ ap (map place) (sym (names_before ns i l))
+
+  found : {r : Option ℕ} → PositionIs inputs (get_or ns i 0) r → (q : Option ℕ) → r ≡ q → PositionIs inputs (get_or ns i 0) q
+  found h q e = subst (λ (s : Option ℕ). PositionIs inputs (get_or ns i 0) s) e h
 
   pub place_missing : PositionIs inputs (get_or ns i 0) None → PlacesAre (map name_of ns) (map name_of inputs) None
   place_missing h = decided false (nowhere_among inputs (get_or ns i 0) h)
