@@ -9,7 +9,7 @@ use Rattle.bits.specs.Logic.{pick}
 use Rattle.limits.specs.Limits.{max_pla_digits}
 use Rattle.text.specs.Bytes.{Read, found, bad, after, eat, whole}
 use Rattle.text.specs.Number.{read_number_of}
-use Rattle.cursor.specs.Item.{At}
+use Rattle.cursor.specs.Item.{At, NumberIs}
 use Rattle.cursor.specs.declared.Cursor.{Cursor}
 use Rattle.platext.specs.Lines.{at_least, read_count}
 use Rattle.platext.specs.Reading.{CountIs}
@@ -35,6 +35,13 @@ module _ (w l : List ℕ) where
 
     pub no_number : bad ≡ read_number_of max_pla_digits (drop c.at l) → number_after (eat w l) ≡ none
     no_number e = number_there ∙ ap whole (sym e)
+
+    is_number : {n : ℕ} {d : Cursor} (v : code.Option (ℕ × Cursor)) → NumberIs l v (read_number_of max_pla_digits (drop c.at l)) → v ≡ Some (n, d)
+        → found n (drop d.at l) ≡ read_number_of max_pla_digits (drop c.at l)
+    is_number {n} {d} v k f =
+        let a : At l n d (read_number_of max_pla_digits (drop c.at l))
+        = subst (λ (x : code.Option (ℕ × Cursor)). NumberIs l x (read_number_of max_pla_digits (drop c.at l))) f k in
+        a.is
 
     module _ {n : ℕ} {d : Cursor} (k : At l n d (read_number_of max_pla_digits (drop c.at l))) where
       pub whole-count : length l ≤ d.at → number_after (eat w l) ≡ some n

@@ -49,8 +49,11 @@ module _ (s : List ℕ) where
       abbrev the-cubes : Answer
       the-cubes = read_cubes (ends_line s) x.head [] first_cube (lines (drop h.next s))
 
+      bad-by : (a : Answer) → the-cubes ≡ a → (n : ℕ) → CubesAre s h.next x.head a (Err n) → read_pla s ≡ bad_line n
+      bad-by a e n k = sized ∙ x.is ∙ e ∙ k
+
       pub bad-cubes : (n : ℕ) → CubesAre s h.next x.head the-cubes (Err n) → read_pla s ≡ bad_line n
-      bad-cubes n k = sized ∙ x.is ∙ k
+      bad-cubes n k = bad-by the-cubes refl n k
 
       right_by : (a : Answer) → the-cubes ≡ a → CubesAre s h.next x.head a (Ok tt) → (r : PlaText)
           → r.inputs ≡ h.inputs → r.outputs ≡ h.outputs → r.first ≡ h.next → r.cubes ≡ h.cubes → TextIs s (read_pla s) (Ok r)
