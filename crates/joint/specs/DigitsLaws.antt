@@ -17,6 +17,15 @@ use Rattle.bits.specs.CountLaws.{less_or_equal}
 use Rattle.cells.specs.Sets.{With}
 use Rattle.joint.specs.Digits.{vertex_at, known_at, Drawn}
 
+pub unknown_at : (kn val x : ℕ) → on kn x ≡ false → None ≡ known_at kn val x
+unknown_at kn val x e = sym (ap (λ (a : Bool). then_some a (on val x)) e)
+
+pub one_at : (kn val x : ℕ) → on kn x ≡ true → on val x ≡ true → Some true ≡ known_at kn val x
+one_at kn val x e d = sym (ap (λ (a : Bool). then_some a (on val x)) e ∙ ap (λ (a : Bool). Some a) d)
+
+pub zero_at : (kn val x : ℕ) → on kn x ≡ true → on val x ≡ false → Some false ≡ known_at kn val x
+zero_at kn val x e d = sym (ap (λ (a : Bool). then_some a (on val x)) e ∙ ap (λ (a : Bool). Some a) d)
+
 pub known_same : (kn val x y : ℕ) → known_at kn val x ≡ known_at kn val y → on kn x ≡ on kn y
 known_same kn val x y e = go (on kn x) (on val x) (on kn y) (on val y) e
   where

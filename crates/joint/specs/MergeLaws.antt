@@ -20,6 +20,9 @@ use Rattle.readers.specs.Masks.{Decided}
 use Rattle.joint.specs.Digits.{vertex_at, Drawn}
 use Rattle.joint.specs.Merge.{joint_at, SameLabels, Mergeable, Merged, Copied, Picked, Spread}
 
+pub alike_more : (cl : List ℕ) (n x y : ℕ) → label_at cl n x ≡ label_at cl n y → SameLabels cl n x y → SameLabels cl (n + 1) x y
+alike_more cl n x y e a o h = ⊎_elim (a o) (λ q. subst (λ (o : ℕ). label_at cl o x ≡ label_at cl o y) (sym q) e) (less_or_equal o n (omega arith))
+
 -- labels that are the same for each number below n
 pub labels_alike : (cl : List ℕ) (n x y : ℕ)
     → AllWithin (λ o. label_at cl o x ≡ label_at cl o y) (range_with_len 0 n) 0 (length (range_with_len 0 n)) → SameLabels cl n x y
@@ -175,8 +178,8 @@ module _ (cl : List ℕ) (v j n : ℕ) (rows : List ℕ) (first : List Vertex) (
   vertex_part_lem o x h a = ap (part_at cl o) ((m.same x a).0 o h) ∙ sym (class_part o (joint_at place x) h (m.within x a))
 
   -- codes for the classes, spread
-  pub decided_merged : (codes codes' : List ℕ) → Spread place codes v codes' → Decided r n j rows kn' val' true codes → Decided cl v j rows kn val true codes'
-  decided_merged codes codes' s d = (
+  decided_spread : (codes codes' : List ℕ) → Spread place codes v codes' → Decided r n j rows kn' val' true codes → Decided cl v j rows kn val true codes'
+  decided_spread codes codes' s d = (
     record {
       tells = λ o x y h a b c e. d.0.tells o (joint_at place x) (joint_at place y) h (m.within x a) (m.within y b)
           (sym (vertex_part_lem o x h a) ∙ c.0 ∙ vertex_part_lem o y h b, λ q. c.1 (vertex_label o x h a ∙ q ∙ sym (vertex_label o y h b)))
@@ -203,3 +206,9 @@ module _ (cl : List ℕ) (v j n : ℕ) (rows : List ℕ) (first : List Vertex) (
       })
       (λ i l t. b (vertex_at first i) (m.low i l) (sym (dk.below i l) ∙ t) ∙ sym (dv.below i l))
       (ap f m.start ∙ z)
+
+  -- both together
+  pub decided_merged : (codes codes' : List ℕ) → Spread place codes v codes' → (ok : Bool) → Decided r n j rows kn' val' ok codes
+      → Decided cl v j rows kn val ok codes'
+  decided_merged codes codes' s true d = decided_spread codes codes' s d
+  decided_merged codes codes' s false d = decided_none false codes refl d

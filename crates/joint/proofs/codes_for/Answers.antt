@@ -1,4 +1,4 @@
-use Rattle.std.proofs.Common.{◌≡◌, false, List, ℕ, ap, subst, ⊎_elim}
+use Rattle.std.proofs.Common.{◌≡◌, true, false, List, ℕ, ap, subst, ⊎_elim}
 use Rattle.problem.specs.declared.Answer.{Answer}
 use Rattle.problem.specs.Answer.{is_found, is_unsure, found_codes}
 use Rattle.coding.specs.Limit.{Sure}
@@ -17,7 +17,7 @@ returns-in-Found c = let a = c.args in
     let Says : Answer (List ℕ) → Type 0 = λ s. Sure a.limit (is_unsure s) (Decided labels m.count a.j a.rows known digits (is_found s) (found_codes s)) in
     sure_then a.limit false _ _
     (decided_merged a.cl.now a.v a.j m.count a.rows m.first m.place labels pre.0 pre.1 pre.2 a.kn a.val known digits
-    c.merge-m.ensures c.relabel-labels.ensures c.drawn-known.ensures c.drawn-digits.ensures c.in-Found.codes c.expand.result c.expand.ensures)
+    c.merge-m.ensures c.relabel-labels.ensures c.drawn-known.ensures c.drawn-digits.ensures c.in-Found.codes c.expand.result c.expand.ensures true)
     (subst Says c.in-Found.is c.codes_for-c.ensures)
 
 pub returns-in-Nothing : goal.returns-in-Nothing
