@@ -1,10 +1,16 @@
 -- What the code answers of a refusal's line, reported. Assumes nothing.
-use Rattle.std.specs.Prelude.{◌≡◌, Bool, ℕ}
+use Rattle.std.specs.Prelude.{◌≡◌, refl, Bool, true, false, ℕ}
 use Rattle.std.proofs.Common.{ap, ◌∙◌}
+use mir.Val.{bool_byte}
 use Rattle.bits.specs.Logic.{pick}
 use Rattle.locate.specs.Located.{Part}
 use Rattle.locate.specs.Places.{PlaceIs}
 use Rattle.reports.specs.Report.{LineReport, line_report}
+
+-- true is 1 and false is 0
+as_number : (b : Bool) → bool_byte b ≡ pick b 1 0
+as_number true = refl
+as_number false = refl
 
 abbrev told : ℕ → ℕ → ℕ → LineReport
 told second start count = record { number = 0; second = second; start = start; length = count }
