@@ -8,7 +8,9 @@ use comparing::Comparison;
 fn answer(rt: &impl Print, sheet: &[u8], network: &[u8]) -> std::io::Result<()> {
     match checker::check(sheet, network) {
         Ok(Comparison::Same) => println!(rt; "same"),
-        Ok(Comparison::Differs { output, row }) => println!(rt; "differs output {output} row {row}"),
+        Ok(Comparison::Differs { output, row }) => println!(rt;
+            "differs output {output} row {row}"
+        ),
         Err(refusal) => console::refused(rt, refusal),
     }
 }
