@@ -17,7 +17,7 @@
  * - Out-parameters are not null, are aligned, and are objects of their own: none overlaps another, a text or a buffer. The
  *   buffer overlaps no text.
  *
- * A call needs stack, which the proof takes for granted: at most 180,000 bytes, measured on the most deeply nested texts and
+ * A call needs stack, which the proof takes for granted: at most 101,000 bytes, measured on the most deeply nested texts and
  * on valid sheets (tests/stack/run, which fails above 256 KiB).
  */
 #ifndef CELLMAPPER_H
