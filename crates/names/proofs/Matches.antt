@@ -1,10 +1,11 @@
 -- Comparing two names as the bytes of their numbers, from the lowest up. Assumes nothing.
-use Rattle.std.specs.Prelude.{◌≡◌, refl, Bool, true, false, ◌&&◌, ◌↔◌, List, [], ◌∷◌, ℕ, suc, zero, ◌*◌, ◌/◌, ◌%◌, ◌^◌, ◌<◌, ◌≤◌, eqb, map, get_or, drop}
-use Rattle.std.specs.Int.{byte_at, bytes_low_first, to_le_bytes}
+use Rattle.std.specs.Prelude.{◌≡◌, refl, Bool, true, false, ◌&&◌, ◌↔◌, List, [], ◌∷◌, ℕ, suc, zero, ◌*◌, ◌/◌, ◌%◌, ◌^◌, ◌<◌, ◌≤◌, ◌-◌, ◌+◌, eqb, map, get_or, drop, take}
+use Rattle.std.specs.Int.{byte_at, bytes_low_first, to_le_bytes, leading_zeros}
 use Rattle.std.specs.Char.{to_ascii_lowercase}
 use Rattle.std.proofs.Common.{sym, ap, ◌∙◌, arith, w64, pow-suc, ne_eqb, eqb-true}
 use Rattle.std.proofs.Math.Path.{ap₂}
-use Rattle.std.proofs.Math.Nat.{div-div-eq-div-mul}
+use Rattle.std.proofs.Math.Nat.{div-div-eq-div-mul, pow-le-pow_right}
+use Rattle.std.proofs.lemmas.Nat.{leading_length, pow-add}
 use Rattle.std.proofs.Math.Bool.{and-false}
 use Rattle.std.proofs.lemmas.Grind.{common_steps}
 use native.Mathlib.Decide.{ℕ_discrete}
@@ -127,14 +128,42 @@ decided true s h f g = sym (f (h.0 refl))
 decided false true h f g = h.1 (g refl)
 decided false false h f g = refl
 
-texts_are : (v : ℕ) → map to_ascii_lowercase (bytes_low_first 0 8 v) ≡ map lower (low_bytes 8 v)
-texts_are v = lowers_are (bytes_low_first 0 8 v) ∙ ap (map lower) (bytes_are 8 v)
+take_low : (j k v : ℕ) → k ≤ j → take k (low_bytes j v) ≡ low_bytes k v
+take_low j zero v h = refl
+take_low zero (suc k) v h = absurd (omega arith)
+take_low (suc j) (suc k) v h = ap (λ (bs : List ℕ). v % 256 ∷ bs) (take_low j k (v / 256) (omega arith))
 
-pub same_by_bytes : (v w : ℕ) (r : Bool) → v < 2 ^ 64 → w < 2 ^ 64
-    → (r ≡ true ↔ (map to_ascii_lowercase (to_le_bytes w64 v) ≡ map to_ascii_lowercase (to_le_bytes w64 w)))
+texts_are : (k v : ℕ) → k ≤ 8 → map to_ascii_lowercase (take k (bytes_low_first 0 8 v)) ≡ map lower (low_bytes k v)
+texts_are k v g =
+    lowers_are (take k (bytes_low_first 0 8 v))
+    ∙ ap (λ (bs : List ℕ). map lower (take k bs)) (bytes_are 8 v)
+    ∙ ap (map lower) (take_low 8 k v g)
+
+power_fits : (k : ℕ) → k ≤ 8 → 256 ^ k ≤ 2 ^ 64
+power_fits k g = pow-le-pow_right {n = 256} (omega arith) g
+
+-- two names of at most k bytes are compared by these
+pub same_by_bytes : (k v w : ℕ) (r : Bool) → k ≤ 8 → v < 256 ^ k → w < 256 ^ k
+    → (r ≡ true ↔ (map to_ascii_lowercase (take k (to_le_bytes w64 v)) ≡ map to_ascii_lowercase (take k (to_le_bytes w64 w))))
     → r ≡ same_name (name_of v) (name_of w)
-same_by_bytes v w r h g t =
-    let q = by_bytes 8 v w h g (omega arith) in
+same_by_bytes k v w r g hv hw t =
+    let q = by_bytes k v w hv hw (power_fits k g) in
     decided r (same_name (name_of v) (name_of w)) t
-    (λ m. q.0 (sym (texts_are v) ∙ m ∙ texts_are w))
-    (λ s. texts_are v ∙ q.1 s ∙ sym (texts_are w))
+    (λ m. q.0 (sym (texts_are k v g) ∙ m ∙ texts_are k w g))
+    (λ s. texts_are k v g ∙ q.1 s ∙ sym (texts_are k w g))
+
+bytes_pow : (k : ℕ) → 256 ^ k ≡ 2 ^ (8 * k)
+bytes_pow zero = refl
+bytes_pow (suc k) =
+    let e : 8 * suc k ≡ 8 * k + 8 = omega arith in
+    pow-suc 256 k ∙ ap (λ (n : ℕ). n * 256) (bytes_pow k) ∙ sym (ap (λ (n : ℕ). 2 ^ n) e ∙ pow-add 2 (8 * k) 8)
+
+-- how many bytes a number needs
+pub bytes_enough : (m : ℕ) → m < 2 ^ 64 → m < 256 ^ (8 - leading_zeros w64 m / 8)
+bytes_enough m h =
+    let n = 8 - leading_zeros w64 m / 8 in
+    let z = leading_length 64 m h in
+    let e : leading_zeros w64 m + z.0 ≡ 64 = z.1 in
+    let s : z.0 ≤ 8 * n = omega (arith, e) in
+    let p : m < 2 ^ (8 * n) = omega (arith, z.2, pow-le-pow_right {n = 2} (omega arith) s) in
+    rw (sym (bytes_pow n)) at p

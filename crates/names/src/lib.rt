@@ -40,7 +40,9 @@ pub fn packed(s: &[u8], a: usize, e: usize) -> u64
 pub fn same_name(a: u64, b: u64) -> bool
     ensures { result ≡ same_name (name_of a) (name_of b) }
 {
-    a.to_le_bytes().eq_ignore_ascii_case(&b.to_le_bytes())
+    // No more bytes than the longer name has: most names are short.
+    let n = 8 - a.max(b).leading_zeros() as usize / 8;
+    a.to_le_bytes()[..n].eq_ignore_ascii_case(&b.to_le_bytes()[..n])
 }
 
 // The operators, each a word in small letters.
@@ -76,6 +78,10 @@ pub fn find(among: &[u64], n: u64) -> Option<usize>
 pub fn is_operator_word(w: u64) -> bool
     ensures { result ≡ names.among (name_of w) operator_words }
 {
+    // Most names are a single letter, which need not be compared.
+    if w < BASE {
+        return false;
+    }
     let words: [u64; 4] = [0x74_6f_6e, 0x64_6e_61, 0x72_6f, 0x72_6f_78];
     find(&words, w).is_some()
 }
