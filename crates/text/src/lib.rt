@@ -18,5 +18,10 @@ pub fn line_end(s: &[u8], at: usize) -> usize
     requires { at ≤ length s.now }
     ensures { LineEnd s.now at result }
 {
-    at + s[at..].iter().take_while(|b| **b != b'\n').count()
+    for e in at..s.len() {
+        if s[e] == b'\n' {
+            return e;
+        }
+    }
+    s.len()
 }
