@@ -35,7 +35,9 @@ fn expected(line: &[u8]) -> &[u8] {
 }
 
 // What a digit stands for, and 0 for another byte.
-fn digit(b: u8) -> usize {
+fn digit(b: u8) -> usize
+    ensures { result ≤ 9 }
+{
     match b {
         b'0'..=b'9' => usize::from(b - b'0'),
         _ => 0,
@@ -69,27 +71,43 @@ fn sheet_of(t: &[u8], n: usize) -> Option<(&[u8], &[u8])>
     Some((sheet, next))
 }
 
-// What Table answers when it is lent n bytes, in the words of EXPECTED, with a remark where other bytes of the buffer were changed.
-fn answer(sheet: &[u8], output: usize, n: usize) -> Result<ArrayVec<u8, MAX_LINE>>
+// Whether every byte from a place on is still the mark. Where the place is known as this is compiled, many bytes are looked at in a
+// step, so each case of an answer calls it with its own.
+fn kept(buffer: &[u8], from: usize) -> bool {
+    for i in from..buffer.len() {
+        if buffer[i] != MARK {
+            return false;
+        }
+    }
+    true
+}
+
+// Puts what Table answers when it is lent n bytes, in the words of EXPECTED, with a remark where other bytes of the buffer were
+// changed.
+fn put_answer(
+    sheet: &[u8],
+    output: usize,
+    n: usize,
+    came: &mut ArrayVec<u8, MAX_LINE>,
+) -> Result<()>
     requires { n ≤ 2048 }
 {
     let mut buffer = [MARK; MAX_BUFFER];
-    let mut came = ArrayVec::new();
-    let written = match design::table(sheet, output, &mut buffer[..n]) {
+    let is_kept = match design::table(sheet, output, &mut buffer[..n]) {
         Ok(count) => {
             write!(came, "written {count} ")?;
             came.write_all(buffer.get(..count).unwrap_or(b""))?;
-            count
+            kept(&buffer, count)
         }
         Err(Refusal { question, line }) => {
             write!(came, "refused {} line {line}", question.number())?;
-            0
+            kept(&buffer, 0)
         }
     };
-    if buffer.iter().skip(written).any(|&b| b != MARK) {
+    if !is_kept {
         came.write_all(b", and other bytes were changed")?;
     }
-    Ok(came)
+    Ok(())
 }
 
 // Says that a block went wrong, and what came.
@@ -107,7 +125,8 @@ fn execute(rt: &impl Print, head: &[u8], sheet: &[u8]) -> Result<bool> {
         put_wrong(rt, head, b"the buffer is too long")?;
         return Ok(false);
     }
-    let came = answer(sheet, number(word(head, 1)), n)?;
+    let mut came = ArrayVec::new();
+    put_answer(sheet, number(word(head, 1)), n, &mut came)?;
     let name = word(head, 0);
     if came.as_slice() == expected(head) {
         rt.write_all(name)?;
@@ -119,24 +138,29 @@ fn execute(rt: &impl Print, head: &[u8], sheet: &[u8]) -> Result<bool> {
 }
 
 // Executes all blocks, and says how many there were and how many went wrong. A block whose sheet is not there in full is the last.
+// Where a block could not be said to be right or wrong, those after it are executed all the same, and nothing is said of all.
 fn execute_all(rt: &impl Print, t: &[u8]) -> Result<()> {
     let mut rest = t;
     let mut done: u64 = 0;
     let mut wrong: u64 = 0;
+    let mut written = Ok(());
     // A loop over blocks, each of which says how long it is: no iterator knows that.
     while !rest.is_empty() {
         let (head, after) = first_line(rest);
         done += 1;
         let Some((sheet, next)) = sheet_of(after, number(word(head, 3))) else {
-            put_wrong(rt, head, b"the sheet breaks off")?;
+            written = written.and(put_wrong(rt, head, b"the sheet breaks off"));
             wrong += 1;
             break;
         };
-        if !execute(rt, head, sheet)? {
-            wrong += 1;
+        match execute(rt, head, sheet) {
+            Ok(true) => {}
+            Ok(false) => wrong += 1,
+            Err(error) => written = Err(error),
         }
         rest = next;
     }
+    written?;
     println!(rt; "{done} sheets, {wrong} wrong")
 }
 
