@@ -185,31 +185,28 @@ fn put_name(to: &impl Print, line: &[u8]) -> std::io::Result<()>
     to.write_all(&[line[0], line[1], line[2], b' '])
 }
 
-// Writes the nodes and the time of the search with some number of cells.
-fn put_step(rt: &HostRuntime, line: &[u8], cells: u8, nodes: u64, time: u64) -> std::io::Result<()>
+// Writes the nodes and the time of the search with some number of cells. Here and below, a part that standard error does not take
+// keeps none of the others from it.
+fn put_step(rt: &HostRuntime, line: &[u8], cells: u8, nodes: u64, time: u64)
     requires { length line.now ≡ line_length }
 {
-    put_name(&rt.stderr(), line)?;
-    eprintln!(rt; "cells {cells} nodes {nodes} us {time}")
+    let _ = put_name(&rt.stderr(), line);
+    let _ = eprintln!(rt; "cells {cells} nodes {nodes} us {time}");
 }
 
 // Writes rows and codes: a row in hexadecimal digits, a code as a byte, 0 being 0.
-fn put_core(
-    rt: &HostRuntime,
-    line: &[u8],
-    rows: [u16; SEARCH_OUTPUTS],
-    codes: [u8; MAX_VERTICES],
-) -> std::io::Result<()>
+fn put_core(rt: &HostRuntime, line: &[u8], rows: [u16; SEARCH_OUTPUTS], codes: [u8; MAX_VERTICES])
     requires { length line.now ≡ line_length }
 {
-    put_name(&rt.stderr(), line)?;
-    eprint!(rt; "core ")?;
+    let _ = put_name(&rt.stderr(), line);
+    let _ = eprint!(rt; "core ");
     for row in rows {
-        eprint!(rt; "{row:04x} ")?;
+        let _ = eprint!(rt; "{row:04x} ");
     }
-    rt.stderr()
-        .write_all(&codes.map(|code| b'0' + code % limits::MAX_CODES as u8))?;
-    eprintln!(rt; "")
+    let _ = rt
+        .stderr()
+        .write_all(&codes.map(|code| b'0' + code % limits::MAX_CODES as u8));
+    let _ = eprintln!(rt; "");
 }
 
 // The fewest open cells that there may be: one where digits of it are known.
@@ -286,11 +283,11 @@ fn solve(
         let p = seeking::Problem { cells: u, ..asks };
         let c = seeking::seek_where(labels, tables, mem, p, fits, nodes);
         let took = microseconds(rt).wrapping_sub(start);
-        let _ = put_step(rt, line, u, c.nodes.wrapping_sub(nodes), took);
+        put_step(rt, line, u, c.nodes.wrapping_sub(nodes), took);
         nodes = c.nodes;
         time = time.wrapping_add(took);
         if let Answer::Found(core) = c.answer {
-            let _ = put_core(rt, line, dominance::placed(core.rows, by, m), core.codes);
+            put_core(rt, line, dominance::placed(core.rows, by, m), core.codes);
             return Solved {
                 cells: Some(u),
                 nodes,
@@ -321,15 +318,15 @@ fn put_answer(rt: &HostRuntime, line: &[u8], a: Solved)
     requires { length line.now ≡ line_length }
 {
     console::tell(rt, "border", put_cells(rt, line, a.cells, a.nodes));
-    let _ = put_time(rt, line, a.time);
+    put_time(rt, line, a.time);
 }
 
 // Writes the time in all.
-fn put_time(rt: &HostRuntime, line: &[u8], time: u64) -> std::io::Result<()>
+fn put_time(rt: &HostRuntime, line: &[u8], time: u64)
     requires { length line.now ≡ line_length }
 {
-    put_name(&rt.stderr(), line)?;
-    eprintln!(rt; "{time} us")
+    let _ = put_name(&rt.stderr(), line);
+    let _ = eprintln!(rt; "{time} us");
 }
 
 // Answers the problem of a line after that of past, which the cache is about. The problem that it is about then.
