@@ -38,7 +38,9 @@ fn narrowed(t: [u64; limits::TABLE_WORDS], b: u8, p: usize) -> [u64; limits::TAB
     }
 }
 
-// The rows that literals cover, one literal to a byte; the first input is the highest digit of a row's number.
+// The rows that literals cover, one literal to a byte; the first input is the highest digit of a row's number. It stays a call:
+// within its caller's loop over the cubes the compiler keeps half of the table in general registers, and moves it for each literal.
+#[inline(never)]
 pub fn covered(l: &[u8]) -> [u64; limits::TABLE_WORDS]
     ensures { (ls : List Literal) → l.now ≡ map literal_byte ls → Rowwise (covers ls) result }
 {

@@ -66,24 +66,18 @@ fn other_mark(s: &[u8], first: usize, cubes: usize, i: usize, o: usize) -> Optio
     None
 }
 
-// The tables with the rows of one cube more, in each output that has a 1 in the cube's output part.
-fn added(
-    tables: [Rows; limits::MAX_OUTPUTS],
-    rows: [u64; limits::TABLE_WORDS],
-    marks: &[u8],
-) -> [Rows; limits::MAX_OUTPUTS]
+// Adds the rows of one cube to the table of each output that has a 1 in the cube's output part.
+fn add(tables: &mut [Rows; limits::MAX_OUTPUTS], rows: [u64; limits::TABLE_WORDS], marks: &[u8])
     requires { length marks.now ≤ max_outputs }
-    ensures { Added tables rows marks.now result }
+    ensures { Added tables.old rows marks.now tables.new }
 {
-    let mut next = tables;
     for o in 0..marks.len() {
         if marks[o] == b'1' {
-            next[o] = Rows {
-                words: rows::either(next[o].words, rows),
+            tables[o] = Rows {
+                words: rows::either(tables[o].words, rows),
             };
         }
     }
-    next
 }
 
 // The tables of the outputs: on each row whether some cube with a 1 for the output covers it.
@@ -99,8 +93,7 @@ fn tables(s: &[u8], t: PlaText) -> [Rows; limits::MAX_OUTPUTS]
         let m = at + t.inputs.count;
         let e = m + 1 + t.outputs.count;
         let rows = cubes::covered(&s[at..m]);
-        let next = added(tables, rows, &s[m + 1..e]);
-        tables = next;
+        add(&mut tables, rows, &s[m + 1..e]);
         at = e + 1;
     }
     tables

@@ -32,11 +32,11 @@ slice_bounds-covered-end c = omega (arith, room c.requires c.loop-cube.invariant
 pub overflow_add-m-in-loop-cube : goal.overflow_add-m-in-loop-cube
 overflow_add-m-in-loop-cube c = omega (arith, room c.requires c.loop-cube.invariant c.loop-cube-test.true)
 
-pub slice_bounds-added-end : goal.slice_bounds-added-end
-slice_bounds-added-end c = omega (arith, room c.requires c.loop-cube.invariant c.loop-cube-test.true)
+pub slice_bounds-add-end : goal.slice_bounds-add-end
+slice_bounds-add-end c = omega (arith, room c.requires c.loop-cube.invariant c.loop-cube-test.true)
 
-pub added-next-requires : goal.added-next-requires
-added-next-requires c =
+pub add-requires : goal.add-requires
+add-requires c =
     let t = c.args.t in
     part_few (c.loop-cube.at + t.inputs.count + 1) t.outputs.count (drop (c.loop-cube.at + t.inputs.count + 1) c.args.s.now)
     (outputs_counted _ _ c.requires)
@@ -46,7 +46,7 @@ overflow_add-at c = omega (arith, room c.requires c.loop-cube.invariant c.loop-c
 
 pub loop-cube-preserved : goal.loop-cube-preserved
 loop-cube-preserved c =
-    tables_more _ _ _ _ _ _ _ _ c.loop-cube.invariant c.loop-cube-test.true _ _ _ _ refl refl c.covered-rows.ensures c.added-next.ensures
+    tables_more _ _ _ _ _ _ _ _ c.loop-cube.invariant c.loop-cube-test.true _ _ _ _ refl refl c.covered-rows.ensures c.add.ensures
 
 pub returns : goal.returns
 returns c = tables_all _ _ _ _ _ c.loop-cube.invariant c.loop-cube-test.false
